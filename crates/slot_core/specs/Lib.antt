@@ -1,0 +1,6 @@
+pub mod Forest
+pub mod Spelled
+pub mod Entries
+pub mod Derivation
+pub mod Disjoint
+pub mod Places

@@ -1,0 +1,60 @@
+//! Slots, by their places in the simulated memory.
+ghost use Rattle.std.specs.Prelude.{⊤, ◌==◌, ◌≡◌, ◌*◌, ◌/◌, ◌%◌, ◌^◌, ◌<◌, IfSome, IfNone, ◌≢◌};
+ghost use Rattle.std.proofs.Common.{rules};
+ghost use Rattle.std.specs.Cmp.Rules.{comparing};
+ghost use Rattle.cap_core.specs.Numbers.{slot_size, word_bits};
+
+use cap_core::Profile;
+use std::alloc::AllocError;
+
+/// A slot: the `place`-th stretch of memory that has a slot's size. The type has no profile; its address has one.
+pub struct Slot {
+    place: u64,
+    ghost small: { place < 2 ^ 59 },
+}
+
+impl Copy for Slot {}
+
+impl Clone for Slot {
+    ghost is_clone = { λ x y. y ≡ x };
+
+    ghost is_infallible = { λ _. ⊤ };
+
+    fn clone(&self) -> Result<Slot, AllocError> {
+        Ok(*self)
+    }
+}
+
+impl PartialEq for Slot {
+    ghost eq = { λ x y. x.place == y.place };
+
+    ghost laws = { Prim.search (comparing, rules) };
+
+    fn eq(&self, other: &Slot) -> bool {
+        self.place == other.place
+    }
+}
+
+impl Slot {
+    /// The slot at an address, or `None` where the address is no multiple of a slot's size.
+    pub fn at<P: Profile>(address: u64) -> Option<Slot>
+        requires { address < 2 ^ word_bits P.the }
+        ensures slot { IfSome result (λ s. s.place * slot_size P.the ≡ address) }
+        ensures none { IfNone result (address % slot_size P.the ≢ 0) }
+    {
+        if address % (1 << P::SLOT_BITS) == 0 {
+            Some(Slot {
+                place: address >> P::SLOT_BITS,
+            })
+        } else {
+            None
+        }
+    }
+
+    /// The slot's address in bytes.
+    pub fn address<P: Profile>(self) -> u64
+        ensures { result ≡ self.place * slot_size P.the }
+    {
+        self.place << P::SLOT_BITS
+    }
+}

@@ -1,0 +1,68 @@
+//! What a capability store does.
+ghost use Rattle.std.specs.Prelude.{◌≡◌, ℕ, ◌^◌, ◌<◌, ◌≤◌, true, false, IfOk, option_map, ◌⊎◌, None};
+ghost use Rattle.cap_core.specs.Objects.{IsLawful, is_untyped, badge_of};
+ghost use Rattle.cap_core.specs.declared.capability.Cap.TheVariants.{Null};
+ghost use Rattle.slot_core.specs.Places.{address_of};
+ghost use Rattle.slot_core.specs.Forest.{Forest, none};
+ghost use Rattle.slot_core.specs.Entries.{Entry, cap_at, is_full, first_child as first_child_of};
+ghost use Rattle.slot_core.specs.Derivation.{derived, rooted, names_same, is_named};
+ghost use Rattle.slot_core.specs.Disjoint.{IsDisjoint};
+
+use crate::slot::Slot;
+use cap_core::limits::{MAX_MEMORY_BITS, MIN_MEMORY_BITS};
+use cap_core::{Cap, Profile};
+use std::alloc::{AllocError, Global};
+
+/// Slots with capabilities, and the forest of their derivation (seL4 Reference Manual, on the capability derivation tree).
+///
+/// Contracts see a store as its derivation forest, whose entries are the full slots with their capabilities and whether
+/// each is original, and as the bits of its memory's size. No call takes memory.
+pub trait CapStore<P: Profile> {
+    ghost forest: { Self → Forest Entry };
+
+    ghost memory_bits: { Self → ℕ };
+
+    /// The capability in a slot: `Null` in an empty slot and past the end of the memory.
+    fn get(&self, slot: Slot) -> Cap
+        ensures cap { result ≡ cap_at (forest self.now) (address_of P.the slot) }
+        ensures lawful { (result ≡ Null) ⊎ IsLawful P.the (memory_bits self.now) result }
+        ensures past { 2 ^ memory_bits self.now ≤ address_of P.the slot → result ≡ Null };
+
+    /// Puts a capability that is derived from none into an empty slot: a tree of its own, original, the last one.
+    fn put_root(&mut self, slot: Slot, cap: Cap)
+        requires within { address_of P.the slot < 2 ^ memory_bits self.old }
+        requires empty { is_full (address_of P.the slot) (forest self.old) ≡ false }
+        requires lawful { IsLawful P.the (memory_bits self.old) cap }
+        requires unnamed { is_named cap (forest self.old) ≡ false }
+        requires disjoint { IsDisjoint P.the (rooted (address_of P.the slot) cap (forest self.old)) }
+        ensures forest { forest self.new ≡ rooted (address_of P.the slot) cap (forest self.old) }
+        ensures memory { memory_bits self.new ≡ memory_bits self.old };
+
+    /// Puts a capability that is derived from the one in `source` into the empty slot `slot`: the first child of an
+    /// original source, and the next sibling of another. It is original where it is untyped or has another badge.
+    fn derive(&mut self, source: Slot, slot: Slot, cap: Cap)
+        requires source { is_full (address_of P.the source) (forest self.old) ≡ true }
+        requires within { address_of P.the slot < 2 ^ memory_bits self.old }
+        requires empty { is_full (address_of P.the slot) (forest self.old) ≡ false }
+        requires lawful { IsLawful P.the (memory_bits self.old) cap }
+        requires same { names_same (cap_at (forest self.old) (address_of P.the source)) cap ≡ true }
+        requires badge { (badge_of cap ≡ badge_of (cap_at (forest self.old) (address_of P.the source))) ⊎ (badge_of (cap_at (forest self.old) (address_of P.the source)) ≡ 0) }
+        requires childless { is_untyped cap ≡ true → first_child_of (address_of P.the source) (forest self.old) ≡ None }
+        requires disjoint { IsDisjoint P.the (derived (address_of P.the source) (address_of P.the slot) cap (forest self.old)) }
+        ensures forest { forest self.new ≡ derived (address_of P.the source) (address_of P.the slot) cap (forest self.old) }
+        ensures memory { memory_bits self.new ≡ memory_bits self.old };
+
+    /// The newest child of a slot; an empty slot has none.
+    fn first_child(&self, slot: Slot) -> Option<Slot>
+        ensures { option_map (address_of P.the) result ≡ first_child_of (address_of P.the slot) (forest self.now) };
+}
+
+/// A store that can be made.
+pub trait MakeStore<P: Profile>: CapStore<P> + Drop {
+    /// An empty store for a memory of 2^`memory_bits` bytes, with all the room that it will ever need.
+    fn new(alloc: Global, memory_bits: u32) -> Result<Self, AllocError>
+        requires least { MIN_MEMORY_BITS ≤ memory_bits }
+        requires most { memory_bits ≤ MAX_MEMORY_BITS }
+        ensures empty { IfOk result (λ s. Self.forest s ≡ none) }
+        ensures memory { IfOk result (λ s. Self.memory_bits s ≡ memory_bits) };
+}
