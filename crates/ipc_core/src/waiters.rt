@@ -1,0 +1,69 @@
+//! What holds the threads that wait.
+ghost use Rattle.std.specs.Prelude.{◌≡◌, ℕ, Bool, List, ◌≤◌, None, IfOk, option_map, slice_get};
+ghost use Rattle.ipc_core.specs.Records.{SendRecord, AskRecord, waiting_list};
+ghost use Rattle.ipc_core.specs.Waits.{Waits, no_waits, IsEndpointAddress, IsThreadAddress, sent, after_send, received, after_receive, thread_of};
+ghost use Rattle.ipc_core.specs.Pairing.{SendsBy, ReceivesBy};
+
+use crate::waiter::{Received, Role, Sent};
+use cap_core::limits::{MAX_MEMORY_BITS, MIN_MEMORY_BITS};
+use cap_core::{Badge, Message, Profile};
+use std::alloc::{AllocError, Global};
+
+/// The threads that wait on endpoints (seL4 Reference Manual, on endpoints), by the addresses of both.
+///
+/// Contracts see who waits where, in what order, and the bits of the memory's size. No call takes memory.
+/// An endpoint's address is a multiple of its size within the memory, and a thread's likewise.
+pub trait Waiters<P: Profile> {
+    ghost waits: { Self → Waits };
+
+    ghost memory_bits: { Self → ℕ };
+
+    /// Sends by a thread that waits nowhere: to the receiver that waited first, and where none does the sender waits,
+    /// with `block`, or nothing happens.
+    fn send(
+        &mut self,
+        endpoint: u64,
+        thread: u64,
+        badge: Badge,
+        message: Message,
+        block: bool,
+    ) -> Sent
+        requires endpoint { IsEndpointAddress P.the (memory_bits self.old) endpoint }
+        requires thread { IsThreadAddress P.the (memory_bits self.old) thread }
+        requires free { (waits self.old).role thread ≡ None }
+        ensures answer { result ≡ sent block endpoint (waits self.old) }
+        ensures waits { waits self.new ≡ after_send block endpoint thread badge message (waits self.old) }
+        ensures histories { (s : SendRecord) (sends : List SendRecord) (asks : List AskRecord) → s.thread.base ≡ thread → s.badge ≡ badge → s.message ≡ message → (waits self.old).queue endpoint ≡ waiting_list sends asks → SendsBy block s sends asks result ((waits self.new).queue endpoint) }
+        ensures memory { memory_bits self.new ≡ memory_bits self.old };
+
+    /// Receives by a thread that waits nowhere: from the sender that waited first, and where none does the receiver
+    /// waits, with `block`, or nothing happens.
+    fn recv(&mut self, endpoint: u64, thread: u64, block: bool) -> Received
+        requires endpoint { IsEndpointAddress P.the (memory_bits self.old) endpoint }
+        requires thread { IsThreadAddress P.the (memory_bits self.old) thread }
+        requires free { (waits self.old).role thread ≡ None }
+        ensures answer { result ≡ received block endpoint (waits self.old) }
+        ensures waits { waits self.new ≡ after_receive block endpoint thread (waits self.old) }
+        ensures histories { (a : AskRecord) (sends : List SendRecord) (asks : List AskRecord) → a.thread.base ≡ thread → (waits self.old).queue endpoint ≡ waiting_list sends asks → ReceivesBy block a sends asks result ((waits self.new).queue endpoint) }
+        ensures memory { memory_bits self.new ≡ memory_bits self.old };
+
+    /// How a thread waits, if it does.
+    fn role(&self, thread: u64) -> Option<Role>
+        requires { IsThreadAddress P.the (memory_bits self.now) thread }
+        ensures { result ≡ (waits self.now).role thread };
+
+    /// The thread that waits at a place of an endpoint's waiting list, 0 the first.
+    fn waiting(&self, endpoint: u64, place: u64) -> Option<u64>
+        requires { IsEndpointAddress P.the (memory_bits self.now) endpoint }
+        ensures { result ≡ option_map thread_of (slice_get ((waits self.now).queue endpoint) place) };
+}
+
+/// Waiting threads that can be made.
+pub trait MakeWaiters<P: Profile>: Waiters<P> + Drop {
+    /// Nobody waits, with room for every thread that a memory of 2^`memory_bits` bytes can hold.
+    fn new(alloc: Global, memory_bits: u32) -> Result<Self, AllocError>
+        requires least { MIN_MEMORY_BITS ≤ memory_bits }
+        requires most { memory_bits ≤ MAX_MEMORY_BITS }
+        ensures nobody { IfOk result (λ w. Self.waits w ≡ no_waits) }
+        ensures memory { IfOk result (λ w. Self.memory_bits w ≡ memory_bits) };
+}
