@@ -1,5 +1,5 @@
 //! Slots, by their places in the simulated memory.
-ghost use Rattle.std.specs.Prelude.{⊤, ◌==◌, ◌≡◌, ◌*◌, ◌/◌, ◌%◌, ◌^◌, ◌<◌, IfSome, IfNone, ◌≢◌};
+ghost use Rattle.std.specs.Prelude.{⊤, ◌==◌, ◌≡◌, ◌+◌, ◌*◌, ◌/◌, ◌%◌, ◌^◌, ◌<◌, ◌≤◌, IfSome, IfNone, ◌≢◌};
 ghost use Rattle.std.proofs.Common.{rules};
 ghost use Rattle.std.specs.Cmp.Rules.{comparing};
 ghost use Rattle.cap_core.specs.Numbers.{slot_size, word_bits};
@@ -48,6 +48,17 @@ impl Slot {
             })
         } else {
             None
+        }
+    }
+
+    /// Slot `index` of a CNode whose object starts at the address `base`.
+    pub fn of_node<P: Profile>(base: u64, index: u64) -> Slot
+        requires aligned { base % slot_size P.the ≡ 0 }
+        requires end { base + (index + 1) * slot_size P.the ≤ 2 ^ word_bits P.the }
+        ensures { result.place * slot_size P.the ≡ base + index * slot_size P.the }
+    {
+        Slot {
+            place: (base >> P::SLOT_BITS) + index,
         }
     }
 
