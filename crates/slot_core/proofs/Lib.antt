@@ -1,2 +1,3 @@
 pub mod Forests
 pub mod Edits
+pub mod Disjointness
