@@ -1,0 +1,95 @@
+//! Resolution of addresses in capability spaces.
+#![tactic(auto)]
+
+ghost use Rattle.std.specs.Prelude.{◌≡◌, ℕ, ◌+◌, ◌/◌, ◌%◌, ◌^◌, ◌<◌, ◌≤◌, ◌⊎◌, IfOk};
+ghost use Rattle.cap_core.specs.declared.capability.Cap.TheVariants.{Null};
+ghost use Rattle.cap_core.specs.Numbers.{word_bits};
+ghost use Rattle.cap_core.specs.Objects.{IsLawful};
+ghost use Rattle.slot_core.specs.Entries.{cap_at};
+ghost use Rattle.slot_core.specs.Places.{address_of};
+ghost use Rattle.cspace_core.specs.Bits.{low_bits};
+ghost use Rattle.cspace_core.specs.Resolution.{resolution, found, choice_seen};
+ghost use Rattle.cspace_core.specs.Resolves.{Chooses, Resolves};
+
+use cap_core::limits::MAX_MEMORY_BITS;
+use cap_core::{Cap, LookupFault, Profile};
+use slot_core::{CapStore, Slot};
+
+/// The slot that the low `bits` bits of an address lead to from the capability `root`, and how many of them are left
+/// (seL4 Reference Manual, on capability space addressing). The bits are used from the top one down: at each CNode those
+/// of its guard, and then those of its radix, which choose a slot. The slot is found where no bits are left or it holds
+/// no CNode; else resolution goes on at the CNode that it holds.
+///
+/// `InvalidRoot`: the root is no CNode. `GuardMismatch`: the bits don't go on with a CNode's guard. `DepthMismatch`:
+/// after a CNode's guard there are fewer bits than its radix. `MissingCapability` is never answered, since an empty slot
+/// is found like any other.
+pub fn resolve<P: Profile, S: CapStore<P>>(
+    store: &S,
+    root: Cap,
+    address: u64,
+    bits: u32,
+) -> Result<(Slot, u32), LookupFault>
+    requires memory { S.memory_bits store.now ≤ MAX_MEMORY_BITS }
+    requires lawful { (root ≡ Null) ⊎ IsLawful P.the (S.memory_bits store.now) root }
+    requires bits { bits ≤ word_bits P.the }
+    ensures value { found P.the result ≡ resolution P.the (cap_at (S.forest store.now)) root (low_bits bits address) }
+    ensures within { IfOk result (λ r. address_of P.the r.0 < 2 ^ S.memory_bits store.now) }
+    ensures relation { Resolves P.the (cap_at (S.forest store.now)) root (low_bits bits address) (found P.the result) }
+{
+    let mut cap = root;
+    let mut left = bits;
+    loop {
+        let (slot, rest) = choose::<P>(cap, address, left)?;
+        if rest == 0 {
+            return Ok((slot, rest));
+        }
+        let next = store.get(slot);
+        let Cap::CNode { .. } = next else {
+            return Ok((slot, rest));
+        };
+        cap = next;
+        left = rest;
+    }
+}
+
+/// What one capability makes of the low bits of an address: the slot that it chooses, and how many bits are left.
+fn choose<P: Profile>(cap: Cap, address: u64, bits: u32) -> Result<(Slot, u32), LookupFault>
+    requires lawful { (cap ≡ Null) ⊎ IsLawful P.the (word_bits P.the) cap }
+    requires bits { bits ≤ word_bits P.the }
+    ensures is { Chooses P.the cap (low_bits bits address) (choice_seen P.the address result) }
+    ensures less { IfOk result (λ r. r.1 < bits) }
+    ensures within { (memory : ℕ) → (cap ≡ Null) ⊎ IsLawful P.the memory cap → IfOk result (λ r. address_of P.the r.0 < 2 ^ memory) }
+{
+    let Cap::CNode { base, radix, guard } = cap else {
+        return Err(LookupFault::InvalidRoot);
+    };
+    if guard.size > bits {
+        return Err(LookupFault::GuardMismatch);
+    }
+    let rest = bits - guard.size;
+    if field(address, rest, guard.size) != guard.value {
+        return Err(LookupFault::GuardMismatch);
+    }
+    if radix > rest {
+        return Err(LookupFault::DepthMismatch);
+    }
+    let left = rest - radix;
+    let index = field(address, left, radix);
+    Ok((Slot::of_node::<P>(base, index), left))
+}
+
+/// The `count` bits of a word that stand above its low `from` bits.
+fn field(word: u64, from: u32, count: u32) -> u64
+    requires { from + count ≤ 64 }
+    ensures { result ≡ word / 2 ^ from % 2 ^ count }
+{
+    if count == 0 {
+        return 0;
+    }
+    let high = word >> from;
+    if count == u64::BITS {
+        high
+    } else {
+        high % (1 << count)
+    }
+}
