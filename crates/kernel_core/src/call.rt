@@ -60,3 +60,10 @@ pub struct Inbox {
     pub badge: Badge,
     pub message: Message,
 }
+
+/// An endpoint that a call may use, and the badge of the capability by which it does.
+#[derive(Clone, Copy, Debug, PartialEq, Eq)]
+pub struct Service {
+    pub endpoint: u64,
+    pub badge: Badge,
+}

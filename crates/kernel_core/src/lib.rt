@@ -2,7 +2,10 @@
 #![tactic(auto)]
 
 pub mod call;
+pub mod kernel;
 pub mod plan;
+pub mod rows;
 
 pub use call::{Call, Inbox, Op, Reply, ThreadState};
+pub use kernel::Kernel;
 pub use plan::{BootPlan, PlanDefect};

@@ -1,0 +1,78 @@
+-- The abstract step, and runs of it.
+use Rattle.std.specs.Prelude.{ℕ, ◌+◌, List, [], ◌∷◌, ◌++◌, length, slice_get, Option, None, Some, Result, Ok, Err}
+use Rattle.cap_core.specs.declared.profile.ProfileName.{ProfileName}
+use Rattle.cap_core.specs.declared.message.Message.{Message}
+use Rattle.cap_core.specs.declared.refusal.Refusal.{Refusal}
+use Rattle.ipc_core.specs.Records.{SendRecord, AskRecord}
+use Rattle.kernel_core.specs.declared.call.Call.{Call}
+use Rattle.kernel_core.specs.declared.call.Op.{Op}
+use Rattle.kernel_core.specs.declared.call.Op.TheVariants.{Send, Recv}
+use Rattle.kernel_core.specs.declared.call.Reply.{Reply}
+use Rattle.kernel_core.specs.declared.call.Reply.TheVariants.{Delivered, Waiting, Refused}
+use Rattle.kernel_core.specs.declared.call.Service.{Service}
+use Rattle.kernel_core.specs.Checks.{checked}
+use Rattle.kernel_core.specs.State.{State, endpoint_at, thread_at, sends_to, asks_of, shown}
+
+pub record Outcome : Type 0 where
+  pub reply : Reply
+  pub state : State
+
+-- the state after one more call, which changed nothing else
+abbrev pub counted : State → State
+counted A = record A { count = A.count + 1 }
+
+-- a send of this call, with the badge of the invoked capability; a receive of this call
+abbrev pub send_record : State → ℕ → Service → Message → SendRecord
+send_record A thread service message =
+    record {
+      number = A.count + 1;
+      endpoint = endpoint_at A service.endpoint;
+      thread = thread_at A thread;
+      badge = service.badge;
+      message = message;
+    }
+
+abbrev pub ask_record : State → ℕ → Service → AskRecord
+ask_record A thread service =
+    record { number = A.count + 1; endpoint = endpoint_at A service.endpoint; thread = thread_at A thread }
+
+-- the message is delivered where the record completes a pair: where there is a partner at its place
+abbrev pub reply_to_send : SendRecord → Option AskRecord → Reply
+reply_to_send s (Some a) = Delivered s.endpoint.base s.thread.base a.thread.base s.badge s.message
+reply_to_send s None = Waiting
+
+abbrev pub reply_to_receive : AskRecord → Option SendRecord → Reply
+reply_to_receive a (Some s) = Delivered a.endpoint.base s.thread.base a.thread.base s.badge s.message
+reply_to_receive a None = Waiting
+
+-- an operation whose checks passed
+abbrev pub performed : State → ℕ → Service → Op → Outcome
+performed A thread service (Send address message) =
+    let s = send_record A thread service message in
+    record {
+      reply = reply_to_send s (slice_get (asks_of A s.endpoint) (length (sends_to A s.endpoint)));
+      state = record (counted A) { sends = A.sends ++ s ∷ [] };
+    }
+performed A thread service (Recv address) =
+    let a = ask_record A thread service in
+    record {
+      reply = reply_to_receive a (slice_get (sends_to A a.endpoint) (length (asks_of A a.endpoint)));
+      state = record (counted A) { asks = A.asks ++ a ∷ [] };
+    }
+
+abbrev pub outcome : State → Call → Result Service Refusal → Outcome
+outcome A call (Err refusal) = record { reply = Refused refusal; state = counted A }
+outcome A call (Ok service) = performed A call.thread service call.op
+
+-- one call: where a check fails it is refused, and nothing but the count changes
+abbrev pub step : ProfileName → State → Call → Outcome
+step p A call = outcome A call (checked p (shown A) call)
+
+-- the replies to a list of calls, and the state after them
+abbrev pub replies_of : ProfileName → State → List Call → List Reply
+replies_of p A [] = []
+replies_of p A (call ∷ calls) = (step p A call).reply ∷ replies_of p (step p A call).state calls
+
+abbrev pub state_after : ProfileName → State → List Call → State
+state_after p A [] = A
+state_after p A (call ∷ calls) = state_after p (step p A call).state calls
