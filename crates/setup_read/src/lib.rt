@@ -1,0 +1,4 @@
+//! Set-ups, and the report of a run.
+#![tactic(auto)]
+
+mod reporting;

@@ -1,0 +1,3 @@
+//! The report of a run: each call with its reply, and what the kernel shows at the end.
+
+mod text;
