@@ -1,5 +1,5 @@
 //! The text of capabilities, messages, calls, replies and threads.
-ghost use Rattle.std.specs.Prelude.{◌≡◌, ◌++◌, ◌≤◌, Some, ℕ, length};
+ghost use Rattle.std.specs.Prelude.{◌≡◌, Some, take};
 ghost use Rattle.setup_read.specs.Text as text;
 
 use bitflags::Flags;
@@ -45,6 +45,18 @@ impl fmt::Display for NumbersText<'_> {
     }
 }
 
+/// The words that a message has.
+fn words_of(message: &Message) -> &[u64]
+    ensures { result.now ≡ take message.now.count message.now.words }
+{
+    let count = message.count as usize;
+    if count < MAX_MESSAGE_WORDS {
+        &message.words[..count]
+    } else {
+        &message.words
+    }
+}
+
 /// A message: its label, and the words that it has.
 #[derive(Clone, Copy)]
 pub struct MessageText(pub Message);
@@ -54,8 +66,7 @@ impl fmt::Display for MessageText {
 
     fn fmt<W: fmt::Write>(&self, f: &mut fmt::Formatter<W>) -> fmt::Result {
         let label = self.0.label;
-        let count = (self.0.count as usize).min(MAX_MESSAGE_WORDS);
-        let words = NumbersText(&self.0.words[..count]);
+        let words = NumbersText(words_of(&self.0));
         write!(f, "label {label} words{words}")
     }
 }
@@ -146,7 +157,10 @@ impl fmt::Display for ReplyText {
             } => {
                 let badge = badge.0;
                 let message = MessageText(message);
-                write!(f, "delivered {endpoint} from {from} to {to} badge {badge} {message}")
+                write!(
+                    f,
+                    "delivered {endpoint} from {from} to {to} badge {badge} {message}"
+                )
             }
         }
     }
