@@ -7,7 +7,9 @@ use Rattle.cap_core.specs.declared.capability.Cap.{Cap}
 use Rattle.cap_core.specs.declared.capability.Cap.TheVariants.{Null, Untyped, Endpoint, CNode, Tcb}
 use Rattle.cap_core.specs.declared.rights.Rights.{Rights}
 use Rattle.cap_core.specs.declared.refusal.LookupFault.{LookupFault}
-use Rattle.cap_core.specs.declared.refusal.LookupFault.TheVariants.{InvalidRoot, GuardMismatch}
+use Rattle.cap_core.specs.Numbers.{word_bits}
+use Rattle.cspace_core.specs.Bits.{low_bits}
+use Rattle.cspace_core.specs.Resolution.{Found, resolution}
 use Rattle.cap_core.specs.declared.refusal.Refusal.{Refusal}
 use Rattle.cap_core.specs.declared.refusal.Refusal.TheVariants.{InvalidCapability, IllegalOperation, FailedLookup, NoThread, NotReady}
 use Rattle.slot_core.specs.Forest.{Forest}
@@ -42,12 +44,12 @@ service_word (Send address message) = address
 service_word (Recv address) = address
 
 -- the slot that a word names from a root capability: all its bits are looked up, and bits left over are ignored
+abbrev pub slot_found : Result Found LookupFault → Result ℕ LookupFault
+slot_found (Ok found) = Ok found.slot
+slot_found (Err fault) = Err fault
+
 abbrev pub slot_named : ProfileName → Forest Entry → Cap → ℕ → Result ℕ LookupFault
-slot_named p f Null word = Err InvalidRoot
-slot_named p f (Untyped base bits free) word = Err InvalidRoot
-slot_named p f (Endpoint base badge rights) word = Err InvalidRoot
-slot_named p f (CNode base radix guard) word = Err GuardMismatch
-slot_named p f (Tcb base) word = Err InvalidRoot
+slot_named p f root word = slot_found (resolution p (cap_at f) root (low_bits (word_bits p) word))
 
 abbrev pub cap_found : Forest Entry → Result ℕ LookupFault → Result Cap LookupFault
 cap_found f (Ok slot) = Ok (cap_at f slot)

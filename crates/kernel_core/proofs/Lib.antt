@@ -1,0 +1,12 @@
+pub mod Keyed
+pub mod Lists
+pub mod Live
+pub mod Sending
+pub mod Receiving
+pub mod Deliveries
+pub mod Rising
+pub mod Delivering
+pub mod Serving
+pub mod Once
+pub mod Simulation
+pub mod Runs
