@@ -1,3 +1,4 @@
 pub mod Records
 pub mod Waits
 pub mod Pairing
+pub mod Rows

@@ -1,5 +1,5 @@
 -- What a send and a receive do, told by the histories of an endpoint: pairs by place, and acceptance.
-use Rattle.std.specs.Prelude.{◌≡◌, ℕ, Bool, true, false, cond, ◌||◌, nat_lt, List, [], ◌∷◌, ◌++◌, length, slice_get, Option, Some, None}
+use Rattle.std.specs.Prelude.{◌≡◌, Bool, cond, ◌||◌, nat_lt, List, [], ◌∷◌, ◌++◌, length, slice_get, Option, Some, None}
 use Rattle.ipc_core.specs.declared.waiter.Waiter.{Waiter}
 use Rattle.ipc_core.specs.declared.waiter.Sent.{Sent}
 use Rattle.ipc_core.specs.declared.waiter.Sent.TheVariants as S

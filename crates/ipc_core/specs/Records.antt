@@ -1,5 +1,5 @@
 -- The histories of sends and receives: records that are never taken away, and pairs by place.
-use Rattle.std.specs.Prelude.{ℕ, Bool, ◌==◌, ◌&&◌, List, [], ◌∷◌, ◌++◌, length, drop, map}
+use Rattle.std.specs.Prelude.{ℕ, Bool, ◌==◌, ◌&&◌, List, ◌++◌, length, drop, map}
 use Rattle.std.specs.List.{zip}
 use Rattle.cap_core.specs.declared.message.Message.{Message}
 use Rattle.cap_core.specs.declared.capability.Badge.{Badge}

@@ -1,18 +1,18 @@
 -- Who waits where, and how a send and a receive change it.
-use Rattle.std.specs.Prelude.{◌≡◌, ℕ, Bool, true, false, cond, ◌==◌, ◌||◌, ◌+◌, ◌%◌, ◌^◌, ◌<◌, nat_lt, List, [], ◌∷◌, ◌++◌, length, drop, slice_get, Option, Some, None}
+use Rattle.std.specs.Prelude.{◌≡◌, ℕ, Bool, cond, ◌==◌, ◌%◌, ◌^◌, ◌<◌, List, [], ◌∷◌, ◌++◌, drop, Option, Some, None}
 use Rattle.cap_core.specs.declared.profile.ProfileName.{ProfileName}
 use Rattle.cap_core.specs.declared.message.Message.{Message}
 use Rattle.cap_core.specs.declared.capability.Badge.{Badge}
 use Rattle.cap_core.specs.Numbers.{tcb_size, endpoint_size}
 use Rattle.ipc_core.specs.declared.waiter.Waiter.{Waiter}
 use Rattle.ipc_core.specs.declared.waiter.Waiter.TheVariants.{Sender, Receiver}
+pub use Rattle.ipc_core.specs.declared.waiter.Offer.{Offer}
 use Rattle.ipc_core.specs.declared.waiter.Role.{Role}
 use Rattle.ipc_core.specs.declared.waiter.Role.TheVariants.{Sending, Receiving}
 use Rattle.ipc_core.specs.declared.waiter.Sent.{Sent}
 use Rattle.ipc_core.specs.declared.waiter.Sent.TheVariants as S
 use Rattle.ipc_core.specs.declared.waiter.Received.{Received}
 use Rattle.ipc_core.specs.declared.waiter.Received.TheVariants as R
-use Rattle.ipc_core.specs.Records.{SendRecord, AskRecord, sender, receiver, waiting_list}
 
 -- the waiting list of each endpoint, the first to be served first, and how each thread waits
 pub record Waits : Type 0 where
@@ -35,12 +35,6 @@ pub record IsThreadAddress (p : ProfileName) (memory address : ℕ) : Type 0 whe
 -- f, but x at k
 abbrev pub changed : {X : Type 0} → (ℕ → X) → ℕ → X → ℕ → X
 changed f k x j = cond (j == k) x (f j)
-
--- a waiting sender, and what it sends
-pub record Offer : Type 0 where
-  pub thread : ℕ
-  pub badge : Badge
-  pub message : Message
 
 -- the receiver that is first in a waiting list, or the sender
 abbrev pub first_receiver : List Waiter → Option ℕ
@@ -96,7 +90,12 @@ received block e w = received_from (first_sender (w.queue e)) block
 abbrev pub after_receive : Bool → ℕ → ℕ → Waits → Waits
 after_receive block e thread w = waits_received_from (first_sender (w.queue e)) block e thread w
 
--- the thread that waits at a place of a waiting list, 0 the first
+-- the thread that waits
 abbrev pub thread_of : Waiter → ℕ
 thread_of (Sender thread badge message) = thread
 thread_of (Receiver thread) = thread
+
+-- how it waits, on this endpoint
+abbrev pub role_at : ℕ → Waiter → Role
+role_at e (Sender thread badge message) = Sending e
+role_at e (Receiver thread) = Receiving e

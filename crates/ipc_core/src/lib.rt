@@ -1,8 +1,11 @@
 //! Threads that wait on endpoints.
 #![tactic(auto)]
 
+mod row;
+pub mod rows;
 pub mod waiter;
 pub mod waiters;
 
-pub use waiter::{Received, Role, Sent, Waiter};
+pub use rows::RowWaiters;
+pub use waiter::{Offer, Received, Role, Sent, Waiter};
 pub use waiters::{MakeWaiters, Waiters};

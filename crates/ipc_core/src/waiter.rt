@@ -1,4 +1,7 @@
 //! What waits, and what a call on an endpoint answers.
+ghost use Rattle.std.specs.Prelude.{◌≡◌};
+ghost use Rattle.ipc_core.specs.Waits.{thread_of, role_at};
+
 use cap_core::{Badge, Message};
 
 /// A thread that waits on an endpoint, by the address of its thread control block.
@@ -14,6 +17,36 @@ pub enum Waiter {
     Receiver {
         thread: u64,
     },
+}
+
+impl Waiter {
+    /// The address of the thread control block.
+    pub fn thread(&self) -> u64
+        ensures { result ≡ thread_of self.now }
+    {
+        match self {
+            Waiter::Sender { thread, .. } => *thread,
+            Waiter::Receiver { thread } => *thread,
+        }
+    }
+
+    /// How the thread waits, where it does so on this endpoint.
+    pub fn role_at(&self, endpoint: u64) -> Role
+        ensures { result ≡ role_at endpoint self.now }
+    {
+        match self {
+            Waiter::Sender { .. } => Role::Sending(endpoint),
+            Waiter::Receiver { .. } => Role::Receiving(endpoint),
+        }
+    }
+}
+
+/// A waiting sender, and what it sends.
+#[derive(Clone, Copy, Debug, PartialEq, Eq)]
+pub struct Offer {
+    pub thread: u64,
+    pub badge: Badge,
+    pub message: Message,
 }
 
 /// How a thread waits, and the address of the endpoint on which it does.

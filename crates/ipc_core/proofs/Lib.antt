@@ -1,0 +1,5 @@
+pub mod First
+pub mod Pairs
+mod Queue
+mod Served
+mod Room

@@ -1,0 +1,13 @@
+use Rattle.std.proofs.Common.{◌≡◌, ◌-◌, ◌≤◌, ◌∙◌, arith}
+use Rattle.std.proofs.lemmas.Nat.{one_shl}
+use Rattle.cap_core.specs.Numbers.{tcb_bits}
+use Rattle.ipc_core.proofs.Room.{tcb_bits-most, enough_room}
+use Rattle.ipc_core.proofs.rows.RowWaitersMakeWaiters.new.Goals as goal
+
+pub invariant_of-result-clause-room : goal.invariant_of-result-clause-room
+invariant_of-result-clause-room g c =
+    let bits : c.TCB_BITS.result ≡ tcb_bits g.P.Profile.the = c.TCB_BITS.ensures ∙ g.met.P.Profile.tcb_bits_is in
+    let most : tcb_bits g.P.Profile.the ≤ 11 = tcb_bits-most g.P.Profile.the in
+    let one = one_shl (c.args.memory_bits - tcb_bits g.P.Profile.the) 64 (omega arith) in
+    let exact = (rw bits at c.in_ok-with_capacity.ensures.exact) ∙ one in
+    enough_room c.args.memory_bits (tcb_bits g.P.Profile.the) _ (omega arith) exact

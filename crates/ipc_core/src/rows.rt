@@ -1,0 +1,97 @@
+//! Waiting threads as rows.
+ghost use Rattle.std.specs.Prelude.{◌*◌, ◌^◌, ◌≤◌, vec_capacity};
+ghost use Rattle.cap_core.specs.Numbers.{tcb_size};
+ghost use Rattle.ipc_core.specs.Rows.{waits_of, AreDistinct, ArePlaced};
+
+use crate::row::{WaitRow, first_receiver, first_sender, push_row, remove_first, waiter_at};
+use crate::waiter::{Received, Role, Sent, Waiter};
+use crate::waiters::{MakeWaiters, Waiters};
+use cap_core::{Badge, Message, Profile};
+use std::alloc::{AllocError, Global};
+use std::marker::PhantomData;
+
+/// The threads that wait, a row each, in the order of waiting.
+///
+/// There is room for every thread of the memory from the first, so that no call takes memory.
+#[derive(Drop)]
+pub struct RowWaiters<P: Profile> {
+    rows: Vec<WaitRow>,
+    memory_bits: u32,
+    profile: PhantomData<P>,
+    ghost distinct: { AreDistinct rows.items },
+    ghost placed: { ArePlaced P.the memory_bits rows.items },
+    ghost room: { 2 ^ memory_bits ≤ vec_capacity rows * tcb_size P.the },
+}
+
+impl<P: Profile> Waiters<P> for RowWaiters<P> {
+    ghost waits = { λ w. waits_of w.rows.items };
+
+    ghost memory_bits = { λ w. w.memory_bits };
+
+    fn send(
+        &mut self,
+        endpoint: u64,
+        thread: u64,
+        badge: Badge,
+        message: Message,
+        block: bool,
+    ) -> Sent {
+        match first_receiver(&self.rows, endpoint) {
+            Some(to) => {
+                remove_first(&mut self.rows, endpoint);
+                Sent::Delivered { to }
+            },
+            None if block => {
+                let waiter = Waiter::Sender {
+                    thread,
+                    badge,
+                    message,
+                };
+                push_row(&mut self.rows, WaitRow { endpoint, waiter });
+                Sent::Waiting
+            },
+            None => Sent::Dropped,
+        }
+    }
+
+    fn recv(&mut self, endpoint: u64, thread: u64, block: bool) -> Received {
+        match first_sender(&self.rows, endpoint) {
+            Some(offer) => {
+                remove_first(&mut self.rows, endpoint);
+                Received::Delivered {
+                    from: offer.thread,
+                    badge: offer.badge,
+                    message: offer.message,
+                }
+            },
+            None if block => {
+                let waiter = Waiter::Receiver { thread };
+                push_row(&mut self.rows, WaitRow { endpoint, waiter });
+                Received::Waiting
+            },
+            None => Received::Empty,
+        }
+    }
+
+    fn role(&self, thread: u64) -> Option<Role> {
+        self.rows
+            .iter()
+            .find(|row| row.waiter.thread() == thread)
+            .map(|row| row.waiter.role_at(row.endpoint))
+    }
+
+    fn waiting(&self, endpoint: u64, place: u64) -> Option<u64> {
+        waiter_at(&self.rows, endpoint, place as usize).map(|waiter| waiter.thread())
+    }
+}
+
+impl<P: Profile> MakeWaiters<P> for RowWaiters<P> {
+    fn new(alloc: Global, memory_bits: u32) -> Result<Self, AllocError> {
+        let threads = 1usize << (memory_bits - P::TCB_BITS);
+        Ok(RowWaiters {
+            rows: Vec::with_capacity(alloc, threads)?,
+            memory_bits,
+            profile: PhantomData,
+        })
+    }
+}
