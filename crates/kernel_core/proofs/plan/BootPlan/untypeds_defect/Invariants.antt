@@ -1,0 +1,8 @@
+use Rattle.std.proofs.Common.{◌≡◌, drop}
+use Rattle.kernel_core.specs.Plan.{untypeds_defect}
+use Rattle.kernel_core.proofs.plan.BootPlan.untypeds_defect.Given as goal
+
+-- the regions before `place` have no defect
+abbrev pub invariant-loop-place : goal.invariant-loop-place
+invariant-loop-place g l =
+    untypeds_defect g.P.Profile.the l.self l.place (drop l.place l.self.untypeds) ≡ untypeds_defect g.P.Profile.the l.self 0 l.self.untypeds
