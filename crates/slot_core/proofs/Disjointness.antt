@@ -1,5 +1,5 @@
 -- Which puts keep live objects disjoint.
-use Rattle.std.proofs.Common.{◌≡◌, ◌≢◌, ℕ, ◌+◌, ◌<◌, ◌≤◌, ◌^◌, Bool, true, false, cond, not, ◌&&◌, ◌||◌, ◌==◌, eqb, List, [], ◌∷◌, ◌++◌, ◌⊎◌, inl, inr, refl, sym, ◌∙◌, ap, subst, arith, IsTrue, nat_le}
+use Rattle.std.proofs.Common.{◌≡◌, ℕ, ◌+◌, ◌≤◌, ◌^◌, Bool, true, false, cond, ◌&&◌, ◌||◌, ◌==◌, List, [], ◌∷◌, inl, inr, refl, sym, ◌∙◌, ap, subst, arith, IsTrue, nat_le}
 use Rattle.std.specs.List.{AllByRecursion as Each, Contains, list_any}
 use Rattle.std.proofs.Math.Nat.{one-le-pow}
 use Rattle.std.proofs.lemmas.Bool.{and_parts, eqb-true}
@@ -8,9 +8,9 @@ use Rattle.cap_core.specs.declared.profile.ProfileName.{ProfileName}
 use Rattle.cap_core.specs.declared.capability.Cap.{Cap}
 use Rattle.cap_core.specs.declared.capability.Cap.TheVariants.{Null, Untyped, Endpoint, CNode, Tcb}
 use Rattle.cap_core.specs.Objects.{is_null, is_untyped, base_of, bits_of, end_of, same_object, contains, are_apart}
-use Rattle.slot_core.specs.Forest.{Forest, none, tree, preorder, below_those, descendants, ancestors, below, after, root}
+use Rattle.slot_core.specs.Forest.{Forest, none, preorder, below_those, ancestors, below, after}
 use Rattle.slot_core.specs.Entries.{Entry, entry, is_at, is_full, cap_at, is_original}
-use Rattle.slot_core.specs.Derivation.{derived, derived_entry, rooted, is_named}
+use Rattle.slot_core.specs.Derivation.{derived, derived_entry, rooted}
 use Rattle.slot_core.specs.Disjoint.{are_disjoint, AreInLine, IsDisjoint}
 use Rattle.slot_core.proofs.Forests.{each-contained, each-contains, below_those-root, ancestors-root, ancestors-below, ancestors-after, each-below_those_below, each-below_those_after}
 use Rattle.slot_core.proofs.Edits.{contains-rooted, contains-derived, entry_at}

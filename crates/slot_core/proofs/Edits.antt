@@ -1,17 +1,15 @@
 -- What a capability that is put into the forest changes: which slots are full, and of what.
-use Rattle.std.proofs.Common.{◌≡◌, ◌≢◌, ℕ, ◌+◌, ◌<◌, ◌≤◌, ◌^◌, Bool, true, false, cond, not, ◌&&◌, ◌||◌, ◌==◌, eqb, List, [], ◌∷◌, ◌++◌, map, filter, ◌⊎◌, inl, inr, Option, refl, sym, ◌∙◌, ap, subst, arith, IsTrue, nat_le}
+use Rattle.std.proofs.Common.{◌≡◌, ◌≢◌, ℕ, Bool, true, false, cond, ◌&&◌, ◌||◌, ◌==◌, List, [], ◌∷◌, ◌++◌, filter, ◌⊎◌, refl, sym, ◌∙◌, ap, arith}
 use Rattle.std.specs.List.{AllByRecursion as Each, Contains, list_any}
 use Rattle.std.proofs.lemmas.Bool.Decides.{nat_tests}
 use Rattle.std.proofs.lemmas.List.Elements.{filter-append, Contains-append_right}
 use Rattle.std.proofs.lemmas.List.{append-nil}
-use Rattle.std.proofs.lemmas.List.Folds.{list_any-append}
 use Rattle.cap_core.specs.declared.capability.Cap.{Cap}
-use Rattle.cap_core.specs.declared.capability.Cap.TheVariants.{Null}
 use Rattle.cap_core.specs.Objects.{same_object}
-use Rattle.slot_core.specs.Forest.{Forest, none, tree, preorder, tops, below_those, below, after, root}
+use Rattle.slot_core.specs.Forest.{Forest, preorder, tops, below, after}
 use Rattle.slot_core.specs.Entries.{Entry, entry, is_at, is_full, cap_at, cap_in, is_original, original_in, first_child, first_slot}
 use Rattle.slot_core.specs.Derivation.{derived, derived_entry, rooted, is_new_original, is_named}
-use Rattle.slot_core.proofs.Forests.{each-root, each-below, each-after, contains-root, contains-root_old, contains-root_new, contains-below, contains-below_old, contains-after, contains-after_old, preorder-root, any-root, any-below, any-after, filter-below, filter-after, below_those-root}
+use Rattle.slot_core.proofs.Forests.{each-root, each-below, each-after, contains-root, contains-root_old, contains-below, contains-below_old, contains-after, contains-after_old, preorder-root, any-root, any-below, any-after, filter-below, filter-after, below_those-root}
 
 -- what holds of each entry
 

@@ -1,5 +1,5 @@
 -- Live objects are disjoint, and a capability stands in one line with each untyped one whose range contains its object.
-use Rattle.std.specs.Prelude.{◌≡◌, ℕ, Bool, true, ◌&&◌, ◌||◌, ◌⊎◌, IsTrue, List}
+use Rattle.std.specs.Prelude.{◌≡◌, Bool, ◌&&◌, ◌||◌, ◌⊎◌, IsTrue}
 use Rattle.std.specs.List.{Contains}
 use Rattle.cap_core.specs.declared.profile.ProfileName.{ProfileName}
 use Rattle.cap_core.specs.declared.capability.Cap.{Cap}

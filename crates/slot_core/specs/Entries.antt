@@ -1,9 +1,9 @@
 -- What stands in the derivation forest: a full slot, by its address, its capability, and whether it is original.
-use Rattle.std.specs.Prelude.{◌≡◌, ℕ, Bool, true, false, cond, not, ◌==◌, ◌&&◌, ◌||◌, List, [], ◌∷◌, map, filter, Option, Some, None, refl}
-use Rattle.std.specs.List.{list_any, filter_map}
+use Rattle.std.specs.Prelude.{ℕ, Bool, false, cond, ◌==◌, List, [], ◌∷◌, map, Option, Some, None}
+use Rattle.std.specs.List.{list_any}
 use Rattle.cap_core.specs.declared.capability.Cap.{Cap}
 use Rattle.cap_core.specs.declared.capability.Cap.TheVariants.{Null}
-use Rattle.slot_core.specs.Forest.{Forest, none, tree, preorder, children}
+use Rattle.slot_core.specs.Forest.{Forest, preorder, children}
 
 pub record Entry : Type 0 where
   pub slot : ℕ

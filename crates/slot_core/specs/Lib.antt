@@ -4,3 +4,4 @@ pub mod Entries
 pub mod Derivation
 pub mod Disjoint
 pub mod Places
+pub mod Rows

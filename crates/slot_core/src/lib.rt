@@ -1,8 +1,11 @@
 //! The capability store: which slot holds which capability, and the forest of their derivation.
 #![tactic(auto)]
 
+mod derivation;
+pub mod rows;
 pub mod slot;
 pub mod store;
 
+pub use rows::RowStore;
 pub use slot::Slot;
 pub use store::{CapStore, MakeStore};

@@ -1,0 +1,42 @@
+use Rattle.std.proofs.Common.{◌≡◌, ℕ, ◌<◌, ◌^◌, false, true, List, refl, sym, ◌∙◌, ap, subst, arith}
+use Rattle.std.specs.Prelude.{vec_capacity}
+use Rattle.slot_core.specs.declared.rows.Row.{Row}
+use Rattle.cap_core.specs.Objects.{IsLawful}
+use Rattle.slot_core.specs.Entries.{is_full}
+use Rattle.slot_core.specs.Derivation.{rooted}
+use Rattle.slot_core.specs.Places.{address_of}
+use Rattle.slot_core.specs.Rows.{forest_of, IsRowStore}
+use Rattle.slot_core.proofs.RowLists.{rows_root}
+use Rattle.slot_core.proofs.RowSteps.{room_left, store_pushed}
+use Rattle.slot_core.proofs.rows.RowStoreCapStore.put_root.Goals as goal
+
+pub unreachable-requires : goal.unreachable-requires
+unreachable-requires g c =
+    let p = g.P.Profile.the in
+    let l = c.self.inside.rows.items in
+    let x : Row = record { slot = c.args.slot; cap = c.args.cap; original = true; depth = 0 } in
+    let v : c.args.self.now ≡ (l, c.self.inside.memory_bits) = sym c.self.view_is in
+    let w : address_of p c.args.slot < 2 ^ c.self.inside.memory_bits = (let P : List Row × ℕ → Type 0 = λ n. address_of p c.args.slot < 2 ^ n.1 in subst P v c.requires.within) in
+    let h : is_full (address_of p c.args.slot) (forest_of p l) ≡ false = (let P : List Row × ℕ → Type 0 = λ n. is_full (address_of p c.args.slot) (forest_of p n.0) ≡ false in subst P v c.requires.empty) in
+    omega (arith, room_left p c.self.inside.memory_bits (vec_capacity c.self.inside.rows) l x c.self.invariant w h, c.in-Err.ensures.full)
+
+pub invariant_of-self : goal.invariant_of-self
+invariant_of-self g c =
+    let p = g.P.Profile.the in
+    let l = c.self.inside.rows.items in
+    let m = c.self.inside.memory_bits in
+    let x : Row = record { slot = c.args.slot; cap = c.args.cap; original = true; depth = 0 } in
+    let v : c.args.self.now ≡ (l, m) = sym c.self.view_is in
+    let w : address_of p c.args.slot < 2 ^ m = (let P : List Row × ℕ → Type 0 = λ n. address_of p c.args.slot < 2 ^ n.1 in subst P v c.requires.within) in
+    let h : is_full (address_of p c.args.slot) (forest_of p l) ≡ false = (let P : List Row × ℕ → Type 0 = λ n. is_full (address_of p c.args.slot) (forest_of p n.0) ≡ false in subst P v c.requires.empty) in
+    let f : IsLawful p m c.args.cap = (let P : List Row × ℕ → Type 0 = λ n. IsLawful p n.1 c.args.cap in subst P v c.requires.lawful) in
+    let Q : List Row → Type 0 = IsRowStore p m (vec_capacity c.push.new.self) in
+    subst Q (sym {A = List Row} c.in-Ok.ensures.items) (store_pushed p m (vec_capacity c.self.inside.rows) (vec_capacity c.push.new.self) l x c.self.invariant c.in-Ok.ensures.capacity w h f refl)
+
+pub returns-clause-forest : goal.returns-clause-forest
+returns-clause-forest g c =
+    let p = g.P.Profile.the in
+    let l = c.self.inside.rows.items in
+    let x : Row = record { slot = c.args.slot; cap = c.args.cap; original = true; depth = 0 } in
+    ap (forest_of p) c.in-Ok.ensures.items ∙ rows_root p c.args.slot c.args.cap l x refl refl
+    ∙ ap (λ (v : List Row × ℕ). rooted (address_of p c.args.slot) c.args.cap (forest_of p v.0)) c.self.view_is

@@ -1,0 +1,26 @@
+//! What a derived capability is.
+ghost use Rattle.std.specs.Prelude.{◌≡◌};
+ghost use Rattle.cap_core.specs.Objects.{badge_of as badge_in};
+ghost use Rattle.slot_core.specs.Derivation.{is_new_original as is_original_from};
+
+use cap_core::Cap;
+
+/// Whether a capability that is derived from `from` is original: it is untyped, or its badge is another.
+pub fn is_new_original(from: Cap, cap: Cap) -> bool
+    ensures { result ≡ is_original_from from cap }
+{
+    match cap {
+        Cap::Untyped { .. } => true,
+        _ => badge_of(cap) != badge_of(from),
+    }
+}
+
+/// The badge of a capability, 0 where it has none.
+fn badge_of(cap: Cap) -> u64
+    ensures { result ≡ badge_in cap }
+{
+    match cap {
+        Cap::Endpoint { badge, .. } => badge.0,
+        Cap::Null | Cap::Untyped { .. } | Cap::CNode { .. } | Cap::Tcb { .. } => 0,
+    }
+}

@@ -1,0 +1,129 @@
+//! The capability store as rows.
+ghost use Rattle.std.specs.Prelude.{◌≡◌, ◌+◌, ◌^◌, ◌<◌};
+ghost use Rattle.slot_core.specs.Rows.{place_of as place_in, derived_row};
+
+use crate::derivation::is_new_original;
+use crate::slot::Slot;
+use crate::store::{CapStore, MakeStore};
+use cap_core::{Cap, Profile};
+use std::alloc::{AllocError, Global};
+use std::marker::{Model, PhantomData};
+
+/// A full slot: its capability, whether that is original, and how many capabilities stand above it in its tree.
+#[derive(Clone, Copy)]
+struct Row {
+    slot: Slot,
+    cap: Cap,
+    original: bool,
+    depth: u64,
+}
+
+impl Row {
+    /// The row of a capability that is derived from this one's: one deeper where this one is original.
+    fn derived(&self, slot: Slot, cap: Cap) -> Row
+        requires { self.now.depth + 1 < 2 ^ 64 }
+        ensures { result ≡ derived_row self.now slot cap }
+    {
+        Row {
+            slot,
+            cap,
+            original: is_new_original(self.cap, cap),
+            depth: if self.original {
+                self.depth + 1
+            } else {
+                self.depth
+            },
+        }
+    }
+}
+
+/// The plain form of a capability store: the full slots in the preorder of their forest, with room for every slot of the
+/// memory.
+#[derive(Drop)]
+pub struct RowStore<P: Profile> {
+    rows: Vec<Row>,
+    memory_bits: u32,
+    profile: PhantomData<P>,
+}
+
+impl<P: Profile> Model for RowStore<P> {
+    ghost use Rattle.std.specs.Prelude.{ℕ, List, vec_capacity};
+    ghost use Rattle.slot_core.specs.declared.rows.Row.{Row};
+    ghost use Rattle.slot_core.specs.Rows.{IsRowStore};
+
+    ghost Value = { List Row × ℕ };
+
+    ghost view = { λ s. (s.rows.items, s.memory_bits) };
+
+    ghost invariant = { λ s. IsRowStore P.the s.memory_bits (vec_capacity s.rows) s.rows.items };
+}
+
+// The place of a slot's row, or the number of rows where the slot is empty.
+fn place_of(rows: &[Row], slot: Slot) -> usize
+    ensures { result ≡ place_in slot.place rows.now }
+{
+    for (i, row) in rows.iter().enumerate() {
+        if row.slot == slot {
+            return i;
+        }
+    }
+    rows.len()
+}
+
+impl<P: Profile> CapStore<P> for RowStore<P> {
+    ghost use Rattle.slot_core.specs.Rows.{forest_of};
+
+    ghost forest = { λ s. forest_of P.the s.0 };
+
+    ghost memory_bits = { λ s. s.1 };
+
+    fn get(&self, slot: Slot) -> Cap {
+        match self.rows.get(place_of(&self.rows, slot)) {
+            Some(row) => row.cap,
+            None => Cap::Null,
+        }
+    }
+
+    fn put_root(&mut self, slot: Slot, cap: Cap) {
+        let row = Row {
+            slot,
+            cap,
+            original: true,
+            depth: 0,
+        };
+        match self.rows.push(row) {
+            Ok(()) => {}
+            Err(_) => unreachable!(),
+        }
+    }
+
+    fn derive(&mut self, source: Slot, slot: Slot, cap: Cap) {
+        let i = place_of(&self.rows, source);
+        let row = self.rows[i].derived(slot, cap);
+        match self.rows.insert(i + 1, row) {
+            Ok(()) => {}
+            Err(_) => unreachable!(),
+        }
+    }
+
+    fn first_child(&self, slot: Slot) -> Option<Slot> {
+        let i = place_of(&self.rows, slot);
+        let row = self.rows.get(i)?;
+        let next = self.rows.get(i + 1)?;
+        if row.depth < next.depth {
+            Some(next.slot)
+        } else {
+            None
+        }
+    }
+}
+
+impl<P: Profile> MakeStore<P> for RowStore<P> {
+    fn new(alloc: Global, memory_bits: u32) -> Result<RowStore<P>, AllocError> {
+        Ok(RowStore {
+            rows: Vec::with_capacity(alloc, 1 << (memory_bits - P::SLOT_BITS))?,
+            memory_bits,
+            profile: PhantomData,
+        })
+    }
+}
