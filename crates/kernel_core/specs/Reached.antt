@@ -3,11 +3,11 @@ use Rattle.std.specs.Prelude.{◌≡◌, List}
 use Rattle.cap_core.specs.declared.profile.ProfileName.{ProfileName}
 use Rattle.kernel_core.specs.declared.call.Call.{Call}
 use Rattle.kernel_core.specs.declared.call.Reply.{Reply}
-use Rattle.kernel_core.specs.Plan.{Plan}
+use Rattle.kernel_core.specs.Plan.{Plan, IsPlan}
 use Rattle.kernel_core.specs.Shown.{Shown}
 use Rattle.kernel_core.specs.State.{State, shown}
 use Rattle.kernel_core.specs.Step.{step, state_after}
-use Rattle.kernel_core.specs.Boot.{IsPlan, boot}
+use Rattle.kernel_core.specs.Boot.{boot}
 
 -- some run from the boot of some lawful plan gives this state
 pub record IsReached (p : ProfileName) (A : State) : Type 0 where
