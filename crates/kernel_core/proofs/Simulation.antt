@@ -25,7 +25,8 @@ use Rattle.cap_core.specs.declared.profile.ProfileName.{ProfileName}
 use Rattle.kernel_core.specs.Effects.{Effect, changed, effect_of, op_effect, receive_effect, receive_meets, receive_waits, receives, send_effect, send_meets, send_waits}
 use Rattle.kernel_core.specs.Reached.{IsReached, StepsTo}
 use Rattle.cap_core.specs.declared.message.Message.{Message}
-use Rattle.ipc_core.specs.Waits.{Offer, first_sender}
+use Rattle.ipc_core.specs.declared.waiter.Offer.{Offer}
+use Rattle.ipc_core.specs.Waits.{first_sender}
 use Rattle.kernel_core.specs.Plan.{Plan}
 use Rattle.ipc_core.specs.declared.waiter.Waiter.TheVariants.{Receiver, Sender}
 use Rattle.cap_core.specs.declared.refusal.Refusal.{Refusal}

@@ -7,7 +7,8 @@ use Rattle.cap_core.specs.declared.message.Message.{Message}
 use Rattle.cap_core.specs.declared.refusal.Refusal.{Refusal}
 use Rattle.ipc_core.specs.declared.waiter.Waiter.{Waiter}
 use Rattle.ipc_core.specs.declared.waiter.Waiter.TheVariants.{Sender, Receiver}
-use Rattle.ipc_core.specs.Waits.{Offer, first_receiver, first_sender}
+use Rattle.ipc_core.specs.declared.waiter.Offer.{Offer}
+use Rattle.ipc_core.specs.Waits.{first_receiver, first_sender}
 use Rattle.kernel_core.specs.declared.call.Call.{Call}
 use Rattle.kernel_core.specs.declared.call.Op.{Op}
 use Rattle.kernel_core.specs.declared.call.Op.TheVariants.{Send, Recv}
