@@ -9,3 +9,6 @@ pub mod waiters;
 pub use rows::RowWaiters;
 pub use waiter::{Offer, Received, Role, Sent, Waiter};
 pub use waiters::{MakeWaiters, Waiters};
+
+#[cfg(test)]
+mod tests;

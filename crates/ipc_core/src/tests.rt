@@ -1,0 +1,112 @@
+use super::*;
+use cap_core::{Badge, Message, Narrow, Profile, Wide};
+use std::alloc::Global;
+use std::process::Abort;
+use std::test::Fail;
+
+const MEMORY_BITS: u32 = 14;
+
+fn message(label: u64) -> Message {
+    Message {
+        label,
+        words: [label, 0, 0, 0],
+        count: 1,
+    }
+}
+
+fn meets_the_receiver<P: Profile, W: MakeWaiters<P>>(
+    rt: &impl Abort,
+    alloc: Global,
+) -> Result<(), Fail> {
+    let mut waiters = W::new(alloc, MEMORY_BITS)?;
+    assert_eq!(rt; waiters.recv(64, 4096, true), Received::Waiting);
+    assert_eq!(rt; waiters.role(4096), Some(Role::Receiving(64)));
+    assert_eq!(rt; waiters.waiting(64, 0), Some(4096));
+    assert_eq!(rt; waiters.waiting(64, 1), None);
+    assert_eq!(rt; waiters.waiting(128, 0), None);
+    assert_eq!(rt;
+        waiters.send(128, 0, Badge(5), message(1), false),
+        Sent::Dropped
+    );
+    assert_eq!(rt;
+        waiters.send(64, 0, Badge(5), message(1), true),
+        Sent::Delivered { to: 4096 }
+    );
+    assert_eq!(rt; waiters.role(4096), None);
+    assert_eq!(rt; waiters.role(0), None);
+    assert_eq!(rt; waiters.waiting(64, 0), None);
+    Ok(())
+}
+
+fn serves_senders_in_order<P: Profile, W: MakeWaiters<P>>(
+    rt: &impl Abort,
+    alloc: Global,
+) -> Result<(), Fail> {
+    let mut waiters = W::new(alloc, MEMORY_BITS)?;
+    assert_eq!(rt;
+        waiters.send(64, 8192, Badge(3), message(30), true),
+        Sent::Waiting
+    );
+    assert_eq!(rt;
+        waiters.send(128, 12288, Badge(9), message(90), true),
+        Sent::Waiting
+    );
+    assert_eq!(rt;
+        waiters.send(64, 4096, Badge(4), message(40), true),
+        Sent::Waiting
+    );
+    assert_eq!(rt; waiters.role(8192), Some(Role::Sending(64)));
+    assert_eq!(rt; waiters.waiting(64, 0), Some(8192));
+    assert_eq!(rt; waiters.waiting(64, 1), Some(4096));
+    let first = Received::Delivered {
+        from: 8192,
+        badge: Badge(3),
+        message: message(30),
+    };
+    assert_eq!(rt; waiters.recv(64, 0, true), first);
+    let second = Received::Delivered {
+        from: 4096,
+        badge: Badge(4),
+        message: message(40),
+    };
+    assert_eq!(rt; waiters.recv(64, 0, false), second);
+    assert_eq!(rt; waiters.recv(64, 0, false), Received::Empty);
+    assert_eq!(rt; waiters.role(8192), None);
+    assert_eq!(rt; waiters.role(12288), Some(Role::Sending(128)));
+    assert_eq!(rt; waiters.waiting(128, 0), Some(12288));
+    Ok(())
+}
+
+fn leaves_no_trace<P: Profile, W: MakeWaiters<P>>(
+    rt: &impl Abort,
+    alloc: Global,
+) -> Result<(), Fail> {
+    let mut waiters = W::new(alloc, MEMORY_BITS)?;
+    assert_eq!(rt;
+        waiters.send(64, 0, Badge(5), message(1), false),
+        Sent::Dropped
+    );
+    assert_eq!(rt; waiters.role(0), None);
+    assert_eq!(rt; waiters.recv(64, 4096, false), Received::Empty);
+    assert_eq!(rt; waiters.role(4096), None);
+    assert_eq!(rt; waiters.waiting(64, 0), None);
+    Ok(())
+}
+
+#[test]
+fn rows_meet_the_receiver(rt: HostRuntime) -> Result<(), Fail> {
+    meets_the_receiver::<Wide, RowWaiters<Wide>>(&rt, rt.alloc())?;
+    meets_the_receiver::<Narrow, RowWaiters<Narrow>>(&rt, rt.alloc())
+}
+
+#[test]
+fn rows_serve_senders_in_order(rt: HostRuntime) -> Result<(), Fail> {
+    serves_senders_in_order::<Wide, RowWaiters<Wide>>(&rt, rt.alloc())?;
+    serves_senders_in_order::<Narrow, RowWaiters<Narrow>>(&rt, rt.alloc())
+}
+
+#[test]
+fn rows_leave_no_trace(rt: HostRuntime) -> Result<(), Fail> {
+    leaves_no_trace::<Wide, RowWaiters<Wide>>(&rt, rt.alloc())?;
+    leaves_no_trace::<Narrow, RowWaiters<Narrow>>(&rt, rt.alloc())
+}
