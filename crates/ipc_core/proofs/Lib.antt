@@ -2,4 +2,5 @@ pub mod First
 pub mod Pairs
 mod Queue
 mod Served
+pub mod Deliveries
 mod Room

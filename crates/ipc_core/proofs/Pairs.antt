@@ -59,16 +59,16 @@ receive_queued a [] (x ∷ asks) le = map-append receiver (x ∷ asks) (a ∷ []
 receive_queued a (s ∷ sends) [] le = absurd (omega arith)
 receive_queued a (s ∷ sends) (x ∷ asks) le = receive_queued a sends asks (omega arith)
 
-or_true : (b : Bool) → (b || true) ≡ true
+pub or_true : (b : Bool) → (b || true) ≡ true
 or_true true = refl
 or_true false = refl
 
-no_place : {X : Type 0} (xs : List X) (i : ℕ) → slice_get xs i ≡ None → length xs ≤ i
+pub no_place : {X : Type 0} (xs : List X) (i : ℕ) → slice_get xs i ≡ None → length xs ≤ i
 no_place [] i none = omega arith
 no_place (x ∷ xs) zero none = cc
 no_place (x ∷ xs) (suc i) none = omega (arith, no_place xs i none)
 
-not_below : (m n : ℕ) → n ≤ m → nat_lt m n ≡ false
+pub not_below : (m n : ℕ) → n ≤ m → nat_lt m n ≡ false
 not_below m n le = elim (leb_tells (suc m) n) [ inl w ↦ absurd (omega (arith, w.1)) | inr w ↦ w.0 ]
 
 at_itself : (e : ℕ) (list : List Waiter) (rest : ℕ → List Waiter) → changed rest e list e ≡ list

@@ -2,3 +2,4 @@ pub mod Records
 pub mod Waits
 pub mod Pairing
 pub mod Rows
+pub mod Deliveries

@@ -1,6 +1,7 @@
 //! Threads that wait on endpoints.
 #![tactic(auto)]
 
+pub mod law;
 mod row;
 pub mod rows;
 pub mod waiter;
