@@ -1,3 +1,4 @@
 pub mod Bits
 pub mod Nodes
 pub mod Steps
+pub mod Inside

@@ -1,3 +1,4 @@
 pub mod Bits
 pub mod Resolution
 pub mod Resolves
+pub mod Inside

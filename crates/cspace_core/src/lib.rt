@@ -9,6 +9,7 @@ ghost use Rattle.slot_core.specs.Entries.{cap_at};
 ghost use Rattle.slot_core.specs.Places.{address_of};
 ghost use Rattle.cspace_core.specs.Bits.{low_bits};
 ghost use Rattle.cspace_core.specs.Resolution.{resolution, found, choice_seen};
+ghost use Rattle.cspace_core.specs.Inside.{LiesInCNode};
 ghost use Rattle.cspace_core.specs.Resolves.{Chooses, Resolves};
 
 use cap_core::limits::MAX_MEMORY_BITS;
@@ -34,6 +35,7 @@ pub fn resolve<P: Profile, S: CapStore<P>>(
     requires bits { bits ≤ word_bits P.the }
     ensures value { found P.the result ≡ resolution P.the (cap_at (S.forest store.now)) root (low_bits bits address) }
     ensures within { IfOk result (λ r. address_of P.the r.0 < 2 ^ S.memory_bits store.now) }
+    ensures inside { IfOk result (λ r. LiesInCNode P.the (cap_at (S.forest store.now)) root (address_of P.the r.0)) }
     ensures relation { Resolves P.the (cap_at (S.forest store.now)) root (low_bits bits address) (found P.the result) }
 {
     let mut cap = root;

@@ -1,10 +1,11 @@
-use Rattle.std.proofs.Common.{rules, arith, ◌≡◌, ◌≤◌, inl, inr, ap, Err, true}
+use Rattle.std.proofs.Common.{rules, arith, ◌≡◌, ◌≤◌, inl, inr, sym, ap, Err, true}
 use Rattle.cap_core.specs.Numbers.{word_bits}
 use Rattle.slot_core.specs.Entries.{cap_at}
 use Rattle.cspace_core.specs.Resolution.{is_cnode}
 use Rattle.cspace_core.specs.Resolves.{refused}
 use Rattle.cspace_core.proofs.Nodes.{no_cnode, lawful_in_more}
 use Rattle.cspace_core.proofs.Steps.{fault_here, found_here, found_further, resolves_here, resolves_further, all_within}
+use Rattle.cspace_core.proofs.Inside.{lies_in_cnode}
 use Rattle.cspace_core.proofs.resolve.Goals as goal
 
 pub loop-slot-init : goal.loop-slot-init
@@ -41,6 +42,12 @@ pub returns-then-rest-eq0-clause-within : goal.returns-then-rest-eq0-clause-with
 returns-then-rest-eq0-clause-within g c =
     c.in_ok-slot.ensures.within (g.S.CapStore.memory_bits c.args.store.now) c.loop-slot.invariant.lawful
 
+pub returns-then-rest-eq0-clause-inside : goal.returns-then-rest-eq0-clause-inside
+returns-then-rest-eq0-clause-inside g c =
+    let value = found_here _ _ c.loop-slot.left c.loop-slot.invariant.value.0 _ _ _ c.in_ok-slot.rest c.args.address _
+    c.loop-slot.invariant.value.1.0 c.loop-slot.invariant.value.1.1 c.in_ok-slot.ensures.is (inl c.if-rest-eq0.true) in
+    lies_in_cnode _ _ _ c.args.bits c.args.address _ (sym value)
+
 pub returns-then-rest-eq0-clause-relation : goal.returns-then-rest-eq0-clause-relation
 returns-then-rest-eq0-clause-relation g c =
     c.loop-slot.invariant.relation _ (resolves_here _ _ _ _ _ c.in_ok-slot.rest c.args.address c.in_ok-slot.ensures.is (inl c.if-rest-eq0.true))
@@ -48,9 +55,11 @@ returns-then-rest-eq0-clause-relation g c =
 pub returns-in_default : goal.returns-in_default
 returns-in_default g c =
     let other = rw c.get-next.ensures.cap at (no_cnode c.get-next.result c.in_default.not-CNode) in
+    let value = found_here _ _ c.loop-slot.left c.loop-slot.invariant.value.0 _ _ _ c.in_ok-slot.rest c.args.address _
+    c.loop-slot.invariant.value.1.0 c.loop-slot.invariant.value.1.1 c.in_ok-slot.ensures.is (inr other) in
     record {
-      value = found_here _ _ c.loop-slot.left c.loop-slot.invariant.value.0 _ _ _ c.in_ok-slot.rest c.args.address _
-          c.loop-slot.invariant.value.1.0 c.loop-slot.invariant.value.1.1 c.in_ok-slot.ensures.is (inr other);
+      value = value;
+      inside = lies_in_cnode _ _ _ c.args.bits c.args.address _ (sym value);
       within = c.in_ok-slot.ensures.within (g.S.CapStore.memory_bits c.args.store.now) c.loop-slot.invariant.lawful;
       relation = c.loop-slot.invariant.relation _ (resolves_here _ _ _ _ _ c.in_ok-slot.rest c.args.address c.in_ok-slot.ensures.is (inr other));
     }
