@@ -34,6 +34,12 @@ addresses bits memory = multiples (2 ^ bits) (2 ^ memory / 2 ^ bits)
 abbrev pub line : List ℕ → List ℕ
 line text = text ++ codes "\n"
 
+-- ---- calls: a line for each, with its number
+
+abbrev pub call_text : ℕ → Call → Reply → Option (List ℕ) → List ℕ
+call_text number call reply expected =
+    decimal number ++ (codes " " ++ (decimal call.thread ++ (codes " " ++ (op_text call.op ++ (codes ": " ++ (reply_text reply ++ verdict_text expected reply))))))
+
 -- ---- threads: a line for each live thread, by rising address
 
 abbrev pub thread_text : ℕ → ThreadState → Option Inbox → List ℕ

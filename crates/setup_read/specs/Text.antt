@@ -64,10 +64,12 @@ reply_text (Refused refusal) = codes "refused " ++ refusal_text refusal
 reply_text (Delivered endpoint from to badge message) =
     codes "delivered " ++ (decimal endpoint ++ (codes " from " ++ (decimal from ++ (codes " to " ++ (decimal to ++ (codes " badge " ++ (decimal badge.0 ++ (codes " " ++ message_text message))))))))
 
--- an expectation is met by a reply whose text equals it, or begins with it followed by a space
+-- a text equals the expected one, or begins with it followed by a space
+abbrev pub begins_as : List ℕ → List ℕ → Bool
+begins_as text expected = pointwise nat_eq text expected || starts_with nat_eq text (expected ++ codes " ")
+
 abbrev pub is_met : List ℕ → Reply → Bool
-is_met expected reply =
-    pointwise nat_eq (reply_text reply) expected || starts_with nat_eq (reply_text reply) (expected ++ codes " ")
+is_met expected reply = begins_as (reply_text reply) expected
 
 -- what is said of an expectation, where a call has one
 abbrev pub verdict_text : Option (List ℕ) → Reply → List ℕ

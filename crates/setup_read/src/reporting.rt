@@ -1,4 +1,5 @@
 //! The report of a run: each call with its reply, and what the kernel shows at the end.
+mod calls;
 mod lines;
 mod memory;
 mod naming;

@@ -8,7 +8,7 @@ use cap_core::Cap;
 use kernel_core::{Inbox, ThreadState};
 use std::fmt;
 
-/// What is said of an expectation, where a call has one.
+/// What is said of the expectation of a call, where it has one.
 #[derive(Clone, Copy)]
 pub enum Verdict<'a> {
     None,
@@ -17,9 +17,9 @@ pub enum Verdict<'a> {
 }
 
 impl fmt::Display for Verdict<'_> {
-    ghost use Rattle.setup_read.specs.Lines.{verdict_output};
+    ghost use Rattle.setup_read.specs.Verdicts.{text_of_verdict};
 
-    ghost output = { λ v. Some (verdict_output v) };
+    ghost output = { λ v. Some (text_of_verdict v) };
 
     fn fmt<W: fmt::Write>(&self, f: &mut fmt::Formatter<W>) -> fmt::Result {
         match self {
