@@ -1,4 +1,8 @@
+pub mod Sizes
 pub mod Keyed
+pub mod Threads
+pub mod Parts
+pub mod Showing
 pub mod Lists
 pub mod Live
 pub mod Sending

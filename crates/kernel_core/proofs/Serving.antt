@@ -138,25 +138,26 @@ module _ (A : State) (t : ℕ) (service : Service) (fresh : A.is_cancelled (A.co
     -- what is shown after a receive that is delivered
     pub shown_serves : A.is_idle s.thread ≡ false → s.thread ≡ thread_at A s.thread.base → list_any (λ k. s.thread.base == k) (threads_of A.derivations) ≡ true → list_any (λ k. t == k) (threads_of A.derivations) ≡ true →
         (let v = shown A in
-        shown A' ≡ changed (record v { threads = insert v.threads t (receives s.badge s.message) }) s.thread.base (record { state = Ready; inbox = inbox_of A s.thread }) service.endpoint (drop 1 (waiters A e)))
+        shown A' ≡ changed (record v { threads = insert v.threads s.thread.base (record { state = Ready; inbox = inbox_of A s.thread }) }) t (receives s.badge s.message) service.endpoint (drop 1 (waiters A e)))
     shown_serves awake known thread thread_t =
         let ne : s.thread.base ≢ t = other_thread known in
-        let mid : ℕ → ThreadView = λ q. cond (q == t) (receives s.badge s.message) (thread_view A q) in
-        let mid_t : mid t ≡ receives s.badge s.message = ap (λ (b : Bool). cond b (receives s.badge s.message) (thread_view A t)) (eq-eqb t t refl) in
-        let mid_else : (q : ℕ) → q ≢ t → mid q ≡ thread_view A q = λ q n. ap (λ (b : Bool). cond b (receives s.badge s.message) (thread_view A q)) (ne_eqb q t n) in
-        let row : thread_view A' s.thread.base ≡ record { state = Ready; inbox = inbox_of A s.thread } =
+        let from : ThreadView = record { state = Ready; inbox = inbox_of A s.thread } in
+        let mid : ℕ → ThreadView = λ q. cond (q == s.thread.base) from (thread_view A q) in
+        let mid_from : mid s.thread.base ≡ from = ap (λ (b : Bool). cond b from (thread_view A s.thread.base)) (eq-eqb s.thread.base s.thread.base refl) in
+        let mid_else : (q : ℕ) → q ≢ s.thread.base → mid q ≡ thread_view A q = λ q n. ap (λ (b : Bool). cond b from (thread_view A q)) (ne_eqb q s.thread.base n) in
+        let row : thread_view A' s.thread.base ≡ from =
         ap (λ (m : Instance). record { state = state_of A' m; inbox = inbox_of A' m }) (sym known)
         ∙ (λ i. record { state = served_ready awake i; inbox = inbox_else s.thread (not_same (thread_at A t) s.thread (λ d. ne (sym d))) i }) in
         let stays : (q : ℕ) → q ≢ s.thread.base → state_of A' (thread_at A q) ≡ state_of A (thread_at A q) = λ q n. (λ i. first_of (find (λ b. sending_at (thread_at A q) b (not_same s.thread (thread_at A q) (λ d. n (sym d))) i) (endpoints_of A.derivations)) (find (λ b. receiving_at (thread_at A q) b i) (endpoints_of A.derivations)) (cond (A.is_idle (thread_at A q)) Inactive Ready)) in
-        let others : (q : ℕ) → q ≢ s.thread.base → thread_view A' q ≡ mid q = λ q n. elim (eqb_tells q t) [
-          | inl w ↦ subst (λ (k : ℕ). thread_view A' k ≡ mid k) (sym w.1)
-              ((λ i. record { state = (stays t (λ d. ne (sym d)) ∙ ready) i; inbox = inbox_filled i }) ∙ sym mid_t)
-          | inr w ↦ (λ i. record { state = stays q n i; inbox = inbox_else (thread_at A q) (not_same (thread_at A t) (thread_at A q) (λ d. w.1 (sym d))) i }) ∙ sym (mid_else q w.1)
+        let here : thread_view A' t ≡ receives s.badge s.message = λ i. record { state = (stays t (λ d. ne (sym d)) ∙ ready) i; inbox = inbox_filled i } in
+        let others : (q : ℕ) → q ≢ t → thread_view A' q ≡ mid q = λ q n. elim (eqb_tells q s.thread.base) [
+          | inl w ↦ subst (λ (k : ℕ). thread_view A' k ≡ mid k) (sym w.1) (row ∙ sym mid_from)
+          | inr w ↦ (λ i. record { state = stays q w.1 i; inbox = inbox_else (thread_at A q) (not_same (thread_at A t) (thread_at A q) (λ d. n (sym d))) i }) ∙ sym (mid_else q w.1)
         ] in
-        let first = table_changed (threads_of A.derivations) (thread_view A) mid t (in_table _ _ _ thread_t) mid_else ∙ ap (insert (table (threads_of A.derivations) (thread_view A)) t) mid_t in
-        let rows = table_changed (threads_of A.derivations) mid (thread_view A') s.thread.base (in_table _ _ _ thread) others
-        ∙ ap (λ (m : FinMap nat_cmp ThreadView). insert m s.thread.base (thread_view A' s.thread.base)) first
-        ∙ ap (insert (insert (table (threads_of A.derivations) (thread_view A)) t (receives s.badge s.message)) s.thread.base) row in
+        let first = table_changed (threads_of A.derivations) (thread_view A) mid s.thread.base (in_table _ _ _ thread) mid_else ∙ ap (insert (table (threads_of A.derivations) (thread_view A)) s.thread.base) mid_from in
+        let rows = table_changed (threads_of A.derivations) mid (thread_view A') t (in_table _ _ _ thread_t) others
+        ∙ ap (λ (m : FinMap nat_cmp ThreadView). insert m t (thread_view A' t)) first
+        ∙ ap (insert (insert (table (threads_of A.derivations) (thread_view A)) s.thread.base from) t) here in
         let lists = table_changed (endpoints_of A.derivations) (λ base. waiters A (endpoint_at A base)) (λ base. waiters A' (endpoint_at A base)) service.endpoint (in_table _ _ _ live) (λ q n. lists_elsewhere A t service fresh asks_numbered (endpoint_at A q) (not_same e (endpoint_at A q) (λ d. n (sym d))))
         ∙ ap (insert (table (endpoints_of A.derivations) (λ base. waiters A (endpoint_at A base))) service.endpoint) (sym (ap (drop 1) list_left)) in
         λ i. record { derivations = A.derivations; threads = rows i; endpoints = lists i }

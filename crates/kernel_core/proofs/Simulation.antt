@@ -142,10 +142,10 @@ recv_steps A call service inv pass address (Some s) met =
     let shows = shown_serves A call.thread service fresh inv.sends_numbered inv.numbered s met pass.endpoint_live pass.ready inv.once inv.alone (inv.awake s.thread) known.0 known.1 pass.thread_live in
     let inbox : inbox_at (shown A) s.thread.base ≡ inbox_of A s.thread = inbox_shown A s.thread.base known.1 ∙ ap (inbox_of A) (sym known.0) in
     let v = shown A in
-    let w : Shown = record v { threads = insert v.threads call.thread (receives s.badge s.message) } in (
+    let w : Option Inbox → Shown = λ i. record v { threads = insert v.threads s.thread.base (record { state = Ready; inbox = i }) } in (
       ap (λ (o : Effect). o.reply) exact ∙ sym (ap (spec.reply_to_receive (ask_record A call.thread service)) met),
       ap (λ (o : Effect). o.after) exact
-          ∙ ap (λ (i : Option Inbox). changed w s.thread.base (record { state = Ready; inbox = i }) service.endpoint (drop 1 (waiters A e))) inbox
+          ∙ ap (λ (i : Option Inbox). changed (w i) call.thread (receives s.badge s.message) service.endpoint (drop 1 (waiters A e))) inbox
           ∙ sym shows,
     )
 

@@ -62,10 +62,10 @@ receive_waits v t service list =
 abbrev pub receive_meets : Shown → ℕ → Service → List Waiter → Option Offer → Effect
 receive_meets v t service list None = receive_waits v t service list
 receive_meets v t service list (Some offer) =
-    let w = record v { threads = insert v.threads t (receives offer.badge offer.message) } in
+    let w = record v { threads = insert v.threads offer.thread (record { state = Ready; inbox = inbox_at v offer.thread }) } in
     record {
       reply = Delivered service.endpoint offer.thread t offer.badge offer.message;
-      after = changed w offer.thread (record { state = Ready; inbox = inbox_at v offer.thread }) service.endpoint (drop 1 list);
+      after = changed w t (receives offer.badge offer.message) service.endpoint (drop 1 list);
     }
 
 -- a receive by a thread, where this is the endpoint's waiting list

@@ -1,12 +1,12 @@
 -- What is shown of a kernel's state: capabilities and their derivation, live threads, and live endpoints.
-use Rattle.std.specs.Prelude.{ℕ, List, [], map, Option, None, Some, unwrap_or, option_map, option_and_then}
+use Rattle.std.specs.Prelude.{ℕ, List, [], map, Option, None, Some, is_some, Bool, unwrap_or, option_map, option_and_then}
 use Rattle.std.specs.List.{filter_map}
 use Rattle.std.specs.Ordering.{nat_cmp}
 use Rattle.std.specs.FinMap.{FinMap, get, from_entries}
 use Rattle.cap_core.specs.declared.capability.Cap.{Cap}
 use Rattle.cap_core.specs.declared.capability.Cap.TheVariants.{Null, Untyped, Endpoint, CNode, Tcb}
 use Rattle.slot_core.specs.Forest.{Forest}
-use Rattle.slot_core.specs.Entries.{Entry, caps}
+use Rattle.slot_core.specs.Entries.{Entry, caps, first_child}
 use Rattle.ipc_core.specs.declared.waiter.Waiter.{Waiter}
 use Rattle.kernel_core.specs.declared.call.ThreadState.{ThreadState}
 use Rattle.kernel_core.specs.declared.call.Inbox.{Inbox}
@@ -57,3 +57,7 @@ inbox_at v t = option_and_then (λ (thread : ThreadView). thread.inbox) (get v.t
 -- the waiting list of an endpoint, empty where no live endpoint is at the address
 abbrev pub waiting_at : Shown → ℕ → List Waiter
 waiting_at v e = unwrap_or (get v.endpoints e) []
+
+-- whether a slot has a child
+abbrev pub has_child : ℕ → Forest Entry → Bool
+has_child slot f = is_some (first_child slot f)

@@ -1,7 +1,21 @@
 //! The kernel.
-use crate::rows::ThreadRow;
-use cap_core::Profile;
-use ipc_core::Waiters;
+ghost use Rattle.std.specs.Prelude.{◌≡◌, ◌⊎◌, ℕ, Some, None, IfOk, option_map, slice_get, vec_len, vec_capacity, length, ◌≤◌, ◌<◌, ◌+◌, ◌++◌, ◌∷◌, []};
+ghost use Rattle.std.specs.FinMap as map;
+ghost use Rattle.cap_core.specs.Numbers.{tcb_size};
+ghost use Rattle.slot_core.specs.Entries.{cap_at as cap_held};
+ghost use Rattle.ipc_core.specs.Waits.{thread_of};
+ghost use Rattle.kernel_core.specs.Shown.{state_at, inbox_at, waiting_at, has_child};
+ghost use Rattle.kernel_core.specs.Checks.{checked};
+ghost use Rattle.kernel_core.specs.Effects.{send_effect, receive_effect, effect_of, IsReady, IsLiveEndpoint};
+ghost use Rattle.kernel_core.specs.State.{State, shown};
+ghost use Rattle.kernel_core.specs.Step.{replies_of, state_after};
+ghost use Rattle.kernel_core.specs.Reached.{IsReached, StepsTo};
+
+use crate::call::{Call, Inbox, Op, Reply, Service, ThreadState};
+use crate::lookup::{is_endpoint_address, service_for, slot_within};
+use crate::rows::{ThreadRow, row_at, set_row};
+use cap_core::{Cap, Message, Profile, Refusal};
+use ipc_core::{Received, Role, Sent, Waiters};
 use slot_core::CapStore;
 use std::marker::{Model, PhantomData};
 
@@ -34,4 +48,162 @@ impl<P: Profile, S: CapStore<P> + Drop, W: Waiters<P> + Drop> Model for Kernel<P
     ghost view = { λ a. kernel_shown P.the (S.forest a.store) a.threads.items (W.waits a.waiters) };
 
     ghost invariant = { λ a. IsKernel P.the a.memory_bits (S.memory_bits a.store) (W.memory_bits a.waiters) (S.forest a.store) a.threads.items (W.waits a.waiters) };
+}
+
+impl<P: Profile, S: CapStore<P> + Drop, W: Waiters<P> + Drop> Kernel<P, S, W> {
+    /// Makes one call of one thread, whole (seL4 Reference Manual, on system calls and IPC), and answers it. It is
+    /// refused, and nothing changes, by the first of these that fails:
+    ///
+    /// - `NoThread` where no live thread control block is at the address, `NotReady` where the thread is not ready;
+    /// - `FailedLookup` with its kind where the word `cap`, all its bits, leads to no slot of the thread's capability
+    ///   space;
+    /// - `InvalidCapability` where that slot is empty, `IllegalOperation` where it holds no endpoint capability;
+    /// - `InvalidCapability` where the capability lacks the right: to write for a send, to read for a receive.
+    ///
+    /// For a kernel that stands for a state that runs reach, the reply and what is shown after are those of the abstract
+    /// step. It takes no memory.
+    pub fn step(&mut self, call: Call) -> Reply
+        ensures stands { (A : State) → IsReached P.the A → self.old ≡ shown A → StepsTo P.the A call result self.new }
+    {
+        self.perform(call)
+    }
+
+    fn perform(&mut self, call: Call) -> Reply
+        ensures reply { result ≡ (effect_of P.the self.old call).reply }
+        ensures after { self.new ≡ (effect_of P.the self.old call).after }
+    {
+        match self.check(call) {
+            Err(refusal) => Reply::Refused(refusal),
+            Ok(service) => match call.op {
+                Op::Send { message, .. } => self.send(call.thread, service, message),
+                Op::Recv { .. } => self.recv(call.thread, service),
+            },
+        }
+    }
+
+    /// The first check that fails, or the endpoint that the call may use.
+    fn check(&self, call: Call) -> Result<Service, Refusal>
+        ensures service { result ≡ checked P.the self.now call }
+        ensures live { IfOk result (λ (s : Service). IsLiveEndpoint self.now s.endpoint) }
+        ensures ready { IfOk result (λ (s : Service). IsReady self.now call.thread) }
+    {
+        match self.thread_state(call.thread).ok_or(Refusal::NoThread)? {
+            ThreadState::Ready => service_for::<P, S>(&self.store, call),
+            _ => Err(Refusal::NotReady),
+        }
+    }
+
+    fn send(&mut self, thread: u64, service: Service, message: Message) -> Reply
+        requires ready { IsReady self.old thread }
+        requires live { IsLiveEndpoint self.old service.endpoint }
+        ensures reply { result ≡ (send_effect self.old thread service message (waiting_at self.old service.endpoint)).reply }
+        ensures after { self.new ≡ (send_effect self.old thread service message (waiting_at self.old service.endpoint)).after }
+    {
+        let Service { endpoint, badge } = service;
+        match self.waiters.send(endpoint, thread, badge, message, true) {
+            Sent::Delivered { to } => {
+                let inbox = Some(Inbox { badge, message });
+                let row = ThreadRow {
+                    inactive: false,
+                    inbox,
+                };
+                set_row::<P>(&mut self.threads, to, row);
+                Reply::Delivered {
+                    endpoint,
+                    from: thread,
+                    to,
+                    badge,
+                    message,
+                }
+            }
+            Sent::Waiting => Reply::Waiting,
+            Sent::Dropped => Reply::Dropped,
+        }
+    }
+
+    fn recv(&mut self, thread: u64, service: Service) -> Reply
+        requires ready { IsReady self.old thread }
+        requires live { IsLiveEndpoint self.old service.endpoint }
+        ensures reply { result ≡ (receive_effect self.old thread service (waiting_at self.old service.endpoint)).reply }
+        ensures after { self.new ≡ (receive_effect self.old thread service (waiting_at self.old service.endpoint)).after }
+    {
+        let endpoint = service.endpoint;
+        match self.waiters.recv(endpoint, thread, true) {
+            Received::Delivered {
+                from,
+                badge,
+                message,
+            } => {
+                let inbox = Some(Inbox { badge, message });
+                let row = ThreadRow {
+                    inactive: false,
+                    inbox,
+                };
+                set_row::<P>(&mut self.threads, thread, row);
+                Reply::Delivered {
+                    endpoint,
+                    from,
+                    to: thread,
+                    badge,
+                    message,
+                }
+            }
+            Received::Waiting => Reply::Waiting,
+            Received::Empty => Reply::Empty,
+        }
+    }
+
+    /// What a thread does, or `None` where no live thread control block is at the address. It takes no memory.
+    pub fn thread_state(&self, tcb: u64) -> Option<ThreadState>
+        ensures { result ≡ state_at self.now tcb }
+    {
+        let row = row_at::<P>(self.threads.as_slice(), tcb)?;
+        let state = match self.waiters.role(tcb) {
+            Some(Role::Sending(endpoint)) => ThreadState::Sending(endpoint),
+            Some(Role::Receiving(endpoint)) => ThreadState::Receiving(endpoint),
+            None => row.state(),
+        };
+        Some(state)
+    }
+
+    /// The last message that was delivered to a thread since it was made, with its badge; `None` where there is none, and
+    /// where no live thread control block is at the address. It takes no memory.
+    pub fn inbox(&self, tcb: u64) -> Option<Inbox>
+        ensures { result ≡ inbox_at self.now tcb }
+    {
+        row_at::<P>(self.threads.as_slice(), tcb)?.inbox
+    }
+
+    /// The capability that the slot at an address holds: `Null` where the slot is empty, and where no slot can stand at
+    /// the address. It takes no memory.
+    pub fn cap_at(&self, slot: u64) -> Cap
+        ensures { result ≡ cap_held self.now.derivations slot }
+    {
+        match slot_within::<P>(self.memory_bits, slot) {
+            Some(slot) => self.store.get(slot),
+            None => Cap::Null,
+        }
+    }
+
+    /// Whether a capability was derived from the one in the slot at an address, and still stands. It takes no memory.
+    pub fn has_children(&self, slot: u64) -> bool
+        ensures { result ≡ has_child slot self.now.derivations }
+    {
+        match slot_within::<P>(self.memory_bits, slot) {
+            Some(slot) => self.store.first_child(slot).is_some(),
+            None => false,
+        }
+    }
+
+    /// The thread that waits at a place of an endpoint's waiting list, 0 the first; `None` past its end, and where no
+    /// live endpoint is at the address. It takes no memory.
+    pub fn waiting(&self, endpoint: u64, place: u64) -> Option<u64>
+        ensures { result ≡ option_map thread_of (slice_get (waiting_at self.now endpoint) place) }
+    {
+        if is_endpoint_address::<P>(self.memory_bits, endpoint) {
+            self.waiters.waiting(endpoint, place)
+        } else {
+            None
+        }
+    }
 }

@@ -3,6 +3,7 @@
 
 pub mod call;
 pub mod kernel;
+mod lookup;
 pub mod plan;
 pub mod rows;
 

@@ -1,0 +1,29 @@
+use Rattle.std.proofs.Common.{◌≡◌, ◌≤◌, ◌/◌, ◌%◌, ◌^◌, ℕ, None, get_or, length, sym, ap, subst, ◌∙◌, arith}
+use Rattle.cap_core.specs.Numbers.{tcb_size}
+use Rattle.kernel_core.proofs.Sizes.{tcb_size-pos, tcb_size-shifted}
+use Rattle.kernel_core.proofs.Keyed.{get_row, get_no_row, get_row_past}
+use Rattle.kernel_core.proofs.rows.row_at.Goals as goal
+use Rattle.kernel_core.proofs.rows.row_at.Goals.{then-thread-TCB_BITS-ne0-via-then-thread-TCB_BITS-ne0, then-thread-TCB_BITS-ne0-via-else-thread-TCB_BITS-ne0+then-place-rows}
+
+pub returns-then-thread-TCB_BITS-ne0 : goal.returns-then-thread-TCB_BITS-ne0
+returns-then-thread-TCB_BITS-ne0 g c =
+    let p = g.P.Profile.the in
+    let t = c.args.thread in
+    let size : 2 ^ c.TCB_BITS.result ≡ tcb_size p = ap (λ (n : ℕ). 2 ^ n) (c.TCB_BITS.ensures ∙ g.met.P.Profile.tcb_bits_is) in
+    let size' = tcb_size-shifted p c.TCB_BITS-2.result (c.TCB_BITS-2.ensures ∙ g.met.P.Profile.tcb_bits_is) in
+    elim c.then-thread-TCB_BITS-ne0.branch [
+      | then-thread-TCB_BITS-ne0-via-then-thread-TCB_BITS-ne0 w ↦
+          sym (get_no_row (tcb_size p) t c.args.rows.now (λ e. w.if-thread-TCB_BITS-ne0.true (ap (λ (n : ℕ). t % n) size' ∙ e)))
+      | then-thread-TCB_BITS-ne0-via-else-thread-TCB_BITS-ne0+then-place-rows w ↦
+          sym (get_row_past (tcb_size p) t c.args.rows.now (tcb_size-pos p) (sym (ap (λ (n : ℕ). t % n) size') ∙ w.if-thread-TCB_BITS-ne0.false)
+          (subst (λ (n : ℕ). length c.args.rows.now ≤ t / n) size w.if-place-rows.true))
+    ]
+
+pub returns : goal.returns
+returns g c =
+    let p = g.P.Profile.the in
+    let t = c.args.thread in
+    let size : 2 ^ c.TCB_BITS.result ≡ tcb_size p = ap (λ (n : ℕ). 2 ^ n) (c.TCB_BITS.ensures ∙ g.met.P.Profile.tcb_bits_is) in
+    let size' = tcb_size-shifted p c.TCB_BITS-2.result (c.TCB_BITS-2.ensures ∙ g.met.P.Profile.tcb_bits_is) in
+    ap (λ (n : ℕ). get_or c.args.rows.now (t / n) None) size
+    ∙ sym (get_row (tcb_size p) t c.args.rows.now (tcb_size-pos p) (sym (ap (λ (n : ℕ). t % n) size') ∙ c.if-thread-TCB_BITS-ne0.false))
