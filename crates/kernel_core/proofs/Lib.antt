@@ -3,6 +3,8 @@ pub mod Keyed
 pub mod Threads
 pub mod Parts
 pub mod Showing
+pub mod Addresses
+pub mod Sends
 pub mod Lists
 pub mod Live
 pub mod Sending

@@ -11,16 +11,18 @@ use Rattle.cap_core.specs.declared.capability.Badge.{Badge}
 use Rattle.cap_core.specs.declared.message.Message.{Message}
 use Rattle.cap_core.specs.Numbers.{tcb_size}
 use Rattle.slot_core.specs.Forest.{Forest}
-use Rattle.slot_core.specs.Entries.{Entry}
+use Rattle.slot_core.specs.Entries.{Entry, caps}
 use Rattle.ipc_core.specs.declared.waiter.Waiter.{Waiter}
 use Rattle.ipc_core.specs.declared.waiter.Waiter.TheVariants.{Sender, Receiver}
 use Rattle.ipc_core.specs.declared.waiter.Role.{Role}
 use Rattle.ipc_core.specs.declared.waiter.Role.TheVariants as R
-use Rattle.ipc_core.specs.Waits.{Waits, Offer, thread_of, first_receiver, first_sender, served, queued} 
+use Rattle.ipc_core.specs.declared.waiter.Offer.{Offer}
+use Rattle.ipc_core.specs.Waits.{Waits, IsEndpointAddress, thread_of, first_receiver, first_sender, served, queued}
 use Rattle.kernel_core.specs.declared.rows.ThreadRow.{ThreadRow}
 use Rattle.kernel_core.specs.Shown.{Shown, ThreadView, endpoints_of, waiting_at}
 use Rattle.kernel_core.specs.Effects.{IsLiveEndpoint}
 use Rattle.kernel_core.specs.Rows.{rows_map, threads_shown, kernel_shown, IsActive, IsKernel, view_of}
+use Rattle.kernel_core.proofs.Addresses.{live_address}
 use Rattle.kernel_core.proofs.Keyed.{get_after, get_table, row_is_there}
 
 -- a row that is not inactive stays so where one such row is written
@@ -133,3 +135,11 @@ module _ (p : ProfileName) (memory store waiters : ℕ) (f : Forest Entry) (rows
 
   pub sender_active : (e : ℕ) (offer : Offer) → first_sender (w.queue e) ≡ Some offer → IsActive (tcb_size p) rows offer.thread
   sender_active e offer h = first_active e (Sender offer.thread offer.badge offer.message) (sender_first (w.queue e) offer h)
+
+  -- nobody waits where no endpoint can stand
+  pub nobody_there : (e : ℕ) → (IsEndpointAddress p memory e → ⊥) → waiting_at (kernel_shown p f rows w) e ≡ []
+  nobody_there e away = waiting_is e ∙ kernel.dead_queue e (not_live _ refl)
+    where
+      not_live : (b : Bool) → list_any (λ k. e == k) (endpoints_of f) ≡ b → list_any (λ k. e == k) (endpoints_of f) ≡ false
+      not_live true is = absurd (away (live_address p memory e (caps f) is kernel.lawful))
+      not_live false is = is

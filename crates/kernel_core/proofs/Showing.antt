@@ -1,5 +1,5 @@
 -- What a kernel shows after a send and after a receive.
-use Rattle.std.proofs.Common.{◌≡◌, ◌≢◌, ℕ, ◌<◌, Bool, true, false, cond, ◌==◌, List, [], ◌∷◌, ◌++◌, drop, length, Option, None, Some, IsSome, IsSomeAnd, option_map, option_and_then, refl, sym, ap, subst, ◌∙◌, inl, inr, eq-eqb}
+use Rattle.std.proofs.Common.{◌≡◌, ◌≢◌, ℕ, ◌<◌, Bool, true, false, cond, ◌==◌, List, [], ◌∷◌, ◌++◌, drop, length, Option, None, Some, Result, Ok, Err, IfOk, IsSome, IsSomeAnd, option_map, option_and_then, refl, sym, ap, subst, ◌∙◌, inl, inr, eq-eqb}
 use Rattle.std.proofs.lemmas.Bool.{ne_eqb, false≢true}
 use Rattle.std.proofs.lemmas.Bool.Decides.{eqb_tells}
 use Rattle.std.specs.List.{list_any}
@@ -8,9 +8,10 @@ use Rattle.std.specs.FinMap.{FinMap, get, insert}
 use Rattle.cap_core.specs.declared.profile.ProfileName.{ProfileName}
 use Rattle.cap_core.specs.declared.capability.Badge.{Badge}
 use Rattle.cap_core.specs.declared.message.Message.{Message}
+use Rattle.cap_core.specs.declared.refusal.Refusal.{Refusal}
 use Rattle.cap_core.specs.Numbers.{tcb_size}
 use Rattle.slot_core.specs.Forest.{Forest}
-use Rattle.slot_core.specs.Entries.{Entry}
+use Rattle.slot_core.specs.Entries.{Entry, cap_at}
 use Rattle.ipc_core.specs.declared.waiter.Waiter.{Waiter}
 use Rattle.ipc_core.specs.declared.waiter.Waiter.TheVariants.{Sender, Receiver}
 use Rattle.ipc_core.specs.declared.waiter.Role.{Role}
@@ -19,19 +20,23 @@ use Rattle.ipc_core.specs.declared.waiter.Sent.{Sent}
 use Rattle.ipc_core.specs.declared.waiter.Sent.TheVariants as S
 use Rattle.ipc_core.specs.declared.waiter.Received.{Received}
 use Rattle.ipc_core.specs.declared.waiter.Received.TheVariants as D
-use Rattle.ipc_core.specs.Waits.{Waits, Offer, thread_of, first_receiver, first_sender, served, queued, sent, sent_to, after_send, waits_sent_to, received, received_from, after_receive, waits_received_from}
+use Rattle.ipc_core.specs.declared.waiter.Offer.{Offer}
+use Rattle.ipc_core.specs.Waits.{Waits, thread_of, first_receiver, first_sender, served, queued, sent, sent_to, after_send, waits_sent_to, received, received_from, after_receive, waits_received_from}
 use Rattle.kernel_core.specs.declared.call.Inbox.{Inbox}
+use Rattle.kernel_core.specs.declared.call.Op.{Op}
+use Rattle.kernel_core.specs.Checks.{service_found, cap_named, slot_named}
+use Rattle.kernel_core.proofs.Live.{found_live}
 use Rattle.kernel_core.specs.declared.call.Reply.{Reply}
 use Rattle.kernel_core.specs.declared.call.Reply.TheVariants.{Delivered, Waiting}
 use Rattle.kernel_core.specs.declared.call.Service.{Service}
 use Rattle.kernel_core.specs.declared.call.ThreadState.{ThreadState}
 use Rattle.kernel_core.specs.declared.call.ThreadState.TheVariants.{Ready, Sending, Receiving}
 use Rattle.kernel_core.specs.declared.rows.ThreadRow.{ThreadRow}
-use Rattle.kernel_core.specs.Shown.{Shown, ThreadView, endpoints_of, waiting_at, inbox_at, table}
+use Rattle.kernel_core.specs.Shown.{Shown, ThreadView, endpoints_of, waiting_at, inbox_at, state_at, table}
 use Rattle.kernel_core.specs.Effects.{Effect, changed, receives, send_effect, send_meets, receive_effect, receive_meets, IsLiveEndpoint, IsReady}
 use Rattle.kernel_core.specs.Rows.{rows_map, threads_shown, kernel_shown, IsActive, IsKernel, view_of, state_with}
 use Rattle.kernel_core.proofs.Keyed.{get_after, get_table, table_changed}
-use Rattle.kernel_core.proofs.Threads.{threads_changed, IsReadyRow, ready_thread, inbox_shown_is}
+use Rattle.kernel_core.proofs.Threads.{threads_changed, IsReadyRow, ready_thread, inbox_shown_is, state_shown_is}
 use Rattle.kernel_core.proofs.Parts.{served_kernel, queued_kernel, waiting_is, receiver_active, sender_active}
 
 -- the value at a changed place, and elsewhere
@@ -182,3 +187,33 @@ module _ (p : ProfileName) (memory store waiters : ℕ) (f : Forest Entry) (rows
         role_none : (b : Bool) (r : Option Role) → r ≡ None → cond b None r ≡ None
         role_none true r h = refl
         role_none false r h = h
+
+-- what is shown of a thread, by its row
+pub state_seen : (p : ProfileName) (f : Forest Entry) (rows : List (Option ThreadRow)) (w : Waits) (v : Shown) (t : ℕ) (o : Option ThreadRow) → kernel_shown p f rows w ≡ v → o ≡ get (rows_map (tcb_size p) rows) t →
+    option_map (λ (row : ThreadRow). state_with (w.role t) row.inactive) o ≡ state_at v t
+state_seen p f rows w v t o view is =
+    ap (option_map (λ (row : ThreadRow). state_with (w.role t) row.inactive)) is
+    ∙ state_shown_is (tcb_size p) rows w t
+    ∙ ap (λ (u : Shown). state_at u t) view
+
+pub inbox_seen : (p : ProfileName) (f : Forest Entry) (rows : List (Option ThreadRow)) (w : Waits) (v : Shown) (t : ℕ) (o : Option ThreadRow) → kernel_shown p f rows w ≡ v → o ≡ get (rows_map (tcb_size p) rows) t →
+    option_and_then (λ (row : ThreadRow). row.inbox) o ≡ inbox_at v t
+inbox_seen p f rows w v t o view is =
+    ap (option_and_then (λ (row : ThreadRow). row.inbox)) is
+    ∙ sym (inbox_shown_is (tcb_size p) rows w t)
+    ∙ ap (λ (u : Shown). inbox_at u t) view
+
+mapped_some : {X Y : Type 0} (h : X → Y) (o : Option X) (y : Y) → option_map h o ≡ Some y → IsSome o
+mapped_some h None y e = cc
+mapped_some h (Some x) y e = refl
+
+pub stated_row : (p : ProfileName) (f : Forest Entry) (rows : List (Option ThreadRow)) (w : Waits) (v : Shown) (t : ℕ) (s : ThreadState) → kernel_shown p f rows w ≡ v → state_at v t ≡ Some s → IsSome (get (rows_map (tcb_size p) rows) t)
+stated_row p f rows w v t s view is = mapped_some (λ (row : ThreadRow). state_with (w.role t) row.inactive) _ s (state_seen p f rows w v t _ view refl ∙ is)
+
+-- the endpoint of a service is live
+pub live_service : (p : ProfileName) (f : Forest Entry) (rows : List (Option ThreadRow)) (w : Waits) (v : Shown) (op : Op) (t word : ℕ) (r : Result Service Refusal) →
+    kernel_shown p f rows w ≡ v → r ≡ service_found op (cap_named p f t word) → IfOk r (λ (s : Service). IsLiveEndpoint v s.endpoint)
+live_service p f rows w v op t word (Err refusal) view h = tt
+live_service p f rows w v op t word (Ok service) view h =
+    subst (λ (u : Shown). IsLiveEndpoint u service.endpoint) view
+    (subst IsSome (sym (get_table (endpoints_of f) w.queue service.endpoint ∙ ap (λ (b : Bool). cond b (Some (w.queue service.endpoint)) None) (found_live f op service (slot_named p f (cap_at f t) word) (sym h)))) refl)

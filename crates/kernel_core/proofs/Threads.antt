@@ -80,3 +80,11 @@ inbox_viewed role (Some row) = refl
 
 pub inbox_shown_is : (size : ℕ) (rows : List (Option ThreadRow)) (w : Waits) (t : ℕ) → option_and_then (λ (thread : ThreadView). thread.inbox) (get (threads_shown size rows w) t) ≡ option_and_then (λ (row : ThreadRow). row.inbox) (get (rows_map size rows) t)
 inbox_shown_is size rows w t = ap (option_and_then (λ (thread : ThreadView). thread.inbox)) (get_thread size rows w t) ∙ inbox_viewed (w.role t) (get (rows_map size rows) t)
+
+-- what is shown of a thread's state
+state_viewed : (role : Option Role) (o : Option ThreadRow) → option_map (λ (row : ThreadRow). state_with role row.inactive) o ≡ option_map (λ (thread : ThreadView). thread.state) (option_map (view_of role) o)
+state_viewed role None = refl
+state_viewed role (Some row) = refl
+
+pub state_shown_is : (size : ℕ) (rows : List (Option ThreadRow)) (w : Waits) (t : ℕ) → option_map (λ (row : ThreadRow). state_with (w.role t) row.inactive) (get (rows_map size rows) t) ≡ option_map (λ (thread : ThreadView). thread.state) (get (threads_shown size rows w) t)
+state_shown_is size rows w t = state_viewed (w.role t) (get (rows_map size rows) t) ∙ sym (ap (option_map (λ (thread : ThreadView). thread.state)) (get_thread size rows w t))

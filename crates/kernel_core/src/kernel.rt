@@ -15,7 +15,7 @@ use crate::call::{Call, Inbox, Op, Reply, Service, ThreadState};
 use crate::lookup::{is_endpoint_address, service_for, slot_within};
 use crate::rows::{ThreadRow, row_at, set_row};
 use cap_core::{Cap, Message, Profile, Refusal};
-use ipc_core::{Received, Role, Sent, Waiters};
+use ipc_core::{Received, Sent, Waiters};
 use slot_core::CapStore;
 use std::marker::{Model, PhantomData};
 
@@ -66,6 +66,21 @@ impl<P: Profile, S: CapStore<P> + Drop, W: Waiters<P> + Drop> Kernel<P, S, W> {
         ensures stands { (A : State) → IsReached P.the A → self.old ≡ shown A → StepsTo P.the A call result self.new }
     {
         self.perform(call)
+    }
+
+    /// Makes calls in order, and appends the reply to each to `replies`, which has room for them.
+    ///
+    /// For a kernel that stands for a state that runs reach, the replies and what is shown after are those of the abstract
+    /// run. It takes no memory.
+    pub fn run(&mut self, calls: &[Call], replies: &mut Vec<Reply>)
+        requires room { vec_len replies.old + length calls.now ≤ vec_capacity replies.old }
+        ensures replies { (A : State) → IsReached P.the A → self.old ≡ shown A → replies.new.items ≡ replies.old.items ++ replies_of P.the A calls.now }
+        ensures stands { (A : State) → IsReached P.the A → self.old ≡ shown A → self.new ≡ shown (state_after P.the A calls.now) }
+    {
+        for call in calls {
+            let reply = self.step(*call);
+            push_reply(replies, reply);
+        }
     }
 
     fn perform(&mut self, call: Call) -> Reply
@@ -158,12 +173,7 @@ impl<P: Profile, S: CapStore<P> + Drop, W: Waiters<P> + Drop> Kernel<P, S, W> {
         ensures { result ≡ state_at self.now tcb }
     {
         let row = row_at::<P>(self.threads.as_slice(), tcb)?;
-        let state = match self.waiters.role(tcb) {
-            Some(Role::Sending(endpoint)) => ThreadState::Sending(endpoint),
-            Some(Role::Receiving(endpoint)) => ThreadState::Receiving(endpoint),
-            None => row.state(),
-        };
-        Some(state)
+        Some(row.state(self.waiters.role(tcb)))
     }
 
     /// The last message that was delivered to a thread since it was made, with its badge; `None` where there is none, and
@@ -206,4 +216,14 @@ impl<P: Profile, S: CapStore<P> + Drop, W: Waiters<P> + Drop> Kernel<P, S, W> {
             None
         }
     }
+}
+
+/// Appends a reply, for which there is room.
+fn push_reply(replies: &mut Vec<Reply>, reply: Reply)
+    requires { vec_len replies.old < vec_capacity replies.old }
+    ensures replies { replies.new.items ≡ replies.old.items ++ reply ∷ [] }
+    ensures capacity { vec_capacity replies.old ≤ vec_capacity replies.new }
+    ensures longer { vec_len replies.new ≡ vec_len replies.old + 1 }
+{
+    let _ = replies.push(reply);
 }

@@ -47,11 +47,7 @@ pub fn service_for<P: Profile, S: CapStore<P>>(store: &S, call: Call) -> Result<
 }
 
 /// The capability that a word names in a thread's capability space, whose root is in the slot at the thread's own address.
-fn named<P: Profile, S: CapStore<P>>(
-    store: &S,
-    thread: u64,
-    word: u64,
-) -> Result<Cap, LookupFault>
+fn named<P: Profile, S: CapStore<P>>(store: &S, thread: u64, word: u64) -> Result<Cap, LookupFault>
     requires memory { S.memory_bits store.now ≤ MAX_MEMORY_BITS }
     requires thread { IsThreadAddress P.the (S.memory_bits store.now) thread }
     ensures { result ≡ cap_named P.the (S.forest store.now) thread word }

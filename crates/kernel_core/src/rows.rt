@@ -1,11 +1,12 @@
 //! The rows in which a kernel keeps its threads.
-ghost use Rattle.std.specs.Prelude.{◌≡◌, length, None, IsSome};
+ghost use Rattle.std.specs.Prelude.{◌≡◌, length, IsSome};
 ghost use Rattle.std.specs.FinMap as map;
 ghost use Rattle.cap_core.specs.Numbers.{tcb_size};
 ghost use Rattle.kernel_core.specs.Rows.{rows_map, state_with};
 
 use crate::call::{Inbox, ThreadState};
 use cap_core::Profile;
+use ipc_core::Role;
 
 /// What a kernel keeps of a thread beside how it waits: whether it is inactive where it does not wait, and the last
 /// message that was delivered to it.
@@ -16,14 +17,20 @@ pub struct ThreadRow {
 }
 
 impl ThreadRow {
-    /// What the thread does where it does not wait.
-    pub fn state(&self) -> ThreadState
-        ensures { result ≡ state_with None self.now.inactive }
+    /// What the thread does, where it waits in this role, or does not wait.
+    pub fn state(&self, role: Option<Role>) -> ThreadState
+        ensures { result ≡ state_with role self.now.inactive }
     {
-        if self.inactive {
-            ThreadState::Inactive
-        } else {
-            ThreadState::Ready
+        match role {
+            Some(Role::Sending(endpoint)) => ThreadState::Sending(endpoint),
+            Some(Role::Receiving(endpoint)) => ThreadState::Receiving(endpoint),
+            None => {
+                if self.inactive {
+                    ThreadState::Inactive
+                } else {
+                    ThreadState::Ready
+                }
+            }
         }
     }
 }

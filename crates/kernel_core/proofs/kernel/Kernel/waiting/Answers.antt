@@ -1,0 +1,17 @@
+use Rattle.std.proofs.Common.{◌≡◌, List, Option, ap, sym, ◌∙◌, option_map, slice_get, true, false, subst, [], IsTrue}
+use Rattle.ipc_core.specs.declared.waiter.Waiter.{Waiter}
+use Rattle.ipc_core.specs.Waits.{thread_of}
+use Rattle.kernel_core.specs.Shown.{Shown, waiting_at}
+use Rattle.std.proofs.lemmas.Bool.{false≢true}
+use Rattle.kernel_core.proofs.Parts.{waiting_is, nobody_there}
+use Rattle.kernel_core.proofs.kernel.Kernel.waiting.Goals as goal
+
+pub returns-then-is_endpoint_address : goal.returns-then-is_endpoint_address
+returns-then-is_endpoint_address g c =
+    let list = ap (λ (v : Shown). waiting_at v c.args.endpoint) (sym c.self.view_is) ∙ waiting_is g.P.Profile.the c.self.inside.memory_bits (g.S.CapStore.memory_bits c.self.inside.store) (g.W.Waiters.memory_bits c.self.inside.waiters) (g.S.CapStore.forest c.self.inside.store) c.self.inside.threads.items (g.W.Waiters.waits c.self.inside.waiters) c.self.invariant c.args.endpoint in
+    c.waiting.ensures ∙ sym (ap (λ (xs : List Waiter). option_map thread_of (slice_get xs c.args.place)) list)
+
+pub returns-else-is_endpoint_address : goal.returns-else-is_endpoint_address
+returns-else-is_endpoint_address g c =
+    let away = nobody_there g.P.Profile.the c.self.inside.memory_bits (g.S.CapStore.memory_bits c.self.inside.store) (g.W.Waiters.memory_bits c.self.inside.waiters) (g.S.CapStore.forest c.self.inside.store) c.self.inside.threads.items (g.W.Waiters.waits c.self.inside.waiters) c.self.invariant c.args.endpoint (λ h. false≢true (sym c.if-is_endpoint_address.false ∙ c.is_endpoint_address.ensures.1 h)) in
+    sym (ap (λ (xs : List Waiter). option_map thread_of (slice_get xs c.args.place)) (ap (λ (v : Shown). waiting_at v c.args.endpoint) (sym c.self.view_is) ∙ away))
