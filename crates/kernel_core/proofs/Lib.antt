@@ -15,4 +15,6 @@ pub mod Delivering
 pub mod Serving
 pub mod Once
 pub mod Simulation
+pub mod Refused
 pub mod Runs
+pub mod Pairs

@@ -1,13 +1,16 @@
 //! The kernel.
-ghost use Rattle.std.specs.Prelude.{◌≡◌, ◌⊎◌, ℕ, Some, None, IfOk, option_map, slice_get, vec_len, vec_capacity, length, ◌≤◌, ◌<◌, ◌+◌, ◌++◌, ◌∷◌, []};
-ghost use Rattle.std.specs.FinMap as map;
+ghost use Rattle.std.specs.Prelude.{◌≡◌, ◌⊎◌, ℕ, Some, None, IfOk, option_map, slice_get, vec_len, vec_capacity, length, drop, map, ◌≤◌, ◌<◌, ◌+◌, ◌++◌, ◌∷◌, []};
 ghost use Rattle.cap_core.specs.Numbers.{tcb_size};
 ghost use Rattle.slot_core.specs.Entries.{cap_at as cap_held};
 ghost use Rattle.ipc_core.specs.Waits.{thread_of};
 ghost use Rattle.kernel_core.specs.Shown.{state_at, inbox_at, waiting_at, has_child};
 ghost use Rattle.kernel_core.specs.Checks.{checked};
 ghost use Rattle.kernel_core.specs.Effects.{send_effect, receive_effect, effect_of, IsReady, IsLiveEndpoint};
-ghost use Rattle.kernel_core.specs.State.{State, shown};
+ghost use Rattle.cap_core.specs.declared.refusal.Refusal.{Refusal};
+ghost use Rattle.ipc_core.specs.Records.{Instance};
+ghost use Rattle.kernel_core.specs.declared.call.Reply.TheVariants.{Refused};
+ghost use Rattle.kernel_core.specs.State.{State, shown, pairs};
+ghost use Rattle.kernel_core.specs.Deliveries.{delivery, delivered};
 ghost use Rattle.kernel_core.specs.Step.{replies_of, state_after};
 ghost use Rattle.kernel_core.specs.Reached.{IsReached, StepsTo};
 
@@ -64,6 +67,7 @@ impl<P: Profile, S: CapStore<P> + Drop, W: Waiters<P> + Drop> Kernel<P, S, W> {
     /// step. It takes no memory.
     pub fn step(&mut self, call: Call) -> Reply
         ensures stands { (A : State) → IsReached P.the A → self.old ≡ shown A → StepsTo P.the A call result self.new }
+        ensures refused { (refusal : Refusal) → result ≡ Refused refusal → self.new ≡ self.old }
     {
         self.perform(call)
     }
@@ -71,11 +75,14 @@ impl<P: Profile, S: CapStore<P> + Drop, W: Waiters<P> + Drop> Kernel<P, S, W> {
     /// Makes calls in order, and appends the reply to each to `replies`, which has room for them.
     ///
     /// For a kernel that stands for a state that runs reach, the replies and what is shown after are those of the abstract
-    /// run. It takes no memory.
+    /// run. By these replies each endpoint, while it is live, delivers one message for each pair that it gains of an accepted
+    /// send and the accepted receive at its place, in the order of the pairs, with the badge that the send kept; after boot
+    /// there are no pairs. It takes no memory.
     pub fn run(&mut self, calls: &[Call], replies: &mut Vec<Reply>)
         requires room { vec_len replies.old + length calls.now ≤ vec_capacity replies.old }
         ensures replies { (A : State) → IsReached P.the A → self.old ≡ shown A → replies.new.items ≡ replies.old.items ++ replies_of P.the A calls.now }
         ensures stands { (A : State) → IsReached P.the A → self.old ≡ shown A → self.new ≡ shown (state_after P.the A calls.now) }
+        ensures in_order { (A : State) → IsReached P.the A → self.old ≡ shown A → (e : Instance) → map delivery (pairs (state_after P.the A calls.now) e) ≡ map delivery (pairs A e) ++ delivered P.the A e calls.now (drop (length replies.old.items) replies.new.items) }
     {
         for call in calls {
             let reply = self.step(*call);

@@ -1,6 +1,9 @@
-use Rattle.std.proofs.Common.{take, arith}
-use Rattle.kernel_core.specs.Step.{state_after}
+use Rattle.std.proofs.Common.{◌≡◌, ◌++◌, List, ap, ◌∙◌, take, arith}
+use Rattle.std.proofs.lemmas.List.{take_all}
+use Rattle.kernel_core.specs.declared.call.Call.{Call}
+use Rattle.kernel_core.specs.Step.{state_after, replies_of}
 use Rattle.kernel_core.proofs.Runs.{reached_after, run_more}
+use Rattle.kernel_core.proofs.Pairs.{replies_grow}
 use Rattle.kernel_core.proofs.kernel.Kernel.run.Goals as goal
 
 pub loop-call-preserved : goal.loop-call-preserved
@@ -13,3 +16,11 @@ loop-call-preserved g c =
       so_far = λ A r s. (run_more p A calls i _ _ _ _ _ _ c.loop-call-test.true (c.step-reply.ensures.stands (state_after p A (take i calls)) (reached_after p A (take i calls) r) (c.loop-call.invariant.stands A r s)) (c.loop-call.invariant.so_far A r s) c.push_reply.ensures.replies).0;
       stands = λ A r s. (run_more p A calls i _ _ _ _ _ _ c.loop-call-test.true (c.step-reply.ensures.stands (state_after p A (take i calls)) (reached_after p A (take i calls) r) (c.loop-call.invariant.stands A r s)) (c.loop-call.invariant.so_far A r s) c.push_reply.ensures.replies).1;
     }
+
+pub returns-clause-in_order : goal.returns-clause-in_order
+returns-clause-in_order g c A r s e =
+    let p = g.P.Profile.the in
+    let calls = c.args.calls.now in
+    let whole : take c.loop-call.call-index calls ≡ calls = take_all c.loop-call.call-index calls (omega arith) in
+    replies_grow p A calls c.args.replies.now.items _ r
+    (c.loop-call.invariant.so_far A r s ∙ ap (λ (cs : List Call). c.args.replies.now.items ++ replies_of p A cs) whole) e
