@@ -1,6 +1,7 @@
 pub mod Forests
 pub mod Edits
 pub mod Disjointness
-pub mod Built
-pub mod RowLists
-pub mod RowSteps
+mod Built
+mod RowLists
+mod RowSteps
+mod Family

@@ -9,3 +9,6 @@ pub mod store;
 pub use rows::RowStore;
 pub use slot::Slot;
 pub use store::{CapStore, MakeStore};
+
+#[cfg(test)]
+mod tests;
