@@ -1,19 +1,19 @@
 -- The derivation forest of the tests: an endpoint's capability in slot 0, below it one with a badge in slot 1, and in front
 -- of that copies in slots 2 and 3.
-use Rattle.std.proofs.Common.{◌≡◌, ℕ, ◌+◌, ◌*◌, ◌%◌, ◌^◌, ◌<◌, ◌≤◌, Bool, true, false, List, [], ◌∷◌, refl, sym, ◌∙◌, ap, subst, arith, IsTrue}
+use Rattle.std.proofs.Common.{◌≡◌, ℕ, ◌*◌, true, false, refl, ◌∙◌, ap, arith}
 use Rattle.std.specs.List.{AllByRecursion as Each, Contains}
 use Rattle.cap_core.specs.declared.profile.ProfileName.{ProfileName}
 use Rattle.cap_core.specs.declared.profile.ProfileName.TheVariants.{Wide, Narrow}
 use Rattle.cap_core.specs.declared.capability.Cap.{Cap}
 use Rattle.cap_core.specs.declared.capability.Cap.TheVariants.{Endpoint}
 use Rattle.cap_core.specs.Numbers.{slot_size}
-use Rattle.cap_core.specs.Objects.{is_untyped, badge_of, same_object, contains, IsLawful}
+use Rattle.cap_core.specs.Objects.{is_untyped, same_object, contains, IsLawful}
 use Rattle.slot_core.specs.Forest.{Forest, none, preorder}
 use Rattle.slot_core.specs.Entries.{Entry, cap_at, is_full}
-use Rattle.slot_core.specs.Derivation.{derived, rooted, names_same}
+use Rattle.slot_core.specs.Derivation.{derived, rooted}
 use Rattle.slot_core.specs.Disjoint.{IsDisjoint}
 use Rattle.slot_core.proofs.Forests.{each-contained}
-use Rattle.slot_core.proofs.Edits.{each-rooted, each-derived}
+use Rattle.slot_core.proofs.Edits.{each-derived}
 use Rattle.slot_core.proofs.Disjointness.{disjoint-none, disjoint-rooted, disjoint-derived}
 
 abbrev pub whole : Cap

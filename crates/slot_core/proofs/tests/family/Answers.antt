@@ -1,9 +1,9 @@
-use Rattle.std.proofs.Common.{◌≡◌, ℕ, Bool, true, false, ◌⊎◌, inl, inr, refl, sym, ◌∙◌, ap, subst}
+use Rattle.std.proofs.Common.{◌≡◌, true, false, inr, sym, ◌∙◌, ap, subst}
 use Rattle.cap_core.specs.declared.capability.Cap.{Cap}
 use Rattle.cap_core.specs.Objects.{badge_of}
 use Rattle.slot_core.specs.Forest.{Forest, none}
 use Rattle.slot_core.specs.Entries.{Entry, cap_at}
-use Rattle.slot_core.specs.Derivation.{derived, rooted, names_same}
+use Rattle.slot_core.specs.Derivation.{names_same}
 use Rattle.slot_core.specs.Disjoint.{IsDisjoint}
 use Rattle.slot_core.specs.Places.{address_of}
 use Rattle.slot_core.proofs.Family.{whole, badged, slot_at, first, second, third, endpoint_lawful, family_1, family_2, family_3, family_4, holds_1, holds_2, holds_3, rooted_same, derived_same, cap_same}
