@@ -110,3 +110,19 @@ fn rows_leave_no_trace(rt: HostRuntime) -> Result<(), Fail> {
     leaves_no_trace::<Wide, RowWaiters<Wide>>(&rt, rt.alloc())?;
     leaves_no_trace::<Narrow, RowWaiters<Narrow>>(&rt, rt.alloc())
 }
+
+#[test]
+fn waiters_have_their_thread_and_role(rt: HostRuntime) -> Result<(), Fail> {
+    let sender = Waiter::Sender {
+        thread: 2048,
+        badge: Badge(5),
+        message: message(1),
+    };
+    let receiver = Waiter::Receiver { thread: 4096 };
+    assert_eq!(rt; sender.thread(), 2048);
+    assert_eq!(rt; sender.role_at(64), Role::Sending(64));
+    assert_eq!(rt; receiver.thread(), 4096);
+    assert_eq!(rt; receiver.role_at(64), Role::Receiving(64));
+    law::each_pair_is_delivered_once();
+    Ok(())
+}
