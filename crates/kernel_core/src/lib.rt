@@ -5,7 +5,7 @@ pub mod call;
 pub mod kernel;
 mod lookup;
 pub mod plan;
-pub mod rows;
+mod rows;
 
 pub use call::{Call, Inbox, Op, Reply, ThreadState};
 pub use kernel::Kernel;
