@@ -26,3 +26,9 @@ pub const MAX_BOOT_UNTYPEDS: u32 = 64;
 
 /// The most words of a message.
 pub const MAX_MESSAGE_WORDS: usize = 4;
+
+/// The most clients that make a simulation's calls.
+pub const MAX_CLIENTS: u32 = 8;
+
+/// The most entries of a history.
+pub const MAX_HISTORY_LIMIT: u32 = 65536;

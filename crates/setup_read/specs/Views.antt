@@ -1,0 +1,20 @@
+-- What is seen of a set-up.
+use Rattle.std.specs.Prelude.{ℕ, List, Option, option_map, string_bytes}
+use Rattle.kernel_core.specs.declared.call.Call.{Call}
+use Rattle.kernel_core.specs.Plan.{Plan}
+use Rattle.setup_read.specs.declared.setup.SetupCall.{SetupCall}
+
+-- a call, the client that makes it, and what its reply is expected to begin with
+pub record CallView : Type 0 where
+  pub call : Call
+  pub client : ℕ
+  pub expect : Option (List ℕ)
+
+pub record SetupView : Type 0 where
+  pub plan : Plan
+  pub clients : ℕ
+  pub limit : ℕ
+  pub calls : List CallView
+
+abbrev pub call_view : SetupCall → CallView
+call_view r = record { call = r.call; client = r.client; expect = option_map string_bytes r.expect }

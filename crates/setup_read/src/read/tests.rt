@@ -1,0 +1,365 @@
+//! Whole set-ups: what is accepted, and the line by which each other is refused.
+use super::*;
+use kernel_core::Op;
+use std::alloc::Global;
+use std::test::Fail;
+
+/// A set-up with no untyped region and no call.
+const SIZES: &str = "format = 1\nmemory_bits = 16\nroot_radix = 4\nthreads = 2\nendpoints = 1\n";
+
+/// The code of the fault and the line of the refusal, or `accepted`.
+fn answer(alloc: Global, text: &[u8]) -> Result<String, Fail> {
+    match read_setup(alloc, text) {
+        Ok(_) => Ok(String::from_str(alloc, "accepted")?),
+        Err(fault) => {
+            let code = fault.code();
+            Ok(format!(in alloc; "{code}: {fault}")?)
+        }
+    }
+}
+
+/// What is answered where lines stand below the sizes.
+fn below_sizes(alloc: Global, lines: &str) -> Result<String, Fail> {
+    let text = format!(in alloc; "{SIZES}{lines}")?;
+    answer(alloc, text.as_bytes())
+}
+
+#[test]
+fn first_fault_of_the_top_table(rt: HostRuntime) -> Result<(), Fail> {
+    for (text, want) in [
+        ("", "202: set-up refused 202 at top key format"),
+        (
+            "format = 1\nmemory_bits = 16\nroot_rad\n",
+            "200: set-up refused 200 at text",
+        ),
+        ("format = 2\n", "204: set-up refused 204 at top key format"),
+        (
+            "format = 3\nx = 1\n",
+            "204: set-up refused 204 at top key format",
+        ),
+        (
+            "format = \"1\"\n",
+            "203: set-up refused 203 at top key format",
+        ),
+        (
+            "format = 1\n\"a b\" = 1\n",
+            "201: set-up refused 201 at top key ?",
+        ),
+        (
+            "format = 1\n\"\" = 1\n",
+            "201: set-up refused 201 at top key ?",
+        ),
+        (
+            "format = 1\nzeta = 1\nalpha_-9 = 1\n",
+            "201: set-up refused 201 at top key alpha_-9",
+        ),
+        (
+            "format = 1\nprofile = \"wide\"\n",
+            "201: set-up refused 201 at top key profile",
+        ),
+        (
+            "format = 1\nnames = {}\n",
+            "201: set-up refused 201 at top key names",
+        ),
+        (
+            "format = 1\nmemory_bits = 16\n",
+            "202: set-up refused 202 at top key root_radix",
+        ),
+        (
+            "format = 1\nmemory_bits = 21\n",
+            "204: set-up refused 204 at top key memory_bits",
+        ),
+        (
+            "format = 1\nmemory_bits = 16.0\n",
+            "203: set-up refused 203 at top key memory_bits",
+        ),
+    ] {
+        let got = answer(rt.alloc(), text.as_bytes())?;
+        assert_eq!(rt; got.as_str(), want, "of {text}");
+    }
+    let got = answer(rt.alloc(), b"\xff")?;
+    assert_eq!(rt; got.as_str(), "200: set-up refused 200 at text");
+    Ok(())
+}
+
+#[test]
+fn edges_of_the_other_top_keys(rt: HostRuntime) -> Result<(), Fail> {
+    for (lines, want) in [
+        ("", "accepted"),
+        ("limit = 0", "204: set-up refused 204 at top key limit"),
+        ("limit = 65536", "accepted"),
+        ("limit = 65537", "204: set-up refused 204 at top key limit"),
+        ("clients = 0", "204: set-up refused 204 at top key clients"),
+        ("clients = 8", "accepted"),
+        ("clients = 9", "204: set-up refused 204 at top key clients"),
+        ("untyped = 1", "203: set-up refused 203 at top key untyped"),
+        (
+            "untyped = [1]",
+            "203: set-up refused 203 at top key untyped",
+        ),
+        (
+            "call = [{}, 1]\nuntyped = [{}]",
+            "203: set-up refused 203 at top key call",
+        ),
+    ] {
+        let got = below_sizes(rt.alloc(), lines)?;
+        assert_eq!(rt; got.as_str(), want, "of {lines}");
+    }
+    Ok(())
+}
+
+#[test]
+fn untyped_tables_and_the_plan(rt: HostRuntime) -> Result<(), Fail> {
+    for (lines, want) in [
+        ("untyped = [{ base = 16384, bits = 12 }]", "accepted"),
+        ("untyped = [{ base = \"0x4000\", bits = 12 }]", "accepted"),
+        (
+            "untyped = [{ bits = 3, size = 1 }]",
+            "201: set-up refused 201 at untyped 1 key size",
+        ),
+        (
+            "untyped = [{ bits = 3 }]",
+            "202: set-up refused 202 at untyped 1 key base",
+        ),
+        (
+            "untyped = [{ base = -1, bits = 3 }]",
+            "204: set-up refused 204 at untyped 1 key base",
+        ),
+        (
+            "untyped = [{ base = \"@a\", bits = 3 }]",
+            "204: set-up refused 204 at untyped 1 key base",
+        ),
+        (
+            "untyped = [{ base = \"0xffffffffffffff000\", bits = 12 }]",
+            "204: set-up refused 204 at untyped 1 key base",
+        ),
+        (
+            "untyped = [{ base = 16384, bits = 3 }]",
+            "204: set-up refused 204 at untyped 1 key bits",
+        ),
+        (
+            "untyped = [{ base = 16384, bits = 48 }]",
+            "204: set-up refused 204 at untyped 1 key bits",
+        ),
+        (
+            "untyped = [{ base = 65536, bits = 12 }]",
+            "205: set-up refused 205 at untyped 1 outside",
+        ),
+        (
+            "untyped = [{ base = \"0xfffffffffffff000\", bits = 12 }]",
+            "205: set-up refused 205 at untyped 1 outside",
+        ),
+        (
+            "untyped = [{ base = 0, bits = 12 }]",
+            "205: set-up refused 205 at untyped 1 overlap",
+        ),
+        (
+            "untyped = [{ base = 16384, bits = 15 }]",
+            "205: set-up refused 205 at untyped 1 unaligned",
+        ),
+        (
+            "untyped = [{ base = 16384, bits = 12 }, { base = 16384, bits = 4 }]",
+            "205: set-up refused 205 at untyped 2 overlap",
+        ),
+        (
+            "untyped = [{ base = 0, bits = 12 }]\ncall = [{}]",
+            "205: set-up refused 205 at untyped 1 overlap",
+        ),
+    ] {
+        let got = below_sizes(rt.alloc(), lines)?;
+        assert_eq!(rt; got.as_str(), want, "of {lines}");
+    }
+    Ok(())
+}
+
+#[test]
+fn layout_of_the_boot_objects(rt: HostRuntime) -> Result<(), Fail> {
+    for (sizes, want) in [
+        (
+            "memory_bits = 12\nroot_radix = 4\nthreads = 64\nendpoints = 1\n",
+            "205: set-up refused 205 at layout outside",
+        ),
+        (
+            "memory_bits = 16\nroot_radix = 4\nthreads = 2\nendpoints = 13\n",
+            "205: set-up refused 205 at layout slots",
+        ),
+        (
+            "memory_bits = 16\nroot_radix = 4\nthreads = 2\nendpoints = 12\n",
+            "accepted",
+        ),
+        (
+            "memory_bits = 16\nroot_radix = 13\nthreads = 2\nendpoints = 12\n",
+            "204: set-up refused 204 at top key root_radix",
+        ),
+        (
+            "memory_bits = 16\nroot_radix = 4\nthreads = 65\nendpoints = 12\n",
+            "204: set-up refused 204 at top key threads",
+        ),
+        (
+            "memory_bits = 16\nroot_radix = 4\nthreads = 2\nendpoints = 257\n",
+            "204: set-up refused 204 at top key endpoints",
+        ),
+    ] {
+        let text = format!(in rt.alloc(); "format = 1\n{sizes}")?;
+        let got = answer(rt.alloc(), text.as_bytes())?;
+        assert_eq!(rt; got.as_str(), want, "of {sizes}");
+    }
+    Ok(())
+}
+
+#[test]
+fn edges_of_the_keys_of_a_call(rt: HostRuntime) -> Result<(), Fail> {
+    for (call, want) in [
+        ("", "202: set-up refused 202 at call 1 key op"),
+        ("op = 1", "203: set-up refused 203 at call 1 key op"),
+        ("op = \"call\"", "204: set-up refused 204 at call 1 key op"),
+        (
+            "op = \"nbsend\"",
+            "204: set-up refused 204 at call 1 key op",
+        ),
+        (
+            "op = \"recv\", label = 1",
+            "201: set-up refused 201 at call 1 key label",
+        ),
+        (
+            "op = \"send\", z = 1, rights = 1",
+            "201: set-up refused 201 at call 1 key rights",
+        ),
+        (
+            "op = \"send\"",
+            "202: set-up refused 202 at call 1 key thread",
+        ),
+        (
+            "op = \"send\", thread = 2048",
+            "202: set-up refused 202 at call 1 key cap",
+        ),
+        (
+            "op = \"send\", thread = 2048, cap = 4, client = 1",
+            "204: set-up refused 204 at call 1 key client",
+        ),
+        (
+            "op = \"send\", thread = 2048, cap = 4, expect = \"\"",
+            "204: set-up refused 204 at call 1 key expect",
+        ),
+        (
+            "op = \"send\", thread = 2048, cap = 4, expect = 1",
+            "203: set-up refused 203 at call 1 key expect",
+        ),
+        (
+            "op = \"send\", thread = 2048, cap = 4, expect = \"a\\u007f\"",
+            "204: set-up refused 204 at call 1 key expect",
+        ),
+        (
+            "op = \"send\", thread = \"@a\", cap = 4",
+            "204: set-up refused 204 at call 1 key thread",
+        ),
+        (
+            "op = \"send\", thread = \"0x\", cap = 4",
+            "204: set-up refused 204 at call 1 key thread",
+        ),
+        (
+            "op = \"send\", thread = \"0X800\", cap = 4",
+            "204: set-up refused 204 at call 1 key thread",
+        ),
+        (
+            "op = \"send\", thread = \"0x80g\", cap = 4",
+            "204: set-up refused 204 at call 1 key thread",
+        ),
+        (
+            "op = \"send\", thread = true, cap = 4",
+            "203: set-up refused 203 at call 1 key thread",
+        ),
+        (
+            "op = \"send\", thread = 2048, cap = 4, label = 4503599627370495",
+            "accepted",
+        ),
+        (
+            "op = \"send\", thread = 2048, cap = 4, label = 4503599627370496",
+            "204: set-up refused 204 at call 1 key label",
+        ),
+        (
+            "op = \"send\", thread = 2048, cap = 4, words = [0, 0, 0, 0]",
+            "accepted",
+        ),
+        (
+            "op = \"send\", thread = 2048, cap = 4, words = [0, 0, 0, 0, 0]",
+            "204: set-up refused 204 at call 1 key words",
+        ),
+        (
+            "op = \"send\", thread = 2048, cap = 4, words = [0, -1]",
+            "204: set-up refused 204 at call 1 key words",
+        ),
+        (
+            "op = \"send\", thread = 2048, cap = 4, words = [0, 1.5]",
+            "203: set-up refused 203 at call 1 key words",
+        ),
+        (
+            "op = \"send\", thread = 2048, cap = 4, words = 0",
+            "203: set-up refused 203 at call 1 key words",
+        ),
+    ] {
+        let lines = format!(in rt.alloc(); "call = [{{{call}}}]")?;
+        let got = below_sizes(rt.alloc(), lines.as_str())?;
+        assert_eq!(rt; got.as_str(), want, "of {call}");
+    }
+    Ok(())
+}
+
+#[test]
+fn one_message_from_thread_to_thread(rt: HostRuntime) -> Result<(), Fail> {
+    let lines = "clients = 2\n[[untyped]]\nbase = 16384\nbits = 12\n\
+        [[call]]\nthread = \"0x800\"\nop = \"send\"\ncap = 4\nlabel = 7\nwords = [1, \"0xFfffFFFFffffFFFF\"]\n\
+        [[call]]\nthread = 4096\nop = \"recv\"\ncap = 4\nclient = 1\nexpect = \"delivered 6144 from 2048\"\n";
+    let text = format!(in rt.alloc(); "{SIZES}{lines}")?;
+    let setup = read_setup(rt.alloc(), text.as_bytes())?;
+    assert_eq!(rt; setup.clients(), 2);
+    assert_eq!(rt; setup.limit(), 2);
+    assert_eq!(rt; setup.plan().untypeds(), [(16384, 12)].as_slice());
+    let calls = setup.calls();
+    assert_eq!(rt; calls.len(), 2);
+    assert_eq!(rt; calls[0].thread, 2048);
+    match calls[0].op {
+        Op::Send { cap, message } => {
+            assert_eq!(rt; cap, 4);
+            assert_eq!(rt; message.label, 7);
+            assert_eq!(rt; message.words, [1, u64::MAX, 0, 0]);
+            assert_eq!(rt; message.count, 2);
+        }
+        Op::Recv { .. } => assert!(rt; false),
+    }
+    assert_eq!(rt; calls[1].op, Op::Recv { cap: 4 });
+    assert_eq!(rt; setup.client_of(0), 0);
+    assert_eq!(rt; setup.client_of(1), 1);
+    assert!(rt; setup.expect(0).is_none());
+    assert_eq!(rt; setup.expect(1).ok_or("none")?, "delivered 6144 from 2048");
+    Ok(())
+}
+
+#[test]
+fn limit_is_one_where_there_is_no_call(rt: HostRuntime) -> Result<(), Fail> {
+    let setup = read_setup(rt.alloc(), SIZES.as_bytes())?;
+    assert_eq!(rt; setup.limit(), 1);
+    assert_eq!(rt; setup.clients(), 1);
+    Ok(())
+}
+
+#[test]
+fn table_of_a_document_is_read_as_the_document(rt: HostRuntime) -> Result<(), Fail> {
+    let table = toml::table_from_str(rt.alloc(), SIZES)?;
+    let setup = read_table(rt.alloc(), &table)?;
+    assert_eq!(rt; setup.plan().threads(), 2);
+    Ok(())
+}
+
+/// The answer is the set-up or `Memory`, and nothing else, whichever growth is refused.
+#[test]
+fn memory_alone_is_refused_in_place_of_a_good_set_up(rt: HostRuntime) -> Result<(), Fail> {
+    let lines = "untyped = [{ base = 16384, bits = 12 }]\n\
+        call = [{ op = \"send\", thread = 2048, cap = 4, expect = \"waiting\" }]\n";
+    let text = format!(in rt.alloc(); "{SIZES}{lines}")?;
+    match read_setup(rt.alloc(), text.as_bytes()) {
+        Ok(setup) => assert_eq!(rt; setup.calls().len(), 1),
+        Err(fault) => assert_eq!(rt; fault.code(), 206),
+    }
+    Ok(())
+}
