@@ -7,15 +7,15 @@ use Rattle.cap_core.specs.Numbers.{slot_bits, tcb_bits, endpoint_bits}
 use Rattle.cap_core.specs.declared.capability.Cap.{Cap}
 use Rattle.cap_core.specs.declared.capability.Cap.TheVariants.{Null, Untyped, Endpoint, CNode, Tcb}
 use Rattle.cap_core.specs.Objects.{is_null}
-use Rattle.slot_core.specs.Forest.{Forest}
-use Rattle.slot_core.specs.Entries.{Entry, cap_at, first_child}
+use Rattle.slot_core.specs.Entries.{cap_at}
 use Rattle.ipc_core.specs.Waits.{thread_of}
 use Rattle.kernel_core.specs.declared.call.Call.{Call}
 use Rattle.kernel_core.specs.declared.call.Reply.{Reply}
 use Rattle.kernel_core.specs.declared.call.ThreadState.{ThreadState}
 use Rattle.kernel_core.specs.declared.call.ThreadState.TheVariants.{Ready, Inactive, Sending, Receiving}
 use Rattle.kernel_core.specs.declared.call.Inbox.{Inbox}
-use Rattle.kernel_core.specs.Shown.{Shown, state_at, inbox_at, waiting_at}
+use Rattle.kernel_core.specs.Shown.{Shown, state_at, inbox_at, waiting_at, has_child}
+use Rattle.setup_read.specs.Views.{CallView}
 use Rattle.setup_read.specs.declared.reporting.naming.Naming.{Naming}
 use Rattle.setup_read.specs.declared.reporting.naming.Naming.TheVariants as Naming
 use Rattle.setup_read.specs.Text.{cap_text, numbers_text, op_text, reply_text, is_met, verdict_text, state_text, inbox_text}
@@ -40,6 +40,38 @@ abbrev pub call_text : ℕ → Call → Reply → Option (List ℕ) → List ℕ
 call_text number call reply expected =
     decimal number ++ (codes " " ++ (decimal call.thread ++ (codes " " ++ (op_text call.op ++ (codes ": " ++ (reply_text reply ++ verdict_text expected reply))))))
 
+abbrev pub call_lines : ℕ → List CallView → List Reply → List ℕ
+call_lines number [] replies = []
+call_lines number (call ∷ calls) [] = []
+call_lines number (call ∷ calls) (reply ∷ replies) =
+    line (call_text number call.call reply call.expect) ++ call_lines (number + 1) calls replies
+
+-- ---- expectations: how many calls have one, and how many replies meet theirs
+
+abbrev pub is_expected : Option (List ℕ) → Reply → Bool
+is_expected None reply = false
+is_expected (Some expected) reply = is_met expected reply
+
+abbrev pub one_met : Option (List ℕ) → Reply → ℕ
+one_met expected reply = if is_expected expected reply then 1 else 0
+
+abbrev pub one_expected : Option (List ℕ) → ℕ
+one_expected expected = if is_some expected then 1 else 0
+
+abbrev pub met_count : List CallView → List Reply → ℕ
+met_count [] replies = 0
+met_count (call ∷ calls) [] = 0
+met_count (call ∷ calls) (reply ∷ replies) = one_met call.expect reply + met_count calls replies
+
+abbrev pub expectation_count : List CallView → List Reply → ℕ
+expectation_count [] replies = 0
+expectation_count (call ∷ calls) [] = 0
+expectation_count (call ∷ calls) (reply ∷ replies) = one_expected call.expect + expectation_count calls replies
+
+abbrev pub expectation_line : List CallView → List Reply → List ℕ
+expectation_line calls replies =
+    line (codes "expected " ++ (decimal (met_count calls replies) ++ (codes " of " ++ decimal (expectation_count calls replies))))
+
 -- ---- threads: a line for each live thread, by rising address
 
 abbrev pub thread_text : ℕ → ThreadState → Option Inbox → List ℕ
@@ -61,12 +93,9 @@ abbrev pub slot_text : ℕ → Cap → Bool → List ℕ
 slot_text address cap has_children =
     codes "slot " ++ (decimal address ++ (codes " " ++ (cap_text cap ++ (if has_children then codes " children" else []))))
 
-abbrev pub has_children : Shown → ℕ → Bool
-has_children v slot = is_some (first_child slot v.derivations)
-
 abbrev pub slot_lines_at : Shown → ℕ → List ℕ
 slot_lines_at v slot =
-    if is_null (cap_at v.derivations slot) then [] else line (slot_text slot (cap_at v.derivations slot) (has_children v slot))
+    if is_null (cap_at v.derivations slot) then [] else line (slot_text slot (cap_at v.derivations slot) (has_child slot v.derivations))
 
 abbrev pub slot_lines : ProfileName → ℕ → Shown → List ℕ
 slot_lines p memory v = flat_map (slot_lines_at v) (addresses (slot_bits p) memory)
@@ -160,3 +189,9 @@ selfheld_lines p memory v =
 abbrev pub state_lines : ProfileName → ℕ → Shown → List ℕ
 state_lines p memory v =
     thread_lines p memory v ++ (endpoint_lines p memory v ++ (slot_lines p memory v ++ selfheld_lines p memory v))
+
+-- ---- the report of a run: of the calls of a set-up with their replies, and of what the kernel then shows
+
+unfoldable pub report_of : ProfileName → ℕ → List CallView → List Reply → Shown → List ℕ
+report_of p memory calls replies v =
+    call_lines 1 calls replies ++ (state_lines p memory v ++ expectation_line calls replies)

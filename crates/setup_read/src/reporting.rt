@@ -1,6 +1,52 @@
-//! The report of a run: each call with its reply, and what the kernel shows at the end.
+//! The report of a run: each call with its reply, what the kernel shows at the end, and how many expectations are met.
+ghost use Rattle.std.specs.Prelude.{◌≡◌, ◌≤◌, length, IfOk};
+ghost use Rattle.setup_read.specs.Report.{report_of};
+
 mod calls;
 mod lines;
 mod memory;
 mod naming;
+mod readable;
 mod text;
+
+use crate::setup::Setup;
+use cap_core::Profile;
+use cap_core::limits::MAX_MEMORY_BITS;
+use ipc_core::Waiters;
+use kernel_core::{Kernel, Reply};
+use slot_core::CapStore;
+use std::alloc::{AllocError, Global};
+use std::fmt::Write;
+
+pub use calls::{ExpectationCount, expectations};
+
+/// The report of a run as text: a line for each call of the set-up with its reply; of the memory, as `kernel` shows it, a
+/// line for each live thread, each live endpoint, each full slot and each CNode that only slots of its own name, each by
+/// rising address; and how many of the expectations are met.
+///
+/// `replies` has the reply to each call, in order. What stands past the set-up's memory of 2^`memory_bits` bytes is left
+/// out. The lines, and what is read of a kernel, are this project's profile.
+///
+/// # Errors
+///
+/// Memory was refused.
+#[tactic(auto, unfolding(crate::specs::Report::report_of))]
+pub fn report<P: Profile, S: CapStore<P> + Drop, W: Waiters<P> + Drop>(
+    alloc: Global,
+    setup: &Setup,
+    replies: &[Reply],
+    kernel: &Kernel<P, S, W>,
+) -> Result<Vec<u8>, AllocError>
+    requires memory { setup.now.plan.memory_bits ≤ MAX_MEMORY_BITS }
+    requires replies { length replies.now ≡ length setup.now.calls }
+    ensures { IfOk result (λ v. v.items ≡ report_of P.the setup.now.plan.memory_bits setup.now.calls replies.now kernel.now) }
+{
+    let mut out = String::new(alloc);
+    calls::add_calls(alloc, &mut out, setup, replies)?;
+    memory::add_state::<P, Kernel<P, S, W>>(alloc, &mut out, setup.plan().memory_bits(), kernel)?;
+    let count = expectations(alloc, setup, replies)?;
+    let met = count.met;
+    let expected = count.expected;
+    writeln!(out, "expected {met} of {expected}")?;
+    Ok(out.into_bytes())
+}

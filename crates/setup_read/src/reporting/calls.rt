@@ -1,11 +1,12 @@
 //! The calls of a set-up with their replies, a line for each.
-ghost use Rattle.std.specs.Prelude.{◌≡◌, ◌++◌, ◌+◌, ◌<◌, IfOk, OnOk, string_bytes, option_copied};
+ghost use Rattle.std.specs.Prelude.{◌≡◌, ◌++◌, ◌+◌, ◌<◌, length, IfOk, OnOk, string_bytes, option_copied};
 ghost use Rattle.setup_read.specs.Text as text;
 ghost use Rattle.setup_read.specs.Report as spec;
 ghost use Rattle.setup_read.specs.Verdicts.{text_of_verdict};
 
 use super::lines::Verdict;
 use super::text::{ReplyText, op_text};
+use crate::setup::Setup;
 use kernel_core::{Call, Reply};
 use std::alloc::{AllocError, Global};
 use std::fmt::Write;
@@ -57,4 +58,71 @@ fn add_call(
     let verdict = verdict(alloc, expected, reply)?;
     let reply = ReplyText(reply);
     writeln!(out, "{number} {thread} {op}: {reply}{verdict}")
+}
+
+/// Adds a line for each call of a set-up.
+pub fn add_calls(
+    alloc: Global,
+    out: &mut String,
+    setup: &Setup,
+    replies: &[Reply],
+) -> Result<(), AllocError>
+    requires { length replies.now ≡ length setup.now.calls }
+    ensures { OnOk result (string_bytes out.new ≡ string_bytes out.old ++ spec.call_lines 1 setup.now.calls replies.now) }
+{
+    for (i, call) in setup.calls().iter().enumerate() {
+        add_call(alloc, out, i + 1, call, setup.expect(i), replies[i])?;
+    }
+    Ok(())
+}
+
+/// How many calls have an expectation, and how many of these are met.
+#[derive(Clone, Copy, Debug, PartialEq, Eq)]
+pub struct ExpectationCount {
+    pub met: usize,
+    pub expected: usize,
+}
+
+fn expectation(
+    alloc: Global,
+    expected: Option<&str>,
+    reply: Reply,
+) -> Result<ExpectationCount, AllocError>
+    ensures met { IfOk result (λ e. e.met ≡ spec.one_met (option_copied expected.entry) reply) }
+    ensures expected { IfOk result (λ e. e.expected ≡ spec.one_expected (option_copied expected.entry)) }
+{
+    match expected {
+        None => Ok(ExpectationCount {
+            met: 0,
+            expected: 0,
+        }),
+        Some(expected) => {
+            let met = if is_met(alloc, expected, reply)? { 1 } else { 0 };
+            Ok(ExpectationCount { met, expected: 1 })
+        }
+    }
+}
+
+/// Counts the expectations of a set-up's calls, given the reply to each.
+///
+/// # Errors
+///
+/// Memory was refused.
+pub fn expectations(
+    alloc: Global,
+    setup: &Setup,
+    replies: &[Reply],
+) -> Result<ExpectationCount, AllocError>
+    requires { length replies.now ≡ length setup.now.calls }
+    ensures met { IfOk result (λ e. e.met ≡ spec.met_count setup.now.calls replies.now) }
+    ensures expected { IfOk result (λ e. e.expected ≡ spec.expectation_count setup.now.calls replies.now) }
+{
+    let mut met = 0;
+    let mut expected = 0;
+    for (i, reply) in replies.iter().enumerate() {
+        let one = expectation(alloc, setup.expect(i), *reply)?;
+        met += one.met;
+        expected += one.expected;
+    }
+    Ok(ExpectationCount { met, expected })
 }

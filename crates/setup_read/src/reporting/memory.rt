@@ -1,39 +1,18 @@
 //! What a kernel shows of its memory, a line for each thing that is there.
-ghost use Rattle.std.specs.Prelude.{◌≡◌, ◌++◌, ◌≤◌, ◌<◌, ◌*◌, ◌/◌, ◌^◌, ◌||◌, ℕ, OnOk, IfOk, nat_lt, string_bytes, is_some, option_map, slice_get};
+ghost use Rattle.std.specs.Prelude.{◌≡◌, ◌++◌, ◌≤◌, ◌<◌, ◌*◌, ◌/◌, ◌^◌, ◌||◌, ℕ, OnOk, IfOk, nat_lt, string_bytes};
 ghost use Rattle.std.specs.BTreeSet.{contains};
 ghost use Rattle.std.specs.Ordering.{nat_cmp};
-ghost use Rattle.slot_core.specs.Entries.{cap_at};
-ghost use Rattle.ipc_core.specs.Waits.{thread_of};
-ghost use Rattle.kernel_core.specs.Shown.{Shown, state_at, inbox_at, waiting_at};
 ghost use Rattle.setup_read.specs.Report as spec;
 
 use super::lines::{EndpointLine, SlotLine, ThreadLine};
 use super::naming::Naming;
+use super::readable::Readable;
 use cap_core::limits::MAX_MEMORY_BITS;
 use cap_core::{Cap, Profile};
-use kernel_core::{Inbox, ThreadState};
+use kernel_core::ThreadState;
 use std::alloc::{AllocError, Global};
 use std::collections::BTreeSet;
 use std::fmt::Write;
-
-pub trait Shows {
-    ghost shown: { Self → Shown };
-
-    fn thread_state(&self, tcb: u64) -> Option<ThreadState>
-        ensures { result ≡ state_at (shown self.now) tcb };
-
-    fn inbox(&self, tcb: u64) -> Option<Inbox>
-        ensures { result ≡ inbox_at (shown self.now) tcb };
-
-    fn cap_at(&self, slot: u64) -> Cap
-        ensures { result ≡ cap_at (shown self.now).derivations slot };
-
-    fn has_children(&self, slot: u64) -> bool
-        ensures { result ≡ spec.has_children (shown self.now) slot };
-
-    fn waiting(&self, endpoint: u64, place: u64) -> Option<u64>
-        ensures { result ≡ option_map thread_of (slice_get (waiting_at (shown self.now) endpoint) place) };
-}
 
 /// How many objects of 2^`bits` bytes have room in a memory of 2^`memory_bits` bytes.
 fn places(bits: u32, memory_bits: u32) -> u64
@@ -55,7 +34,7 @@ fn address(place: u64, bits: u32, memory_bits: u32) -> u64
     place << bits
 }
 
-fn add_thread<K: Shows>(out: &mut String, address: u64, kernel: &K) -> Result<(), AllocError>
+fn add_thread<K: Readable>(out: &mut String, address: u64, kernel: &K) -> Result<(), AllocError>
     ensures { OnOk result (string_bytes out.new ≡ string_bytes out.old ++ spec.thread_lines_at (K.shown kernel.now) address) }
 {
     match kernel.thread_state(address) {
@@ -72,7 +51,7 @@ fn add_thread<K: Shows>(out: &mut String, address: u64, kernel: &K) -> Result<()
 }
 
 /// Adds a line for each live thread.
-pub fn add_threads<P: Profile, K: Shows>(
+pub fn add_threads<P: Profile, K: Readable>(
     out: &mut String,
     memory_bits: u32,
     kernel: &K,
@@ -87,7 +66,7 @@ pub fn add_threads<P: Profile, K: Shows>(
     Ok(())
 }
 
-fn add_slot<K: Shows>(out: &mut String, address: u64, kernel: &K) -> Result<(), AllocError>
+fn add_slot<K: Readable>(out: &mut String, address: u64, kernel: &K) -> Result<(), AllocError>
     ensures { OnOk result (string_bytes out.new ≡ string_bytes out.old ++ spec.slot_lines_at (K.shown kernel.now) address) }
 {
     let cap = kernel.cap_at(address);
@@ -103,7 +82,7 @@ fn add_slot<K: Shows>(out: &mut String, address: u64, kernel: &K) -> Result<(), 
 }
 
 /// Adds a line for each full slot.
-pub fn add_slots<P: Profile, K: Shows>(
+pub fn add_slots<P: Profile, K: Readable>(
     out: &mut String,
     memory_bits: u32,
     kernel: &K,
@@ -158,7 +137,7 @@ fn base_named<P: Profile>(naming: Naming, slot: u64, cap: Cap) -> Option<u64>
 }
 
 /// The threads that wait on an endpoint, the first to be served first.
-fn waiting_threads<K: Shows>(
+fn waiting_threads<K: Readable>(
     alloc: Global,
     endpoint: u64,
     kernel: &K,
@@ -172,7 +151,7 @@ fn waiting_threads<K: Shows>(
     Ok(threads)
 }
 
-fn first_sends<K: Shows>(threads: &[u64], kernel: &K) -> bool
+fn first_sends<K: Readable>(threads: &[u64], kernel: &K) -> bool
     ensures { result ≡ spec.first_sends (K.shown kernel.now) threads.now }
 {
     match threads {
@@ -197,7 +176,7 @@ fn add_base<P: Profile>(
 }
 
 /// The bases of the objects that the slots of the memory name.
-fn bases_named<P: Profile, K: Shows>(
+fn bases_named<P: Profile, K: Readable>(
     alloc: Global,
     naming: Naming,
     memory_bits: u32,
@@ -215,7 +194,7 @@ fn bases_named<P: Profile, K: Shows>(
 }
 
 /// Adds the line of an endpoint, where it is live.
-fn add_endpoint<K: Shows>(
+fn add_endpoint<K: Readable>(
     alloc: Global,
     out: &mut String,
     is_live: bool,
@@ -237,7 +216,7 @@ fn add_endpoint<K: Shows>(
 }
 
 /// Adds a line for each live endpoint.
-pub fn add_endpoints<P: Profile, K: Shows>(
+pub fn add_endpoints<P: Profile, K: Readable>(
     alloc: Global,
     out: &mut String,
     memory_bits: u32,
@@ -273,7 +252,7 @@ fn add_selfheld_at(
 }
 
 /// Adds a line for each CNode that only slots of its own name.
-pub fn add_selfheld<P: Profile, K: Shows>(
+pub fn add_selfheld<P: Profile, K: Readable>(
     alloc: Global,
     out: &mut String,
     memory_bits: u32,
@@ -294,7 +273,7 @@ pub fn add_selfheld<P: Profile, K: Shows>(
 }
 
 /// Adds what a kernel shows of its memory.
-pub fn add_state<P: Profile, K: Shows>(
+pub fn add_state<P: Profile, K: Readable>(
     alloc: Global,
     out: &mut String,
     memory_bits: u32,

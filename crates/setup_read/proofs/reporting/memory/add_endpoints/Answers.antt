@@ -10,7 +10,7 @@ loop-place-init g c = walked_none _ _ _
 
 pub loop-place-preserved : goal.loop-place-preserved
 loop-place-preserved g c =
-    let v = g.K.Shows.shown c.args.kernel.now in
+    let v = g.K.Readable.shown c.args.kernel.now in
     let a = c.address-address.result in
     let before = string_bytes c.loop-place.out in
     let place : a ≡ c.loop-place.place * endpoint_size g.P.Profile.the = search rules in

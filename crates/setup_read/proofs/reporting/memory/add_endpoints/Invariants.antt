@@ -7,7 +7,7 @@ use Rattle.setup_read.proofs.reporting.memory.add_endpoints.Given as goal
 
 abbrev pub invariant-loop-place : goal.invariant-loop-place
 invariant-loop-place g l =
-    let v = g.K.Shows.shown l.kernel in
+    let v = g.K.Readable.shown l.kernel in
     string_bytes l.out
     ≡ string_bytes l.initial.out
     ++ flat_map (endpoint_lines_at (bases_named g.P.Profile.the Naming.Endpoint l.memory_bits v) v) (multiples (endpoint_size g.P.Profile.the) l.place)

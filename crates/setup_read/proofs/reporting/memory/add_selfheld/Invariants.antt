@@ -7,7 +7,7 @@ use Rattle.setup_read.proofs.reporting.memory.add_selfheld.Given as goal
 
 abbrev pub invariant-loop-place : goal.invariant-loop-place
 invariant-loop-place g l =
-    let v = g.K.Shows.shown l.kernel in
+    let v = g.K.Readable.shown l.kernel in
     let inside = bases_named g.P.Profile.the Naming.OwnNode l.memory_bits v in
     let outside = bases_named g.P.Profile.the Naming.OtherNode l.memory_bits v in
     string_bytes l.out ≡ string_bytes l.initial.out ++ flat_map (selfheld_lines_at inside outside) (multiples (slot_size g.P.Profile.the) l.place)

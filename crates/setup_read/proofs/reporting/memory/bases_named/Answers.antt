@@ -15,4 +15,4 @@ loop-place-preserved g c =
     λ q. named_more _ _ _ _ _ _ (c.loop-place.invariant q)
     (c.in_ok-add_base.ensures q
     ∙ ap (λ cap. contains nat_cmp c.loop-place.bases q || is_named q (base_named g.P.Profile.the c.args.naming c.address-slot.result cap)) c.cap_at.ensures
-    ∙ ap (λ a. contains nat_cmp c.loop-place.bases q || is_named q (base_at g.P.Profile.the c.args.naming (g.K.Shows.shown c.args.kernel.now) a)) slot)
+    ∙ ap (λ a. contains nat_cmp c.loop-place.bases q || is_named q (base_at g.P.Profile.the c.args.naming (g.K.Readable.shown c.args.kernel.now) a)) slot)

@@ -8,4 +8,4 @@ use Rattle.setup_read.proofs.reporting.memory.bases_named.Given as goal
 
 abbrev pub invariant-loop-place : goal.invariant-loop-place
 invariant-loop-place g l =
-    (q : ℕ) → contains nat_cmp l.bases q ≡ is_in q (filter_map (base_at g.P.Profile.the l.naming (g.K.Shows.shown l.kernel)) (multiples (slot_size g.P.Profile.the) l.place))
+    (q : ℕ) → contains nat_cmp l.bases q ≡ is_in q (filter_map (base_at g.P.Profile.the l.naming (g.K.Readable.shown l.kernel)) (multiples (slot_size g.P.Profile.the) l.place))

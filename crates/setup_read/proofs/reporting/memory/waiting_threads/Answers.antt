@@ -6,14 +6,14 @@ use Rattle.setup_read.proofs.reporting.memory.waiting_threads.Goals as goal
 
 pub loop-thread-preserved : goal.loop-thread-preserved
 loop-thread-preserved g c =
-    let l = waiting_at (g.K.Shows.shown c.args.kernel.now) c.args.endpoint in
+    let l = waiting_at (g.K.Readable.shown c.args.kernel.now) c.args.endpoint in
     let found : option_map thread_of (slice_get l c.len.result) ≡ Some c.in-Some.thread = search rules in
     let count : c.len.result ≡ length c.loop-thread.threads.items = search rules in
     rw c.in_ok-push.ensures.items (front_more l c.loop-thread.threads.items c.in-Some.thread c.len.result c.loop-thread.invariant found count)
 
 pub returns : goal.returns
 returns g c =
-    let l = waiting_at (g.K.Shows.shown c.args.kernel.now) c.args.endpoint in
+    let l = waiting_at (g.K.Readable.shown c.args.kernel.now) c.args.endpoint in
     let found : option_map thread_of (slice_get l c.len.result) ≡ None = search rules in
     let count : c.len.result ≡ length c.loop-thread.threads.items = search rules in
     front_all l c.loop-thread.threads.items c.len.result c.loop-thread.invariant found count
