@@ -20,15 +20,15 @@ pub call_at : (calls : List CallView) (i : ℕ) (call : Call) (expected : Option
 call_at calls i call expected e f =
     ⊎_elim
     (λ found.
-        let x : CallView = found.0 in
-        let c : Some x.call ≡ Some call = sym (ap (option_map (λ (c : CallView). c.call)) found.2) ∙ e in
-        let d : Some x.expect ≡ Some expected = sym (ap (option_map (λ (c : CallView). c.expect)) found.2) ∙ f in
-        record {
-          view = x;
-          there = drop-cons calls i x found.1 ∙ ap (λ y. y ∷ drop (suc i) calls) found.3;
-          call_is = cc;
-          expected_is = cc;
-        })
+    let x : CallView = found.0 in
+    let c : Some x.call ≡ Some call = sym (ap (option_map (λ (c : CallView). c.call)) found.2) ∙ e in
+    let d : Some x.expect ≡ Some expected = sym (ap (option_map (λ (c : CallView). c.expect)) found.2) ∙ f in
+    record {
+      view = x;
+      there = drop-cons calls i x found.1 ∙ ap (λ y. y ∷ drop (suc i) calls) found.3;
+      call_is = cc;
+      expected_is = cc;
+    })
     (λ none. absurd (let h : Some call ≡ None = sym e ∙ ap (option_map (λ (c : CallView). c.call)) none.1 in cc))
     ((slice_get_cases calls i).1)
 
@@ -74,9 +74,9 @@ pub expected_at : (calls : List CallView) (i : ℕ) (expected : Option (List ℕ
 expected_at calls i expected f =
     ⊎_elim
     (λ found.
-        let x : CallView = found.0 in
-        let d : Some x.expect ≡ Some expected = sym (ap (option_map (λ (c : CallView). c.expect)) found.2) ∙ f in
-        record { view = x; there = drop-cons calls i x found.1 ∙ ap (λ y. y ∷ drop (suc i) calls) found.3; expected_is = cc; })
+    let x : CallView = found.0 in
+    let d : Some x.expect ≡ Some expected = sym (ap (option_map (λ (c : CallView). c.expect)) found.2) ∙ f in
+    record { view = x; there = drop-cons calls i x found.1 ∙ ap (λ y. y ∷ drop (suc i) calls) found.3; expected_is = cc })
     (λ none. absurd (let h : Some expected ≡ None = sym f ∙ ap (option_map (λ (c : CallView). c.expect)) none.1 in cc))
     ((slice_get_cases calls i).1)
 

@@ -6,3 +6,4 @@ pub mod Keys
 pub mod LookUp
 pub mod Loops
 pub mod Padding
+pub mod Calls

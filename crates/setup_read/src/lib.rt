@@ -14,4 +14,5 @@ mod tables;
 
 pub use fault::{Key, Place, SetupFault, Wrong};
 pub use read::{read_setup, read_table};
+pub use reporting::{ExpectationCount, expectations, report};
 pub use setup::Setup;

@@ -10,6 +10,7 @@ mod readable;
 mod text;
 
 use crate::setup::Setup;
+pub use calls::{ExpectationCount, expectations};
 use cap_core::Profile;
 use cap_core::limits::MAX_MEMORY_BITS;
 use ipc_core::Waiters;
@@ -17,8 +18,6 @@ use kernel_core::{Kernel, Reply};
 use slot_core::CapStore;
 use std::alloc::{AllocError, Global};
 use std::fmt::Write;
-
-pub use calls::{ExpectationCount, expectations};
 
 /// The report of a run as text: a line for each call of the set-up with its reply; of the memory, as `kernel` shows it, a
 /// line for each live thread, each live endpoint, each full slot and each CNode that only slots of its own name, each by

@@ -97,7 +97,11 @@ fn expectation(
             expected: 0,
         }),
         Some(expected) => {
-            let met = if is_met(alloc, expected, reply)? { 1 } else { 0 };
+            let met = if is_met(alloc, expected, reply)? {
+                1
+            } else {
+                0
+            };
             Ok(ExpectationCount { met, expected: 1 })
         }
     }

@@ -7,4 +7,5 @@ invariant-loop-i l = record {
   met : l.met + met_count (drop l.i l.setup.calls) (drop l.i l.replies) ≡ met_count l.setup.calls l.replies;
   expected : l.expected + expectation_count (drop l.i l.setup.calls) (drop l.i l.replies) ≡ expectation_count l.setup.calls l.replies;
   met_bound : l.met ≤ l.i;
-  expected_bound : l.expected ≤ l.i }
+  expected_bound : l.expected ≤ l.i;
+}
