@@ -18,3 +18,7 @@ pub mod Simulation
 pub mod Refused
 pub mod Runs
 pub mod Pairs
+pub mod Puts
+pub mod Spaces
+pub mod Clear
+pub mod BootPlaces

@@ -23,13 +23,18 @@ boot_tcbs p plan = map (tcb_place p plan) (range_with_len 0 plan.threads)
 abbrev pub whole_endpoint : ℕ → Cap
 whole_endpoint base = Endpoint base (record { 0 = 0 }) (record { 0 = 15 })
 
+abbrev pub tcb_caps : ProfileName → Plan → List Cap
+tcb_caps p plan = map (λ i. Tcb (tcb_place p plan i)) (range_with_len 0 plan.threads)
+
+abbrev pub endpoint_caps : ProfileName → Plan → List Cap
+endpoint_caps p plan = map (λ j. whole_endpoint (endpoint_place p plan j)) (range_with_len 0 plan.endpoints)
+
+abbrev pub untyped_caps : Plan → List Cap
+untyped_caps plan = map (λ (untyped : ℕ × ℕ). Untyped untyped.0 untyped.1 0) plan.untypeds
+
 -- the capabilities in the root CNode's slots, from slot 1 on
 abbrev pub boot_caps : ProfileName → Plan → List Cap
-boot_caps p plan =
-    root_cap p plan
-    ∷ map Tcb (boot_tcbs p plan)
-    ++ map (λ j. whole_endpoint (endpoint_place p plan j)) (range_with_len 0 plan.endpoints)
-    ++ map (λ (u : ℕ × ℕ). Untyped u.0 u.1 0) plan.untypeds
+boot_caps p plan = root_cap p plan ∷ tcb_caps p plan ++ endpoint_caps p plan ++ untyped_caps plan
 
 -- capabilities put into the root CNode's slots from slot i on, each a tree of its own
 abbrev pub with_roots : ProfileName → ℕ → List Cap → Forest Entry → Forest Entry

@@ -1,6 +1,7 @@
 //! The kernel: boot, one step, and runs, over any capability store and any store of waiting threads.
 #![tactic(auto)]
 
+mod boot;
 pub mod call;
 pub mod kernel;
 mod lookup;

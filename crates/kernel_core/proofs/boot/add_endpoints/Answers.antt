@@ -1,0 +1,9 @@
+use Rattle.std.proofs.Common.{◌≡◌, ap}
+use Rattle.kernel_core.specs.Plan.{endpoint_place}
+use Rattle.kernel_core.specs.Boot.{whole_endpoint}
+use Rattle.kernel_core.proofs.Puts.{range_added}
+use Rattle.kernel_core.proofs.boot.add_endpoints.Goals as goal
+
+pub loop-j-preserved : goal.loop-j-preserved
+loop-j-preserved g c =
+    range_added (λ j. whole_endpoint (endpoint_place g.P.Profile.the c.args.plan.now j)) c.args.caps.now.items _ _ c.loop-j.j (whole_endpoint c.endpoint_place.result) c.loop-j.invariant c.in_ok-push.ensures.items (ap whole_endpoint c.endpoint_place.ensures)

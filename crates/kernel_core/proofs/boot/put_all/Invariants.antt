@@ -1,0 +1,14 @@
+use Rattle.std.proofs.Common.{◌≡◌, ◌+◌, drop}
+use Rattle.slot_core.specs.Forest.{none}
+use Rattle.kernel_core.specs.Boot.{boot_caps, with_roots}
+use Rattle.kernel_core.proofs.Puts.{CanPut}
+use Rattle.kernel_core.proofs.boot.put_all.Given as goal
+
+-- the capabilities from i on are still to be put, which gives what boot gives
+abbrev pub invariant-loop-i : goal.invariant-loop-i
+invariant-loop-i g l =
+    record {
+      memory : g.S.CapStore.memory_bits l.store ≡ l.plan.memory_bits;
+      can : CanPut g.P.Profile.the l.plan.memory_bits (l.i + 1) (drop l.i l.caps) (g.S.CapStore.forest l.store);
+      gives : with_roots g.P.Profile.the (l.i + 1) (drop l.i l.caps) (g.S.CapStore.forest l.store) ≡ with_roots g.P.Profile.the 1 (boot_caps g.P.Profile.the l.plan) none;
+    }
