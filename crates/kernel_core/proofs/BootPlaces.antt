@@ -89,10 +89,10 @@ endpoint_before Narrow n i j h = omega arith
 
 -- what a plan says of the places
 
-node_fits : (p : ProfileName) (plan : Plan) → 2 ^ (slot_bits p + plan.root_radix) ≤ first_tcb p plan
+pub node_fits : (p : ProfileName) (plan : Plan) → 2 ^ (slot_bits p + plan.root_radix) ≤ first_tcb p plan
 node_fits p plan = first_multiple p (2 ^ (slot_bits p + plan.root_radix))
 
-tcb_fits : (p : ProfileName) (plan : Plan) (i : ℕ) → i < plan.threads → tcb_place p plan i + 2 ^ tcb_bits p ≤ tcb_place p plan plan.threads
+pub tcb_fits : (p : ProfileName) (plan : Plan) (i : ℕ) → i < plan.threads → tcb_place p plan i + 2 ^ tcb_bits p ≤ tcb_place p plan plan.threads
 tcb_fits p plan i h = tcb_before p (first_tcb p plan) i plan.threads h
 
 endpoint_fits : (p : ProfileName) (plan : Plan) (j : ℕ) → j < plan.endpoints → endpoint_place p plan j + 2 ^ endpoint_bits p ≤ boot_end p plan
@@ -260,7 +260,7 @@ apart-tcbs p n a (suc k) = (
     differ : (i j : ℕ) → i < j → (i == j) ≡ false
     differ i j h = grind (arith, nat_tests)
 
-each-always : {X : Type 0} (P : X → Type 0) (xs : List X) → ((x : X) → P x) → Each P xs
+pub each-always : {X : Type 0} (P : X → Type 0) (xs : List X) → ((x : X) → P x) → Each P xs
 each-always P [] h = tt
 each-always P (x ∷ xs) h = (h x, each-always P xs h)
 

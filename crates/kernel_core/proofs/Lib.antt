@@ -22,3 +22,5 @@ pub mod Puts
 pub mod Spaces
 pub mod Clear
 pub mod BootPlaces
+pub mod BootThreads
+pub mod Booted

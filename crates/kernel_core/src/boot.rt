@@ -1,13 +1,78 @@
 //! Boot: a kernel from a plan.
-ghost use Rattle.std.specs.Prelude.{◌≡◌, ◌++◌, IfOk, OnOk};
+ghost use Rattle.std.specs.Prelude.{◌≡◌, ◌+◌, ◌-◌, ◌/◌, ◌^◌, ◌<◌, ◌++◌, IfOk, OnOk};
 ghost use Rattle.slot_core.specs.Forest.{none};
-ghost use Rattle.kernel_core.specs.Plan.{IsPlan, IsWithinLimits};
-ghost use Rattle.kernel_core.specs.Boot.{root_cap, tcb_caps, endpoint_caps, untyped_caps, boot_caps, with_roots, boot_forest};
+ghost use Rattle.kernel_core.specs.BootRows.{boot_rows};
+ghost use Rattle.kernel_core.specs.State.{shown};
+ghost use Rattle.cap_core.specs.Numbers.{tcb_bits, tcb_size};
+ghost use Rattle.kernel_core.specs.Plan.{IsPlan, IsWithinLimits, first_tcb};
+ghost use Rattle.kernel_core.specs.Boot.{root_cap, tcb_caps, endpoint_caps, untyped_caps, boot_caps, with_roots, boot_forest, boot as booted};
 
+use crate::kernel::Kernel;
 use crate::plan::BootPlan;
+use crate::rows::ThreadRow;
 use cap_core::{Badge, Cap, Guard, Profile, Rights};
-use slot_core::{CapStore, Slot};
+use ipc_core::MakeWaiters;
+use slot_core::{CapStore, MakeStore, Slot};
 use std::alloc::{AllocError, Global};
+use std::marker::PhantomData;
+
+impl<P: Profile, S: MakeStore<P>, W: MakeWaiters<P>> Kernel<P, S, W> {
+    /// A kernel with the objects of a plan, each thread ready with the root CNode as its capability space. The layout is
+    /// this project's profile. All memory of the kernel is taken here.
+    ///
+    /// # Errors
+    ///
+    /// `AllocError` where memory was wanted and not there.
+    pub fn boot(alloc: Global, plan: &BootPlan) -> Result<Kernel<P, S, W>, AllocError>
+        requires { IsPlan P.the plan.now }
+        ensures { IfOk result (λ kernel. kernel ≡ shown (booted P.the plan.now)) }
+    {
+        let caps = root_capabilities::<P>(alloc, plan)?;
+        let mut store = S::new(alloc, plan.memory_bits())?;
+        let waiters = W::new(alloc, plan.memory_bits())?;
+        let threads = boot_threads::<P>(alloc, plan)?;
+        put_all::<P, S>(&mut store, plan, caps.as_slice());
+        derive_spaces::<P, S>(&mut store, plan);
+        Ok(Kernel {
+            store,
+            waiters,
+            threads,
+            memory_bits: plan.memory_bits(),
+            of: PhantomData,
+        })
+    }
+}
+
+/// The rows of the threads: of the boot threads, which are ready, among the places of the memory.
+fn boot_threads<P: Profile>(
+    alloc: Global,
+    plan: &BootPlan,
+) -> Result<Vec<Option<ThreadRow>>, AllocError>
+    requires { IsPlan P.the plan.now }
+    ensures { IfOk result (λ rows. rows.items ≡ boot_rows (first_tcb P.the plan.now / tcb_size P.the) plan.now.threads (2 ^ (plan.now.memory_bits - tcb_bits P.the))) }
+{
+    let first = plan.first_tcb::<P>() >> P::TCB_BITS;
+    let count = 1u64 << (plan.memory_bits() - P::TCB_BITS);
+    thread_rows(alloc, first, u64::from(plan.threads()), count)
+}
+
+fn thread_rows(
+    alloc: Global,
+    first: u64,
+    threads: u64,
+    count: u64,
+) -> Result<Vec<Option<ThreadRow>>, AllocError>
+    requires { first + threads < 2 ^ 64 }
+    ensures { IfOk result (λ rows. rows.items ≡ boot_rows first threads count) }
+{
+    let ready = ThreadRow {
+        inactive: false,
+        inbox: None,
+    };
+    (0..count)
+        .map(|k| (first <= k && k < first + threads).then_some(ready))
+        .collect(alloc)
+}
 
 /// The rights of a capability that a boot makes.
 const ALL_RIGHTS: Rights = Rights(15);

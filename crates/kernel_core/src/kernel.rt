@@ -28,12 +28,12 @@ use std::marker::{Model, PhantomData};
 /// thread does and received last, and the waiting list of each live endpoint.
 #[derive(Drop)]
 pub struct Kernel<P: Profile, S: CapStore<P> + Drop, W: Waiters<P> + Drop> {
-    store: S,
-    waiters: W,
+    pub(crate) store: S,
+    pub(crate) waiters: W,
     /// Row k is that of the thread control block at k times its size.
-    threads: Vec<Option<ThreadRow>>,
-    memory_bits: u32,
-    of: PhantomData<P>,
+    pub(crate) threads: Vec<Option<ThreadRow>>,
+    pub(crate) memory_bits: u32,
+    pub(crate) of: PhantomData<P>,
 }
 
 impl<P: Profile, S: CapStore<P> + Drop, W: Waiters<P> + Drop> Model for Kernel<P, S, W> {
