@@ -3,7 +3,7 @@ use Rattle.std.proofs.Common.{◌≡◌, ◌≢◌, ℕ, suc, ◌<◌, ◌≤◌
 use Rattle.std.specs.List.{list_any, filter_map, cons_option, AllByRecursion}
 use Rattle.std.proofs.lemmas.Bool.{cases_lt}
 use Rattle.std.proofs.lemmas.Bool.Decides.{eqb_tells, leb_tells}
-use Rattle.ipc_core.specs.Records.{AskRecord, SendRecord, paired}
+use Rattle.ipc_core.specs.Records.{AskRecord, SendRecord}
 use Rattle.kernel_core.specs.State.{completion, last_completed, later}
 
 abbrev pub Pair : Type 0

@@ -14,7 +14,7 @@ use Rattle.kernel_core.specs.declared.call.Service.{Service}
 use Rattle.kernel_core.specs.declared.call.ThreadState.TheVariants.{Ready, Inactive}
 use Rattle.ipc_core.specs.Records.{AskRecord, Instance, SendRecord, same_instance, waiting_list}
 use Rattle.cap_core.specs.declared.message.Message.{Message}
-use Rattle.kernel_core.specs.State.{State, asks_of, completion, endpoint_at, first_of, inbox_of, inbox_with, is_receiving, is_sending, last_completed, later, pair_of, pairs, sends_to, shown, state_of, thread_at, thread_view, waiters, waiting_asks, waiting_sends}
+use Rattle.kernel_core.specs.State.{State, asks_of, completion, endpoint_at, first_of, inbox_of, inbox_with, is_receiving, is_sending, last_completed, pair_of, pairs, sends_to, shown, state_of, thread_at, thread_view, waiters, waiting_asks, waiting_sends}
 use Rattle.kernel_core.specs.Effects.{changed, receives}
 use Rattle.kernel_core.specs.Shown.{endpoints_of, table, threads_of}
 

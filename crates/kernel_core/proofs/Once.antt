@@ -14,7 +14,6 @@ use Rattle.ipc_core.specs.Records.{AskRecord, Instance, SendRecord, same_instanc
 use Rattle.cap_core.specs.declared.message.Message.{Message}
 use Rattle.kernel_core.specs.State.{State, asks_of, endpoint_at, is_receiving, is_sending, sends_to, state_of, thread_at, waiting_asks, waiting_sends}
 use Rattle.kernel_core.specs.Shown.{endpoints_of}
-use Rattle.kernel_core.specs.Step.{step}
 
 -- what a search does not find fails
 find_fails : (p : ℕ → Bool) (keys : List ℕ) (e : ℕ) → find p keys ≡ None → list_any (λ k. e == k) keys ≡ true → p e ≡ false

@@ -1,5 +1,5 @@
 -- A step completes a pair exactly where its reply tells of a delivery.
-use Rattle.std.proofs.Common.{◌≡◌, ◌≢◌, ℕ, ◌+◌, Bool, true, false, cond, ◌==◌, ◌&&◌, not, filter, List, [], ◌∷◌, ◌++◌, map, drop, Option, None, Some, Result, Ok, Err, slice_get, length, refl, sym, ap, subst, ◌∙◌, arith, inl, inr, append_assoc, eq-eqb}
+use Rattle.std.proofs.Common.{◌≡◌, ℕ, ◌+◌, Bool, true, false, cond, ◌==◌, ◌&&◌, not, filter, List, [], ◌∷◌, ◌++◌, map, drop, Option, None, Some, Result, Ok, Err, slice_get, length, refl, sym, ap, subst, ◌∙◌, arith, inl, inr, append_assoc, eq-eqb}
 use Rattle.std.proofs.lemmas.List.{map-append, append-nil}
 use Rattle.std.proofs.lemmas.Bool.Decides.{eqb_tells}
 use Rattle.std.proofs.Math.Seq.{drop-append_seam}
@@ -22,8 +22,8 @@ use Rattle.kernel_core.specs.Deliveries.{is_live, is_delivery, delivery, deliver
 use Rattle.kernel_core.proofs.Lists.{zip_more_some, zip_some_right, all_get}
 use Rattle.kernel_core.specs.declared.call.Reply.TheVariants.{Delivered}
 use Rattle.std.proofs.lemmas.Bool.{false≢true}
-use Rattle.kernel_core.proofs.Sending.{same_itself, same_tells, sends_here, sends_elsewhere, pairs_stay}
-use Rattle.kernel_core.proofs.Receiving.{AsksUpTo, asks_here, asks_elsewhere, pairs_kept}
+use Rattle.kernel_core.proofs.Sending.{same_tells, sends_here, sends_elsewhere, pairs_stay}
+use Rattle.kernel_core.proofs.Receiving.{asks_here, asks_elsewhere, pairs_kept}
 use Rattle.kernel_core.proofs.Simulation.{Invariant, Passes, passes, reached_inv}
 use Rattle.kernel_core.proofs.Runs.{reached_after}
 

@@ -1,9 +1,9 @@
 -- The parts of a kernel, as a send and a receive change them.
-use Rattle.std.proofs.Common.{◌≡◌, ◌≢◌, ℕ, suc, ◌+◌, ◌*◌, ◌/◌, ◌%◌, ◌^◌, ◌<◌, ◌≤◌, Bool, true, false, cond, ◌==◌, ◌||◌, List, [], ◌∷◌, ◌++◌, drop, map, length, get_or, Option, None, Some, IsSome, IsSomeAnd, All, option_map, option_and_then, unwrap_or, refl, sym, ap, subst, ◌∙◌, arith, inl, inr, eq-eqb}
-use Rattle.std.proofs.lemmas.Bool.{ne_eqb, false≢true}
+use Rattle.std.proofs.Common.{◌≡◌, ℕ, ◌*◌, Bool, true, false, cond, ◌==◌, List, [], ◌∷◌, ◌++◌, drop, length, get_or, Option, None, Some, IsSomeAnd, All, unwrap_or, refl, sym, ap, subst, ◌∙◌, arith, inl, inr}
+use Rattle.std.proofs.lemmas.Bool.{false≢true}
 use Rattle.std.proofs.lemmas.Bool.Decides.{eqb_tells}
 use Rattle.std.proofs.lemmas.List.Elements.{All-push, All-drop}
-use Rattle.std.specs.List.{list_any, filter_map, cons_option}
+use Rattle.std.specs.List.{list_any}
 use Rattle.std.specs.Ordering.{nat_cmp}
 use Rattle.std.specs.FinMap.{FinMap, get, insert}
 use Rattle.cap_core.specs.declared.profile.ProfileName.{ProfileName}
@@ -15,15 +15,13 @@ use Rattle.slot_core.specs.Entries.{Entry, caps}
 use Rattle.ipc_core.specs.declared.waiter.Waiter.{Waiter}
 use Rattle.ipc_core.specs.declared.waiter.Waiter.TheVariants.{Sender, Receiver}
 use Rattle.ipc_core.specs.declared.waiter.Role.{Role}
-use Rattle.ipc_core.specs.declared.waiter.Role.TheVariants as R
 use Rattle.ipc_core.specs.declared.waiter.Offer.{Offer}
 use Rattle.ipc_core.specs.Waits.{Waits, IsEndpointAddress, thread_of, first_receiver, first_sender, served, queued}
 use Rattle.kernel_core.specs.declared.rows.ThreadRow.{ThreadRow}
-use Rattle.kernel_core.specs.Shown.{Shown, ThreadView, endpoints_of, waiting_at}
-use Rattle.kernel_core.specs.Effects.{IsLiveEndpoint}
-use Rattle.kernel_core.specs.Rows.{rows_map, threads_shown, kernel_shown, IsActive, IsKernel, view_of}
+use Rattle.kernel_core.specs.Shown.{endpoints_of, waiting_at}
+use Rattle.kernel_core.specs.Rows.{rows_map, kernel_shown, IsActive, IsKernel}
 use Rattle.kernel_core.proofs.Addresses.{live_address}
-use Rattle.kernel_core.proofs.Keyed.{get_after, get_table, row_is_there}
+use Rattle.kernel_core.proofs.Keyed.{get_after, get_table}
 
 -- a row that is not inactive stays so where one such row is written
 active_row : (o : Option ThreadRow) (b : Bool) (row : ThreadRow) → row.inactive ≡ false → IsSomeAnd o (λ (r : ThreadRow). r.inactive ≡ false) → IsSomeAnd (cond b (Some row) o) (λ (r : ThreadRow). r.inactive ≡ false)

@@ -15,7 +15,7 @@ use Rattle.kernel_core.specs.declared.call.Service.{Service}
 use Rattle.ipc_core.specs.Records.{AskRecord, Instance, SendRecord, receiver, same_instance, sender, waiting_list}
 use Rattle.kernel_core.specs.State.{State, asks_of, endpoint_at, first_of, inbox_of, inbox_with, is_receiving, is_sending, last_completed, pair_of, pairs, sends_to, shown, state_of, thread_at, thread_view, waiters, waiting_asks}
 use Rattle.kernel_core.specs.Step.{ask_record, counted}
-use Rattle.kernel_core.specs.Effects.{changed, receives}
+use Rattle.kernel_core.specs.Effects.{changed}
 use Rattle.kernel_core.specs.Shown.{endpoints_of, table, threads_of}
 use Rattle.ipc_core.specs.Waits.{first_sender}
 

@@ -2,7 +2,7 @@
 use Rattle.std.proofs.Common.{◌≡◌, ℕ, suc, zero, ◌+◌, ◌<◌, Bool, true, false, cond, ◌==◌, ◌||◌, List, [], ◌∷◌, ◌++◌, filter, find, length, Option, None, Some, slice_get, refl, sym, ap, subst, ◌∙◌, arith, inl, inr, ◌⊎◌, eq-eqb}
 use Rattle.std.specs.List.{list_any, zip, AllByRecursion}
 use Rattle.std.proofs.lemmas.Bool.{ne_eqb}
-use Rattle.ipc_core.specs.Records.{AskRecord, SendRecord, paired}
+use Rattle.ipc_core.specs.Records.{AskRecord, SendRecord}
 
 -- each ask has a lower number than those after it
 abbrev pub Rising : List AskRecord → Type 0

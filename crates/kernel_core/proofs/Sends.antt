@@ -1,5 +1,5 @@
 -- A kernel's parts after what its waiting threads answer to a send and to a receive.
-use Rattle.std.proofs.Common.{◌≡◌, ◌==◌, ℕ, Bool, true, false, cond, List, [], ◌∷◌, ◌++◌, drop, length, Option, None, Some, IsSome, IsSomeAnd, refl, sym, ap, subst, ◌∙◌}
+use Rattle.std.proofs.Common.{◌≡◌, ◌==◌, ℕ, true, false, List, length, Option, None, Some, IsSome, IsSomeAnd, refl, sym, ap, subst, ◌∙◌}
 use Rattle.std.specs.List.{list_any}
 use Rattle.std.specs.FinMap.{get, insert}
 use Rattle.cap_core.specs.declared.profile.ProfileName.{ProfileName}
@@ -13,7 +13,7 @@ use Rattle.ipc_core.specs.declared.waiter.Role.TheVariants as R
 use Rattle.ipc_core.specs.declared.waiter.Sent.TheVariants as S
 use Rattle.ipc_core.specs.declared.waiter.Received.TheVariants as D
 use Rattle.ipc_core.specs.declared.waiter.Offer.{Offer}
-use Rattle.ipc_core.specs.Waits.{Waits, IsEndpointAddress, IsThreadAddress, first_receiver, first_sender, served, queued, sent, after_send, waits_sent_to, received, after_receive, waits_received_from}
+use Rattle.ipc_core.specs.Waits.{Waits, IsEndpointAddress, IsThreadAddress, first_receiver, first_sender, sent, after_send, waits_sent_to, received, after_receive, waits_received_from}
 use Rattle.kernel_core.specs.declared.call.Reply.TheVariants.{Delivered, Waiting}
 use Rattle.kernel_core.specs.declared.call.Service.{Service}
 use Rattle.kernel_core.specs.declared.call.ThreadState.TheVariants.{Sending, Receiving}

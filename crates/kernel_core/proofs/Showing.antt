@@ -1,7 +1,6 @@
 -- What a kernel shows after a send and after a receive.
-use Rattle.std.proofs.Common.{◌≡◌, ◌≢◌, ℕ, ◌<◌, Bool, true, false, cond, ◌==◌, List, [], ◌∷◌, ◌++◌, drop, length, Option, None, Some, Result, Ok, Err, IfOk, IsSome, IsSomeAnd, option_map, option_and_then, refl, sym, ap, subst, ◌∙◌, inl, inr, eq-eqb}
+use Rattle.std.proofs.Common.{◌≡◌, ◌≢◌, ℕ, Bool, true, false, cond, ◌==◌, List, [], ◌∷◌, ◌++◌, drop, Option, None, Some, Result, Ok, Err, IfOk, IsSome, IsSomeAnd, option_map, option_and_then, refl, sym, ap, subst, ◌∙◌, eq-eqb}
 use Rattle.std.proofs.lemmas.Bool.{ne_eqb, false≢true}
-use Rattle.std.proofs.lemmas.Bool.Decides.{eqb_tells}
 use Rattle.std.specs.List.{list_any}
 use Rattle.std.specs.Ordering.{nat_cmp}
 use Rattle.std.specs.FinMap.{FinMap, get, insert}
@@ -13,31 +12,25 @@ use Rattle.cap_core.specs.Numbers.{tcb_size}
 use Rattle.slot_core.specs.Forest.{Forest}
 use Rattle.slot_core.specs.Entries.{Entry, cap_at}
 use Rattle.ipc_core.specs.declared.waiter.Waiter.{Waiter}
-use Rattle.ipc_core.specs.declared.waiter.Waiter.TheVariants.{Sender, Receiver}
 use Rattle.ipc_core.specs.declared.waiter.Role.{Role}
-use Rattle.ipc_core.specs.declared.waiter.Role.TheVariants as R
-use Rattle.ipc_core.specs.declared.waiter.Sent.{Sent}
 use Rattle.ipc_core.specs.declared.waiter.Sent.TheVariants as S
-use Rattle.ipc_core.specs.declared.waiter.Received.{Received}
 use Rattle.ipc_core.specs.declared.waiter.Received.TheVariants as D
 use Rattle.ipc_core.specs.declared.waiter.Offer.{Offer}
-use Rattle.ipc_core.specs.Waits.{Waits, thread_of, first_receiver, first_sender, served, queued, sent, sent_to, after_send, waits_sent_to, received, received_from, after_receive, waits_received_from}
+use Rattle.ipc_core.specs.Waits.{Waits, first_receiver, first_sender, served, queued, sent_to, received_from}
 use Rattle.kernel_core.specs.declared.call.Inbox.{Inbox}
 use Rattle.kernel_core.specs.declared.call.Op.{Op}
 use Rattle.kernel_core.specs.Checks.{service_found, cap_named, slot_named}
 use Rattle.kernel_core.proofs.Live.{found_live}
-use Rattle.kernel_core.specs.declared.call.Reply.{Reply}
-use Rattle.kernel_core.specs.declared.call.Reply.TheVariants.{Delivered, Waiting}
 use Rattle.kernel_core.specs.declared.call.Service.{Service}
 use Rattle.kernel_core.specs.declared.call.ThreadState.{ThreadState}
-use Rattle.kernel_core.specs.declared.call.ThreadState.TheVariants.{Ready, Sending, Receiving}
+use Rattle.kernel_core.specs.declared.call.ThreadState.TheVariants.{Ready}
 use Rattle.kernel_core.specs.declared.rows.ThreadRow.{ThreadRow}
 use Rattle.kernel_core.specs.Shown.{Shown, ThreadView, endpoints_of, waiting_at, inbox_at, state_at, table}
-use Rattle.kernel_core.specs.Effects.{Effect, changed, receives, send_effect, send_meets, receive_effect, receive_meets, IsLiveEndpoint, IsReady}
+use Rattle.kernel_core.specs.Effects.{changed, receives, send_effect, send_meets, receive_effect, receive_meets, IsLiveEndpoint, IsReady}
 use Rattle.kernel_core.specs.Rows.{rows_map, threads_shown, kernel_shown, IsActive, IsKernel, view_of, state_with}
 use Rattle.kernel_core.proofs.Keyed.{get_after, get_table, table_changed}
 use Rattle.kernel_core.proofs.Threads.{threads_changed, IsReadyRow, ready_thread, inbox_shown_is, state_shown_is}
-use Rattle.kernel_core.proofs.Parts.{served_kernel, queued_kernel, waiting_is, receiver_active, sender_active}
+use Rattle.kernel_core.proofs.Parts.{waiting_is}
 
 -- the value at a changed place, and elsewhere
 changed_here : {X : Type 0} (k : ℕ) (x y : X) → cond (k == k) x y ≡ x

@@ -1,15 +1,11 @@
 -- Threads, as their rows and their roles show them.
-use Rattle.std.proofs.Common.{◌≡◌, ◌≢◌, ℕ, ◌+◌, Bool, true, false, cond, ◌==◌, List, [], ◌∷◌, map, Option, None, Some, IsSome, IsSomeAnd, option_map, option_and_then, refl, sym, ap, subst, ◌∙◌, inl, inr, eq-eqb}
-use Rattle.std.proofs.lemmas.Bool.{ne_eqb}
+use Rattle.std.proofs.Common.{◌≡◌, ◌≢◌, ℕ, Bool, true, false, cond, List, [], ◌∷◌, map, Option, None, Some, IsSomeAnd, option_map, option_and_then, refl, sym, ap, subst, ◌∙◌, inl, inr}
 use Rattle.std.proofs.lemmas.Bool.Decides.{eqb_tells}
-use Rattle.std.specs.Ordering.{nat_cmp}
-use Rattle.std.specs.FinMap.{FinMap, get, insert}
+use Rattle.std.specs.FinMap.{get, insert}
 use Rattle.ipc_core.specs.declared.waiter.Role.{Role}
 use Rattle.ipc_core.specs.declared.waiter.Role.TheVariants as R
 use Rattle.ipc_core.specs.Waits.{Waits}
-use Rattle.kernel_core.specs.declared.call.Inbox.{Inbox}
-use Rattle.kernel_core.specs.declared.call.ThreadState.{ThreadState}
-use Rattle.kernel_core.specs.declared.call.ThreadState.TheVariants.{Ready, Inactive, Sending, Receiving}
+use Rattle.kernel_core.specs.declared.call.ThreadState.TheVariants.{Ready, Inactive}
 use Rattle.kernel_core.specs.declared.rows.ThreadRow.{ThreadRow}
 use Rattle.kernel_core.specs.Shown.{ThreadView}
 use Rattle.kernel_core.specs.Rows.{keyed, rows_map, view_of, state_with, threads_shown}

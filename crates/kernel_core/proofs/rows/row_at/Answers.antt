@@ -1,4 +1,4 @@
-use Rattle.std.proofs.Common.{◌≡◌, ◌≤◌, ◌/◌, ◌%◌, ◌^◌, ℕ, None, get_or, length, sym, ap, subst, ◌∙◌, arith}
+use Rattle.std.proofs.Common.{◌≡◌, ◌≤◌, ◌/◌, ◌%◌, ◌^◌, ℕ, None, get_or, length, sym, ap, subst, ◌∙◌}
 use Rattle.cap_core.specs.Numbers.{tcb_size}
 use Rattle.kernel_core.proofs.Sizes.{tcb_size-pos, tcb_size-shifted}
 use Rattle.kernel_core.proofs.Keyed.{get_row, get_no_row, get_row_past}

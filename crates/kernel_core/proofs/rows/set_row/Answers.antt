@@ -1,7 +1,6 @@
-use Rattle.std.proofs.Common.{◌≡◌, ◌<◌, ◌/◌, ◌^◌, ℕ, Some, List, Option, length, sym, ap, subst, ◌∙◌, arith}
+use Rattle.std.proofs.Common.{◌≡◌, ◌<◌, ◌/◌, ◌^◌, ℕ, Some, length, sym, ap, subst, ◌∙◌, arith}
 use Rattle.std.proofs.Math.ListN.{set}
 use Rattle.cap_core.specs.Numbers.{tcb_size}
-use Rattle.kernel_core.specs.declared.rows.ThreadRow.{ThreadRow}
 use Rattle.kernel_core.specs.Rows.{rows_map}
 use Rattle.kernel_core.proofs.Sizes.{tcb_size-pos}
 use Rattle.kernel_core.proofs.Keyed.{row_changed, row_is_there}

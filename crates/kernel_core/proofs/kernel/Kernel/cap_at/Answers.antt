@@ -1,4 +1,4 @@
-use Rattle.std.proofs.Common.{◌≡◌, sym, ap, ◌∙◌}
+use Rattle.std.proofs.Common.{sym, ap, ◌∙◌}
 use Rattle.slot_core.specs.Entries.{cap_at}
 use Rattle.kernel_core.specs.Shown.{Shown}
 use Rattle.kernel_core.specs.Rows.{IsSlotAddress}

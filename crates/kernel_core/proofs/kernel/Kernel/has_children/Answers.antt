@@ -1,4 +1,4 @@
-use Rattle.std.proofs.Common.{◌≡◌, sym, ap, ◌∙◌, is_some}
+use Rattle.std.proofs.Common.{sym, ap, ◌∙◌, is_some}
 use Rattle.kernel_core.specs.Shown.{Shown, has_child}
 use Rattle.kernel_core.specs.Rows.{IsSlotAddress}
 use Rattle.kernel_core.proofs.Addresses.{no_child}

@@ -1,8 +1,8 @@
-use Rattle.std.proofs.Common.{◌≡◌, List, Option, Some, None, IsSome, ap, sym, subst, refl, ◌∙◌, option_map, option_and_then}
+use Rattle.std.proofs.Common.{List, Option, ap, sym, ◌∙◌, option_and_then}
 use Rattle.std.specs.FinMap.{get}
 use Rattle.cap_core.specs.Numbers.{tcb_size}
 use Rattle.kernel_core.specs.declared.rows.ThreadRow.{ThreadRow}
-use Rattle.kernel_core.specs.Rows.{rows_map, state_with}
+use Rattle.kernel_core.specs.Rows.{rows_map}
 use Rattle.kernel_core.proofs.Showing.{inbox_seen}
 use Rattle.kernel_core.proofs.kernel.Kernel.inbox.Goals as goal
 

@@ -1,4 +1,4 @@
-use Rattle.std.proofs.Common.{◌≡◌, sym, ◌∙◌}
+use Rattle.std.proofs.Common.{sym, ◌∙◌}
 use Rattle.kernel_core.proofs.Sends.{endpoint_stands, thread_stands, thread_there, waits_nowhere, receives_reply, receives_kernel, receives_shown, receive_waits_reply, receive_waits_kernel, receive_waits_shown}
 use Rattle.kernel_core.proofs.kernel.Kernel.recv.Goals as goal
 

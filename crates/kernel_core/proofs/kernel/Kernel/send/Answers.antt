@@ -1,4 +1,4 @@
-use Rattle.std.proofs.Common.{◌≡◌, sym, ◌∙◌}
+use Rattle.std.proofs.Common.{sym, ◌∙◌}
 use Rattle.kernel_core.proofs.Sends.{endpoint_stands, thread_stands, waits_nowhere, receiver_there, delivers_reply, delivers_kernel, delivers_shown, send_waits_reply, send_waits_kernel, send_waits_shown}
 use Rattle.kernel_core.proofs.kernel.Kernel.send.Goals as goal
 

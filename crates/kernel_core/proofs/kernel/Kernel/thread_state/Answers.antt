@@ -1,4 +1,4 @@
-use Rattle.std.proofs.Common.{◌≡◌, List, Option, Some, None, IsSome, ap, sym, subst, refl, ◌∙◌, option_map, option_and_then}
+use Rattle.std.proofs.Common.{◌≡◌, List, Option, Some, IsSome, ap, sym, subst, refl, ◌∙◌, option_map}
 use Rattle.std.specs.FinMap.{get}
 use Rattle.cap_core.specs.Numbers.{tcb_size}
 use Rattle.kernel_core.specs.declared.rows.ThreadRow.{ThreadRow}

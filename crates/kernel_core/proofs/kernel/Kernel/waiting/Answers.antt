@@ -1,4 +1,4 @@
-use Rattle.std.proofs.Common.{◌≡◌, List, Option, ap, sym, ◌∙◌, option_map, slice_get, true, false, subst, [], IsTrue}
+use Rattle.std.proofs.Common.{List, ap, sym, ◌∙◌, option_map, slice_get}
 use Rattle.ipc_core.specs.declared.waiter.Waiter.{Waiter}
 use Rattle.ipc_core.specs.Waits.{thread_of}
 use Rattle.kernel_core.specs.Shown.{Shown, waiting_at}
