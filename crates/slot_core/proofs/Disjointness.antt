@@ -62,37 +62,22 @@ pub are_apart-swap : (p : ProfileName) (a b : Cap) → are_apart p a b ≡ are_a
 are_apart-swap p a b = or_swap (nat_le (end_of p a) (base_of b)) (nat_le (end_of p b) (base_of a))
 
 -- a capability's object and itself
+same_number : (n : ℕ) → (n == n) ≡ true
+same_number n = grind (arith, nat_tests)
+
+or_true : (t : Bool) → (t || true) ≡ true
+or_true true = refl
+or_true false = refl
+
 pub are_disjoint-self : (p : ProfileName) (a : Cap) → is_null a ≡ false → are_disjoint p a a ≡ true
 are_disjoint-self p Null h = cc
-are_disjoint-self p (Untyped i bits free) h = let e : nat_le i i ≡ true = grind (arith, nat_tests) in let n : nat_le (i + 2 ^ bits) (i + 2 ^ bits) ≡ true = grind (arith, nat_tests) in rw (e, n) (last (are_apart p (Untyped i bits free) (Untyped i bits free)))
-  where
-    last : (t : Bool) → (t || (false || (true || true))) ≡ true
-    last true = refl
-    last false = refl
-are_disjoint-self p (Endpoint i badge rights) h = rw (self i) (last (are_apart p (Endpoint i badge rights) (Endpoint i badge rights)))
-  where
-    self : (n : ℕ) → (n == n) ≡ true
-    self n = grind (arith, nat_tests)
-
-    last : (t : Bool) → (t || true) ≡ true
-    last true = refl
-    last false = refl
-are_disjoint-self p (CNode i radix guard) h = rw (self i, self radix) (last (are_apart p (CNode i radix guard) (CNode i radix guard)))
-  where
-    self : (n : ℕ) → (n == n) ≡ true
-    self n = grind (arith, nat_tests)
-
-    last : (t : Bool) → (t || true) ≡ true
-    last true = refl
-    last false = refl
-are_disjoint-self p (Tcb i) h = rw (self i) (last (are_apart p (Tcb i) (Tcb i)))
-  where
-    self : (n : ℕ) → (n == n) ≡ true
-    self n = grind (arith, nat_tests)
-
-    last : (t : Bool) → (t || true) ≡ true
-    last true = refl
-    last false = refl
+are_disjoint-self p (Untyped i bits free) h =
+    let e : nat_le i i ≡ true = grind (arith, nat_tests) in
+    let n : nat_le (i + 2 ^ bits) (i + 2 ^ bits) ≡ true = grind (arith, nat_tests) in
+    rw (e, n) (or_true (are_apart p (Untyped i bits free) (Untyped i bits free)))
+are_disjoint-self p (Endpoint i badge rights) h = rw (same_number i) (or_true (are_apart p (Endpoint i badge rights) (Endpoint i badge rights)))
+are_disjoint-self p (CNode i radix guard) h = rw (same_number i, same_number radix) (or_true (are_apart p (CNode i radix guard) (CNode i radix guard)))
+are_disjoint-self p (Tcb i) h = rw (same_number i) (or_true (are_apart p (Tcb i) (Tcb i)))
 
 -- apart objects contain neither the other
 pub apart_contains : (p : ProfileName) (a b : Cap) → are_apart p a b ≡ true → contains p a b ≡ false
