@@ -1,3 +1,6 @@
 pub mod Numbers
 pub mod Objects
 pub mod Refusals
+pub mod Kinds
+pub mod Ranges
+pub mod Minting

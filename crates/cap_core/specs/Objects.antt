@@ -1,5 +1,5 @@
 -- Objects, their ranges of addresses, and what makes a capability lawful.
-use Rattle.std.specs.Prelude.{◌≡◌, ℕ, Bool, true, false, ◌+◌, ◌%◌, ◌^◌, ◌<◌, ◌≤◌, ◌==◌, ◌&&◌, ◌||◌, nat_le, ⊤}
+use Rattle.std.specs.Prelude.{◌≡◌, ℕ, Bool, true, false, ◌+◌, ◌%◌, ◌^◌, ◌<◌, ◌≤◌, ◌==◌, ◌&&◌, ◌||◌, not, nat_le, ⊤}
 use Rattle.cap_core.specs.declared.profile.ProfileName.{ProfileName}
 use Rattle.cap_core.specs.declared.capability.Guard.{Guard}
 use Rattle.cap_core.specs.declared.capability.Cap.{Cap}
@@ -63,9 +63,9 @@ contains p a b = nat_le (base_of a) (base_of b) && nat_le (end_of p b) (end_of p
 abbrev pub are_apart : ProfileName → Cap → Cap → Bool
 are_apart p a b = nat_le (end_of p a) (base_of b) || nat_le (end_of p b) (base_of a)
 
--- b lies in a's region: within the range of an untyped a, and otherwise it names the same object
+-- b lies in a's region: within the range of an untyped a, and otherwise it names the same object. Null names none
 abbrev pub in_region : ProfileName → Cap → Cap → Bool
-in_region p (Untyped base bits free) b = contains p (Untyped base bits free) b
+in_region p (Untyped base bits free) b = not (is_null b) && contains p (Untyped base bits free) b
 in_region p Null b = false
 in_region p (Endpoint base badge rights) b = same_object (Endpoint base badge rights) b
 in_region p (CNode base radix guard) b = same_object (CNode base radix guard) b

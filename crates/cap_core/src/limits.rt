@@ -32,3 +32,6 @@ pub const MAX_CLIENTS: u32 = 8;
 
 /// The most entries of a history.
 pub const MAX_HISTORY_LIMIT: u32 = 65536;
+
+/// The most objects that one retype makes.
+pub const MAX_RETYPE_COUNT: u64 = 256;
