@@ -263,3 +263,6 @@ impl Extent {
         self.start < other.end && other.start < self.end
     }
 }
+
+#[cfg(test)]
+mod tests;
