@@ -353,13 +353,12 @@ fn table_of_a_document_is_read_as_the_document(rt: HostRuntime) -> Result<(), Fa
 
 /// The answer is the set-up or `Memory`, and nothing else, whichever growth is refused.
 #[test]
-fn memory_alone_is_refused_in_place_of_a_good_set_up(rt: HostRuntime) -> Result<(), Fail> {
-    let lines = "untyped = [{ base = 16384, bits = 12 }]\n\
+fn memory_alone_is_refused_in_place_of_a_good_set_up(rt: HostRuntime) {
+    let text = b"format = 1\nmemory_bits = 16\nroot_radix = 4\nthreads = 2\nendpoints = 1\n\
+        untyped = [{ base = 16384, bits = 12 }]\n\
         call = [{ op = \"send\", thread = 2048, cap = 4, expect = \"waiting\" }]\n";
-    let text = format!(in rt.alloc(); "{SIZES}{lines}")?;
-    match read_setup(rt.alloc(), text.as_bytes()) {
+    match read_setup(rt.alloc(), text.as_slice()) {
         Ok(setup) => assert_eq!(rt; setup.calls().len(), 1),
         Err(fault) => assert_eq!(rt; fault.code(), 206),
     }
-    Ok(())
 }
