@@ -11,3 +11,6 @@ mod rows;
 pub use call::{Call, Inbox, Op, Reply, ThreadState};
 pub use kernel::Kernel;
 pub use plan::{BootPlan, PlanDefect};
+
+#[cfg(test)]
+mod tests;
