@@ -11,9 +11,10 @@ ghost use Rattle.cspace_core.specs.Bits.{low_bits};
 ghost use Rattle.cspace_core.specs.Resolution.{resolution, found, choice_seen};
 ghost use Rattle.cspace_core.specs.Inside.{LiesInCNode};
 ghost use Rattle.cspace_core.specs.Resolves.{Chooses, Resolves};
+ghost use Rattle.cspace_core.specs.Target.{target_slot, target_seen};
 
 use cap_core::limits::MAX_MEMORY_BITS;
-use cap_core::{Cap, LookupFault, Profile};
+use cap_core::{Cap, LookupFault, Profile, Refusal};
 use slot_core::{CapStore, Slot};
 
 /// The slot that the low `bits` bits of an address lead to from the capability `root`, and how many of them are left
@@ -51,6 +52,40 @@ pub fn resolve<P: Profile, S: CapStore<P>>(
         };
         cap = next;
         left = rest;
+    }
+}
+
+/// The slot that an operation on a CNode, or a retype, names by an index and a depth: the one that the low `depth` bits of
+/// `index` lead to from the capability `root`, with no bits left over (seL4 Reference Manual, on capability space
+/// addressing).
+///
+/// `FailedLookup(InvalidRoot)`: the root is no CNode, at whatever depth. `RangeError`: the depth is 0 or more than the bits
+/// of a word. `FailedLookup`: resolution fails, with its fault, or bits are left over, which is a `DepthMismatch`. The first
+/// of these that holds is answered.
+pub fn target<P: Profile, S: CapStore<P>>(
+    store: &S,
+    root: Cap,
+    index: u64,
+    depth: u64,
+) -> Result<Slot, Refusal>
+    requires memory { S.memory_bits store.now ≤ MAX_MEMORY_BITS }
+    requires lawful { (root ≡ Null) ⊎ IsLawful P.the (S.memory_bits store.now) root }
+    ensures value { target_seen P.the result ≡ target_slot P.the (cap_at (S.forest store.now)) root index depth }
+    ensures within { IfOk result (λ slot. address_of P.the slot < 2 ^ S.memory_bits store.now) }
+    ensures inside { IfOk result (λ slot. LiesInCNode P.the (cap_at (S.forest store.now)) root (address_of P.the slot)) }
+    ensures relation { IfOk result (λ slot. Resolves P.the (cap_at (S.forest store.now)) root (low_bits depth index)
+        (Ok (record { slot = address_of P.the slot; left = 0 }))) }
+{
+    let Cap::CNode { .. } = root else {
+        return Err(Refusal::FailedLookup(LookupFault::InvalidRoot));
+    };
+    if depth == 0 || depth > P::WORD_BITS as u64 {
+        return Err(Refusal::RangeError);
+    }
+    match resolve::<P, S>(store, root, index, depth as u32) {
+        Ok((slot, 0)) => Ok(slot),
+        Ok(_) => Err(Refusal::FailedLookup(LookupFault::DepthMismatch)),
+        Err(fault) => Err(Refusal::FailedLookup(fault)),
     }
 }
 

@@ -114,3 +114,59 @@ fn other_addresses_have_their_faults(rt: HostRuntime) -> Result<(), Fail> {
     );
     Ok(())
 }
+
+/// What `target` answers over that store, by the slot's address and the refusal's number and kind.
+fn target_answer<P: Profile>(root: Cap, index: u64, depth: u64) -> Result<u64, (u32, u32)>
+    requires lawful { (root ≡ Null) ⊎ IsLawful P.the (slot_bits P.the + 1) root }
+{
+    let store = TwoSlots {
+        profile: PhantomData,
+    };
+    match target::<P, TwoSlots<P>>(&store, root, index, depth) {
+        Ok(slot) => Ok(slot.address::<P>()),
+        Err(refusal) => Err((refusal.code(), refusal.kind())),
+    }
+}
+
+#[test]
+fn wide_targets_have_no_bits_left(rt: HostRuntime) -> Result<(), Fail> {
+    let root = node::<Wide>(0b101, 3);
+    for (index, depth, want) in [
+        (0b101_1, 4, Ok(32)),
+        (0b101_0_1, 5, Ok(32)),
+        (0b101_0_0, 5, Ok(0)),
+        (0b101_1_1, 5, Err((6, 3))),
+        (0b101_0_1_0, 6, Err((6, 3))),
+        (0b101, 3, Err((6, 3))),
+        (0b10, 2, Err((6, 4))),
+        (0b001_1, 4, Err((6, 4))),
+        (0b101 << 61, 64, Ok(0)),
+        (0b101_1, 0, Err((4, 0))),
+        (0b101_1, 65, Err((4, 0))),
+        (0b101_1, u64::MAX, Err((4, 0))),
+    ] {
+        assert_eq!(rt; target_answer::<Wide>(root, index, depth), want);
+    }
+    for depth in [0, 1, 64, 65] {
+        assert_eq!(rt; target_answer::<Wide>(Cap::Null, 0, depth), Err((6, 1)));
+    }
+    Ok(())
+}
+
+#[test]
+fn narrow_targets_have_no_bits_left(rt: HostRuntime) -> Result<(), Fail> {
+    let root = node::<Narrow>(0b101, 3);
+    for (index, depth, want) in [
+        (0b101_1, 4, Ok(16)),
+        (0b101_1_1, 5, Err((6, 3))),
+        (0b101 << 29, 32, Ok(0)),
+        (0b101_1, 0, Err((4, 0))),
+        (0b101_1, 33, Err((4, 0))),
+    ] {
+        assert_eq!(rt; target_answer::<Narrow>(root, index, depth), want);
+    }
+    assert_eq!(rt; target_answer::<Narrow>(Cap::Null, 0, 33), Err((6, 1)));
+    Ok(())
+}
+
+mod levels;
