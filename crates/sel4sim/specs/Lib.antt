@@ -1,0 +1,4 @@
+pub mod CommandLine
+pub mod Devices
+pub mod Program
+pub mod Statuses

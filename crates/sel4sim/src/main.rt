@@ -1,0 +1,88 @@
+//! The program `sel4sim`: reads a set-up from a file or from standard input, runs it, and writes the report.
+//!
+//! The exit status is 0 where all expectations are met, 1 where one is not, 2 where the set-up is refused, 3 where the program
+//! could not read, write or get memory, and 4 where the command line is refused; for 3 and 4 standard error has one line that
+//! says what went wrong.
+#![tactic(auto)]
+
+use arguments::{Job, Line, LineFault};
+use command_line::line;
+use device::{ReaderSource, WriterSink};
+use engine::check;
+use fault::{RunFault, Verdict, status_of};
+use std::env::{self, Env};
+use std::fs::{self, Files};
+use std::io::{self, Eprint, Input};
+use std::process::ExitCode;
+
+mod arguments;
+mod command_line;
+mod device;
+mod engine;
+mod fault;
+#[cfg(test)]
+mod tests;
+
+/// Runs the set-up of the file, or of standard input where no file is named. A file that cannot be opened is a failed read.
+fn check_file<R: Files + Input + Print + AllocGlobal>(
+    rt: &R,
+    file: Option<&str>,
+) -> Result<Verdict, RunFault> {
+    let mut sink = WriterSink::new(io::writer(rt));
+    match file {
+        None => check(rt.alloc(), &mut ReaderSource::new(rt.reader()), &mut sink),
+        Some(path) => {
+            let reader = fs::open(rt, path).map_err(|_| RunFault::Reading)?;
+            check(rt.alloc(), &mut ReaderSource::new(reader), &mut sink)
+        }
+    }
+}
+
+/// Does what the line asks for, says what went wrong, and answers the exit status.
+fn run_line<R: Files + Input + Print + Eprint + AllocGlobal>(rt: &R, line: Line<'_>) -> u8 {
+    let answer = match line.job {
+        Job::Check => check_file(rt, line.file),
+    };
+    if let Err(fault) = &answer {
+        let _ = eprintln!(rt; "sel4sim: {fault}");
+    }
+    status_of(&answer)
+}
+
+/// Says why the command line is not taken, and answers the exit status. The help text goes to standard output.
+fn refuse_line<R: Print + Eprint>(rt: &R, fault: &LineFault) -> u8 {
+    let said = match fault {
+        LineFault::Help(text) => print!(rt; "{text}"),
+        _ => eprintln!(rt; "sel4sim: {fault}"),
+    };
+    let _ = said;
+    fault.status()
+}
+
+/// Reads the words that the program was started with, the program's name first.
+fn words_of<R: Env + AllocGlobal>(rt: &R) -> Result<Vec<String>, LineFault> {
+    let words = env::args(rt).map_err(|_| LineFault::Refused)?;
+    words.collect(rt.alloc()).map_err(|_| LineFault::Memory)
+}
+
+fn run<R: Env + Files + Input + Print + Eprint + AllocGlobal>(rt: &R) -> u8 {
+    let words = match words_of(rt) {
+        Ok(words) => words,
+        Err(fault) => return refuse_line(rt, &fault),
+    };
+    let Ok(texts) = words
+        .iter()
+        .map(|word| word.as_str())
+        .collect::<Vec<&str>>(rt.alloc())
+    else {
+        return refuse_line(rt, &LineFault::Memory);
+    };
+    match line(rt.alloc(), texts.as_slice()) {
+        Ok(line) => run_line(rt, line),
+        Err(fault) => refuse_line(rt, &fault),
+    }
+}
+
+fn main(rt: HostRuntime) -> ExitCode {
+    ExitCode::from(run(&rt))
+}
