@@ -1,5 +1,5 @@
 -- What the definition of the command says of a parse.
-use Rattle.std.proofs.Common.{◌≡◌, ◌≢◌, ◌∙◌, List, [], ◌∷◌, Bool, true, false, Option, Some, None, option_map, cond, is_some, find, refl, ◌⊎◌, inl, inr, subst, ap}
+use Rattle.std.proofs.Common.{◌≡◌, ◌∙◌, List, [], ◌∷◌, Bool, true, false, Option, Some, None, option_map, cond, is_some, find, refl, inl, inr, subst, ap}
 use Rattle.std.specs.Box.{box_value}
 use Rattle.std.specs.List.{list_all}
 use Rattle.clap.specs.Words.{App, HasMatchesOf, Kinds, IsAmong, HasKind, Shape, Text, app_of, is_simple, is_simple_and_free, subcommand_name_of, subcommand_of, subcommand_rows, subcommand_rows_of, takes, fault_of}

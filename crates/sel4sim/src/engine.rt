@@ -4,8 +4,9 @@ ghost use Rattle.std.specs.Io.KnownBytes.{Appends, IsAtEnd};
 ghost use Rattle.sel4sim.specs.Devices.{AppendsFront, GivesAsMany};
 ghost use Rattle.sel4sim.specs.Program.{program};
 
-use crate::device::{Sink, Source};
 use crate::fault::{RunFault, Verdict};
+use crate::sink::Sink;
+use crate::source::Source;
 use std::alloc::{AllocError, Global};
 
 /// The number of bytes that an input has to stay below.

@@ -7,12 +7,14 @@
 
 use arguments::{Job, Line, LineFault};
 use command_line::line;
-use device::{ReaderSource, WriterSink};
-use engine::check;
+use engine::{check, write_all};
 use fault::{RunFault, Verdict, status_of};
+use sink::WriterSink;
+use source::ReaderSource;
 use std::env::{self, Env};
+use std::fmt::Display;
 use std::fs::{self, Files};
-use std::io::{self, Eprint, Input};
+use std::io::{self, Eprint, ErrorKind, Input};
 use std::process::ExitCode;
 
 mod arguments;
@@ -20,6 +22,8 @@ mod command_line;
 mod device;
 mod engine;
 mod fault;
+mod sink;
+mod source;
 #[cfg(test)]
 mod tests;
 
@@ -38,33 +42,56 @@ fn check_file<R: Files + Input + Print + AllocGlobal>(
     }
 }
 
-/// Does what the line asks for, says what went wrong, and answers the exit status.
+/// Says what went wrong, on standard error. Nothing else can be told where that fails too.
+fn complain(rt: &impl Eprint, fault: impl Display + Drop) {
+    let _ = eprintln!(rt; "sel4sim: {fault}");
+}
+
+/// Does what the line asks for, and answers the exit status.
 fn run_line<R: Files + Input + Print + Eprint + AllocGlobal>(rt: &R, line: Line<'_>) -> u8 {
     let answer = match line.job {
         Job::Check => check_file(rt, line.file),
     };
     if let Err(fault) = &answer {
-        let _ = eprintln!(rt; "sel4sim: {fault}");
+        complain(rt, fault);
     }
     status_of(&answer)
 }
 
-/// Says why the command line is not taken, and answers the exit status. The help text goes to standard output.
+/// Writes the help text to standard output, and answers the exit status.
+fn write_help<R: Print + Eprint>(rt: &R, text: &str) -> u8 {
+    let mut sink = WriterSink::new(io::writer(rt));
+    match write_all(&mut sink, text.as_bytes()) {
+        Ok(()) => 0,
+        Err(fault) => {
+            complain(rt, fault);
+            status_of(&Err(fault))
+        }
+    }
+}
+
+/// Says why the command line is not taken, and answers the exit status.
 fn refuse_line<R: Print + Eprint>(rt: &R, fault: &LineFault) -> u8 {
-    let said = match fault {
-        LineFault::Help(text) => print!(rt; "{text}"),
-        _ => eprintln!(rt; "sel4sim: {fault}"),
-    };
-    let _ = said;
+    if let LineFault::Help(text) = fault {
+        return write_help(rt, text.as_str());
+    }
+    complain(rt, fault);
     fault.status()
 }
 
-/// Reads the words that the program was started with, the program's name first.
+/// The words that the program was started with, its name first. A word that is no text is refused.
 fn words_of<R: Env + AllocGlobal>(rt: &R) -> Result<Vec<String>, LineFault> {
-    let words = env::args(rt).map_err(|_| LineFault::Refused)?;
+    let words = env::args(rt).map_err(|error| {
+        if error.kind() == ErrorKind::OutOfMemory {
+            LineFault::Memory
+        } else {
+            LineFault::Refused
+        }
+    })?;
     words.collect(rt.alloc()).map_err(|_| LineFault::Memory)
 }
 
+/// Reads the command line, does what it asks for, and answers the exit status.
 fn run<R: Env + Files + Input + Print + Eprint + AllocGlobal>(rt: &R) -> u8 {
     let words = match words_of(rt) {
         Ok(words) => words,

@@ -1,6 +1,8 @@
-use crate::device::{DeviceFault, ReaderSource, Sink, Source, WriterSink};
+use crate::device::DeviceFault;
 use crate::engine::{INPUT_LIMIT, check, read_below, write_all};
 use crate::fault::RunFault;
+use crate::sink::{Sink, WriterSink};
+use crate::source::{ReaderSource, Source};
 use std::alloc::Global;
 use std::io::{self, ErrorKind, Read, Write};
 use std::test::Fail;

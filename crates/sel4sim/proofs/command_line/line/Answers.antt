@@ -1,10 +1,8 @@
-use Rattle.std.proofs.Common.{◌≡◌, ◌∙◌, ap, sym, List, ℕ, Option, option_map, is_some, true}
-use Rattle.clap.specs.Words.{App, Row, Text, HasKind, app_of, is_simple, is_simple_and_free, takes, fault_of, subcommand_name_of, subcommand_of, subcommand_rows_of}
+use Rattle.std.proofs.Common.{◌≡◌, ◌∙◌, ap, sym, option_map, is_some}
+use Rattle.clap.specs.Words.{App, HasKind, app_of, is_simple_and_free, takes, fault_of}
 use Rattle.clap.specs.Walk.{texts}
-use Rattle.clap.specs.declared.builder.command.Command.{Command}
-use Rattle.clap.specs.declared.parser.matches.ArgMatches.{ArgMatches}
 use Rattle.sel4sim.specs.CommandLine.{command, file_of, job_of}
-use Rattle.sel4sim.proofs.CommandLines.{command_is_simple, command_is_free, explained, job_is_known, rows_met, names_met}
+use Rattle.sel4sim.proofs.CommandLines.{command_is_free, explained, job_is_known, rows_met, names_met}
 use Rattle.sel4sim.proofs.command_line.line.Goals as goal
 
 pub line_in-requires : goal.line_in-requires

@@ -1,4 +1,4 @@
-use Rattle.std.proofs.Common.{◌≡◌, ◌∙◌, ℕ, List, ◌++◌, take, drop, sym, ap, append_assoc, rules}
+use Rattle.std.proofs.Common.{◌≡◌, ◌∙◌, ◌++◌, take, drop, sym, ap, append_assoc, rules}
 use Rattle.std.proofs.lemmas.List.{take-append-drop}
 use Rattle.sel4sim.proofs.Streams.{Appends-trans}
 use Rattle.sel4sim.proofs.engine.write_all.Goals as goal
