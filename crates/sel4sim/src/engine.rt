@@ -1,12 +1,20 @@
 //! The whole program over a source and a sink.
-ghost use Rattle.std.specs.Prelude.{◌≡◌, ◌≢◌, ◌⊎◌, ◌+◌, ◌<◌, ◌≤◌, true, false, length, IfOk, IfErr, IfSome, OnErr, OnOk, string_bytes};
+ghost use Rattle.std.specs.Prelude.{◌≡◌, ◌≢◌, ◌⊎◌, ◌+◌, ◌<◌, ◌≤◌, true, false, length, IfOk, IfErr, IfSome, OnErr, OnOk, codes, ◌++◌};
 ghost use Rattle.std.specs.Io.KnownBytes.{Appends, IsAtEnd};
 ghost use Rattle.sel4sim.specs.Devices.{AppendsFront, GivesAsMany};
-ghost use Rattle.sel4sim.specs.Program.{program};
+ghost use Rattle.cap_core.specs.declared.profile.ProfileName.TheVariants as Profiles;
+ghost use Rattle.kernel_core.specs.Plan.{IsPlan};
+ghost use Rattle.setup_read.specs.Refusal.{setup_fault_text};
+ghost use Rattle.sel4sim.specs.Program.{program, outcome_of};
 
 use crate::fault::{RunFault, Verdict};
 use crate::sink::Sink;
 use crate::source::Source;
+use cap_core::Wide;
+use ipc_core::RowWaiters;
+use kernel_core::Kernel;
+use setup_read::{Setup, SetupFault, expectations, read_setup, report};
+use slot_core::RowStore;
 use std::alloc::{AllocError, Global};
 
 /// The number of bytes that an input has to stay below.
@@ -75,14 +83,44 @@ pub(crate) fn write_all<K: Sink>(sink: &mut K, text: &[u8]) -> Result<(), RunFau
     Ok(())
 }
 
-#[tactic(auto, unfolding(crate::specs::Program::program))]
-/// The text that the program writes for the bytes of its input, and the verdict.
-fn text_of(alloc: Global, bytes: &[u8]) -> Result<(String, Verdict), AllocError>
-    ensures { IfOk result (λ made. (string_bytes made.0, made.1) ≡ program bytes.now) }
+/// Boots a kernel from the set-up's plan, makes its calls, and reports on both.
+#[tactic(auto, unfolding(crate::specs::Program::outcome_of, crate::specs::Program::replies_to, crate::specs::Program::end_of))]
+fn run_setup(alloc: Global, setup: &Setup) -> Result<(Vec<u8>, Verdict), AllocError>
+    requires { IsPlan Profiles.Wide setup.now.plan }
+    ensures { IfOk result (λ made. (made.0.items, made.1) ≡ outcome_of Profiles.Wide setup.now) }
 {
-    let _ = bytes;
-    let text = String::from_str(alloc, "set-up refused\n")?;
-    Ok((text, Verdict::Refused))
+    let mut kernel = Kernel::<Wide, RowStore<Wide>, RowWaiters<Wide>>::boot(alloc, setup.plan())?;
+    let calls = setup.calls();
+    let mut replies = Vec::with_capacity(alloc, calls.len())?;
+    kernel.run(calls, &mut replies);
+    let text = report(alloc, setup, replies.as_slice(), &kernel)?;
+    let count = expectations(alloc, setup, replies.as_slice())?;
+    let verdict = if count.met == count.expected {
+        Verdict::AllMet
+    } else {
+        Verdict::NotMet
+    };
+    Ok((text, verdict))
+}
+
+/// The line by which a set-up is refused.
+fn refusal(alloc: Global, fault: &SetupFault) -> Result<Vec<u8>, AllocError>
+    ensures { IfOk result (λ text. text.items ≡ setup_fault_text fault.now ++ codes "\n") }
+{
+    let text = format!(in alloc; "{fault}\n")?;
+    Ok(text.into_bytes())
+}
+
+/// The text that the program writes for the bytes of its input, and the verdict.
+#[tactic(auto, unfolding(crate::specs::Program::program))]
+fn text_of(alloc: Global, bytes: &[u8]) -> Result<(Vec<u8>, Verdict), AllocError>
+    ensures { IfOk result (λ made. (made.0.items, made.1) ≡ program bytes.now) }
+{
+    match read_setup(alloc, bytes) {
+        Ok(setup) => run_setup(alloc, &setup),
+        Err(SetupFault::Memory) => Err(AllocError),
+        Err(fault) => Ok((refusal(alloc, &fault)?, Verdict::Refused)),
+    }
 }
 
 /// Reads the source to its end, runs the set-up that it holds, and writes the report, or the line of a refusal, to the sink.
@@ -115,6 +153,6 @@ pub fn check<S: Source, K: Sink>(
     let Ok((text, verdict)) = text_of(alloc, bytes.as_slice()) else {
         return Err(RunFault::Memory);
     };
-    write_all(sink, text.as_bytes())?;
+    write_all(sink, text.as_slice())?;
     Ok(verdict)
 }

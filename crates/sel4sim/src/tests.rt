@@ -1,2 +1,5 @@
 mod command_line;
 mod devices;
+mod fakes;
+mod faults;
+mod rows;

@@ -3,95 +3,19 @@ use crate::engine::{INPUT_LIMIT, check, read_below, write_all};
 use crate::fault::RunFault;
 use crate::sink::{Sink, WriterSink};
 use crate::source::{ReaderSource, Source};
-use std::alloc::Global;
-use std::io::{self, ErrorKind, Read, Write};
+use crate::tests::fakes::{EndlessReader, reader, writer};
 use std::test::Fail;
 
 const TEXT: &[u8] = b"format = 1\nmemory_bits = 16\nroot_radix = 4\nthreads = 2\n";
 
-/// Gives a text in pieces, and fails at one read.
-#[derive(Drop)]
-struct PieceReader<'a> {
-    rest: &'a [u8],
-    piece: usize,
-    reads_left: usize,
-}
-
-impl Read for PieceReader<'_> {
-    fn read(&mut self, buffer: &mut [u8]) -> io::Result<usize> {
-        if self.reads_left == 0 {
-            return Err(io::Error::from(ErrorKind::Other));
-        }
-        self.reads_left -= 1;
-        let n = self.piece.min(self.rest.len()).min(buffer.len());
-        let (front, rest) = self.rest.split_at(n);
-        buffer[..n].copy_from_slice(front);
-        self.rest = rest;
-        Ok(n)
-    }
-}
-
-/// Fills each buffer, and never ends.
-#[derive(Drop)]
-struct EndlessReader;
-
-impl Read for EndlessReader {
-    fn read(&mut self, buffer: &mut [u8]) -> io::Result<usize> {
-        buffer.fill(b'#');
-        Ok(buffer.len())
-    }
-}
-
-/// Takes at most `piece` bytes at a time, and none once it took `room`: then it fails, or answers 0 where it is `shy`.
-#[derive(Drop)]
-struct PieceWriter {
-    taken: Vec<u8>,
-    piece: usize,
-    room: usize,
-    shy: bool,
-}
-
-impl Write for PieceWriter {
-    fn write(&mut self, bytes: &[u8]) -> io::Result<usize> {
-        let n = self.piece.min(self.room).min(bytes.len());
-        if n == 0 && !self.shy {
-            return Err(io::Error::from(ErrorKind::Other));
-        }
-        self.taken.extend_from_slice(&bytes[..n])?;
-        self.room -= n;
-        Ok(n)
-    }
-
-    fn flush(&mut self) -> io::Result<()> {
-        Ok(())
-    }
-}
-
-fn reader(piece: usize, reads_left: usize) -> PieceReader<'static> {
-    PieceReader {
-        rest: TEXT,
-        piece,
-        reads_left,
-    }
-}
-
-fn writer(alloc: Global, piece: usize, room: usize, shy: bool) -> PieceWriter {
-    PieceWriter {
-        taken: Vec::new(alloc),
-        piece,
-        room,
-        shy,
-    }
-}
-
 #[test]
 fn each_read_fails_in_turn(rt: HostRuntime) -> Result<(), Fail> {
     for k in 0..5 {
-        let mut source = ReaderSource::new(reader(16, k));
+        let mut source = ReaderSource::new(reader(TEXT, 16, k));
         let answer = read_below(rt.alloc(), &mut source, 4096);
         assert!(rt; matches!(answer, Err(RunFault::Reading)), "at read {k}");
     }
-    let mut source = ReaderSource::new(reader(16, 5));
+    let mut source = ReaderSource::new(reader(TEXT, 16, 5));
     let bytes = read_below(rt.alloc(), &mut source, 4096)?;
     assert_eq!(rt; bytes.as_slice(), TEXT);
     Ok(())
@@ -100,12 +24,12 @@ fn each_read_fails_in_turn(rt: HostRuntime) -> Result<(), Fail> {
 #[test]
 fn input_stays_below_the_limit(rt: HostRuntime) -> Result<(), Fail> {
     let length = TEXT.len();
-    let mut source = ReaderSource::new(reader(16, 9));
+    let mut source = ReaderSource::new(reader(TEXT, 16, 9));
     let bytes = read_below(rt.alloc(), &mut source, length + 1)?;
     assert_eq!(rt; bytes.as_slice(), TEXT);
 
     // The source is not asked for more than the limit.
-    let mut whole = reader(4096, 9);
+    let mut whole = reader(TEXT, 4096, 9);
     let mut source = ReaderSource::new(&mut whole);
     let answer = read_below(rt.alloc(), &mut source, length - 1);
     assert!(rt; matches!(answer, Err(RunFault::Reading)));
@@ -163,9 +87,12 @@ fn first_write<K: Sink>(sink: &mut K) -> Result<usize, DeviceFault> {
 
 #[test]
 fn devices_count_and_fail(rt: HostRuntime) -> Result<(), Fail> {
-    assert_eq!(rt; first_read(&mut ReaderSource::new(reader(16, 1))), Ok(8));
     assert_eq!(rt;
-        first_read(&mut ReaderSource::new(reader(16, 0))),
+        first_read(&mut ReaderSource::new(reader(TEXT, 16, 1))),
+        Ok(8)
+    );
+    assert_eq!(rt;
+        first_read(&mut ReaderSource::new(reader(TEXT, 16, 0))),
         Err(DeviceFault)
     );
     let mut out = writer(rt.alloc(), 3, 4, true);
