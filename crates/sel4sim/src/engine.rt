@@ -5,15 +5,16 @@ ghost use Rattle.sel4sim.specs.Devices.{AppendsFront, GivesAsMany};
 ghost use Rattle.cap_core.specs.declared.profile.ProfileName.TheVariants as Profiles;
 ghost use Rattle.kernel_core.specs.Plan.{IsPlan};
 ghost use Rattle.setup_read.specs.Refusal.{setup_fault_text};
-ghost use Rattle.sel4sim.specs.Program.{program, outcome_of};
+ghost use Rattle.sel4sim.specs.Program.{program, outcome_of, replies_to, end_of, verdict_on as verdict_of_counts};
+ghost use Rattle.kernel_core.specs.State.{shown};
 
 use crate::fault::{RunFault, Verdict};
 use crate::sink::Sink;
 use crate::source::Source;
 use cap_core::Wide;
 use ipc_core::RowWaiters;
-use kernel_core::Kernel;
-use setup_read::{Setup, SetupFault, expectations, read_setup, report};
+use kernel_core::{Kernel, Reply};
+use setup_read::{ExpectationCount, Setup, SetupFault, expectations, read_setup, report};
 use slot_core::RowStore;
 use std::alloc::{AllocError, Global};
 
@@ -83,24 +84,44 @@ pub(crate) fn write_all<K: Sink>(sink: &mut K, text: &[u8]) -> Result<(), RunFau
     Ok(())
 }
 
-/// Boots a kernel from the set-up's plan, makes its calls, and reports on both.
-#[tactic(auto, unfolding(crate::specs::Program::outcome_of, crate::specs::Program::replies_to, crate::specs::Program::end_of))]
+/// The kernel that `check` runs: with words of 64 bits, over the plain forms of both stores.
+type CheckedKernel = Kernel<Wide, RowStore<Wide>, RowWaiters<Wide>>;
+
+/// Boots a kernel from the set-up's plan and makes its calls: the kernel then, and the replies.
+#[tactic(auto, unfolding(crate::specs::Program::replies_to, crate::specs::Program::end_of))]
+fn run_calls(alloc: Global, setup: &Setup) -> Result<(CheckedKernel, Vec<Reply>), AllocError>
+    requires { IsPlan Profiles.Wide setup.now.plan }
+    ensures kernel { IfOk result (λ r. r.0 ≡ shown (end_of Profiles.Wide setup.now)) }
+    ensures replies { IfOk result (λ r. r.1.items ≡ replies_to Profiles.Wide setup.now) }
+{
+    let mut kernel = CheckedKernel::boot(alloc, setup.plan())?;
+    let calls = setup.calls();
+    let mut replies = Vec::with_capacity(alloc, calls.len())?;
+    kernel.run(calls, &mut replies);
+    Ok((kernel, replies))
+}
+
+/// Runs the set-up, and reports on it.
+#[tactic(auto, unfolding(crate::specs::Program::outcome_of), using(crate::proofs::Runs::length_replies_to))]
 fn run_setup(alloc: Global, setup: &Setup) -> Result<(Vec<u8>, Verdict), AllocError>
     requires { IsPlan Profiles.Wide setup.now.plan }
     ensures { IfOk result (λ made. (made.0.items, made.1) ≡ outcome_of Profiles.Wide setup.now) }
 {
-    let mut kernel = Kernel::<Wide, RowStore<Wide>, RowWaiters<Wide>>::boot(alloc, setup.plan())?;
-    let calls = setup.calls();
-    let mut replies = Vec::with_capacity(alloc, calls.len())?;
-    kernel.run(calls, &mut replies);
+    let (kernel, replies) = run_calls(alloc, setup)?;
     let text = report(alloc, setup, replies.as_slice(), &kernel)?;
     let count = expectations(alloc, setup, replies.as_slice())?;
-    let verdict = if count.met == count.expected {
+    Ok((text, verdict_on(count)))
+}
+
+/// Whether all expectations are met.
+fn verdict_on(count: ExpectationCount) -> Verdict
+    ensures { result ≡ verdict_of_counts count.met count.expected }
+{
+    if count.met == count.expected {
         Verdict::AllMet
     } else {
         Verdict::NotMet
-    };
-    Ok((text, verdict))
+    }
 }
 
 /// The line by which a set-up is refused.

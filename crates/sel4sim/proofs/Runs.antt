@@ -1,0 +1,25 @@
+-- A run has as many replies as calls, and a boot is a state that runs reach.
+use Rattle.std.specs.Prelude.{◌≡◌, ℕ, suc, List, [], ◌∷◌, map, length, refl}
+use Rattle.std.proofs.Common.{ap, ◌∙◌}
+use Rattle.std.proofs.lemmas.List.{length-map}
+use Rattle.cap_core.specs.declared.profile.ProfileName.{ProfileName}
+use Rattle.kernel_core.specs.declared.call.Call.{Call}
+use Rattle.kernel_core.specs.Plan.{Plan, IsPlan}
+use Rattle.kernel_core.specs.Boot.{boot}
+use Rattle.kernel_core.specs.State.{State}
+use Rattle.kernel_core.specs.Step.{step, replies_of}
+use Rattle.kernel_core.specs.Reached.{IsReached}
+use Rattle.setup_read.specs.Views.{SetupView, CallView}
+use Rattle.sel4sim.specs.Program.{replies_to, calls_of}
+
+pub length-replies_of : (p : ProfileName) (A : State) (calls : List Call) → length (replies_of p A calls) ≡ length calls
+length-replies_of p A [] = refl
+length-replies_of p A (call ∷ calls) = ap suc (length-replies_of p (step p A call).state calls)
+
+pub length_replies_to : (p : ProfileName) (setup : SetupView) → length (replies_to p setup) ≡ length setup.calls
+unfolding replies_to
+length_replies_to p setup =
+    length-replies_of p (boot p setup.plan) (calls_of setup) ∙ length-map setup.calls (λ (c : CallView). c.call)
+
+pub boot_reached : (p : ProfileName) (plan : Plan) → IsPlan p plan → IsReached p (boot p plan)
+boot_reached p plan lawful = record { plan = plan; lawful = lawful; calls = []; is = refl }
