@@ -1,9 +1,9 @@
 //! Objects: the kinds that a number names, their sizes, their ranges, and the capability of a new one.
-ghost use Rattle.std.specs.Prelude.{◌≡◌, ℕ, ◌+◌, ◌^◌, ◌↔◌, ◌&&◌, nat_le};
+ghost use Rattle.std.specs.Prelude.{◌≡◌, ℕ, ◌+◌, ◌^◌, ◌↔◌, ◌&&◌, nat_le, IsTrue};
 ghost use Rattle.cap_core.specs.declared.profile.ProfileName.{ProfileName};
 ghost use Rattle.cap_core.specs.Kinds.{number_of, kind_numbered, size_within, size_of, kind_named, new_cap};
 ghost use Rattle.cap_core.specs.Objects.{same_object as is_same_object, in_region as is_in_region, base_of, bits_of};
-ghost use Rattle.cap_core.specs.Ranges.{range_named};
+ghost use Rattle.cap_core.specs.Ranges.{range_named, IsAddressOf};
 
 use crate::capability::{Badge, Cap, Guard, Kind};
 use crate::profile::Profile;
@@ -133,7 +133,8 @@ pub fn same_object(a: Cap, b: Cap) -> bool
 /// untyped, whether the range of b's object lies within that of `a`; otherwise, whether both name one object. `Null` lies
 /// in no region.
 pub fn in_region<P: Profile>(a: Cap, b: Cap) -> bool
-    ensures { result ≡ is_in_region P.the a b }
+    ensures value { result ≡ is_in_region P.the a b }
+    ensures addresses { IsTrue result → (address : ℕ) → IsAddressOf P.the b address → IsAddressOf P.the a address }
 {
     match a {
         Cap::Untyped { base, bits, .. } => match range_of::<P>(b) {
