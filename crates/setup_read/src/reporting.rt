@@ -49,3 +49,6 @@ pub fn report<P: Profile, S: CapStore<P> + Drop, W: Waiters<P> + Drop>(
     writeln!(out, "expected {met} of {expected}")?;
     Ok(out.into_bytes())
 }
+
+#[cfg(test)]
+mod tests;
