@@ -1,11 +1,18 @@
-# make run: the proved program on the stored set-up; make test: the gate; make try: the same before any proof.
-.PHONY: run test try
+# make run: the proved program on the stored set-up; make test: the gate; make try: the stored set-up before any proof;
+# make rows: each worked set-up through the built program, and each of its requests for memory refused in turn.
+.PHONY: run test try rows
+
+program = crates/sel4sim/out/sel4sim
 
 run:
-	cd crates/sel4sim && rt run
+	cd crates/sel4sim && rt run < stdin
 
 test:
 	rt ci
 
 try:
-	cd crates/sel4sim && rt try
+	cd crates/sel4sim && rt try < stdin
+
+rows: run
+	python3 rows/run.py $(program)
+	python3 rows/refuse_memory.py $(program) rows/send_then_receive.toml
