@@ -1,5 +1,5 @@
 -- Bytes that are text, and bytes that are none.
-use Rattle.std.proofs.Common.{◌≡◌, ℕ, List, Bool, true, false, Err, inl, inr}
+use Rattle.std.proofs.Common.{◌≡◌, ℕ, List, Err, inl, inr}
 use Rattle.std.proofs.lemmas.Bool.{cases_Bool}
 use Rattle.std.proofs.lemmas.Str.{IsUtf8-from_is_utf8, is_utf8-from_IsUtf8}
 use Rattle.std.specs.Str.{is_utf8, IsUtf8}

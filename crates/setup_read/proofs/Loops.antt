@@ -1,8 +1,8 @@
 -- Loops that read each element of a list in turn.
-use Rattle.std.proofs.Common.{◌≡◌, ℕ, zero, suc, ◌+◌, ◌<◌, ◌≤◌, List, [], ◌∷◌, ◌++◌, length, get_or, drop, map, Result, Ok, Err, refl, sym, ap, ◌∙◌, append_assoc, add-zero, arith, cond, Some, le-leb}
+use Rattle.std.proofs.Common.{◌≡◌, ℕ, ◌+◌, ◌<◌, ◌≤◌, List, [], ◌∷◌, ◌++◌, length, get_or, drop, map, Result, Ok, Err, refl, sym, ap, ◌∙◌, append_assoc, arith, cond, Some, le-leb}
 use Rattle.std.proofs.lemmas.List.{drop_more, append-nil, length-map}
 use Rattle.std.proofs.lemmas.Bool.{lt-leb}
-use Rattle.toml.specs.Data.{Data, Members, as_array, as_table}
+use Rattle.toml.specs.Data.{Data, as_array, as_table}
 use Rattle.toml.specs.View.{view, items_view}
 use Rattle.toml.specs.declared.value.Value.{Value}
 use Rattle.setup_read.specs.declared.fault.SetupFault.{SetupFault}

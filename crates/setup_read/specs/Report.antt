@@ -17,7 +17,6 @@ use Rattle.kernel_core.specs.declared.call.Inbox.{Inbox}
 use Rattle.kernel_core.specs.Shown.{Shown, state_at, inbox_at, waiting_at, has_child}
 use Rattle.setup_read.specs.Views.{CallView}
 use Rattle.setup_read.specs.declared.reporting.naming.Naming.{Naming}
-use Rattle.setup_read.specs.declared.reporting.naming.Naming.TheVariants as Naming
 use Rattle.setup_read.specs.Text.{cap_text, numbers_text, op_text, reply_text, is_met, verdict_text, state_text, inbox_text}
 
 -- ---- addresses

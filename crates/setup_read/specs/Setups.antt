@@ -1,5 +1,5 @@
 -- The set-up that a table or a text is read as, or its first fault.
-use Rattle.std.specs.Prelude.{codes, ℕ, ◌+◌, ◌-◌, max, List, [], ◌∷◌, length, Bool, ◌==◌, if◌then◌else◌, Option, Some, None, Result, Ok, Err}
+use Rattle.std.specs.Prelude.{codes, ℕ, ◌-◌, max, List, [], ◌∷◌, length, ◌==◌, if◌then◌else◌, Option, Some, None, Result, Ok, Err}
 use Rattle.std.specs.Str.{is_utf8}
 use Rattle.toml.specs.Data.{Members}
 use Rattle.toml.specs.Parse.{parse_document}
@@ -10,7 +10,6 @@ use Rattle.cap_core.specs.Numbers.{min_untyped_bits, max_object_bits}
 use Rattle.kernel_core.specs.declared.plan.PlanDefect.{PlanDefect}
 use Rattle.kernel_core.specs.Plan.{Plan, planned, first_defect}
 use Rattle.setup_read.specs.declared.limits.TheConstants.{FORMAT, MAX_CALLS}
-use Rattle.setup_read.specs.declared.fault.Place.{Place}
 use Rattle.setup_read.specs.declared.fault.Place.TheVariants as places
 use Rattle.setup_read.specs.declared.setup.Sizes.{Sizes}
 use Rattle.setup_read.specs.Names.{Names}

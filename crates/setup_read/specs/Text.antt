@@ -1,5 +1,5 @@
 -- The text of each part of a report. Numbers are decimal.
-use Rattle.std.specs.Prelude.{codes, ℕ, List, [], ◌∷◌, ◌++◌, take, length, Bool, true, false, ◌==◌, ◌||◌, if◌then◌else◌, bit_and, nat_eq, Option, Some, None}
+use Rattle.std.specs.Prelude.{codes, ℕ, List, [], ◌++◌, take, Bool, ◌==◌, ◌||◌, if◌then◌else◌, bit_and, nat_eq, Option, Some, None}
 use Rattle.std.specs.List.{flat_map, starts_with}
 use Rattle.std.specs.Fmt.{decimal}
 use lib.Pointwise.{pointwise}
@@ -11,7 +11,6 @@ use Rattle.cap_core.specs.declared.refusal.Refusal.{Refusal}
 use Rattle.cap_core.specs.Refusals.{refusal_code, refusal_kind}
 use Rattle.kernel_core.specs.declared.call.Op.{Op}
 use Rattle.kernel_core.specs.declared.call.Op.TheVariants.{Send, Recv}
-use Rattle.kernel_core.specs.declared.call.Call.{Call}
 use Rattle.kernel_core.specs.declared.call.Reply.{Reply}
 use Rattle.kernel_core.specs.declared.call.Reply.TheVariants.{Done, Delivered, Waiting, Dropped, Empty, Refused}
 use Rattle.kernel_core.specs.declared.call.ThreadState.{ThreadState}

@@ -1,4 +1,4 @@
-use Rattle.std.proofs.Common.{◌≡◌, ◌<◌, ◌≤◌, ◌^◌, drop}
+use Rattle.std.proofs.Common.{◌≡◌, ◌<◌, ◌^◌, drop}
 use Rattle.setup_read.specs.Kinds.{digits_after}
 use Rattle.setup_read.proofs.kinds.digits.Given as goal
 

@@ -1,9 +1,9 @@
-use Rattle.std.proofs.Common.{◌≡◌, ℕ, ◌+◌, ◌-◌, ◌<◌, ◌≤◌, ◌++◌, ◌∷◌, [], take, drop, replicate, length, Ok, Result, map, get_or, sym, ap, ◌∙◌, arith, slice_set, rules}
+use Rattle.std.proofs.Common.{◌≡◌, ℕ, ◌+◌, ◌<◌, ◌++◌, ◌∷◌, [], take, length, Ok, map, sym, ap, ◌∙◌, arith, slice_set}
 use Rattle.std.proofs.lemmas.Result.{err_from_is_err_and}
 use Rattle.std.proofs.lemmas.List.{take_more_set, length-set, drop_all}
 use Rattle.toml.specs.View.{view}
 use Rattle.cap_core.specs.declared.limits.TheConstants.{MAX_MESSAGE_WORDS}
-use Rattle.setup_read.specs.Kinds.{◌>>=◌, word, each, seen, filled}
+use Rattle.setup_read.specs.Kinds.{◌>>=◌, word, each, filled}
 use Rattle.setup_read.specs.Names.{names_view}
 use Rattle.setup_read.proofs.Loops.{goes_on, ends, is_done, words_are}
 use Rattle.setup_read.proofs.Padding.{rest_after, filled_is, words_record}

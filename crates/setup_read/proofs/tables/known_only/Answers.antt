@@ -1,4 +1,4 @@
-use Rattle.std.proofs.Common.{◌≡◌, ℕ, List, map, not, Result, Ok, Err, Some, None, string_bytes, ap, ◌∙◌, rules}
+use Rattle.std.proofs.Common.{◌≡◌, map, not, Some, None, string_bytes, ap, ◌∙◌, rules}
 use Rattle.setup_read.specs.Tables.{is_one_of, no_unknown}
 use Rattle.setup_read.proofs.Keys.{unknown_is}
 use Rattle.setup_read.proofs.tables.known_only.Goals as goal

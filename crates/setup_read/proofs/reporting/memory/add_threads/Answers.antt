@@ -1,4 +1,4 @@
-use Rattle.std.proofs.Common.{rules, arith}
+use Rattle.std.proofs.Common.{rules}
 use Rattle.setup_read.proofs.Walks.{walked_none, walked_more}
 use Rattle.setup_read.proofs.reporting.memory.add_threads.Goals as goal
 

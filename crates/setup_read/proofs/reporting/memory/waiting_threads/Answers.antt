@@ -1,4 +1,4 @@
-use Rattle.std.proofs.Common.{◌≡◌, length, None, Some, option_map, slice_get, map, rules, arith}
+use Rattle.std.proofs.Common.{◌≡◌, length, None, Some, option_map, slice_get, rules}
 use Rattle.ipc_core.specs.Waits.{thread_of}
 use Rattle.kernel_core.specs.Shown.{waiting_at}
 use Rattle.setup_read.proofs.Fronts.{front_more, front_all}
