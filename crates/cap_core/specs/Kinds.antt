@@ -6,6 +6,7 @@ use Rattle.cap_core.specs.declared.capability.Kind.TheVariants as Kinds
 use Rattle.cap_core.specs.declared.capability.Cap.{Cap}
 use Rattle.cap_core.specs.declared.capability.Cap.TheVariants as Caps
 use Rattle.cap_core.specs.Numbers.{word_bits, slot_bits, tcb_bits, endpoint_bits, max_object_bits}
+use Rattle.cap_core.specs.Rights.{all_rights}
 
 -- the number of a kind, as a retype names it
 abbrev pub number_of : Kind → ℕ
@@ -45,5 +46,5 @@ kind_named (Caps.Tcb base) = Some Kinds.Tcb
 abbrev pub new_cap : Kind → ℕ → ℕ → Cap
 new_cap Kinds.Untyped base size_bits = Caps.Untyped base size_bits 0
 new_cap Kinds.Tcb base size_bits = Caps.Tcb base
-new_cap Kinds.Endpoint base size_bits = Caps.Endpoint base (record { 0 = 0 }) (record { 0 = 15 })
+new_cap Kinds.Endpoint base size_bits = Caps.Endpoint base (record { 0 = 0 }) all_rights
 new_cap Kinds.CNode base size_bits = Caps.CNode base size_bits (record { value = 0; size = 0 })

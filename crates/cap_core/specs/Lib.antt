@@ -1,5 +1,6 @@
 pub mod Numbers
 pub mod Objects
+pub mod Rights
 pub mod Refusals
 pub mod Kinds
 pub mod Ranges

@@ -74,7 +74,7 @@ pub fn fresh(kind: Kind, base: u64, size_bits: u32) -> Cap
         Kind::Endpoint => Cap::Endpoint {
             base,
             badge: Badge(0),
-            rights: Rights(15),
+            rights: Rights::ALL,
         },
         Kind::CNode => Cap::CNode {
             base,

@@ -16,6 +16,11 @@ bitflag_items! {
     }
 }
 
+impl Rights {
+    /// Every right, as the capability of a new endpoint has them (seL4 Reference Manual, on `seL4_Untyped_Retype`).
+    pub const ALL: Rights = Rights(15);
+}
+
 impl Flags for Rights {
     type Bits = u8;
 

@@ -5,6 +5,7 @@ use Rattle.cap_core.specs.declared.profile.ProfileName.{ProfileName}
 use Rattle.cap_core.specs.declared.capability.Cap.{Cap}
 use Rattle.cap_core.specs.declared.capability.Cap.TheVariants.{Untyped, Endpoint, CNode, Tcb}
 use Rattle.cap_core.specs.Numbers.{word_bits, slot_size}
+use Rattle.cap_core.specs.Rights.{all_rights}
 use Rattle.slot_core.specs.Forest.{Forest, none}
 use Rattle.slot_core.specs.Entries.{Entry}
 use Rattle.slot_core.specs.Derivation.{rooted, derived}
@@ -21,7 +22,7 @@ boot_tcbs p plan = map (tcb_place p plan) (range_with_len 0 plan.threads)
 
 -- an endpoint capability with no badge and all rights
 abbrev pub whole_endpoint : ℕ → Cap
-whole_endpoint base = Endpoint base (record { 0 = 0 }) (record { 0 = 15 })
+whole_endpoint base = Endpoint base (record { 0 = 0 }) all_rights
 
 abbrev pub tcb_caps : ProfileName → Plan → List Cap
 tcb_caps p plan = map (λ i. Tcb (tcb_place p plan i)) (range_with_len 0 plan.threads)

@@ -8,6 +8,7 @@ use Rattle.cap_core.specs.declared.capability.Cap.TheVariants.{Null, Untyped, En
 use Rattle.cap_core.specs.declared.rights.Rights.{Rights}
 use Rattle.cap_core.specs.declared.refusal.LookupFault.{LookupFault}
 use Rattle.cap_core.specs.Numbers.{word_bits}
+use Rattle.cap_core.specs.Rights.{write_bit, read_bit}
 use Rattle.cspace_core.specs.Bits.{low_bits}
 use Rattle.cspace_core.specs.Resolution.{Found, resolution}
 use Rattle.cap_core.specs.declared.refusal.Refusal.{Refusal}
@@ -21,13 +22,6 @@ use Rattle.kernel_core.specs.declared.call.Service.{Service}
 use Rattle.kernel_core.specs.declared.call.ThreadState.{ThreadState}
 use Rattle.kernel_core.specs.declared.call.ThreadState.TheVariants.{Ready, Inactive, Sending, Receiving}
 use Rattle.kernel_core.specs.Shown.{Shown, ThreadView}
-
--- the bits of the rights to send and to receive
-abbrev pub write_bit : ℕ
-write_bit = 1
-
-abbrev pub read_bit : ℕ
-read_bit = 2
 
 -- a right is among an endpoint capability's rights
 abbrev pub has_right : ℕ → Rights → Bool

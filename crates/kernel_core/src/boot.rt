@@ -74,9 +74,6 @@ fn thread_rows(
         .collect(alloc)
 }
 
-/// The rights of a capability that a boot makes.
-const ALL_RIGHTS: Rights = Rights(15);
-
 /// The capability of the root CNode, which stands at address 0: its guard and its radix take a whole word.
 fn root_capability<P: Profile>(plan: &BootPlan) -> Cap
     requires { IsWithinLimits P.the plan.now }
@@ -126,7 +123,7 @@ fn add_endpoints<P: Profile>(caps: &mut Vec<Cap>, plan: &BootPlan) -> Result<(),
         caps.push(Cap::Endpoint {
             base: plan.endpoint_place::<P>(j),
             badge: Badge(0),
-            rights: ALL_RIGHTS,
+            rights: Rights::ALL,
         })?;
     }
     Ok(())
