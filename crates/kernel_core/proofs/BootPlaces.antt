@@ -1,5 +1,5 @@
 -- The capabilities of a boot can be put one after another, and the root CNode's derived into each thread's root slot.
-use Rattle.std.proofs.Common.{◌≡◌, ℕ, zero, suc, ◌+◌, ◌-◌, ◌*◌, ◌/◌, ◌%◌, ◌^◌, ◌<◌, ◌≤◌, Bool, true, false, ◌&&◌, ◌||◌, ◌==◌, nat_lt, nat_le, List, [], ◌∷◌, ◌++◌, map, length, get_or, refl, sym, ◌∙◌, ap, subst, arith}
+use Rattle.std.proofs.Common.{◌≡◌, ℕ, zero, suc, ◌+◌, ◌-◌, ◌*◌, ◌%◌, ◌^◌, ◌<◌, ◌≤◌, true, false, ◌&&◌, ◌||◌, ◌==◌, nat_lt, nat_le, List, [], ◌∷◌, ◌++◌, map, length, get_or, refl, ◌∙◌, arith}
 use Rattle.std.specs.List.{AllByRecursion as Each, range_with_len}
 use Rattle.std.proofs.Math.Nat.{one-le-pow, mul-le-mul_right}
 use Rattle.std.proofs.lemmas.Nat.{pow-add}
@@ -11,9 +11,9 @@ use Rattle.cap_core.specs.declared.profile.ProfileName.TheVariants.{Wide, Narrow
 use Rattle.cap_core.specs.declared.capability.Cap.{Cap}
 use Rattle.cap_core.specs.declared.capability.Cap.TheVariants.{Untyped, Tcb}
 use Rattle.cap_core.specs.Numbers.{word_bits, slot_bits, slot_size, tcb_bits, tcb_size, endpoint_bits, endpoint_size}
-use Rattle.cap_core.specs.Objects.{IsLawful, IsPlaced, base_of, bits_of, end_of, are_apart, is_untyped, contains}
+use Rattle.cap_core.specs.Objects.{IsLawful, base_of, bits_of, end_of, are_apart, is_untyped, contains}
 use Rattle.slot_core.proofs.Forests.{each-append, each-weaker}
-use Rattle.kernel_core.specs.Plan.{Plan, IsPlan, overlap, extent, node_extent, untyped_extent, least_multiple, first_tcb, tcb_place, endpoint_place, boot_end, slots_taken}
+use Rattle.kernel_core.specs.Plan.{Plan, IsPlan, overlap, extent, untyped_extent, least_multiple, first_tcb, tcb_place, endpoint_place, boot_end, slots_taken}
 use Rattle.kernel_core.specs.Boot.{root_cap, tcb_caps, endpoint_caps, untyped_caps, boot_caps, whole_endpoint, boot_tcbs, with_roots}
 use Rattle.slot_core.specs.Forest.{Forest, none}
 use Rattle.slot_core.specs.Entries.{Entry, cap_at}
@@ -21,7 +21,7 @@ use Rattle.slot_core.specs.Derivation.{rooted}
 use Rattle.slot_core.proofs.Disjointness.{disjoint-none, apart_contains, are_apart-swap}
 use Rattle.kernel_core.proofs.Puts.{AreApart, CanPut, each-with_roots, full-with_roots, cap-with_roots, disjoint-with_roots}
 use Rattle.kernel_core.proofs.Spaces.{AreDifferent, CanDerive}
-use Rattle.kernel_core.proofs.Clear.{IsClear, clear, objects_within, slots_within}
+use Rattle.kernel_core.proofs.Clear.{clear, objects_within, slots_within}
 
 -- lists
 

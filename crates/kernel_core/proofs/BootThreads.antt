@@ -1,5 +1,5 @@
 -- The threads of a booted kernel.
-use Rattle.std.proofs.Common.{◌≡◌, ℕ, zero, suc, ◌+◌, ◌-◌, ◌*◌, ◌/◌, ◌^◌, ◌<◌, ◌≤◌, Bool, true, false, cond, ◌&&◌, ◌==◌, nat_lt, nat_le, List, [], ◌∷◌, ◌++◌, map, length, Option, Some, None, find, append_assoc, refl, sym, ◌∙◌, ap, arith}
+use Rattle.std.proofs.Common.{◌≡◌, ℕ, zero, suc, ◌+◌, ◌-◌, ◌*◌, ◌/◌, ◌^◌, ◌<◌, ◌≤◌, true, false, ◌&&◌, ◌==◌, nat_lt, nat_le, List, [], ◌∷◌, ◌++◌, map, None, find, append_assoc, refl, sym, ◌∙◌, ap, arith}
 use Rattle.std.specs.List.{filter_map, range_with_len}
 use Rattle.std.specs.FinMap.{from_entries}
 use Rattle.std.proofs.lemmas.Bool.Decides.{nat_tests}
@@ -10,17 +10,16 @@ use Rattle.cap_core.specs.declared.profile.ProfileName.TheVariants.{Wide, Narrow
 use Rattle.cap_core.specs.declared.capability.Cap.{Cap}
 use Rattle.cap_core.specs.declared.capability.Cap.TheVariants.{Untyped, CNode, Tcb}
 use Rattle.cap_core.specs.declared.capability.Guard.{Guard}
-use Rattle.cap_core.specs.Numbers.{word_bits, slot_size, slot_bits, tcb_size, tcb_bits}
+use Rattle.cap_core.specs.Numbers.{word_bits, slot_size, slot_bits, tcb_size}
 use Rattle.slot_core.specs.Forest.{Forest, none, tree, preorder}
 use Rattle.slot_core.specs.Entries.{Entry, entry, caps}
 use Rattle.slot_core.specs.Derivation.{rooted, derived, derived_entry}
 use Rattle.slot_core.proofs.Forests.{preorder-root}
 use Rattle.ipc_core.specs.Waits.{no_waits}
-use Rattle.kernel_core.specs.declared.call.ThreadState.TheVariants.{Ready}
 use Rattle.kernel_core.specs.declared.rows.ThreadRow.{ThreadRow}
 use Rattle.kernel_core.specs.Plan.{Plan, first_tcb, tcb_place, endpoint_place, least_multiple}
 use Rattle.kernel_core.specs.Shown.{ThreadView, tcb_base, threads_of, endpoints_of, table}
-use Rattle.kernel_core.specs.State.{State, shown, thread_view, thread_at, is_sending, is_receiving}
+use Rattle.kernel_core.specs.State.{shown, thread_view}
 use Rattle.kernel_core.specs.Rows.{keyed, view_of, threads_shown, kernel_shown}
 use Rattle.kernel_core.specs.BootRows.{ready_row, boot_row, boot_rows}
 use Rattle.kernel_core.specs.Boot.{root_cap, tcb_caps, endpoint_caps, untyped_caps, boot_caps, boot_tcbs, boot_forest, boot, with_roots, with_spaces, whole_endpoint}

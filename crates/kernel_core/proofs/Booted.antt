@@ -1,6 +1,6 @@
 -- What holds of a booted kernel's parts.
-use Rattle.std.proofs.Common.{◌≡◌, ℕ, zero, suc, ◌+◌, ◌-◌, ◌*◌, ◌/◌, ◌%◌, ◌^◌, ◌<◌, ◌≤◌, Bool, eqb, true, Option, List, [], ◌∷◌, map, length, get_or, refl, sym, ◌∙◌, ap, subst, arith}
-use Rattle.std.specs.List.{AllByRecursion as Each, All, IsDistinct, range_with_len}
+use Rattle.std.proofs.Common.{◌≡◌, ℕ, zero, suc, ◌+◌, ◌-◌, ◌*◌, ◌/◌, ◌%◌, ◌^◌, ◌<◌, ◌≤◌, Bool, eqb, true, Option, List, [], ◌∷◌, length, refl, ◌∙◌, ap, arith}
+use Rattle.std.specs.List.{AllByRecursion as Each, All, IsDistinct}
 use Rattle.std.proofs.Math.Nat.{one-le-pow}
 use Rattle.std.proofs.lemmas.Nat.{pow-add}
 use Rattle.std.proofs.lemmas.List.Elements.{All-map}
@@ -13,7 +13,7 @@ use Rattle.cap_core.specs.declared.capability.Guard.{Guard}
 use Rattle.cap_core.specs.Numbers.{word_bits, slot_size, slot_bits, tcb_size, tcb_bits}
 use Rattle.cap_core.specs.Objects.{IsLawful}
 use Rattle.slot_core.specs.Forest.{Forest, none, preorder}
-use Rattle.slot_core.specs.Entries.{Entry, entry, slots, caps}
+use Rattle.slot_core.specs.Entries.{Entry, entry, slots}
 use Rattle.slot_core.specs.Derivation.{rooted, derived, derived_entry}
 use Rattle.slot_core.specs.Disjoint.{IsDisjoint}
 use Rattle.slot_core.proofs.Forests.{each-weaker}
@@ -21,14 +21,14 @@ use Rattle.slot_core.proofs.Edits.{each-derived}
 use Rattle.slot_core.proofs.Distinct.{distinct-rooted, distinct-derived}
 use Rattle.ipc_core.specs.Waits.{Waits, no_waits}
 use Rattle.kernel_core.specs.declared.rows.ThreadRow.{ThreadRow}
-use Rattle.kernel_core.specs.Plan.{Plan, IsPlan, first_tcb, tcb_place, endpoint_place, least_multiple, boot_end}
+use Rattle.kernel_core.specs.Plan.{Plan, IsPlan, first_tcb, tcb_place, least_multiple}
 use Rattle.kernel_core.specs.Rows.{IsKernel, IsSlotAddress}
 use Rattle.kernel_core.specs.BootRows.{boot_row, boot_rows}
 use Rattle.kernel_core.specs.Boot.{root_cap, boot_caps, boot_tcbs, boot_forest, with_roots, with_spaces}
 use Rattle.kernel_core.proofs.Puts.{CanPut, first_put, other_puts, each-with_roots}
 use Rattle.kernel_core.proofs.Spaces.{CanDerive, first_derive, other_derives}
 use Rattle.kernel_core.proofs.Clear.{objects_within}
-use Rattle.kernel_core.proofs.BootPlaces.{can_put, can_derive, slots_fit, node_fits, tcb_fits, lawful_caps, each-range, each-always}
+use Rattle.kernel_core.proofs.BootPlaces.{can_put, can_derive, slots_fit, node_fits, tcb_fits, lawful_caps, each-range}
 use Rattle.kernel_core.proofs.BootThreads.{places}
 
 distinct-none : IsDistinct eqb (slots none)

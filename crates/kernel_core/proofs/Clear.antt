@@ -1,5 +1,5 @@
 -- What a plan without defect says of its parts.
-use Rattle.std.proofs.Common.{◌≡◌, ℕ, zero, suc, ◌+◌, ◌*◌, ◌%◌, ◌^◌, ◌<◌, ◌≤◌, Bool, true, false, not, cond, ◌&&◌, ◌||◌, ◌==◌, nat_lt, List, [], ◌∷◌, length, take, get_or, Option, Some, None, refl, sym, ◌∙◌, ap, subst, arith}
+use Rattle.std.proofs.Common.{◌≡◌, ℕ, zero, suc, ◌+◌, ◌%◌, ◌^◌, ◌<◌, ◌≤◌, Bool, true, false, not, ◌||◌, ◌==◌, nat_lt, List, [], ◌∷◌, length, take, get_or, Option, Some, None, refl, sym, ◌∙◌, ap, subst, arith}
 use Rattle.std.specs.Option.{option_or}
 use Rattle.std.specs.List.{list_any, range_with_len}
 use Rattle.std.proofs.lemmas.Bool.Decides.{nat_tests}
@@ -9,7 +9,7 @@ use Rattle.cap_core.specs.declared.profile.ProfileName.{ProfileName}
 use Rattle.kernel_core.specs.declared.plan.PlanDefect.{PlanDefect}
 use Rattle.kernel_core.specs.declared.plan.PlanDefect.TheVariants.{Unaligned, UntypedOutside, Overlap}
 use Rattle.kernel_core.specs.declared.plan.Extent.{Extent}
-use Rattle.kernel_core.specs.Plan.{Plan, IsPlan, overlap, extent, node_extent, tcb_extent, endpoint_extent, untyped_extent, overlaps_boot_object, overlaps_tcb, overlaps_endpoint, overlaps_earlier, defect_if, untyped_defect, untypeds_defect, first_defect, boot_end, slots_taken}
+use Rattle.kernel_core.specs.Plan.{Plan, IsPlan, overlap, node_extent, tcb_extent, endpoint_extent, untyped_extent, overlaps_boot_object, overlaps_tcb, overlaps_endpoint, overlaps_earlier, defect_if, untyped_defect, untypeds_defect, boot_end, slots_taken}
 
 -- no defect of two is that neither is one
 no_first : {X : Type 0} (a b : Option X) → option_or a b ≡ None → a ≡ None

@@ -1,5 +1,5 @@
 -- Capabilities of disjoint objects that are put one after another into the slots of the root CNode.
-use Rattle.std.proofs.Common.{◌≡◌, ℕ, suc, ◌+◌, ◌*◌, ◌^◌, ◌<◌, ◌≤◌, Bool, true, false, ◌||◌, ◌==◌, List, [], ◌∷◌, ◌++◌, length, map, drop, get_or, append_assoc, refl, sym, ◌∙◌, ap, subst, arith, nat_le}
+use Rattle.std.proofs.Common.{◌≡◌, ℕ, suc, ◌+◌, ◌*◌, ◌^◌, ◌<◌, ◌≤◌, true, false, ◌||◌, ◌==◌, List, [], ◌∷◌, ◌++◌, length, map, drop, get_or, append_assoc, refl, sym, ◌∙◌, ap, subst, arith, nat_le}
 use Rattle.std.specs.List.{AllByRecursion as Each, list_any, range_with_len}
 use Rattle.std.proofs.lemmas.List.FromFn.{map-range_with_len_more}
 use Rattle.std.proofs.lemmas.Bool.Decides.{nat_tests}
@@ -9,7 +9,7 @@ use Rattle.cap_core.specs.declared.profile.ProfileName.{ProfileName}
 use Rattle.cap_core.specs.declared.profile.ProfileName.TheVariants.{Wide, Narrow}
 use Rattle.cap_core.specs.declared.capability.Cap.{Cap}
 use Rattle.cap_core.specs.Numbers.{slot_size}
-use Rattle.cap_core.specs.Objects.{IsLawful, base_of, bits_of, end_of, same_object, are_apart}
+use Rattle.cap_core.specs.Objects.{IsLawful, base_of, bits_of, same_object, are_apart}
 use Rattle.slot_core.specs.Forest.{Forest, preorder}
 use Rattle.slot_core.specs.Entries.{Entry, entry, is_at, is_full, cap_at}
 use Rattle.slot_core.specs.Derivation.{rooted, is_named}

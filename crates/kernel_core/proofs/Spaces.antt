@@ -1,5 +1,5 @@
 -- Copies of a CNode's capability that are derived one after another into empty slots.
-use Rattle.std.proofs.Common.{◌≡◌, ◌≢◌, ℕ, suc, ◌+◌, ◌<◌, ◌^◌, length, drop, get_or, Bool, true, false, ◌&&◌, ◌||◌, ◌==◌, List, [], ◌∷◌, refl, sym, ◌∙◌, ap, subst, arith, inl, ◌⊎◌, Option, None}
+use Rattle.std.proofs.Common.{◌≡◌, ◌≢◌, ℕ, suc, ◌+◌, ◌<◌, ◌^◌, length, drop, get_or, true, false, ◌&&◌, ◌||◌, ◌==◌, List, [], ◌∷◌, sym, ◌∙◌, ap, subst, arith, inl, ◌⊎◌, None}
 use Rattle.std.specs.List.{AllByRecursion as Each}
 use Rattle.std.proofs.lemmas.Bool.Decides.{nat_tests}
 use Rattle.cap_core.specs.declared.profile.ProfileName.{ProfileName}
@@ -9,7 +9,7 @@ use Rattle.cap_core.specs.declared.capability.Guard.{Guard}
 use Rattle.cap_core.specs.Objects.{IsLawful, is_untyped, badge_of, contains, same_object}
 use Rattle.slot_core.specs.Forest.{Forest, preorder}
 use Rattle.slot_core.specs.Entries.{Entry, is_full, cap_at, first_child}
-use Rattle.slot_core.specs.Derivation.{derived, derived_entry, names_same}
+use Rattle.slot_core.specs.Derivation.{derived, names_same}
 use Rattle.slot_core.specs.Disjoint.{IsDisjoint}
 use Rattle.slot_core.proofs.Forests.{each-weaker, each-contained}
 use Rattle.slot_core.proofs.Edits.{each-derived, full-derived, cap-derived_other}

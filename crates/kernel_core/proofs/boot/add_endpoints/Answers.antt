@@ -1,4 +1,4 @@
-use Rattle.std.proofs.Common.{◌≡◌, ap}
+use Rattle.std.proofs.Common.{ap}
 use Rattle.kernel_core.specs.Plan.{endpoint_place}
 use Rattle.kernel_core.specs.Boot.{whole_endpoint}
 use Rattle.kernel_core.proofs.Puts.{range_added}

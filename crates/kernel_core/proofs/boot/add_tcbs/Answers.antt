@@ -1,4 +1,4 @@
-use Rattle.std.proofs.Common.{◌≡◌, ap}
+use Rattle.std.proofs.Common.{ap}
 use Rattle.cap_core.specs.declared.capability.Cap.TheVariants.{Tcb}
 use Rattle.kernel_core.specs.Plan.{tcb_place}
 use Rattle.kernel_core.proofs.Puts.{range_added}

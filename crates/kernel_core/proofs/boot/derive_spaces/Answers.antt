@@ -1,10 +1,10 @@
-use Rattle.std.proofs.Common.{◌≡◌, ℕ, ◌+◌, ◌-◌, ◌*◌, ◌<◌, get_or, length, refl, sym, ◌∙◌, ap, subst, arith}
+use Rattle.std.proofs.Common.{◌≡◌, ℕ, ◌+◌, ◌-◌, ◌*◌, sym, ◌∙◌, ap, arith}
 use Rattle.std.proofs.lemmas.List.FromFn.{length-map-range_with_len, get_or-map-range_with_len}
 use Rattle.std.proofs.lemmas.List.{drop_all}
 use Rattle.cap_core.specs.Numbers.{slot_size, word_bits}
 use Rattle.kernel_core.specs.Plan.{tcb_place}
-use Rattle.kernel_core.specs.Boot.{boot_caps, boot_tcbs, with_roots, with_spaces, root_cap}
-use Rattle.kernel_core.proofs.Spaces.{CanDerive, derive_next}
+use Rattle.kernel_core.specs.Boot.{boot_tcbs, with_spaces, root_cap}
+use Rattle.kernel_core.proofs.Spaces.{derive_next}
 use Rattle.kernel_core.proofs.BootPlaces.{can_derive}
 use Rattle.kernel_core.proofs.boot.derive_spaces.Goals as goal
 

@@ -1,4 +1,4 @@
-use Rattle.std.proofs.Common.{◌≡◌, ◌+◌, ◌-◌, drop}
+use Rattle.std.proofs.Common.{◌≡◌, ◌-◌, drop}
 use Rattle.cap_core.specs.Numbers.{word_bits, slot_size}
 use Rattle.kernel_core.specs.Boot.{boot_tcbs, boot_forest, root_cap, with_spaces}
 use Rattle.kernel_core.proofs.Spaces.{CanDerive}

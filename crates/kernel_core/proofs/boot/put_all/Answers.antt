@@ -1,11 +1,8 @@
-use Rattle.std.proofs.Common.{◌≡◌, ℕ, ◌+◌, ◌*◌, get_or, refl, sym, ◌∙◌, ap, subst, arith}
-use Rattle.cap_core.specs.declared.capability.Cap.{Cap}
+use Rattle.std.proofs.Common.{◌≡◌, ◌+◌, ◌*◌, get_or, refl, ◌∙◌, ap, arith}
 use Rattle.cap_core.specs.declared.capability.Cap.TheVariants.{Null}
 use Rattle.cap_core.specs.Numbers.{slot_size}
-use Rattle.slot_core.specs.Forest.{Forest, none}
-use Rattle.slot_core.specs.Entries.{Entry}
 use Rattle.kernel_core.specs.Boot.{boot_caps, with_roots}
-use Rattle.kernel_core.proofs.Puts.{CanPut, put_next}
+use Rattle.kernel_core.proofs.Puts.{put_next}
 use Rattle.kernel_core.proofs.BootPlaces.{can_put}
 use Rattle.kernel_core.proofs.boot.put_all.Goals as goal
 

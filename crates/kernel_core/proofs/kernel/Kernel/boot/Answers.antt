@@ -1,4 +1,4 @@
-use Rattle.std.proofs.Common.{◌≡◌, ◌^◌, ◌-◌, ◌∙◌}
+use Rattle.std.proofs.Common.{◌^◌, ◌-◌, ◌∙◌}
 use Rattle.cap_core.specs.Numbers.{tcb_bits}
 use Rattle.kernel_core.proofs.BootThreads.{shows_boot}
 use Rattle.kernel_core.proofs.Booted.{is_kernel, threads_fit}
