@@ -4,7 +4,7 @@ use Rattle.std.specs.List.{list_any}
 use Rattle.cap_core.specs.declared.capability.Cap.{Cap}
 use Rattle.cap_core.specs.declared.capability.Cap.TheVariants.{Untyped}
 use Rattle.cap_core.specs.Objects.{is_untyped, badge_of, same_object}
-use Rattle.slot_core.specs.Forest.{Forest, preorder, below, after, root}
+use Rattle.slot_core.specs.Forest.{Forest, preorder, below, after, root, out, renamed}
 use Rattle.slot_core.specs.Entries.{Entry, entry, is_at, is_original, cap_at}
 
 -- a capability derived from one in a slot is original where it is untyped or its badge is another
@@ -24,6 +24,26 @@ derived source slot cap f =
 -- a capability that is derived from none: a tree of its own, the last one
 abbrev pub rooted : ℕ → Cap → Forest Entry → Forest Entry
 rooted slot cap f = root (entry slot cap true) f
+
+-- a capability made by a retype: original, and the first child of its untyped
+abbrev pub retyped : ℕ → ℕ → Cap → Forest Entry → Forest Entry
+retyped parent slot cap f = below (is_at parent) (entry slot cap true) f
+
+-- a capability that moves keeps its place in the forest and whether it is original
+abbrev pub moved : ℕ → ℕ → Cap → Forest Entry → Forest Entry
+moved source slot cap f = renamed (λ (e : Entry). cond (is_at source e) (entry slot cap e.original) e) f
+
+-- an untyped capability with another free index; every other capability as it is
+abbrev pub with_free : ℕ → Cap → Cap
+with_free free (Untyped base bits former) = Untyped base bits free
+with_free free cap = cap
+
+abbrev pub freed : ℕ → ℕ → Forest Entry → Forest Entry
+freed slot free f = renamed (λ (e : Entry). cond (is_at slot e) (entry e.slot (with_free free e.cap) e.original) e) f
+
+-- where a slot is emptied, its children take its place, in their order
+abbrev pub emptied : ℕ → Forest Entry → Forest Entry
+emptied slot f = out (is_at slot) f
 
 -- both name one object, or one untyped region of the same range
 abbrev pub names_same : Cap → Cap → Bool

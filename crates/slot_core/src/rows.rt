@@ -106,6 +106,40 @@ impl<P: Profile> CapStore<P> for RowStore<P> {
         }
     }
 
+    fn put_new(&mut self, parent: Slot, slot: Slot, cap: Cap) {
+        let i = place_of(&self.rows, parent);
+        let depth = self.rows[i].depth + 1;
+        let row = Row {
+            slot,
+            cap,
+            original: true,
+            depth,
+        };
+        match self.rows.insert(i + 1, row) {
+            Ok(()) => {}
+            Err(_) => unreachable!(),
+        }
+    }
+
+    fn relocate(&mut self, source: Slot, slot: Slot, cap: Cap) {
+        let i = place_of(&self.rows, source);
+        let row = &mut self.rows[i];
+        row.slot = slot;
+        row.cap = cap;
+    }
+
+    fn set_free(&mut self, slot: Slot, free: u64) {
+        let i = place_of(&self.rows, slot);
+        if let Cap::Untyped { base, bits, .. } = self.rows[i].cap {
+            self.rows[i].cap = Cap::Untyped { base, bits, free };
+        }
+    }
+
+    fn remove(&mut self, slot: Slot) {
+        let i = place_of(&self.rows, slot);
+        self.rows.remove(i);
+    }
+
     fn first_child(&self, slot: Slot) -> Option<Slot> {
         let i = place_of(&self.rows, slot);
         let row = self.rows.get(i)?;
@@ -116,6 +150,10 @@ impl<P: Profile> CapStore<P> for RowStore<P> {
             None
         }
     }
+
+    fn is_last(&self, slot: Slot) -> bool {
+        true
+    }
 }
 
 impl<P: Profile> MakeStore<P> for RowStore<P> {
@@ -123,6 +161,14 @@ impl<P: Profile> MakeStore<P> for RowStore<P> {
         Ok(RowStore {
             rows: Vec::with_capacity(alloc, 1 << (memory_bits - P::SLOT_BITS))?,
             memory_bits,
+            profile: PhantomData,
+        })
+    }
+
+    fn copy(&self, alloc: Global) -> Result<RowStore<P>, AllocError> {
+        Ok(RowStore {
+            rows: Vec::with_capacity(alloc, self.rows.len())?,
+            memory_bits: self.memory_bits,
             profile: PhantomData,
         })
     }

@@ -1,11 +1,11 @@
 //! What a capability store does.
 ghost use Rattle.std.specs.Prelude.{◌≡◌, ℕ, ◌^◌, ◌<◌, ◌≤◌, true, false, IfOk, option_map, ◌⊎◌, None};
-ghost use Rattle.cap_core.specs.Objects.{IsLawful, is_untyped, badge_of};
+ghost use Rattle.cap_core.specs.Objects.{IsLawful, is_untyped, badge_of, contains};
 ghost use Rattle.cap_core.specs.declared.capability.Cap.TheVariants.{Null};
 ghost use Rattle.slot_core.specs.Places.{address_of};
 ghost use Rattle.slot_core.specs.Forest.{Forest, none};
 ghost use Rattle.slot_core.specs.Entries.{Entry, cap_at, is_full, first_child as first_child_of};
-ghost use Rattle.slot_core.specs.Derivation.{derived, rooted, names_same, is_named};
+ghost use Rattle.slot_core.specs.Derivation.{derived, rooted, retyped, moved, freed, with_free, emptied, names_same, is_named, is_last as is_last_of};
 ghost use Rattle.slot_core.specs.Disjoint.{IsDisjoint};
 
 use crate::slot::Slot;
@@ -38,6 +38,18 @@ pub trait CapStore<P: Profile> {
         ensures forest { forest self.new ≡ rooted (address_of P.the slot) cap (forest self.old) }
         ensures memory { memory_bits self.new ≡ memory_bits self.old };
 
+    /// Puts the capability of a new object into an empty slot: the first child of the untyped in `parent`, and original.
+    fn put_new(&mut self, parent: Slot, slot: Slot, cap: Cap)
+        requires parent { is_untyped (cap_at (forest self.old) (address_of P.the parent)) ≡ true }
+        requires contains { contains P.the (cap_at (forest self.old) (address_of P.the parent)) cap ≡ true }
+        requires within { address_of P.the slot < 2 ^ memory_bits self.old }
+        requires empty { is_full (address_of P.the slot) (forest self.old) ≡ false }
+        requires lawful { IsLawful P.the (memory_bits self.old) cap }
+        requires unnamed { is_named cap (forest self.old) ≡ false }
+        requires disjoint { IsDisjoint P.the (retyped (address_of P.the parent) (address_of P.the slot) cap (forest self.old)) }
+        ensures forest { forest self.new ≡ retyped (address_of P.the parent) (address_of P.the slot) cap (forest self.old) }
+        ensures memory { memory_bits self.new ≡ memory_bits self.old };
+
     /// Puts a capability that is derived from the one in `source` into the empty slot `slot`: the first child of an
     /// original source, and the next sibling of another. It is original where it is untyped or has another badge.
     fn derive(&mut self, source: Slot, slot: Slot, cap: Cap)
@@ -52,9 +64,40 @@ pub trait CapStore<P: Profile> {
         ensures forest { forest self.new ≡ derived (address_of P.the source) (address_of P.the slot) cap (forest self.old) }
         ensures memory { memory_bits self.new ≡ memory_bits self.old };
 
+    /// Moves a capability from `source` to the empty slot `slot`, as `cap`, which names the same object with the same badge.
+    /// It keeps its place in the forest and whether it is original; `source` is empty afterwards.
+    fn relocate(&mut self, source: Slot, slot: Slot, cap: Cap)
+        requires source { is_full (address_of P.the source) (forest self.old) ≡ true }
+        requires within { address_of P.the slot < 2 ^ memory_bits self.old }
+        requires empty { is_full (address_of P.the slot) (forest self.old) ≡ false }
+        requires lawful { IsLawful P.the (memory_bits self.old) cap }
+        requires same { names_same (cap_at (forest self.old) (address_of P.the source)) cap ≡ true }
+        requires badge { badge_of cap ≡ badge_of (cap_at (forest self.old) (address_of P.the source)) }
+        requires disjoint { IsDisjoint P.the (moved (address_of P.the source) (address_of P.the slot) cap (forest self.old)) }
+        ensures forest { forest self.new ≡ moved (address_of P.the source) (address_of P.the slot) cap (forest self.old) }
+        ensures memory { memory_bits self.new ≡ memory_bits self.old };
+
+    /// Sets the free index, in bytes, of the untyped capability in a slot.
+    fn set_free(&mut self, slot: Slot, free: u64)
+        requires untyped { is_untyped (cap_at (forest self.old) (address_of P.the slot)) ≡ true }
+        requires lawful { IsLawful P.the (memory_bits self.old) (with_free free (cap_at (forest self.old) (address_of P.the slot))) }
+        ensures forest { forest self.new ≡ freed (address_of P.the slot) free (forest self.old) }
+        ensures memory { memory_bits self.new ≡ memory_bits self.old };
+
+    /// Empties a full slot; its children take its place in the forest, in their order.
+    fn remove(&mut self, slot: Slot)
+        requires full { is_full (address_of P.the slot) (forest self.old) ≡ true }
+        ensures forest { forest self.new ≡ emptied (address_of P.the slot) (forest self.old) }
+        ensures memory { memory_bits self.new ≡ memory_bits self.old };
+
     /// The newest child of a slot; an empty slot has none.
     fn first_child(&self, slot: Slot) -> Option<Slot>
         ensures { option_map (address_of P.the) result ≡ first_child_of (address_of P.the slot) (forest self.now) };
+
+    /// Whether the capability in a full slot is the last of its object: it is untyped, or no other slot names the object.
+    fn is_last(&self, slot: Slot) -> bool
+        requires full { is_full (address_of P.the slot) (forest self.now) ≡ true }
+        ensures { result ≡ is_last_of (address_of P.the slot) (forest self.now) };
 }
 
 /// A store that can be made.
@@ -65,4 +108,9 @@ pub trait MakeStore<P: Profile>: CapStore<P> + Drop {
         requires most { memory_bits ≤ MAX_MEMORY_BITS }
         ensures empty { IfOk result (λ s. Self.forest s ≡ none) }
         ensures memory { IfOk result (λ s. Self.memory_bits s ≡ memory_bits) };
+
+    /// A store of its own with the same contents, and all the room that it will ever need.
+    fn copy(&self, alloc: Global) -> Result<Self, AllocError>
+        ensures forest { IfOk result (λ s. Self.forest s ≡ Self.forest self.now) }
+        ensures memory { IfOk result (λ s. Self.memory_bits s ≡ Self.memory_bits self.now) };
 }
