@@ -2,7 +2,11 @@ pub mod Forests
 pub mod Edits
 pub mod Disjointness
 pub mod Distinct
-mod Built
+pub mod Built
+pub mod Nested
+pub mod BuiltRenamed
+pub mod BuiltOut
+mod BuiltRuns
 mod RowLists
 mod RowSteps
 mod Family
