@@ -71,10 +71,11 @@ in_region p (Endpoint base badge rights) b = same_object (Endpoint base badge ri
 in_region p (CNode base radix guard) b = same_object (CNode base radix guard) b
 in_region p (Tcb base) b = same_object (Tcb base) b
 
--- the object stands at a multiple of its size, within a memory of 2^memory bytes
+-- the object stands at a multiple of its size, within a memory of 2^memory bytes, and its addresses are words
 pub record IsPlaced (p : ProfileName) (memory : ℕ) (cap : Cap) : Type 0 where
   pub aligned : base_of cap % 2 ^ bits_of p cap ≡ 0
   pub within : end_of p cap ≤ 2 ^ memory
+  pub addressed : end_of p cap ≤ 2 ^ word_bits p
 
 -- a guard's value has its size's bits, and guard and radix together are no longer than a word
 pub record IsLawfulNode (p : ProfileName) (radix : ℕ) (guard : Guard) : Type 0 where

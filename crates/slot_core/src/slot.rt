@@ -1,5 +1,5 @@
 //! Slots, by their places in the simulated memory.
-ghost use Rattle.std.specs.Prelude.{⊤, ◌==◌, ◌≡◌, ◌+◌, ◌*◌, ◌/◌, ◌%◌, ◌^◌, ◌<◌, ◌≤◌, IfSome, IfNone, ◌≢◌};
+ghost use Rattle.std.specs.Prelude.{⊤, ◌==◌, ◌≡◌, ◌+◌, ◌*◌, ◌/◌, ◌%◌, ◌^◌, ◌<◌, ◌≤◌, ◌⊎◌, IfSome, IfNone, ◌≢◌};
 ghost use Rattle.std.proofs.Common.{rules};
 ghost use Rattle.std.specs.Cmp.Rules.{comparing};
 ghost use Rattle.cap_core.specs.Numbers.{slot_size, word_bits};
@@ -36,13 +36,14 @@ impl PartialEq for Slot {
 }
 
 impl Slot {
-    /// The slot at an address, or `None` where the address is no multiple of a slot's size.
+    /// The slot at an address, or `None` where the address is no multiple of a slot's size, or no word of the profile.
     pub fn at<P: Profile>(address: u64) -> Option<Slot>
-        requires { address < 2 ^ word_bits P.the }
         ensures slot { IfSome result (λ s. s.place * slot_size P.the ≡ address) }
-        ensures none { IfNone result (address % slot_size P.the ≢ 0) }
+        ensures word { IfSome result (λ s. address < 2 ^ word_bits P.the) }
+        ensures none { IfNone result ((address % slot_size P.the ≢ 0) ⊎ (2 ^ word_bits P.the ≤ address)) }
     {
-        if address % (1 << P::SLOT_BITS) == 0 {
+        let is_word = P::WORD_BITS == u64::BITS || address >> P::WORD_BITS == 0;
+        if is_word && address % (1 << P::SLOT_BITS) == 0 {
             Some(Slot {
                 place: address >> P::SLOT_BITS,
             })
