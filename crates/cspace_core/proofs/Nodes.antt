@@ -1,6 +1,6 @@
 -- What one capability makes of the low bits of a word.
 use Rattle.std.proofs.Common.{◌≡◌, ℕ, ◌+◌, ◌-◌, ◌*◌, ◌/◌, ◌%◌, ◌^◌, ◌<◌, ◌≤◌, ◌⊎◌, inl, inr, refl, sym, ap, ◌∙◌, arith, false, ◌++◌, length, Ok, Err}
-use Rattle.std.proofs.Math.Nat.{mul-le-mul_right, pow-le-pow_right}
+use Rattle.std.proofs.Math.Nat.{mul-le-mul_right}
 use Rattle.std.proofs.Math.Pow.{mod-mod-pow}
 use Rattle.std.proofs.lemmas.Nat.{pow-add, pow_pos}
 use Rattle.cap_core.specs.declared.profile.ProfileName.{ProfileName}
@@ -8,7 +8,7 @@ use Rattle.cap_core.specs.declared.capability.Guard.{Guard}
 use Rattle.cap_core.specs.declared.capability.Cap.{Cap}
 use Rattle.cap_core.specs.declared.capability.Cap.TheVariants.{Null, Untyped, Endpoint, CNode, Tcb}
 use Rattle.cap_core.specs.declared.refusal.LookupFault.TheVariants.{GuardMismatch, DepthMismatch}
-use Rattle.cap_core.specs.Numbers.{slot_bits, slot_size}
+use Rattle.cap_core.specs.Numbers.{word_bits, slot_bits, slot_size}
 use Rattle.std.proofs.lemmas.Bool.{false≢true}
 use Rattle.cap_core.specs.Objects.{is_null, IsLawful}
 use Rattle.cspace_core.specs.Bits.{low_bits}
@@ -62,12 +62,17 @@ pub lawful_node : (p : ProfileName) (memory base radix : ℕ) (guard : Guard) �
 lawful_node p memory base radix guard (inl e) = absurd (false≢true (ap is_null e))
 lawful_node p memory base radix guard (inr lawful) = lawful
 
-pub lawful_in_more : (p : ProfileName) (memory more : ℕ) (cap : Cap) → memory ≤ more →
-    (cap ≡ Null) ⊎ IsLawful p memory cap → (cap ≡ Null) ⊎ IsLawful p more cap
-lawful_in_more p memory more cap h (inl e) = inl e
-lawful_in_more p memory more cap h (inr lawful) =
-    let grows : 2 ^ memory ≤ 2 ^ more = pow-le-pow_right {n = 2} (omega arith) {i = memory} {j = more} h in
-    inr (record { full = lawful.full; placed = record { aligned = lawful.placed.aligned; within = omega arith }; holds = lawful.holds })
+-- what is lawful in some memory is so in the memory of all words
+pub lawful_in_words : (p : ProfileName) (memory : ℕ) (cap : Cap) →
+    (cap ≡ Null) ⊎ IsLawful p memory cap → (cap ≡ Null) ⊎ IsLawful p (word_bits p) cap
+lawful_in_words p memory cap (inl e) = inl e
+lawful_in_words p memory cap (inr lawful) =
+    let placed = lawful.placed in
+    inr (record {
+      full = lawful.full;
+      placed = record { aligned = placed.aligned; within = placed.addressed; addressed = placed.addressed };
+      holds = lawful.holds;
+    })
 
 pub slot_aligned : (p : ProfileName) (memory base radix : ℕ) (guard : Guard) → IsLawful p memory (CNode base radix guard) → base % slot_size p ≡ 0
 slot_aligned p memory base radix guard lawful =

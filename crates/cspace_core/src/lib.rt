@@ -13,7 +13,6 @@ ghost use Rattle.cspace_core.specs.Inside.{LiesInCNode};
 ghost use Rattle.cspace_core.specs.Resolves.{Chooses, Resolves};
 ghost use Rattle.cspace_core.specs.Target.{target_slot, target_seen};
 
-use cap_core::limits::MAX_MEMORY_BITS;
 use cap_core::{Cap, LookupFault, Profile, Refusal};
 use slot_core::{CapStore, Slot};
 
@@ -31,7 +30,6 @@ pub fn resolve<P: Profile, S: CapStore<P>>(
     address: u64,
     bits: u32,
 ) -> Result<(Slot, u32), LookupFault>
-    requires memory { S.memory_bits store.now ≤ MAX_MEMORY_BITS }
     requires lawful { (root ≡ Null) ⊎ IsLawful P.the (S.memory_bits store.now) root }
     requires bits { bits ≤ word_bits P.the }
     ensures value { found P.the result ≡ resolution P.the (cap_at (S.forest store.now)) root (low_bits bits address) }
@@ -68,7 +66,6 @@ pub fn target<P: Profile, S: CapStore<P>>(
     index: u64,
     depth: u64,
 ) -> Result<Slot, Refusal>
-    requires memory { S.memory_bits store.now ≤ MAX_MEMORY_BITS }
     requires lawful { (root ≡ Null) ⊎ IsLawful P.the (S.memory_bits store.now) root }
     ensures value { target_seen P.the result ≡ target_slot P.the (cap_at (S.forest store.now)) root index depth }
     ensures within { IfOk result (λ slot. address_of P.the slot < 2 ^ S.memory_bits store.now) }

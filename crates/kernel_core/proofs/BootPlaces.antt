@@ -1,7 +1,7 @@
 -- The capabilities of a boot can be put one after another, and the root CNode's derived into each thread's root slot.
 use Rattle.std.proofs.Common.{◌≡◌, ℕ, zero, suc, ◌+◌, ◌-◌, ◌*◌, ◌%◌, ◌^◌, ◌<◌, ◌≤◌, true, false, ◌&&◌, ◌||◌, ◌==◌, nat_lt, nat_le, List, [], ◌∷◌, ◌++◌, map, length, get_or, refl, ◌∙◌, arith}
 use Rattle.std.specs.List.{AllByRecursion as Each, range_with_len}
-use Rattle.std.proofs.Math.Nat.{one-le-pow, mul-le-mul_right}
+use Rattle.std.proofs.Math.Nat.{one-le-pow, mul-le-mul_right, pow-le-pow_right}
 use Rattle.std.proofs.lemmas.Nat.{pow-add}
 use Rattle.std.proofs.lemmas.List.{length-append, length-map}
 use Rattle.std.proofs.lemmas.List.FromFn.{length-map-range_with_len}
@@ -10,8 +10,9 @@ use Rattle.cap_core.specs.declared.profile.ProfileName.{ProfileName}
 use Rattle.cap_core.specs.declared.profile.ProfileName.TheVariants.{Wide, Narrow}
 use Rattle.cap_core.specs.declared.capability.Cap.{Cap}
 use Rattle.cap_core.specs.declared.capability.Cap.TheVariants.{Untyped, Tcb}
+use Rattle.cap_core.specs.declared.limits.TheConstants.{MAX_MEMORY_BITS}
 use Rattle.cap_core.specs.Numbers.{word_bits, slot_bits, slot_size, tcb_bits, tcb_size, endpoint_bits, endpoint_size}
-use Rattle.cap_core.specs.Objects.{IsLawful, base_of, bits_of, end_of, are_apart, is_untyped, contains}
+use Rattle.cap_core.specs.Objects.{IsLawful, IsPlaced, base_of, bits_of, end_of, are_apart, is_untyped, contains}
 use Rattle.slot_core.proofs.Forests.{each-append, each-weaker}
 use Rattle.kernel_core.specs.Plan.{Plan, IsPlan, overlap, extent, untyped_extent, least_multiple, first_tcb, tcb_place, endpoint_place, boot_end, slots_taken}
 use Rattle.kernel_core.specs.Boot.{root_cap, tcb_caps, endpoint_caps, untyped_caps, boot_caps, whole_endpoint, boot_tcbs, with_roots}
@@ -100,6 +101,20 @@ endpoint_fits p plan j h = endpoint_before p (tcb_place p plan plan.threads) j p
 
 -- each capability is lawful
 
+-- the memory's addresses are words
+in_words : (p : ProfileName) (plan : Plan) (end : ℕ) → IsPlan p plan → end ≤ 2 ^ plan.memory_bits → end ≤ 2 ^ word_bits p
+in_words p plan end h within =
+    let grows : 2 ^ plan.memory_bits ≤ 2 ^ word_bits p = pow-le-pow_right {n = 2} (omega arith) {i = plan.memory_bits} {j = word_bits p} (least p h.limits.memory_most) in
+    omega arith
+  where
+    least : (q : ProfileName) → plan.memory_bits ≤ MAX_MEMORY_BITS → plan.memory_bits ≤ word_bits q
+    least Wide h = omega arith
+    least Narrow h = omega arith
+
+-- an object at a multiple of its size, within the memory
+placed : (p : ProfileName) (plan : Plan) (cap : Cap) → IsPlan p plan → base_of cap % 2 ^ bits_of p cap ≡ 0 → end_of p cap ≤ 2 ^ plan.memory_bits → IsPlaced p plan.memory_bits cap
+placed p plan cap h aligned within = record { aligned = aligned; within = within; addressed = in_words p plan (end_of p cap) h within }
+
 zero-mod : (n : ℕ) → 0 < n → 0 % n ≡ 0
 zero-mod n h = omega arith
 
@@ -107,10 +122,9 @@ lawful_root : (p : ProfileName) (plan : Plan) → IsPlan p plan → IsLawful p p
 lawful_root p plan h =
     record {
       full = refl;
-      placed = record {
-        aligned = zero-mod (2 ^ (slot_bits p + plan.root_radix)) (one-le-pow (slot_bits p + plan.root_radix) 2 (omega arith));
-        within = let a = node_fits p plan in let b = objects_within p plan h in omega arith;
-      };
+      placed = placed p plan (root_cap p plan) h
+          (zero-mod (2 ^ (slot_bits p + plan.root_radix)) (one-le-pow (slot_bits p + plan.root_radix) 2 (omega arith)))
+          (let a = node_fits p plan in let b = objects_within p plan h in omega arith);
       holds = record {
         some = h.limits.radix_least;
         both = both p h.limits.radix_most;
@@ -128,10 +142,8 @@ lawful_tcbs p plan h =
     (λ i low high.
     record {
       full = refl;
-      placed = record {
-        aligned = tcb_aligned p (2 ^ (slot_bits p + plan.root_radix)) i;
-        within = let a = tcb_fits p plan i (omega arith) in let b = objects_within p plan h in omega arith;
-      };
+      placed = placed p plan (Tcb (tcb_place p plan i)) h (tcb_aligned p (2 ^ (slot_bits p + plan.root_radix)) i)
+          (let a = tcb_fits p plan i (omega arith) in let b = objects_within p plan h in omega arith);
       holds = tt;
     })
 
@@ -141,10 +153,8 @@ lawful_endpoints p plan h =
     (λ j low high.
     record {
       full = refl;
-      placed = record {
-        aligned = endpoint_aligned p (2 ^ (slot_bits p + plan.root_radix)) plan.threads j;
-        within = let a = endpoint_fits p plan j (omega arith) in let b = objects_within p plan h in omega arith;
-      };
+      placed = placed p plan (whole_endpoint (endpoint_place p plan j)) h (endpoint_aligned p (2 ^ (slot_bits p + plan.root_radix)) plan.threads j)
+          (let a = endpoint_fits p plan j (omega arith) in let b = objects_within p plan h in omega arith);
       holds = tt;
     })
 
@@ -156,7 +166,7 @@ lawful_untypeds p plan h =
     let s = h.limits.untypeds_sized k d b in
     record {
       full = refl;
-      placed = record { aligned = c.aligned; within = c.within };
+      placed = placed p plan (Untyped (get_or plan.untypeds k d).0 (get_or plan.untypeds k d).1 0) h c.aligned c.within;
       holds = record { least = s.least; most = s.most; free_within = omega arith };
     })
 

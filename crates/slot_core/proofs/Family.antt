@@ -35,8 +35,8 @@ abbrev pub third : ProfileName → Forest Entry
 third p = derived (slot_at p 0) (slot_at p 2) whole (second p)
 
 pub endpoint_lawful : (p : ProfileName) (m b : ℕ) → m ≡ 12 → IsLawful p m (Endpoint 512 (record { 0 = b }) (record { 0 = 3 }))
-endpoint_lawful Wide m b e = record { full = refl; placed = record { aligned = refl; within = rw e (omega arith) }; holds = tt }
-endpoint_lawful Narrow m b e = record { full = refl; placed = record { aligned = refl; within = rw e (omega arith) }; holds = tt }
+endpoint_lawful Wide m b e = record { full = refl; placed = record { aligned = refl; within = rw e (omega arith); addressed = omega arith }; holds = tt }
+endpoint_lawful Narrow m b e = record { full = refl; placed = record { aligned = refl; within = rw e (omega arith); addressed = omega arith }; holds = tt }
 
 -- disjoint, and no untyped region in it
 pub record IsFamily (p : ProfileName) (f : Forest Entry) : Type 0 where

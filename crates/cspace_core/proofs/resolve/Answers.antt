@@ -1,9 +1,8 @@
-use Rattle.std.proofs.Common.{rules, arith, ◌≡◌, ◌≤◌, inl, inr, sym, ap, Err, true}
-use Rattle.cap_core.specs.Numbers.{word_bits}
+use Rattle.std.proofs.Common.{rules, ◌≡◌, inl, inr, sym, ap, Err, true}
 use Rattle.slot_core.specs.Entries.{cap_at}
 use Rattle.cspace_core.specs.Resolution.{is_cnode}
 use Rattle.cspace_core.specs.Resolves.{refused}
-use Rattle.cspace_core.proofs.Nodes.{no_cnode, lawful_in_more}
+use Rattle.cspace_core.proofs.Nodes.{no_cnode, lawful_in_words}
 use Rattle.cspace_core.proofs.Steps.{fault_here, found_here, found_further, resolves_here, resolves_further, all_within}
 use Rattle.cspace_core.proofs.Inside.{lies_in_cnode}
 use Rattle.cspace_core.proofs.resolve.Goals as goal
@@ -19,8 +18,7 @@ loop-slot-init g c =
 
 pub choose-requires-clause-lawful : goal.choose-requires-clause-lawful
 choose-requires-clause-lawful g c =
-    let memory : g.S.CapStore.memory_bits c.args.store.now ≤ word_bits g.P.Profile.the = grind (arith, c.requires.memory) in
-    lawful_in_more g.P.Profile.the _ _ c.loop-slot.cap memory c.loop-slot.invariant.lawful
+    lawful_in_words g.P.Profile.the _ c.loop-slot.cap c.loop-slot.invariant.lawful
 
 pub returns-in_err-slot-clause-value : goal.returns-in_err-slot-clause-value
 returns-in_err-slot-clause-value g c =
