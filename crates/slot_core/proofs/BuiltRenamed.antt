@@ -1,5 +1,5 @@
 -- What is built of a list under new names: the same forest under the new names.
-use Rattle.std.proofs.Common.{◌≡◌, Bool, true, false, cond, List, [], ◌∷◌, ◌++◌, map, refl, sym, ◌∙◌, ap, subst, arith}
+use Rattle.std.proofs.Common.{◌≡◌, Bool, List, [], ◌∷◌, map, refl, sym, subst, arith}
 use Rattle.std.specs.List.{AllByRecursion as Each}
 use Rattle.slot_core.specs.Forest.{Forest, none, tree, preorder, renamed, taken, left, build}
 use Rattle.slot_core.proofs.Forests.{each-right_part}

@@ -1,5 +1,5 @@
 -- What is built of a list from which an element is taken out, where two tests agree only along the runs that pass.
-use Rattle.std.proofs.Common.{◌≡◌, Bool, true, false, cond, List, [], ◌∷◌, ◌++◌, refl, sym, ◌∙◌, ap, subst, arith}
+use Rattle.std.proofs.Common.{◌≡◌, Bool, true, false, List, [], ◌∷◌, ◌++◌, refl, sym, ◌∙◌, subst, arith}
 use Rattle.std.specs.List.{AllByRecursion as Each}
 use Rattle.slot_core.specs.Forest.{Forest, none, tree, preorder, out, taken, left, build}
 use Rattle.slot_core.proofs.Built.{Absent, Once, StopsAtOnce, taken-left, preorder-build, once-split, at_one}

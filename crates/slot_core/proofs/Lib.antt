@@ -9,4 +9,6 @@ pub mod BuiltOut
 mod BuiltRuns
 mod RowLists
 mod RowSteps
+mod RowEdits
+mod RowRemoves
 mod Family

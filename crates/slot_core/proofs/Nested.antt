@@ -1,5 +1,5 @@
 -- Transitive tests: what is built with one is nested, each passing the test of each above it.
-use Rattle.std.proofs.Common.{◌≡◌, Bool, true, false, cond, List, [], ◌∷◌, ◌++◌, refl}
+use Rattle.std.proofs.Common.{◌≡◌, Bool, true, false, cond, List, [], ◌∷◌, refl}
 use Rattle.std.specs.List.{AllByRecursion as Each}
 use Rattle.slot_core.specs.Forest.{Forest, none, tree, preorder, taken, left, build}
 use Rattle.slot_core.proofs.Forests.{each-append, each-weaker}

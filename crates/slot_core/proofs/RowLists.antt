@@ -1,20 +1,21 @@
 -- The rows of a store: where a slot's row stands, and what a further row is to the forest.
-use Rattle.std.proofs.Common.{◌≡◌, ◌≢◌, ℕ, zero, suc, ◌+◌, ◌*◌, ◌<◌, ◌≤◌, Bool, true, false, cond, ◌||◌, ◌==◌, ltb, List, [], ◌∷◌, ◌++◌, map, length, get_or, None, refl, sym, ◌∙◌, ap, subst, arith, length-append}
+use Rattle.std.proofs.Common.{◌≡◌, ◌≢◌, ℕ, zero, suc, ◌+◌, ◌*◌, ◌<◌, ◌≤◌, Bool, true, false, cond, not, ◌&&◌, ◌||◌, ◌==◌, ltb, List, [], ◌∷◌, ◌++◌, map, length, get_or, None, refl, sym, ◌∙◌, ap, subst, arith, length-append}
 use Rattle.std.specs.Prelude.{option_map}
 use Rattle.std.specs.List.{AllByRecursion as Each, list_any, insert}
 use Rattle.std.proofs.Math.Nat.{one-le-pow, mul-le-mul_right}
 use Rattle.std.proofs.lemmas.Bool.Decides.{nat_tests}
 use Rattle.cap_core.specs.declared.profile.ProfileName.{ProfileName}
 use Rattle.cap_core.specs.declared.capability.Cap.{Cap}
-use Rattle.cap_core.specs.declared.capability.Cap.TheVariants.{Null}
+use Rattle.cap_core.specs.declared.capability.Cap.TheVariants.{Null, Untyped, Endpoint, CNode, Tcb}
 use Rattle.cap_core.specs.Numbers.{slot_bits, slot_size}
+use Rattle.cap_core.specs.Objects.{is_untyped, same_object}
 use Rattle.slot_core.specs.declared.slot.Slot.{Slot}
 use Rattle.slot_core.specs.declared.rows.Row.{Row}
 use Rattle.slot_core.specs.Forest.{preorder, tops, below_those, below, after, root, renamed, taken, build}
 use Rattle.slot_core.specs.Entries.{Entry, entry, is_at, is_full, cap_at, cap_in, is_original, original_in, first_child, first_slot}
-use Rattle.slot_core.specs.Derivation.{derived, rooted, is_new_original}
+use Rattle.slot_core.specs.Derivation.{derived, rooted, retyped, is_new_original, is_last}
 use Rattle.slot_core.specs.Places.{address_of}
-use Rattle.slot_core.specs.Rows.{is_deeper, entry_of, forest_of, place_of, derived_depth, derived_row, IsStepwise, AreApart}
+use Rattle.slot_core.specs.Rows.{is_deeper, entry_of, forest_of, place_of, derived_depth, derived_row, names_elsewhere, IsStepwise, AreApart}
 use Rattle.slot_core.proofs.Built.{Absent, StopsAtOnce, preorder-build, preorder-renamed, renamed-below, renamed-after, renamed-root, renamed-below_those, tops-renamed, build-below, build-after, build-root, build-below_those, tops-taken, next_passing, first_of, below_those_none}
 
 -- slots are one where their addresses are
@@ -229,6 +230,24 @@ rows_derived p source slot cap l s a w =
     ∙ ap (λ m. cond (is_original (address_of p source) (forest_of p l)) (below is (entry_of p x) (forest_of p m)) (after is (entry_of p x) (forest_of p m))) (sym s.parts)
     ∙ ap (λ k. cond (is_original (address_of p source) (forest_of p l)) (below is (entry (address_of p slot) cap (is_new_original k cap)) (forest_of p l)) (after is (entry (address_of p slot) cap (is_new_original k cap)) (forest_of p l))) c
 
+-- a further row directly behind an original one, and one deeper: its first child
+pub rows_new : (p : ProfileName) (parent slot : Slot) (cap : Cap) (l : List Row) (s : Stands p parent l) (x : Row) → AreApart l → IsStepwise 0 l → s.row.original ≡ true
+    → x.depth ≡ s.row.depth + 1 → entry_of p x ≡ entry (address_of p slot) cap true
+    → forest_of p (insert l (place_of parent.place l + 1) x) ≡ retyped (address_of p parent) (address_of p slot) cap (forest_of p l)
+rows_new p parent slot cap l s x a w o d e =
+    let ins : insert l (place_of parent.place l + 1) x ≡ s.pre ++ s.row ∷ x ∷ s.post = ap (λ m. insert m (place_of parent.place l + 1) x) s.parts ∙ insert_behind s.pre s.row x s.post (place_of parent.place l) s.place in
+    let dd : derived_depth s.row ≡ x.depth = ap (λ b. cond b (s.row.depth + 1) s.row.depth) o ∙ sym d in
+    let w' : IsStepwise x.depth s.post = let P : ℕ → Type 0 = λ n. IsStepwise n s.post in subst P dd (standing_stepwise p parent l s w) in
+    let is : Entry → Bool = is_at (address_of p parent) in
+    ap (forest_of p) ins
+    ∙ ap (renamed (entry_of p)) (build-below is_deeper (row_is p parent) s.pre s.row x s.post s.is s.before (standing_once p parent l s a) (under s.row x d) (stops s.post x w'))
+    ∙ renamed-below (entry_of p) is x (build is_deeper (s.pre ++ s.row ∷ s.post))
+    ∙ ap (λ y. below is y (forest_of p (s.pre ++ s.row ∷ s.post))) e
+    ∙ ap (λ m. retyped (address_of p parent) (address_of p slot) cap (forest_of p m)) (sym s.parts)
+  where
+    under : (r x : Row) → x.depth ≡ r.depth + 1 → is_deeper r x ≡ true
+    under r x d = grind (arith, nat_tests)
+
 -- the first child is the next row, where that is deeper
 
 first_renamed : (p : ProfileName) (l : List Row) → first_slot (map (entry_of p) l) ≡ option_map (λ (r : Row). address_of p r.slot) (first_of l)
@@ -254,3 +273,27 @@ absent_child p slot l a =
     let is : Entry → Bool = is_at (address_of p slot) in
     ap (λ f. first_slot (tops f)) (renamed-below_those (entry_of p) is (build is_deeper l))
     ∙ ap (λ f. first_slot (tops (renamed (entry_of p) f))) (below_those_none (row_is p slot) (build is_deeper l) (below_those_nowhere p slot l a))
+
+-- whether another slot names an object
+
+pub not_untyped : (k : Cap) → ((base bits free : ℕ) → k ≡ Untyped base bits free → ⊥) → is_untyped k ≡ false
+not_untyped Null h = refl
+not_untyped (Untyped base bits free) h = absurd (h base bits free refl)
+not_untyped (Endpoint base badge rights) h = refl
+not_untyped (CNode base radix guard) h = refl
+not_untyped (Tcb base) h = refl
+
+elsewhere : (p : ProfileName) (slot : Slot) (cap : Cap) (l : List Row)
+    → list_any (λ (e : Entry). not (e.slot == address_of p slot) && same_object e.cap cap) (map (entry_of p) l) ≡ list_any (names_elsewhere slot.place cap) l
+elsewhere p slot cap [] = refl
+elsewhere p slot cap (r ∷ l) =
+    ap (λ b. (not b && same_object r.cap cap) || list_any (λ (e : Entry). not (e.slot == address_of p slot) && same_object e.cap cap) (map (entry_of p) l)) (same_address p r.slot slot)
+    ∙ ap (λ b. (not (r.slot.place == slot.place) && same_object r.cap cap) || b) (elsewhere p slot cap l)
+
+pub rows_last : (p : ProfileName) (slot : Slot) (l : List Row) (cap : Cap) → cap ≡ cap_at (forest_of p l) (address_of p slot) → is_untyped cap ≡ false
+    → not (list_any (names_elsewhere slot.place cap) l) ≡ is_last (address_of p slot) (forest_of p l)
+rows_last p slot l cap e u =
+    let f = forest_of p l in
+    let test : Cap → Entry → Bool = λ k e. not (e.slot == address_of p slot) && same_object e.cap k in
+    let s : list_any (test cap) (preorder f) ≡ list_any (names_elsewhere slot.place cap) l = ap (list_any (test cap)) (entries_of p l) ∙ elsewhere p slot cap l in
+    ap not (sym s) ∙ ap (λ b. b || not (list_any (test cap) (preorder f))) (sym u) ∙ ap (λ k. is_untyped k || not (list_any (test k) (preorder f))) e

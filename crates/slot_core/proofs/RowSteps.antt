@@ -10,7 +10,7 @@ use Rattle.std.proofs.lemmas.Map.Steps.{length-le_from_distinct_below}
 use Rattle.cap_core.specs.declared.profile.ProfileName.{ProfileName}
 use Rattle.cap_core.specs.declared.profile.ProfileName.TheVariants.{Wide, Narrow}
 use Rattle.cap_core.specs.Numbers.{slot_bits, slot_size}
-use Rattle.cap_core.specs.Objects.{IsLawful}
+use Rattle.cap_core.specs.Objects.{IsLawful, is_untyped}
 use Rattle.slot_core.specs.declared.slot.Slot.{Slot}
 use Rattle.slot_core.specs.declared.rows.Row.{Row}
 use Rattle.slot_core.specs.Entries.{first_child, is_full}
@@ -155,12 +155,13 @@ room_kept : (p : ProfileName) (m c c' : ℕ) → 2 ^ m ≤ c * slot_size p → c
 room_kept p m c c' h k = let e : c * slot_size p ≤ c' * slot_size p = mul-le-mul_right (slot_size p) k in omega arith
 
 pub store_pushed : (p : ProfileName) (m c c' : ℕ) (l : List Row) (x : Row) → IsRowStore p m c l → c ≤ c' → address_of p x.slot < 2 ^ m → is_full (address_of p x.slot) (forest_of p l) ≡ false
-    → IsLawful p m x.cap → x.depth ≡ 0 → IsRowStore p m c' (l ++ x ∷ [])
-store_pushed p m c c' l x s k w h f d = record {
+    → IsLawful p m x.cap → x.depth ≡ 0 → (is_untyped x.cap ≡ true → x.original ≡ true) → IsRowStore p m c' (l ++ x ∷ [])
+store_pushed p m c c' l x s k w h f d u = record {
   apart = apart_push l x s.apart (empty_others p x.slot l h);
   stepwise = stepwise_push 0 l x s.stepwise d;
   within = each-append (λ (r : Row). address_of p r.slot < 2 ^ m) l (x ∷ []) s.within (w, tt);
   lawful = each-append (λ (r : Row). IsLawful p m r.cap) l (x ∷ []) s.lawful (f, tt);
+  untyped = each-append (λ (r : Row). is_untyped r.cap ≡ true → r.original ≡ true) l (x ∷ []) s.untyped (u, tt);
   room = room_kept p m c c' s.room k;
 }
 
@@ -188,8 +189,8 @@ stepwise_put d [] s x post h e =
 stepwise_put d (q ∷ pre) s x post h e = (h.0, stepwise_put (derived_depth q) pre s x post h.1 e)
 
 pub store_derived : (p : ProfileName) (m c c' : ℕ) (source : Slot) (l : List Row) (s : Stands p source l) (x : Row) → IsRowStore p m c l → c ≤ c' → address_of p x.slot < 2 ^ m
-    → is_full (address_of p x.slot) (forest_of p l) ≡ false → IsLawful p m x.cap → x.depth ≡ derived_depth s.row → IsRowStore p m c' (insert l (place_of source.place l + 1) x)
-store_derived p m c c' source l s x t k w h f d =
+    → is_full (address_of p x.slot) (forest_of p l) ≡ false → IsLawful p m x.cap → x.depth ≡ derived_depth s.row → (is_untyped x.cap ≡ true → x.original ≡ true) → IsRowStore p m c' (insert l (place_of source.place l + 1) x)
+store_derived p m c c' source l s x t k w h f d u =
     let ins : insert l (place_of source.place l + 1) x ≡ s.pre ++ s.row ∷ x ∷ s.post = ap (λ n. insert n (place_of source.place l + 1) x) s.parts ∙ insert_behind s.pre s.row x s.post (place_of source.place l) s.place in
     let P : List Row → Type 0 = IsRowStore p m c' in
     subst P (sym ins) (record {
@@ -197,6 +198,7 @@ store_derived p m c c' source l s x t k w h f d =
       stepwise = stepwise_put 0 s.pre s.row x s.post (let Q : List Row → Type 0 = IsStepwise 0 in subst Q s.parts t.stepwise) d;
       within = each_put (λ (r : Row). address_of p r.slot < 2 ^ m) s.pre s.row x s.post (let Q : List Row → Type 0 = Each (λ (r : Row). address_of p r.slot < 2 ^ m) in subst Q s.parts t.within) w;
       lawful = each_put (λ (r : Row). IsLawful p m r.cap) s.pre s.row x s.post (let Q : List Row → Type 0 = Each (λ (r : Row). IsLawful p m r.cap) in subst Q s.parts t.lawful) f;
+      untyped = each_put (λ (r : Row). is_untyped r.cap ≡ true → r.original ≡ true) s.pre s.row x s.post (let Q : List Row → Type 0 = Each (λ (r : Row). is_untyped r.cap ≡ true → r.original ≡ true) in subst Q s.parts t.untyped) u;
       room = room_kept p m c c' t.room k;
     })
 
@@ -237,4 +239,4 @@ pub store_made : (p : ProfileName) (m c : ℕ) → slot_bits p ≤ m → c ≡ 2
 store_made p m c h e =
     let sum : (m - slot_bits p) + slot_bits p ≡ m = omega arith in
     let product : 2 ^ (m - slot_bits p) * 2 ^ slot_bits p ≡ 2 ^ m = sym (pow-add 2 (m - slot_bits p) (slot_bits p)) ∙ ap (λ k. 2 ^ k) sum in
-    record { apart = tt; stepwise = tt; within = tt; lawful = tt; room = rw (e, product) (omega arith) }
+    record { apart = tt; stepwise = tt; within = tt; lawful = tt; untyped = tt; room = rw (e, product) (omega arith) }

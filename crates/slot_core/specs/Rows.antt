@@ -1,9 +1,9 @@
 -- Rows in the preorder of a forest, each with its depth.
-use Rattle.std.specs.Prelude.{◌≢◌, ℕ, ◌+◌, ◌*◌, ◌^◌, ◌<◌, ◌≤◌, Bool, cond, ◌==◌, ltb, List, [], ◌∷◌, ⊤}
+use Rattle.std.specs.Prelude.{◌≡◌, ◌≢◌, ℕ, ◌+◌, ◌-◌, ◌*◌, ◌^◌, ◌<◌, ◌≤◌, Bool, true, cond, not, ◌&&◌, ◌==◌, ltb, List, [], ◌∷◌, ⊤}
 use Rattle.std.specs.List.{AllByRecursion as Each}
 use Rattle.cap_core.specs.declared.profile.ProfileName.{ProfileName}
 use Rattle.cap_core.specs.declared.capability.Cap.{Cap}
-use Rattle.cap_core.specs.Objects.{IsLawful}
+use Rattle.cap_core.specs.Objects.{IsLawful, is_untyped, same_object}
 use Rattle.cap_core.specs.Numbers.{slot_size}
 use Rattle.slot_core.specs.declared.slot.Slot.{Slot}
 use Rattle.slot_core.specs.declared.rows.Row.{Row}
@@ -35,6 +35,15 @@ derived_depth row = cond row.original (row.depth + 1) row.depth
 abbrev pub derived_row : Row → Slot → Cap → Row
 derived_row row slot cap = record { slot = slot; cap = cap; original = is_new_original row.cap cap; depth = derived_depth row }
 
+-- another slot's row, which names the object of a capability
+abbrev pub names_elsewhere : ℕ → Cap → Row → Bool
+names_elsewhere place cap row = not (row.slot.place == place) && same_object row.cap cap
+
+-- the deeper rows in front, each one less deep
+abbrev pub raised : ℕ → List Row → List Row
+raised depth [] = []
+raised depth (row ∷ rows) = cond (ltb depth row.depth) (record row { depth = row.depth - 1 } ∷ raised depth rows) (row ∷ rows)
+
 -- the first row has at most this depth, each next row is at most one deeper, and none is deeper than one before it that is
 -- not original
 abbrev pub IsStepwise : ℕ → List Row → Type 0
@@ -52,4 +61,5 @@ pub record IsRowStore (p : ProfileName) (memory capacity : ℕ) (rows : List Row
   pub stepwise : IsStepwise 0 rows
   pub within : Each (λ (row : Row). address_of p row.slot < 2 ^ memory) rows
   pub lawful : Each (λ (row : Row). IsLawful p memory row.cap) rows
+  pub untyped : Each (λ (row : Row). is_untyped row.cap ≡ true → row.original ≡ true) rows
   pub room : 2 ^ memory ≤ capacity * slot_size p

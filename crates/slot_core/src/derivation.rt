@@ -1,7 +1,7 @@
-//! What a derived capability is.
+//! What a derived capability is, and what an untyped one is with another free index.
 ghost use Rattle.std.specs.Prelude.{◌≡◌};
 ghost use Rattle.cap_core.specs.Objects.{badge_of as badge_in};
-ghost use Rattle.slot_core.specs.Derivation.{is_new_original as is_original_from};
+ghost use Rattle.slot_core.specs.Derivation.{is_new_original as is_original_from, with_free as freed_cap};
 
 use cap_core::Cap;
 
@@ -12,6 +12,16 @@ pub fn is_new_original(from: Cap, cap: Cap) -> bool
     match cap {
         Cap::Untyped { .. } => true,
         _ => badge_of(cap) != badge_of(from),
+    }
+}
+
+/// An untyped capability with another free index, in bytes; every other capability as it is.
+pub fn with_free(cap: Cap, free: u64) -> Cap
+    ensures { result ≡ freed_cap free cap }
+{
+    match cap {
+        Cap::Untyped { base, bits, .. } => Cap::Untyped { base, bits, free },
+        _ => cap,
     }
 }
 

@@ -1,11 +1,12 @@
 //! The capability store as rows.
 ghost use Rattle.std.specs.Prelude.{◌≡◌, ◌+◌, ◌^◌, ◌<◌};
-ghost use Rattle.slot_core.specs.Rows.{place_of as place_in, derived_row};
+ghost use Rattle.slot_core.specs.Rows.{place_of as place_in, derived_row, names_elsewhere, raised};
+ghost use Rattle.std.specs.List.{list_any};
 
-use crate::derivation::is_new_original;
+use crate::derivation::{is_new_original, with_free};
 use crate::slot::Slot;
 use crate::store::{CapStore, MakeStore};
-use cap_core::{Cap, Profile};
+use cap_core::{Cap, Profile, same_object};
 use std::alloc::{AllocError, Global};
 use std::marker::{Model, PhantomData};
 
@@ -70,6 +71,26 @@ fn place_of(rows: &[Row], slot: Slot) -> usize
     rows.len()
 }
 
+// Whether another slot's row names the object of a capability.
+fn is_named_elsewhere(rows: &[Row], slot: Slot, cap: Cap) -> bool
+    ensures { result ≡ list_any (names_elsewhere slot.place cap) rows.now }
+{
+    rows.iter()
+        .any(|row| row.slot != slot && same_object(row.cap, cap))
+}
+
+// Raises the deeper rows in front, which stand below one that is taken out, by one.
+fn raise(rows: &mut [Row], depth: u64)
+    ensures { rows.new ≡ raised depth rows.old }
+{
+    for row in rows.iter_mut() {
+        if row.depth <= depth {
+            return;
+        }
+        row.depth -= 1;
+    }
+}
+
 impl<P: Profile> CapStore<P> for RowStore<P> {
     ghost use Rattle.slot_core.specs.Rows.{forest_of};
 
@@ -108,14 +129,13 @@ impl<P: Profile> CapStore<P> for RowStore<P> {
 
     fn put_new(&mut self, parent: Slot, slot: Slot, cap: Cap) {
         let i = place_of(&self.rows, parent);
-        let depth = self.rows[i].depth + 1;
-        let row = Row {
+        let child = Row {
             slot,
             cap,
             original: true,
-            depth,
+            depth: self.rows[i].depth + 1,
         };
-        match self.rows.insert(i + 1, row) {
+        match self.rows.insert(i + 1, child) {
             Ok(()) => {}
             Err(_) => unreachable!(),
         }
@@ -130,14 +150,14 @@ impl<P: Profile> CapStore<P> for RowStore<P> {
 
     fn set_free(&mut self, slot: Slot, free: u64) {
         let i = place_of(&self.rows, slot);
-        if let Cap::Untyped { base, bits, .. } = self.rows[i].cap {
-            self.rows[i].cap = Cap::Untyped { base, bits, free };
-        }
+        let row = &mut self.rows[i];
+        row.cap = with_free(row.cap, free);
     }
 
     fn remove(&mut self, slot: Slot) {
         let i = place_of(&self.rows, slot);
-        self.rows.remove(i);
+        let row = self.rows.remove(i);
+        raise(&mut self.rows[i..], row.depth);
     }
 
     fn first_child(&self, slot: Slot) -> Option<Slot> {
@@ -152,7 +172,11 @@ impl<P: Profile> CapStore<P> for RowStore<P> {
     }
 
     fn is_last(&self, slot: Slot) -> bool {
-        true
+        let cap = self.get(slot);
+        match cap {
+            Cap::Untyped { .. } => true,
+            _ => !is_named_elsewhere(&self.rows, slot, cap),
+        }
     }
 }
 
@@ -166,8 +190,10 @@ impl<P: Profile> MakeStore<P> for RowStore<P> {
     }
 
     fn copy(&self, alloc: Global) -> Result<RowStore<P>, AllocError> {
+        let mut rows = Vec::with_capacity(alloc, self.rows.capacity())?;
+        rows.extend_from_slice(&self.rows)?;
         Ok(RowStore {
-            rows: Vec::with_capacity(alloc, self.rows.len())?,
+            rows,
             memory_bits: self.memory_bits,
             profile: PhantomData,
         })

@@ -69,7 +69,7 @@ invariant_of-self g c =
     let i : c.insert.new.self.items ≡ insert l (place_of c.args.source.place l + 1) x =
     c.in-Ok.ensures.items ∙ ap (λ j. insert l (j + 1) c.derived-row.result) e ∙ ap (insert l (place_of c.args.source.place l + 1)) (c.derived-row.ensures ∙ ap (λ (r : Row). derived_row r c.args.slot c.args.cap) s.1) in
     let Q : List Row → Type 0 = IsRowStore p m (vec_capacity c.insert.new.self) in
-    subst Q (sym {A = List Row} i) (store_derived p m (vec_capacity c.self.inside.rows) (vec_capacity c.insert.new.self) c.args.source l s.0 x c.self.invariant c.in-Ok.ensures.capacity w h f refl)
+    subst Q (sym {A = List Row} i) (store_derived p m (vec_capacity c.self.inside.rows) (vec_capacity c.insert.new.self) c.args.source l s.0 x c.self.invariant c.in-Ok.ensures.capacity w h f refl (λ u. rw u))
 
 pub returns-clause-forest : goal.returns-clause-forest
 returns-clause-forest g c =

@@ -31,7 +31,7 @@ invariant_of-self g c =
     let h : is_full (address_of p c.args.slot) (forest_of p l) ≡ false = (let P : List Row × ℕ → Type 0 = λ n. is_full (address_of p c.args.slot) (forest_of p n.0) ≡ false in subst P v c.requires.empty) in
     let f : IsLawful p m c.args.cap = (let P : List Row × ℕ → Type 0 = λ n. IsLawful p n.1 c.args.cap in subst P v c.requires.lawful) in
     let Q : List Row → Type 0 = IsRowStore p m (vec_capacity c.push.new.self) in
-    subst Q (sym {A = List Row} c.in-Ok.ensures.items) (store_pushed p m (vec_capacity c.self.inside.rows) (vec_capacity c.push.new.self) l x c.self.invariant c.in-Ok.ensures.capacity w h f refl)
+    subst Q (sym {A = List Row} c.in-Ok.ensures.items) (store_pushed p m (vec_capacity c.self.inside.rows) (vec_capacity c.push.new.self) l x c.self.invariant c.in-Ok.ensures.capacity w h f refl (λ u. refl))
 
 pub returns-clause-forest : goal.returns-clause-forest
 returns-clause-forest g c =
