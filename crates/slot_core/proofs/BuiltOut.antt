@@ -41,26 +41,28 @@ pub taken-out_yes : {A : Type 0} (q q' is : A → Bool) (f : Forest A) → Each 
 taken-out_yes q q' is none pass w o ag = (refl, refl)
 taken-out_yes {A} q q' is (tree a k r) pass w o ag =
     let ih : (taken q' (out is r) ≡ out is (taken q r)) × (left q' (out is r) ≡ out is (left q r)) =
-      taken-out_yes q q' is r (each-right_part (λ b. is b ≡ true → q b ≡ true) (preorder k) (preorder r) pass.1) w.1 (once-right_part is (preorder k) (preorder r) o.1) (each-right_part (λ b. is b ≡ false → q' b ≡ q b) (preorder k) (preorder r) ag.1) in
+    taken-out_yes q q' is r (each-right_part (λ b. is b ≡ true → q b ≡ true) (preorder k) (preorder r) pass.1) w.1 (once-right_part is (preorder k) (preorder r) o.1) (each-right_part (λ b. is b ≡ false → q' b ≡ q b) (preorder k) (preorder r) ag.1) in
     (elim (is a) as (λ c. is a ≡ c → (taken q' (out is (tree a k r)) ≡ out is (taken q (tree a k r))) × (left q' (out is (tree a k r)) ≡ out is (left q (tree a k r)))) [
-      true ↦ λ e.
-        let qa : q a ≡ true = pass.0 e in
-        let absent : Absent is (preorder k ++ preorder r) = o.0 e in
-        let agree : Each (λ b. q' b ≡ q b) (preorder k ++ preorder r) = both_each (preorder k ++ preorder r) absent ag.1 in
-        let rs : Each (λ b. q' b ≡ q b) (preorder r) = each-right_part (λ b. q' b ≡ q b) (preorder k) (preorder r) agree in
-        let ks : Each (λ b. q' b ≡ true) (preorder k) = chained (preorder k) (each-left_part (λ b. q' b ≡ q b) (preorder k) (preorder r) agree) (w.0 qa) in
-        let ra : Absent is (preorder r) = each-right_part (λ b. is b ≡ false) (preorder k) (preorder r) absent in
-        let l : out is (left q r) ≡ left q r = fixed-out is (left q r) (each-left (λ b. is b ≡ false) q r ra) in
-        (rw (e, qa, e) (taken-join q' k r ks ∙ ap (join k) (taken-same q q' r rs)), rw (e, qa) (left-join q' k r ks ∙ left-same q q' r rs ∙ sym l))
-    | false ↦ λ e. step q q' is a k r e (ag.0 e) ih
+      | true ↦ λ e.
+          let qa : q a ≡ true = pass.0 e in
+          let absent : Absent is (preorder k ++ preorder r) = o.0 e in
+          let agree : Each (λ b. q' b ≡ q b) (preorder k ++ preorder r) = both_each (preorder k ++ preorder r) absent ag.1 in
+          let rs : Each (λ b. q' b ≡ q b) (preorder r) = each-right_part (λ b. q' b ≡ q b) (preorder k) (preorder r) agree in
+          let ks : Each (λ b. q' b ≡ true) (preorder k) = chained (preorder k) (each-left_part (λ b. q' b ≡ q b) (preorder k) (preorder r) agree) (w.0 qa) in
+          let ra : Absent is (preorder r) = each-right_part (λ b. is b ≡ false) (preorder k) (preorder r) absent in
+          let l : out is (left q r) ≡ left q r = fixed-out is (left q r) (each-left (λ b. is b ≡ false) q r ra) in
+          (rw (e, qa, e) (taken-join q' k r ks ∙ ap (join k) (taken-same q q' r rs)), rw (e, qa) (left-join q' k r ks ∙ left-same q q' r rs ∙ sym l))
+      | false ↦ λ e. step q q' is a k r e (ag.0 e) ih
     ]) refl
   where
     both_each : (l : List A) → Absent is l → Each (λ b. is b ≡ false → q' b ≡ q b) l → Each (λ b. q' b ≡ q b) l
     both_each [] h g = tt
     both_each (b ∷ l) h g = (g.0 h.0, both_each l h.1 g.1)
+
     chained : (l : List A) → Each (λ b. q' b ≡ q b) l → Each (λ b. q b ≡ true) l → Each (λ b. q' b ≡ true) l
     chained [] h g = tt
     chained (b ∷ l) h g = (h.0 ∙ g.0, chained l h.1 g.1)
+
     step : {A : Type 0} (q q' is : A → Bool) (a : A) (k r : Forest A) → is a ≡ false → q' a ≡ q a → (taken q' (out is r) ≡ out is (taken q r)) × (left q' (out is r) ≡ out is (left q r)) → (taken q' (out is (tree a k r)) ≡ out is (taken q (tree a k r))) × (left q' (out is (tree a k r)) ≡ out is (left q (tree a k r)))
     step q q' is a k r e g h = grind (arith, h.0, h.1)
 
@@ -78,20 +80,21 @@ pub taken-out_no : {A : Type 0} (q q' is : A → Bool) (f : Forest A) → Each (
 taken-out_no q q' is none fails w ag = (refl, refl)
 taken-out_no {A} q q' is (tree a k r) fails w ag =
     (elim (is a) as (λ c. is a ≡ c → (taken q' (out is (tree a k r)) ≡ out is (taken q (tree a k r))) × (left q' (out is (tree a k r)) ≡ out is (left q (tree a k r)))) [
-      true ↦ λ e.
-        let qa : q a ≡ false = fails.0 e in
-        let stop : StopsAtOnce q' (preorder (join k r)) = let P : List A → Type 0 = StopsAtOnce q' in subst P (sym (preorder-join k r)) (ag.0 e) in
-        (rw (e, qa) (taken_none q' (join k r) stop), rw (e, qa, e) (left_all q' (join k r) stop))
-    | false ↦ λ e.
-        let ih : q a ≡ true → (taken q' (out is r) ≡ out is (taken q r)) × (left q' (out is r) ≡ out is (left q r)) =
+      | true ↦ λ e.
+          let qa : q a ≡ false = fails.0 e in
+          let stop : StopsAtOnce q' (preorder (join k r)) = let P : List A → Type 0 = StopsAtOnce q' in subst P (sym (preorder-join k r)) (ag.0 e) in
+          (rw (e, qa) (taken_none q' (join k r) stop), rw (e, qa, e) (left_all q' (join k r) stop))
+      | false ↦ λ e.
+          let ih : q a ≡ true → (taken q' (out is r) ≡ out is (taken q r)) × (left q' (out is r) ≡ out is (left q r)) =
           λ d. taken-out_no q q' is r (each-right_part (λ b. is b ≡ true → q b ≡ false) (preorder k) (preorder r) fails.1) w.1 (stops-right_part is q q' (preorder k) (preorder r) (never (preorder k) (w.0 d) (each-left_part (λ b. is b ≡ true → q b ≡ false) (preorder k) (preorder r) fails.1)) (ag.1 e).1) in
-        step q q' is a k r e (ag.1 e).0 (λ d. fixed-out is k (never (preorder k) (w.0 d) (each-left_part (λ b. is b ≡ true → q b ≡ false) (preorder k) (preorder r) fails.1))) (λ d. (ih d).0) (λ d. (ih d).1)
+          step q q' is a k r e (ag.1 e).0 (λ d. fixed-out is k (never (preorder k) (w.0 d) (each-left_part (λ b. is b ≡ true → q b ≡ false) (preorder k) (preorder r) fails.1))) (λ d. (ih d).0) (λ d. (ih d).1)
     ]) refl
   where
     never : (l : List A) → Each (λ b. q b ≡ true) l → Each (λ b. is b ≡ true → q b ≡ false) l → Absent is l
     never [] h n = tt
     never (b ∷ l) h n =
-      ((elim (is b) as (λ c. is b ≡ c → is b ≡ false) [ true ↦ λ e. (let d : q b ≡ false = n.0 e in let d' : q b ≡ true = h.0 in cc) | false ↦ λ e. e ]) refl, never l h.1 n.1)
+        ((elim (is b) as (λ c. is b ≡ c → is b ≡ false) [ true ↦ λ e. (let d : q b ≡ false = n.0 e in let d' : q b ≡ true = h.0 in cc) | false ↦ λ e. e ]) refl, never l h.1 n.1)
+
     step : {A : Type 0} (q q' is : A → Bool) (a : A) (k r : Forest A) → is a ≡ false → q' a ≡ q a → (q a ≡ true → out is k ≡ k) → (q a ≡ true → taken q' (out is r) ≡ out is (taken q r)) → (q a ≡ true → left q' (out is r) ≡ out is (left q r)) → (taken q' (out is (tree a k r)) ≡ out is (taken q (tree a k r))) × (left q' (out is (tree a k r)) ≡ out is (left q (tree a k r)))
     step q q' is a k r e g fixed h h' = grind arith
 
@@ -124,19 +127,20 @@ build-out {A} t t' tr is (p ∷ pre) s post e a b h =
     let w : Whole (t p) f = whole-nested t tr p f (nested-build t tr (pre ++ s ∷ post)) in
     let ih : build t' (pre ++ post) ≡ out is f = build-out t t' tr is pre s post e a.1 b h.2 in
     let both : (taken (t' p) (out is f) ≡ out is (taken (t p) f)) × (left (t' p) (out is f) ≡ out is (left (t p) f)) =
-      (elim (t p s) as (λ c. t p s ≡ c → (taken (t' p) (out is f) ≡ out is (taken (t p) f)) × (left (t' p) (out is f) ≡ out is (left (t p) f))) [
-        true ↦ λ g.
+    (elim (t p s) as (λ c. t p s ≡ c → (taken (t' p) (out is f) ≡ out is (taken (t p) f)) × (left (t' p) (out is f) ≡ out is (left (t p) f))) [
+      | true ↦ λ g.
           let ag : Each (λ c. is c ≡ false → t' p c ≡ t p c) (preorder f) = let P : List A → Type 0 = λ m. Each (λ c. is c ≡ false → t' p c ≡ t p c) m in subst P (sym (preorder-build t (pre ++ s ∷ post))) (around pre (h.0 g)) in
           taken-out_yes (t p) (t' p) is f (let P : List A → Type 0 = λ m. Each (λ c. is c ≡ true → t p c ≡ true) m in subst P (sym (preorder-build t (pre ++ s ∷ post))) (at_one is (λ c. t p c ≡ true) pre s post a.1 b g)) w o ag
       | false ↦ λ g.
           let ag : StopsAfter is (t p) (t' p) (preorder f) = let P : List A → Type 0 = λ m. StopsAfter is (t p) (t' p) m in subst P (sym (preorder-build t (pre ++ s ∷ post))) (until pre a.1 (h.1 g).0 (h.1 g).1) in
           taken-out_no (t p) (t' p) is f (let P : List A → Type 0 = λ m. Each (λ c. is c ≡ true → t p c ≡ false) m in subst P (sym (preorder-build t (pre ++ s ∷ post))) (at_one is (λ c. t p c ≡ false) pre s post a.1 b g)) w ag
-      ]) refl in
+    ]) refl in
     rw (ih, a.0, both.0, both.1)
   where
     around : (l : List A) → Each (λ c. t' p c ≡ t p c) (l ++ post) → Each (λ c. is c ≡ false → t' p c ≡ t p c) (l ++ s ∷ post)
     around [] g = ((λ i. absurd (cc)), each-weaker (λ c. t' p c ≡ t p c) (λ c. is c ≡ false → t' p c ≡ t p c) (λ c d i. d) post g)
     around (c ∷ l) g = ((λ i. g.0), around l g.1)
+
     until : (l : List A) → Absent is l → Each (λ c. t' p c ≡ t p c) l → StopsAtOnce (t' p) post → StopsAfter is (t p) (t' p) (l ++ s ∷ post)
     until [] n g stop = ((λ i. stop), (λ i. absurd (cc)))
     until (c ∷ l) n g stop = ((λ i. absurd (let j : is c ≡ false = n.0 in cc)), (λ i. (g.0, until l n.1 g.1 stop)))
@@ -145,6 +149,6 @@ pub renamed-out : {A B : Type 0} (w : A → B) (is : B → Bool) (f : Forest A) 
 renamed-out w is none = refl
 renamed-out w is (tree a k r) =
     elim (is (w a)) as (λ c. renamed w (cond c (join k r) (tree a (out (λ b. is (w b)) k) (out (λ b. is (w b)) r))) ≡ cond c (join (renamed w k) (renamed w r)) (tree (w a) (out is (renamed w k)) (out is (renamed w r)))) [
-      true ↦ renamed-join w k r
-    | false ↦ rw (renamed-out w is k, renamed-out w is r)
+      | true ↦ renamed-join w k r
+      | false ↦ rw (renamed-out w is k, renamed-out w is r)
     ]

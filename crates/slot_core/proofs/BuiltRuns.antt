@@ -32,7 +32,7 @@ build-runs t t' tr [] h = refl
 build-runs {A} t t' tr (a ∷ l) h =
     let f : Forest A = build t l in
     let both : (taken (t' a) f ≡ taken (t a) f) × (left (t' a) f ≡ left (t a) f) =
-      same-run (t a) (t' a) f (whole-nested t tr a f (nested-build t tr l)) (let P : List A → Type 0 = AgreeRun (t a) (t' a) in subst P (sym (preorder-build t l)) h.0) in
+    same-run (t a) (t' a) f (whole-nested t tr a f (nested-build t tr l)) (let P : List A → Type 0 = AgreeRun (t a) (t' a) in subst P (sym (preorder-build t l)) h.0) in
     rw (build-runs t t' tr l h.1, both.0, both.1)
 
 -- as `Handed`, with runs
@@ -51,14 +51,14 @@ build-out_runs {A} t t' tr is (p ∷ pre) s post e a b h =
     let w : Whole (t p) f = whole-nested t tr p f (nested-build t tr (pre ++ s ∷ post)) in
     let ih : build t' (pre ++ post) ≡ out is f = build-out_runs t t' tr is pre s post e a.1 b h.2 in
     let both : (taken (t' p) (out is f) ≡ out is (taken (t p) f)) × (left (t' p) (out is f) ≡ out is (left (t p) f)) =
-      (elim (t p s) as (λ c. t p s ≡ c → (taken (t' p) (out is f) ≡ out is (taken (t p) f)) × (left (t' p) (out is f) ≡ out is (left (t p) f))) [
-        true ↦ λ g.
+    (elim (t p s) as (λ c. t p s ≡ c → (taken (t' p) (out is f) ≡ out is (taken (t p) f)) × (left (t' p) (out is f) ≡ out is (left (t p) f))) [
+      | true ↦ λ g.
           let ag : Each (λ c. is c ≡ false → t' p c ≡ t p c) (preorder f) = let P : List A → Type 0 = λ m. Each (λ c. is c ≡ false → t' p c ≡ t p c) m in subst P (sym (preorder-build t (pre ++ s ∷ post))) (around pre (h.0 g)) in
           taken-out_yes (t p) (t' p) is f (let P : List A → Type 0 = λ m. Each (λ c. is c ≡ true → t p c ≡ true) m in subst P (sym (preorder-build t (pre ++ s ∷ post))) (at_one is (λ c. t p c ≡ true) pre s post a.1 b g)) w o ag
       | false ↦ λ g.
           let ag : StopsAfter is (t p) (t' p) (preorder f) = let P : List A → Type 0 = λ m. StopsAfter is (t p) (t' p) m in subst P (sym (preorder-build t (pre ++ s ∷ post))) (until pre a.1 (h.1 g).0 (h.1 g).1) in
           taken-out_no (t p) (t' p) is f (let P : List A → Type 0 = λ m. Each (λ c. is c ≡ true → t p c ≡ false) m in subst P (sym (preorder-build t (pre ++ s ∷ post))) (at_one is (λ c. t p c ≡ false) pre s post a.1 b g)) w ag
-      ]) refl in
+    ]) refl in
     rw (ih, a.0, both.0, both.1)
   where
     around : (l : List A) → Each (λ c. t' p c ≡ t p c) (l ++ post) → Each (λ c. is c ≡ false → t' p c ≡ t p c) (l ++ s ∷ post)
@@ -68,6 +68,7 @@ build-out_runs {A} t t' tr is (p ∷ pre) s post e a b h =
         weak [] n = tt
         weak (c ∷ m) n = ((λ i. n.0), weak m n.1)
     around (c ∷ l) g = ((λ i. g.0), around l g.1)
+
     until : (l : List A) → Absent is l → Each (λ c. t' p c ≡ t p c) l → StopsAtOnce (t' p) post → StopsAfter is (t p) (t' p) (l ++ s ∷ post)
     until [] n g stop = ((λ i. stop), (λ i. absurd (cc)))
     until (c ∷ l) n g stop = ((λ i. absurd (let j : is c ≡ false = n.0 in cc)), (λ i. (g.0, until l n.1 g.1 stop)))

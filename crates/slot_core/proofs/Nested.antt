@@ -28,8 +28,8 @@ pub each-taken : {A : Type 0} (p : A → Bool) (f : Forest A) → Whole p f → 
 each-taken p none w = tt
 each-taken {A} p (tree b k r) w =
     (elim (p b) as (λ c. p b ≡ c → Each (λ x. p x ≡ true) (preorder (cond c (tree b k (taken p r)) none))) [
-      true ↦ λ e. (e, each-append (λ x. p x ≡ true) (preorder k) (preorder (taken p r)) (w.0 e) (each-taken p r w.1))
-    | false ↦ λ e. tt
+      | true ↦ λ e. (e, each-append (λ x. p x ≡ true) (preorder k) (preorder (taken p r)) (w.0 e) (each-taken p r w.1))
+      | false ↦ λ e. tt
     ]) refl
 
 pub nested-taken : {A : Type 0} (t : A → A → Bool) (p : A → Bool) (f : Forest A) → Nested t f → Nested t (taken p f)

@@ -105,32 +105,32 @@ pub runs_lower : (d : ℕ) (a : Row) (l : List Row) → d < a.depth → AgreeRun
 runs_lower d a [] h = tt
 runs_lower d a (r ∷ l) h =
     (elim (ltb d r.depth) as (λ c. ltb d r.depth ≡ c → AgreeRun (t (a, a.depth - 1)) (t' (a, a.depth - 1)) (cond c ((r, r.depth - 1) ∷ turns d l) (kept (r ∷ l)))) [
-      true ↦ λ e. (both_lower d a.depth r.depth h e, (λ k. runs_lower d a l h))
-    | false ↦ λ e. ((first_kept d a.depth r.depth h e).0 ∙ sym (first_kept d a.depth r.depth h e).1, (λ k. absurd (let n : ltb a.depth r.depth ≡ false = (first_kept d a.depth r.depth h e).1 in cc)))
+      | true ↦ λ e. (both_lower d a.depth r.depth h e, (λ k. runs_lower d a l h))
+      | false ↦ λ e. ((first_kept d a.depth r.depth h e).0 ∙ sym (first_kept d a.depth r.depth h e).1, (λ k. absurd (let n : ltb a.depth r.depth ≡ false = (first_kept d a.depth r.depth h e).1 in cc)))
     ]) refl
 
 pub all_runs : (d : ℕ) (l : List Row) → AgreeRuns t t' (turns d l)
 all_runs d [] = tt
 all_runs d (r ∷ l) =
     (elim (ltb d r.depth) as (λ c. ltb d r.depth ≡ c → AgreeRuns t t' (cond c ((r, r.depth - 1) ∷ turns d l) (kept (r ∷ l)))) [
-      true ↦ λ e. (runs_lower d r l (above_yes d r.depth e), all_runs d l)
-    | false ↦ λ e. all_runs_kept (r ∷ l)
+      | true ↦ λ e. (runs_lower d r l (above_yes d r.depth e), all_runs d l)
+      | false ↦ λ e. all_runs_kept (r ∷ l)
     ]) refl
 
 pub same_above : (d : ℕ) (p : Row) (l : List Row) → ltb p.depth d ≡ true → Each (λ z. t' (p, p.depth) z ≡ t (p, p.depth) z) (turns d l)
 same_above d p [] h = tt
 same_above d p (r ∷ l) h =
     (elim (ltb d r.depth) as (λ c. ltb d r.depth ≡ c → Each (λ z. t' (p, p.depth) z ≡ t (p, p.depth) z) (cond c ((r, r.depth - 1) ∷ turns d l) (kept (r ∷ l)))) [
-      true ↦ λ e. (above d p.depth r.depth h e, same_above d p l h)
-    | false ↦ λ e. same_kept p (r ∷ l)
+      | true ↦ λ e. (above d p.depth r.depth h e, same_above d p l h)
+      | false ↦ λ e. same_kept p (r ∷ l)
     ]) refl
 
 pub stop_there : (d : ℕ) (p : Row) (l : List Row) → ltb p.depth d ≡ false → IsStepwise (d + 1) l → StopsAtOnce (t' (p, p.depth)) (turns d l)
 stop_there d p [] h w = tt
 stop_there d p (r ∷ l) h w =
     (elim (ltb d r.depth) as (λ c. ltb d r.depth ≡ c → StopsAtOnce (t' (p, p.depth)) (cond c ((r, r.depth - 1) ∷ turns d l) (kept (r ∷ l)))) [
-      true ↦ λ e. stops_low d p.depth r.depth h w.0
-    | false ↦ λ e. stops_kept d p.depth r.depth h e
+      | true ↦ λ e. stops_low d p.depth r.depth h w.0
+      | false ↦ λ e. stops_kept d p.depth r.depth h e
     ]) refl
 
 pub each-two : (P : Turn → Type 0) (xs ys : List Turn) → Each P xs → Each P ys → Each P (xs ++ ys)
@@ -139,9 +139,11 @@ each-two P (x ∷ xs) ys h g = (h.0, each-two P xs ys h.1 g)
 
 pub handed_lower : (pre : List Row) (s : Row) (post : List Row) → IsStepwise (s.depth + 1) post → HandedRuns t t' (s, s.depth) (kept pre) (turns s.depth post)
 handed_lower [] s post w = all_runs s.depth post
-handed_lower (p ∷ pre) s post w =
-    ((λ e. each-two (λ z. t' (p, p.depth) z ≡ t (p, p.depth) z) (kept pre) (turns s.depth post) (same_kept p pre) (same_above s.depth p post e)),
-     (λ e. (same_kept p pre, stop_there s.depth p post e w)), handed_lower pre s post w)
+handed_lower (p ∷ pre) s post w = (
+  (λ e. each-two (λ z. t' (p, p.depth) z ≡ t (p, p.depth) z) (kept pre) (turns s.depth post) (same_kept p pre) (same_above s.depth p post e)),
+  (λ e. (same_kept p pre, stop_there s.depth p post e w)),
+  handed_lower pre s post w,
+)
 
 absent_kept : (is : Row → Bool) (l : List Row) → Absent is l → Absent (λ z. is (was z)) (kept l)
 absent_kept is [] h = tt
@@ -226,7 +228,7 @@ pub rows_removed : (p : ProfileName) (slot : Slot) (l : List Row) (s : Stands p 
 rows_removed p slot l s a w =
     ap (forest_of p) (without p slot l s)
     ∙ removed p slot s.pre s.row s.post s.is s.before (standing_once p slot l s a)
-      (higher (derived_depth s.row) (s.row.depth + 1) s.post (standing_stepwise p slot l s w) (derived_most s.row.original s.row.depth))
+    (higher (derived_depth s.row) (s.row.depth + 1) s.post (standing_stepwise p slot l s w) (derived_most s.row.original s.row.depth))
     ∙ ap (λ m. emptied (address_of p slot) (forest_of p m)) (sym s.parts)
 
 -- the rows stay in order
