@@ -12,3 +12,4 @@ mod RowSteps
 mod RowEdits
 mod RowRemoves
 mod Family
+mod Regions

@@ -76,6 +76,62 @@ fn holds_its_family<P: Profile, S: MakeStore<P>>(
     Ok(())
 }
 
+// An untyped region in slot 0, of whose first bytes an endpoint is made in slot 1; a badged capability of that is derived in
+// slot 2 and moves to slot 3. Then slot 1 is emptied, and its child takes its place.
+fn answers_every_call<P: Profile, S: MakeStore<P>>(
+    rt: &impl Abort,
+    alloc: Global,
+) -> Result<(), Fail> {
+    let region = Cap::Untyped {
+        base: 1024,
+        bits: 10,
+        free: 0,
+    };
+    let whole = Cap::Endpoint {
+        base: 1024,
+        badge: Badge(0),
+        rights: Rights(3),
+    };
+    let badged = Cap::Endpoint {
+        base: 1024,
+        badge: Badge(7),
+        rights: Rights(3),
+    };
+    let (parent, child, source, target) = (slot::<P>(0), slot::<P>(1), slot::<P>(2), slot::<P>(3));
+    let mut store = S::new(alloc, 12)?;
+    store.put_root(parent, region);
+    store.put_new(parent, child, whole);
+    store.set_free(parent, 16);
+    store.derive(child, source, badged);
+    store.relocate(source, target, badged);
+    holds_a_region::<P, S>(rt, &store);
+    let copied = store.copy(alloc)?;
+    assert!(rt; store.is_last(parent) && !store.is_last(child) && !store.is_last(target));
+    store.remove(child);
+    assert_eq!(rt; store.get(child), Cap::Null);
+    assert!(rt; store.first_child(parent) == Some(target));
+    assert!(rt; store.is_last(target));
+    holds_a_region::<P, S>(rt, &copied);
+    Ok(())
+}
+
+fn holds_a_region<P: Profile, S: MakeStore<P>>(rt: &impl Abort, store: &S) {
+    assert_eq!(rt;
+        store.get(slot::<P>(0)),
+        Cap::Untyped {
+            base: 1024,
+            bits: 10,
+            free: 16,
+        }
+    );
+    assert_eq!(rt; badge_in(store.get(slot::<P>(1))), Some(0));
+    assert_eq!(rt; store.get(slot::<P>(2)), Cap::Null);
+    assert_eq!(rt; badge_in(store.get(slot::<P>(3))), Some(7));
+    assert!(rt; store.first_child(slot::<P>(0)) == Some(slot::<P>(1)));
+    assert!(rt; store.first_child(slot::<P>(1)) == Some(slot::<P>(3)));
+    assert!(rt; store.first_child(slot::<P>(3)) == None);
+}
+
 #[test]
 fn rows_hold_a_family_of_wide_words(rt: HostRuntime) -> Result<(), Fail> {
     holds_its_family::<Wide, RowStore<Wide>>(&rt, rt.alloc())
@@ -84,4 +140,14 @@ fn rows_hold_a_family_of_wide_words(rt: HostRuntime) -> Result<(), Fail> {
 #[test]
 fn rows_hold_a_family_of_narrow_words(rt: HostRuntime) -> Result<(), Fail> {
     holds_its_family::<Narrow, RowStore<Narrow>>(&rt, rt.alloc())
+}
+
+#[test]
+fn rows_answer_every_call_of_wide_words(rt: HostRuntime) -> Result<(), Fail> {
+    answers_every_call::<Wide, RowStore<Wide>>(&rt, rt.alloc())
+}
+
+#[test]
+fn rows_answer_every_call_of_narrow_words(rt: HostRuntime) -> Result<(), Fail> {
+    answers_every_call::<Narrow, RowStore<Narrow>>(&rt, rt.alloc())
 }
