@@ -118,15 +118,6 @@ impl<P: Profile> CapStore<P> for RowStore<P> {
         }
     }
 
-    fn derive(&mut self, source: Slot, slot: Slot, cap: Cap) {
-        let i = place_of(&self.rows, source);
-        let row = self.rows[i].derived(slot, cap);
-        match self.rows.insert(i + 1, row) {
-            Ok(()) => {}
-            Err(_) => unreachable!(),
-        }
-    }
-
     fn put_new(&mut self, parent: Slot, slot: Slot, cap: Cap) {
         let i = place_of(&self.rows, parent);
         let child = Row {
@@ -136,6 +127,15 @@ impl<P: Profile> CapStore<P> for RowStore<P> {
             depth: self.rows[i].depth + 1,
         };
         match self.rows.insert(i + 1, child) {
+            Ok(()) => {}
+            Err(_) => unreachable!(),
+        }
+    }
+
+    fn derive(&mut self, source: Slot, slot: Slot, cap: Cap) {
+        let i = place_of(&self.rows, source);
+        let row = self.rows[i].derived(slot, cap);
+        match self.rows.insert(i + 1, row) {
             Ok(()) => {}
             Err(_) => unreachable!(),
         }
