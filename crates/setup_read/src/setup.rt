@@ -10,7 +10,9 @@ use std::marker::Model;
 #[derive(Clone, Copy, Debug, PartialEq, Eq)]
 pub enum OpName {
     Send,
+    NbSend,
     Recv,
+    NbRecv,
 }
 
 /// The words of a message: the first `count` of `words`. The others are 0.
