@@ -184,8 +184,7 @@ fn words_that_lead_to_no_endpoint(rt: HostRuntime) -> Result<(), Fail> {
 
 #[test]
 fn dropped_where_waiting_was_expected(rt: HostRuntime) -> Result<(), Fail> {
-    let calls =
-        "[[call]]\nthread = 2048\nop = \"nbsend\"\ncap = 4\nexpect = \"waiting\"\n";
+    let calls = "[[call]]\nthread = 2048\nop = \"nbsend\"\ncap = 4\nexpect = \"waiting\"\n";
     let wanted = format!(in rt.alloc();
         "1 2048 nbsend: dropped [not met: waiting]\nthread 2048 ready\nthread 4096 ready\nendpoint 6144 idle\n{SLOTS}expected 0 of 1\n"
     )?;
@@ -197,5 +196,9 @@ fn label_past_the_largest(rt: HostRuntime) -> Result<(), Fail> {
     let calls =
         "[[call]]\nthread = 4096\nop = \"recv\"\ncap = 4\n[[call]]\nthread = 2048\nop = \"nbsend\"\ncap = 4\nlabel = 4503599627370496\n";
     let text = format!(in rt.alloc(); "{HEAD}{UNTYPED}{calls}")?;
-    refused(&rt, text.as_bytes(), "set-up refused 204 at call 2 key label\n")
+    refused(
+        &rt,
+        text.as_bytes(),
+        "set-up refused 204 at call 2 key label\n",
+    )
 }
