@@ -2,3 +2,4 @@ pub mod Bits
 pub mod Nodes
 pub mod Steps
 pub mod Inside
+mod Memory

@@ -1,172 +1,171 @@
-ghost use Rattle.std.specs.Prelude.{◌≡◌, ◌+◌, ◌⊎◌, ◌<◌, ◌≤◌, ◌^◌, true};
-ghost use Rattle.cap_core.specs.Numbers.{slot_bits, slot_size, word_bits};
-ghost use Rattle.cap_core.specs.declared.capability.Cap.TheVariants.{Null, CNode};
+ghost use Rattle.std.specs.Prelude.{◌≡◌, ◌⊎◌, ◌≤◌};
+ghost use Rattle.cap_core.specs.Numbers.{word_bits};
+ghost use Rattle.cap_core.specs.declared.capability.Cap.TheVariants.{Null};
 ghost use Rattle.cap_core.specs.Objects.{IsLawful};
-ghost use Rattle.slot_core.specs.Forest.{none, tree};
-ghost use Rattle.slot_core.specs.Entries.{entry};
+ghost use Rattle.cspace_core.specs.Memory.{memory_bits};
 
 use super::*;
-use cap_core::{Guard, Narrow, Wide};
-use std::marker::PhantomData;
+use cap_core::{Narrow, Wide};
+use memory::{memory, node, root};
+use slot_core::RowStore;
 use std::test::Fail;
 
-/// A store whose memory is two slots: the first holds a CNode of both, without a guard, and the second nothing.
-#[derive(Drop)]
-struct TwoSlots<P: Profile> {
-    profile: PhantomData<P>,
-}
+mod memory;
 
-impl<P: Profile> CapStore<P> for TwoSlots<P> {
-    ghost forest = { λ s. tree (entry 0 (CNode 0 1 (record { value = 0; size = 0 })) true) none (tree (entry (slot_size P.the) Null true) none none) };
-
-    ghost memory_bits = { λ s. slot_bits P.the + 1 };
-
-    fn get(&self, slot: Slot) -> Cap {
-        let address = slot.address::<P>();
-        if address == 0 {
-            node::<P>(0, 0)
-        } else {
-            Cap::Null
-        }
-    }
-
-    fn put_root(&mut self, slot: Slot, cap: Cap) {
-        unreachable!()
-    }
-
-    fn derive(&mut self, source: Slot, slot: Slot, cap: Cap) {
-        unreachable!()
-    }
-
-    fn first_child(&self, slot: Slot) -> Option<Slot> {
-        None
-    }
-}
-
-/// A CNode of both slots.
-fn node<P: Profile>(value: u64, size: u32) -> Cap
-    requires size { size < word_bits P.the }
-    requires value { value < 2 ^ size }
-    ensures value { result ≡ CNode 0 1 (record { value = value; size = size }) }
-    ensures lawful { IsLawful P.the (slot_bits P.the + 1) result }
+/// What `resolve` answers for all bits of a word, by the slot's address.
+fn resolved<P: Profile, S: CapStore<P>>(
+    store: &S,
+    root: Cap,
+    address: u64,
+) -> Result<(u64, u32), LookupFault>
+    requires memory { S.memory_bits store.now ≡ memory_bits }
+    requires lawful { (root ≡ Null) ⊎ IsLawful P.the memory_bits root }
 {
-    Cap::CNode {
-        base: 0,
-        radix: 1,
-        guard: Guard { value, size },
-    }
-}
-
-/// What `resolve` answers over that store, by the slot's address.
-fn answer<P: Profile>(root: Cap, address: u64, bits: u32) -> Result<(u64, u32), LookupFault>
-    requires lawful { (root ≡ Null) ⊎ IsLawful P.the (slot_bits P.the + 1) root }
-    requires bits { bits ≤ word_bits P.the }
-{
-    let store = TwoSlots {
-        profile: PhantomData,
-    };
-    let (slot, left) = resolve::<P, TwoSlots<P>>(&store, root, address, bits)?;
+    let (slot, left) = resolve::<P, S>(store, root, address, P::WORD_BITS)?;
     Ok((slot.address::<P>(), left))
 }
 
-#[test]
-fn wide_addresses_resolve(rt: HostRuntime) -> Result<(), Fail> {
-    let root = node::<Wide>(0b10, 2);
-    assert_eq!(rt; answer::<Wide>(root, 0b10_1_101, 6), Ok((32, 3)));
-    assert_eq!(rt; answer::<Wide>(root, 0b10_0_1_11, 6), Ok((32, 2)));
-    assert_eq!(rt; answer::<Wide>(root, 0b10_0_0_0_1, 6), Ok((32, 0)));
-    assert_eq!(rt; answer::<Wide>(root, 0b10_0_0_0_0, 6), Ok((0, 0)));
-    assert_eq!(rt; answer::<Wide>(root, 1 << 63, 64), Ok((0, 0)));
-    Ok(())
-}
-
-#[test]
-fn narrow_addresses_resolve(rt: HostRuntime) -> Result<(), Fail> {
-    let root = node::<Narrow>(0b10, 2);
-    assert_eq!(rt; answer::<Narrow>(root, 0b10_1_101, 6), Ok((16, 3)));
-    assert_eq!(rt; answer::<Narrow>(root, 0b10_0_0_0_1, 6), Ok((16, 0)));
-    assert_eq!(rt; answer::<Narrow>(root, 1 << 31, 32), Ok((0, 0)));
-    Ok(())
-}
-
-#[test]
-fn other_addresses_have_their_faults(rt: HostRuntime) -> Result<(), Fail> {
-    let root = node::<Wide>(0b10, 2);
-    assert_eq!(rt;
-        answer::<Wide>(Cap::Null, 0, 6),
-        Err(LookupFault::InvalidRoot)
-    );
-    assert_eq!(rt;
-        answer::<Wide>(root, 0b11_0_000, 6),
-        Err(LookupFault::GuardMismatch)
-    );
-    assert_eq!(rt;
-        answer::<Wide>(root, 0b1, 1),
-        Err(LookupFault::GuardMismatch)
-    );
-    assert_eq!(rt;
-        answer::<Wide>(root, 0b10, 2),
-        Err(LookupFault::DepthMismatch)
-    );
-    assert_eq!(rt;
-        answer::<Wide>(root, 0b01, 2),
-        Err(LookupFault::GuardMismatch)
-    );
-    Ok(())
-}
-
-/// What `target` answers over that store, by the slot's address and the refusal's number and kind.
-fn target_answer<P: Profile>(root: Cap, index: u64, depth: u64) -> Result<u64, (u32, u32)>
-    requires lawful { (root ≡ Null) ⊎ IsLawful P.the (slot_bits P.the + 1) root }
+/// What `target` answers, by the slot's address and the refusal's number and kind.
+fn targeted<P: Profile, S: CapStore<P>>(
+    store: &S,
+    root: Cap,
+    index: u64,
+    depth: u64,
+) -> Result<u64, (u32, u32)>
+    requires memory { S.memory_bits store.now ≡ memory_bits }
+    requires lawful { (root ≡ Null) ⊎ IsLawful P.the memory_bits root }
 {
-    let store = TwoSlots {
-        profile: PhantomData,
-    };
-    match target::<P, TwoSlots<P>>(&store, root, index, depth) {
+    match target::<P, S>(store, root, index, depth) {
         Ok(slot) => Ok(slot.address::<P>()),
         Err(refusal) => Err((refusal.code(), refusal.kind())),
     }
 }
 
 #[test]
-fn wide_targets_have_no_bits_left(rt: HostRuntime) -> Result<(), Fail> {
-    let root = node::<Wide>(0b101, 3);
-    for (index, depth, want) in [
-        (0b101_1, 4, Ok(32)),
-        (0b101_0_1, 5, Ok(32)),
-        (0b101_0_0, 5, Ok(0)),
-        (0b101_1_1, 5, Err((6, 3))),
-        (0b101_0_1_0, 6, Err((6, 3))),
-        (0b101, 3, Err((6, 3))),
-        (0b10, 2, Err((6, 4))),
-        (0b001_1, 4, Err((6, 4))),
-        (0b101 << 61, 64, Ok(0)),
-        (0b101_1, 0, Err((4, 0))),
-        (0b101_1, 65, Err((4, 0))),
-        (0b101_1, u64::MAX, Err((4, 0))),
+fn invocations_go_through_two_cnodes(rt: HostRuntime) -> Result<(), Fail> {
+    let store = memory::<Wide, RowStore<Wide>>(rt.alloc())?;
+    for (address, want) in [
+        (16, Ok((128, 2))),
+        (35, Ok((16480, 0))),
+        (32, Ok((16384, 0))),
+        (4, Err(LookupFault::GuardMismatch)),
+        (64, Err(LookupFault::GuardMismatch)),
     ] {
-        assert_eq!(rt; target_answer::<Wide>(root, index, depth), want);
-    }
-    for depth in [0, 1, 64, 65] {
-        assert_eq!(rt; target_answer::<Wide>(Cap::Null, 0, depth), Err((6, 1)));
+        assert_eq!(rt;
+            resolved::<Wide, RowStore<Wide>>(&store, root::<Wide>(0, 58), address),
+            want
+        );
     }
     Ok(())
 }
 
 #[test]
-fn narrow_targets_have_no_bits_left(rt: HostRuntime) -> Result<(), Fail> {
-    let root = node::<Narrow>(0b101, 3);
+fn guarded_cnodes_are_targets(rt: HostRuntime) -> Result<(), Fail> {
+    let store = memory::<Wide, RowStore<Wide>>(rt.alloc())?;
     for (index, depth, want) in [
-        (0b101_1, 4, Ok(16)),
-        (0b101_1_1, 5, Err((6, 3))),
-        (0b101 << 29, 32, Ok(0)),
-        (0b101_1, 0, Err((4, 0))),
-        (0b101_1, 33, Err((4, 0))),
+        (23, 5, Ok(16480)),
+        (7, 5, Err((6, 4))),
+        (10, 4, Err((6, 3))),
+        (46, 6, Err((6, 3))),
     ] {
-        assert_eq!(rt; target_answer::<Narrow>(root, index, depth), want);
+        assert_eq!(rt;
+            targeted::<Wide, RowStore<Wide>>(&store, node(0b101, 3), index, depth),
+            want
+        );
     }
-    assert_eq!(rt; target_answer::<Narrow>(Cap::Null, 0, 33), Err((6, 1)));
     Ok(())
 }
 
-mod levels;
+#[test]
+fn guards_stand_between_cnodes(rt: HostRuntime) -> Result<(), Fail> {
+    let store = memory::<Wide, RowStore<Wide>>(rt.alloc())?;
+    for (index, depth, want) in [
+        (0b1001_101_11, 9, Ok(16480)),
+        (0b1001_101_01, 9, Ok(16416)),
+        (0b1001_001_11, 9, Err((6, 4))),
+        (0b1001_10, 6, Err((6, 4))),
+        (0b1001_101_1, 8, Err((6, 3))),
+        (0b1001_101_11_0, 10, Err((6, 3))),
+        (0b1001, 4, Ok(288)),
+        (0b1000_00_00_11, 10, Ok(16480)),
+    ] {
+        assert_eq!(rt;
+            targeted::<Wide, RowStore<Wide>>(&store, root::<Wide>(0, 0), index, depth),
+            want
+        );
+    }
+    Ok(())
+}
+
+#[test]
+fn narrow_words_have_32_bits(rt: HostRuntime) -> Result<(), Fail> {
+    let store = memory::<Narrow, RowStore<Narrow>>(rt.alloc())?;
+    let root = root::<Narrow>(0, 26);
+    for (address, want) in [
+        (16, Ok((64, 2))),
+        (35, Ok((16432, 0))),
+        (32, Ok((16384, 0))),
+        (4, Err(LookupFault::GuardMismatch)),
+        (64, Err(LookupFault::GuardMismatch)),
+    ] {
+        assert_eq!(rt;
+            resolved::<Narrow, RowStore<Narrow>>(&store, root, address),
+            want
+        );
+    }
+    for (index, depth, want) in [
+        (35, 32, Ok(16432)),
+        (35, 33, Err((4, 0))),
+        (35, 0, Err((4, 0))),
+        (16, 32, Err((6, 3))),
+    ] {
+        assert_eq!(rt;
+            targeted::<Narrow, RowStore<Narrow>>(&store, root, index, depth),
+            want
+        );
+    }
+    Ok(())
+}
+
+#[test]
+fn depths_are_those_of_a_word(rt: HostRuntime) -> Result<(), Fail> {
+    let store = memory::<Wide, RowStore<Wide>>(rt.alloc())?;
+    for (index, depth, want) in [
+        (0b11, 2, Ok(16480)),
+        (0b11, 0, Err((4, 0))),
+        (0b11, 65, Err((4, 0))),
+        (0b11, u64::MAX, Err((4, 0))),
+        (0b1, 1, Err((6, 3))),
+    ] {
+        assert_eq!(rt;
+            targeted::<Wide, RowStore<Wide>>(&store, node(0, 0), index, depth),
+            want
+        );
+    }
+    let root = root::<Wide>(0, 60);
+    assert_eq!(rt;
+        targeted::<Wide, RowStore<Wide>>(&store, root, 4, 64),
+        Ok(128)
+    );
+    assert_eq!(rt;
+        targeted::<Wide, RowStore<Wide>>(&store, root, 4, 4),
+        Err((6, 4))
+    );
+    Ok(())
+}
+
+#[test]
+fn a_root_is_a_cnode_at_every_depth(rt: HostRuntime) -> Result<(), Fail> {
+    let store = memory::<Wide, RowStore<Wide>>(rt.alloc())?;
+    assert_eq!(rt;
+        resolved::<Wide, RowStore<Wide>>(&store, Cap::Null, 4),
+        Err(LookupFault::InvalidRoot)
+    );
+    for depth in [0, 1, 64, 65] {
+        assert_eq!(rt;
+            targeted::<Wide, RowStore<Wide>>(&store, Cap::Null, 0, depth),
+            Err((6, 1))
+        );
+    }
+    Ok(())
+}

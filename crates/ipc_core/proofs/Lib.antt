@@ -4,3 +4,5 @@ mod Queue
 mod Served
 pub mod Deliveries
 mod Room
+pub mod Cancelling
+mod Kept

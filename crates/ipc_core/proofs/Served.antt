@@ -12,13 +12,13 @@ use Rattle.ipc_core.specs.Waits.{changed, served, queued, thread_of}
 use Rattle.ipc_core.proofs.Queue.{first_waits, others_wait, one_more_waits, others_wait_still}
 
 -- f, but x at k, from what it is at k and elsewhere
-changed_from : {X : Type 0} (f g : ℕ → X) (k : ℕ) (x : X) → g k ≡ x → ((q : ℕ) → q ≢ k → g q ≡ f q) → (j : ℕ) → g j ≡ changed f k x j
+pub changed_from : {X : Type 0} (f g : ℕ → X) (k : ℕ) (x : X) → g k ≡ x → ((q : ℕ) → q ≢ k → g q ≡ f q) → (j : ℕ) → g j ≡ changed f k x j
 changed_from f g k x here others j = elim (eqb_tells j k) [
   | inl w ↦ ap g w.1 ∙ here ∙ sym (ap (λ b. cond b x (f j)) w.0)
   | inr w ↦ others j w.1 ∙ sym (ap (λ b. cond b x (f j)) w.0)
 ]
 
-absent : (rows : List WaitRow) (t : ℕ) → ((k : ℕ) (d : WaitRow) → k < length rows → row_thread (get_or rows k d) ≢ t) → find (is_of t) rows ≡ None
+pub absent : (rows : List WaitRow) (t : ℕ) → ((k : ℕ) (d : WaitRow) → k < length rows → row_thread (get_or rows k d) ≢ t) → find (is_of t) rows ≡ None
 absent [] t h = refl
 absent (r ∷ rows) t h =
     ap (λ b. cond b (Some r) (find (is_of t) rows)) (ne_eqb _ _ (h 0 r (omega arith)))

@@ -73,6 +73,18 @@ impl<P: Profile> Waiters<P> for RowWaiters<P> {
         }
     }
 
+    fn cancel_thread(&mut self, thread: u64) {
+        self.rows.retain(|row| row.waiter.thread() != thread);
+    }
+
+    fn cancel_badge(&mut self, endpoint: u64, badge: Badge) {
+        self.rows.retain(|row| row.endpoint != endpoint || !row.waiter.is_sender_with(badge));
+    }
+
+    fn cancel_endpoint(&mut self, endpoint: u64) {
+        self.rows.retain(|row| row.endpoint != endpoint);
+    }
+
     fn role(&self, thread: u64) -> Option<Role> {
         self.rows
             .iter()
@@ -91,6 +103,16 @@ impl<P: Profile> MakeWaiters<P> for RowWaiters<P> {
         Ok(RowWaiters {
             rows: Vec::with_capacity(alloc, threads)?,
             memory_bits,
+            profile: PhantomData,
+        })
+    }
+
+    fn copy(&self, alloc: Global) -> Result<Self, AllocError> {
+        let mut rows = Vec::with_capacity(alloc, self.rows.capacity())?;
+        rows.extend_from_slice(&self.rows)?;
+        Ok(RowWaiters {
+            rows,
+            memory_bits: self.memory_bits,
             profile: PhantomData,
         })
     }

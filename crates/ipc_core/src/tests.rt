@@ -86,6 +86,108 @@ fn leaves_no_trace<P: Profile, W: MakeWaiters<P>>(
     Ok(())
 }
 
+fn cancels_a_badge<P: Profile, W: MakeWaiters<P>>(
+    rt: &impl Abort,
+    alloc: Global,
+) -> Result<(), Fail> {
+    let mut waiters = W::new(alloc, MEMORY_BITS)?;
+    assert_eq!(rt;
+        waiters.send(64, 2048, Badge(5), message(5), true),
+        Sent::Waiting
+    );
+    assert_eq!(rt;
+        waiters.send(64, 4096, Badge(6), message(6), true),
+        Sent::Waiting
+    );
+    assert_eq!(rt;
+        waiters.send(64, 6144, Badge(5), message(5), true),
+        Sent::Waiting
+    );
+    assert_eq!(rt;
+        waiters.send(64, 8192, Badge(6), message(6), true),
+        Sent::Waiting
+    );
+    waiters.cancel_badge(64, Badge(5));
+    assert_eq!(rt; waiters.role(2048), None);
+    assert_eq!(rt; waiters.role(6144), None);
+    assert_eq!(rt; waiters.waiting(64, 0), Some(4096));
+    assert_eq!(rt; waiters.waiting(64, 1), Some(8192));
+    assert_eq!(rt; waiters.waiting(64, 2), None);
+    let first = Received::Delivered {
+        from: 4096,
+        badge: Badge(6),
+        message: message(6),
+    };
+    assert_eq!(rt; waiters.recv(64, 0, true), first);
+    assert_eq!(rt; waiters.role(8192), Some(Role::Sending(64)));
+    Ok(())
+}
+
+fn cancels_a_thread<P: Profile, W: MakeWaiters<P>>(
+    rt: &impl Abort,
+    alloc: Global,
+) -> Result<(), Fail> {
+    let mut waiters = W::new(alloc, MEMORY_BITS)?;
+    assert_eq!(rt; waiters.recv(64, 2048, true), Received::Waiting);
+    assert_eq!(rt; waiters.recv(64, 4096, true), Received::Waiting);
+    assert_eq!(rt; waiters.recv(64, 6144, true), Received::Waiting);
+    waiters.cancel_badge(64, Badge(0));
+    assert_eq!(rt; waiters.waiting(64, 2), Some(6144));
+    waiters.cancel_thread(4096);
+    waiters.cancel_thread(8192);
+    assert_eq!(rt; waiters.role(4096), None);
+    assert_eq!(rt; waiters.waiting(64, 0), Some(2048));
+    assert_eq!(rt; waiters.waiting(64, 1), Some(6144));
+    assert_eq!(rt; waiters.waiting(64, 2), None);
+    Ok(())
+}
+
+fn starts_empty_after_its_end<P: Profile, W: MakeWaiters<P>>(
+    rt: &impl Abort,
+    alloc: Global,
+) -> Result<(), Fail> {
+    let mut waiters = W::new(alloc, MEMORY_BITS)?;
+    assert_eq!(rt;
+        waiters.send(64, 2048, Badge(5), message(5), true),
+        Sent::Waiting
+    );
+    assert_eq!(rt;
+        waiters.send(64, 4096, Badge(6), message(6), true),
+        Sent::Waiting
+    );
+    assert_eq!(rt; waiters.recv(128, 10240, true), Received::Waiting);
+    waiters.cancel_endpoint(64);
+    assert_eq!(rt; waiters.role(2048), None);
+    assert_eq!(rt; waiters.role(4096), None);
+    assert_eq!(rt; waiters.waiting(64, 0), None);
+    assert_eq!(rt; waiters.role(10240), Some(Role::Receiving(128)));
+    assert_eq!(rt; waiters.recv(64, 2048, false), Received::Empty);
+    Ok(())
+}
+
+fn copies_stand_apart<P: Profile, W: MakeWaiters<P>>(
+    rt: &impl Abort,
+    alloc: Global,
+) -> Result<(), Fail> {
+    let mut waiters = W::new(alloc, MEMORY_BITS)?;
+    assert_eq!(rt;
+        waiters.send(64, 2048, Badge(5), message(5), true),
+        Sent::Waiting
+    );
+    assert_eq!(rt;
+        waiters.send(64, 4096, Badge(6), message(6), true),
+        Sent::Waiting
+    );
+    let mut copy = waiters.copy(alloc)?;
+    waiters.cancel_endpoint(64);
+    assert_eq!(rt; copy.waiting(64, 1), Some(4096));
+    copy.cancel_thread(2048);
+    assert_eq!(rt; copy.waiting(64, 0), Some(4096));
+    assert_eq!(rt; copy.recv(128, 2048, true), Received::Waiting);
+    assert_eq!(rt; waiters.role(2048), None);
+    Ok(())
+}
+
 #[test]
 fn rows_meet_the_receiver(rt: HostRuntime) -> Result<(), Fail> {
     meets_the_receiver::<Wide, RowWaiters<Wide>>(&rt, rt.alloc())?;
@@ -105,6 +207,22 @@ fn rows_leave_no_trace(rt: HostRuntime) -> Result<(), Fail> {
 }
 
 #[test]
+fn rows_cancel(rt: HostRuntime) -> Result<(), Fail> {
+    cancels_a_badge::<Wide, RowWaiters<Wide>>(&rt, rt.alloc())?;
+    cancels_a_badge::<Narrow, RowWaiters<Narrow>>(&rt, rt.alloc())?;
+    cancels_a_thread::<Wide, RowWaiters<Wide>>(&rt, rt.alloc())?;
+    cancels_a_thread::<Narrow, RowWaiters<Narrow>>(&rt, rt.alloc())?;
+    starts_empty_after_its_end::<Wide, RowWaiters<Wide>>(&rt, rt.alloc())?;
+    starts_empty_after_its_end::<Narrow, RowWaiters<Narrow>>(&rt, rt.alloc())
+}
+
+#[test]
+fn rows_are_copied(rt: HostRuntime) -> Result<(), Fail> {
+    copies_stand_apart::<Wide, RowWaiters<Wide>>(&rt, rt.alloc())?;
+    copies_stand_apart::<Narrow, RowWaiters<Narrow>>(&rt, rt.alloc())
+}
+
+#[test]
 fn waiters_have_their_thread_and_role(rt: HostRuntime) -> Result<(), Fail> {
     let sender = Waiter::Sender {
         thread: 2048,
@@ -116,6 +234,9 @@ fn waiters_have_their_thread_and_role(rt: HostRuntime) -> Result<(), Fail> {
     assert_eq!(rt; sender.role_at(64), Role::Sending(64));
     assert_eq!(rt; receiver.thread(), 4096);
     assert_eq!(rt; receiver.role_at(64), Role::Receiving(64));
+    assert_eq!(rt; sender.is_sender_with(Badge(5)), true);
+    assert_eq!(rt; sender.is_sender_with(Badge(0)), false);
+    assert_eq!(rt; receiver.is_sender_with(Badge(5)), false);
     law::each_pair_is_delivered_once();
     Ok(())
 }

@@ -1,6 +1,7 @@
 //! What waits, and what a call on an endpoint answers.
 ghost use Rattle.std.specs.Prelude.{◌≡◌};
 ghost use Rattle.ipc_core.specs.Waits.{thread_of, role_at};
+ghost use Rattle.ipc_core.specs.Cancelled.{is_sender_with};
 
 use cap_core::{Badge, Message};
 
@@ -37,6 +38,16 @@ impl Waiter {
         match self {
             Waiter::Sender { .. } => Role::Sending(endpoint),
             Waiter::Receiver { .. } => Role::Receiving(endpoint),
+        }
+    }
+
+    /// Whether it is a sender with this badge.
+    pub fn is_sender_with(&self, badge: Badge) -> bool
+        ensures { result ≡ is_sender_with badge self.now }
+    {
+        match self {
+            Waiter::Sender { badge: kept, .. } => *kept == badge,
+            Waiter::Receiver { .. } => false,
         }
     }
 }

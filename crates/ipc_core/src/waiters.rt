@@ -1,8 +1,9 @@
 //! What holds the threads that wait.
-ghost use Rattle.std.specs.Prelude.{◌≡◌, ℕ, Bool, List, ◌≤◌, None, IfOk, option_map, slice_get};
+ghost use Rattle.std.specs.Prelude.{◌≡◌, ℕ, Bool, true, false, List, ◌≤◌, None, IfOk, option_map, slice_get};
 ghost use Rattle.ipc_core.specs.Records.{SendRecord, AskRecord, waiting_list};
 ghost use Rattle.ipc_core.specs.Waits.{Waits, no_waits, IsEndpointAddress, IsThreadAddress, sent, after_send, received, after_receive, thread_of};
 ghost use Rattle.ipc_core.specs.Pairing.{SendsBy, ReceivesBy};
+ghost use Rattle.ipc_core.specs.Cancelled.{after_cancel_thread, after_cancel_badge, after_cancel_endpoint, waiting_less, is_sent_by, is_asked_by, is_sent_with};
 
 use crate::waiter::{Received, Role, Sent};
 use cap_core::limits::{MAX_MEMORY_BITS, MIN_MEMORY_BITS};
@@ -47,6 +48,28 @@ pub trait Waiters<P: Profile> {
         ensures histories { (a : AskRecord) (sends : List SendRecord) (asks : List AskRecord) → a.thread.base ≡ thread → (waits self.old).queue endpoint ≡ waiting_list sends asks → ReceivesBy block a sends asks result ((waits self.new).queue endpoint) }
         ensures memory { memory_bits self.new ≡ memory_bits self.old };
 
+    /// A thread waits no more, wherever it did; one that waits nowhere is no error.
+    fn cancel_thread(&mut self, thread: u64)
+        requires { IsThreadAddress P.the (memory_bits self.old) thread }
+        ensures waits { waits self.new ≡ after_cancel_thread thread (waits self.old) }
+        ensures histories { (endpoint : ℕ) (sends : List SendRecord) (asks : List AskRecord) → (waits self.old).queue endpoint ≡ waiting_list sends asks → (waits self.new).queue endpoint ≡ waiting_less (is_sent_by thread) (is_asked_by thread) sends asks }
+        ensures memory { memory_bits self.new ≡ memory_bits self.old };
+
+    /// The senders that wait on an endpoint with a badge, whichever that is, wait no more. The others keep their order, and
+    /// receivers go on waiting.
+    fn cancel_badge(&mut self, endpoint: u64, badge: Badge)
+        requires { IsEndpointAddress P.the (memory_bits self.old) endpoint }
+        ensures waits { waits self.new ≡ after_cancel_badge endpoint badge (waits self.old) }
+        ensures histories { (sends : List SendRecord) (asks : List AskRecord) → (waits self.old).queue endpoint ≡ waiting_list sends asks → (waits self.new).queue endpoint ≡ waiting_less (is_sent_with badge) (λ _. false) sends asks }
+        ensures memory { memory_bits self.new ≡ memory_bits self.old };
+
+    /// Nobody waits on an endpoint any more.
+    fn cancel_endpoint(&mut self, endpoint: u64)
+        requires { IsEndpointAddress P.the (memory_bits self.old) endpoint }
+        ensures waits { waits self.new ≡ after_cancel_endpoint endpoint (waits self.old) }
+        ensures histories { (sends : List SendRecord) (asks : List AskRecord) → (waits self.old).queue endpoint ≡ waiting_list sends asks → (waits self.new).queue endpoint ≡ waiting_less (λ _. true) (λ _. true) sends asks }
+        ensures memory { memory_bits self.new ≡ memory_bits self.old };
+
     /// How a thread waits, if it does.
     fn role(&self, thread: u64) -> Option<Role>
         requires { IsThreadAddress P.the (memory_bits self.now) thread }
@@ -66,4 +89,9 @@ pub trait MakeWaiters<P: Profile>: Waiters<P> + Drop {
         requires most { memory_bits ≤ MAX_MEMORY_BITS }
         ensures nobody { IfOk result (λ w. Self.waits w ≡ no_waits) }
         ensures memory { IfOk result (λ w. Self.memory_bits w ≡ memory_bits) };
+
+    /// The same threads wait in the copy, in the same order, and it has room of its own for every thread.
+    fn copy(&self, alloc: Global) -> Result<Self, AllocError>
+        ensures waits { IfOk result (λ w. Self.waits w ≡ Self.waits self.now) }
+        ensures memory { IfOk result (λ w. Self.memory_bits w ≡ Self.memory_bits self.now) };
 }

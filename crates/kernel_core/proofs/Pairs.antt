@@ -10,17 +10,17 @@ use Rattle.cap_core.specs.declared.refusal.Refusal.{Refusal}
 use Rattle.ipc_core.specs.Records.{Instance, SendRecord, AskRecord, same_instance}
 use Rattle.kernel_core.specs.declared.call.Call.{Call}
 use Rattle.kernel_core.specs.declared.call.Op.{Op}
-use Rattle.kernel_core.specs.declared.call.Op.TheVariants.{Send, Recv}
+use Rattle.kernel_core.specs.declared.call.Op.TheVariants.{Send, NbSend, Recv, NbRecv}
 use Rattle.kernel_core.specs.declared.call.Reply.{Reply}
 use Rattle.kernel_core.specs.declared.call.Service.{Service}
 use Rattle.kernel_core.specs.Shown.{endpoints_of}
 use Rattle.kernel_core.specs.State.{State, shown, pairs, endpoint_at, sends_to, asks_of}
 use Rattle.kernel_core.specs.Checks.{checked}
-use Rattle.kernel_core.specs.Step.{Outcome, step, outcome, performed, send_record, ask_record, reply_to_send, reply_to_receive, replies_of, state_after}
+use Rattle.kernel_core.specs.Step.{Outcome, counted, is_send_awaited, is_receive_awaited, send_accepted, receive_accepted, where_awaited, step, outcome, performed, send_record, ask_record, reply_to_send, reply_to_receive, replies_of, state_after}
 use Rattle.kernel_core.specs.Reached.{IsReached}
 use Rattle.kernel_core.specs.Deliveries.{is_live, is_delivery, delivery, delivered}
 use Rattle.kernel_core.proofs.Lists.{zip_more_some, zip_some_right, all_get}
-use Rattle.kernel_core.specs.declared.call.Reply.TheVariants.{Delivered}
+use Rattle.kernel_core.specs.declared.call.Reply.TheVariants.{Delivered, Dropped, Empty}
 use Rattle.std.proofs.lemmas.Bool.{false≢true}
 use Rattle.kernel_core.proofs.Sending.{same_tells, sends_here, sends_elsewhere, pairs_stay}
 use Rattle.kernel_core.proofs.Receiving.{asks_here, asks_elsewhere, pairs_kept}
@@ -140,10 +140,20 @@ own_record A e xs i s got = all_get (λ (r : SendRecord). r.endpoint.base ≡ e.
       | false ↦ λ h. kept rs
     ] refl
 
+awaited_grows : (A : State) (e : Instance) (b : Bool) (accepted : Outcome) (reply : Reply) → is_delivery e.base reply ≡ false → Grows A e accepted → Grows A e (where_awaited A b accepted reply)
+awaited_grows A e true accepted reply silent grows = grows
+awaited_grows A e false accepted reply silent grows = same_pairs A e (record { reply = reply; state = counted A }) refl silent
+
 performed_grows : (A : State) (call : Call) (op : Op) (service : Service) → Invariant A → Passes A call service → (e : Instance) → Grows A e (performed A call.thread service op)
 performed_grows A call (Send address message) service inv pass e = send_grows A call.thread service message inv pass.endpoint_live address _ refl e
+performed_grows A call (NbSend address message) service inv pass e =
+    awaited_grows A e (is_send_awaited A (endpoint_at A service.endpoint)) (send_accepted A call.thread service message) Dropped refl
+    (send_grows A call.thread service message inv pass.endpoint_live address _ refl e)
 performed_grows A call (Recv address) service inv pass e =
     receive_grows A call.thread service inv pass.endpoint_live address _ refl (λ s is. own_record A (endpoint_at A service.endpoint) A.sends (length (asks_of A (endpoint_at A service.endpoint))) s is) e
+performed_grows A call (NbRecv address) service inv pass e =
+    awaited_grows A e (is_receive_awaited A (endpoint_at A service.endpoint)) (receive_accepted A call.thread service) Empty refl
+    (receive_grows A call.thread service inv pass.endpoint_live address _ refl (λ s is. own_record A (endpoint_at A service.endpoint) A.sends (length (asks_of A (endpoint_at A service.endpoint))) s is) e)
 
 outcome_grows : (p : ProfileName) (A : State) (call : Call) → Invariant A → (r : Result Service Refusal) → checked p (shown A) call ≡ r → (e : Instance) → Grows A e (outcome A call r)
 outcome_grows p A call inv (Err refusal) h e = same_pairs A e (outcome A call (Err refusal)) refl refl

@@ -1,5 +1,5 @@
 -- A refusal changes nothing that is shown.
-use Rattle.std.proofs.Common.{◌≡◌, ℕ, List, Option, None, Some, Result, Ok, Err, refl}
+use Rattle.std.proofs.Common.{◌≡◌, ℕ, Bool, true, false, List, Option, None, Some, Result, Ok, Err, refl}
 use Rattle.cap_core.specs.declared.profile.ProfileName.{ProfileName}
 use Rattle.cap_core.specs.declared.message.Message.{Message}
 use Rattle.cap_core.specs.declared.refusal.Refusal.{Refusal}
@@ -8,25 +8,29 @@ use Rattle.ipc_core.specs.declared.waiter.Offer.{Offer}
 use Rattle.ipc_core.specs.Waits.{first_receiver, first_sender}
 use Rattle.kernel_core.specs.declared.call.Call.{Call}
 use Rattle.kernel_core.specs.declared.call.Op.{Op}
-use Rattle.kernel_core.specs.declared.call.Op.TheVariants.{Send, Recv}
+use Rattle.kernel_core.specs.declared.call.Op.TheVariants.{Send, NbSend, Recv, NbRecv}
 use Rattle.kernel_core.specs.declared.call.Reply.TheVariants.{Refused}
 use Rattle.kernel_core.specs.declared.call.Service.{Service}
 use Rattle.kernel_core.specs.Shown.{Shown, waiting_at}
 use Rattle.kernel_core.specs.Checks.{checked}
 use Rattle.kernel_core.specs.Effects.{send_meets, receive_meets, op_effect, effect_of}
 
-send_unrefused : (v : Shown) (t : ℕ) (service : Service) (message : Message) (list : List Waiter) (o : Option ℕ) (refusal : Refusal) → (send_meets v t service message list o).reply ≡ Refused refusal → ⊥
-send_unrefused v t service message list None refusal h = cc
-send_unrefused v t service message list (Some to) refusal h = cc
+send_unrefused : (v : Shown) (t : ℕ) (service : Service) (message : Message) (list : List Waiter) (block : Bool) (o : Option ℕ) (refusal : Refusal) → (send_meets v t service message list block o).reply ≡ Refused refusal → ⊥
+send_unrefused v t service message list true None refusal h = cc
+send_unrefused v t service message list false None refusal h = cc
+send_unrefused v t service message list block (Some to) refusal h = cc
 
-receive_unrefused : (v : Shown) (t : ℕ) (service : Service) (list : List Waiter) (o : Option Offer) (refusal : Refusal) → (receive_meets v t service list o).reply ≡ Refused refusal → ⊥
-receive_unrefused v t service list None refusal h = cc
-receive_unrefused v t service list (Some offer) refusal h = cc
+receive_unrefused : (v : Shown) (t : ℕ) (service : Service) (list : List Waiter) (block : Bool) (o : Option Offer) (refusal : Refusal) → (receive_meets v t service list block o).reply ≡ Refused refusal → ⊥
+receive_unrefused v t service list true None refusal h = cc
+receive_unrefused v t service list false None refusal h = cc
+receive_unrefused v t service list block (Some offer) refusal h = cc
 
 op_refused : (v : Shown) (t : ℕ) (op : Op) (r : Result Service Refusal) (refusal : Refusal) → (op_effect v t op r).reply ≡ Refused refusal → (op_effect v t op r).after ≡ v
 op_refused v t op (Err other) refusal h = refl
-op_refused v t (Send address message) (Ok service) refusal h = absurd (send_unrefused v t service message (waiting_at v service.endpoint) (first_receiver (waiting_at v service.endpoint)) refusal h)
-op_refused v t (Recv address) (Ok service) refusal h = absurd (receive_unrefused v t service (waiting_at v service.endpoint) (first_sender (waiting_at v service.endpoint)) refusal h)
+op_refused v t (Send address message) (Ok service) refusal h = absurd (send_unrefused v t service message (waiting_at v service.endpoint) true (first_receiver (waiting_at v service.endpoint)) refusal h)
+op_refused v t (NbSend address message) (Ok service) refusal h = absurd (send_unrefused v t service message (waiting_at v service.endpoint) false (first_receiver (waiting_at v service.endpoint)) refusal h)
+op_refused v t (Recv address) (Ok service) refusal h = absurd (receive_unrefused v t service (waiting_at v service.endpoint) true (first_sender (waiting_at v service.endpoint)) refusal h)
+op_refused v t (NbRecv address) (Ok service) refusal h = absurd (receive_unrefused v t service (waiting_at v service.endpoint) false (first_sender (waiting_at v service.endpoint)) refusal h)
 
 pub refused_keeps : (p : ProfileName) (v : Shown) (call : Call) (refusal : Refusal) → (effect_of p v call).reply ≡ Refused refusal → (effect_of p v call).after ≡ v
 refused_keeps p v call refusal h = op_refused v call.thread call.op (checked p v call) refusal h

@@ -45,34 +45,40 @@ active_shows None h = absurd h
 active_shows (Some row) h = ap (λ (b : Bool). Some (record { state = state_with None b; inbox = row.inbox })) h
 
 -- which receiver was first, by the answer to a send
-pub receiver_was : (o : Option ℕ) (to : ℕ) → S.Delivered to ≡ sent_to o true → o ≡ Some to
-receiver_was None to h = cc
-receiver_was (Some other) to h = let e : to ≡ other = cc in ap Some (sym e)
+pub receiver_was : (o : Option ℕ) (block : Bool) (to : ℕ) → S.Delivered to ≡ sent_to o block → o ≡ Some to
+receiver_was None true to h = cc
+receiver_was None false to h = cc
+receiver_was (Some other) block to h = let e : to ≡ other = cc in ap Some (sym e)
 
-pub no_receiver_was : (o : Option ℕ) → S.Waiting ≡ sent_to o true → o ≡ None
-no_receiver_was None h = refl
-no_receiver_was (Some other) h = cc
+pub no_receiver_was : (o : Option ℕ) (block : Bool) → S.Waiting ≡ sent_to o block → (o ≡ None) × (block ≡ true)
+no_receiver_was None true h = (refl, refl)
+no_receiver_was None false h = cc
+no_receiver_was (Some other) block h = cc
 
-pub not_dropped : (o : Option ℕ) → S.Dropped ≡ sent_to o true → ⊥
-not_dropped None h = cc
-not_dropped (Some other) h = cc
+pub dropped_was : (o : Option ℕ) (block : Bool) → S.Dropped ≡ sent_to o block → (o ≡ None) × (block ≡ false)
+dropped_was None true h = cc
+dropped_was None false h = (refl, refl)
+dropped_was (Some other) block h = cc
 
 -- which sender was first, by the answer to a receive
-pub sender_was : (o : Option Offer) (from : ℕ) (badge : Badge) (message : Message) → D.Delivered from badge message ≡ received_from o true → o ≡ Some (record { thread = from; badge = badge; message = message })
-sender_was None from badge message h = cc
-sender_was (Some offer) from badge message h =
+pub sender_was : (o : Option Offer) (block : Bool) (from : ℕ) (badge : Badge) (message : Message) → D.Delivered from badge message ≡ received_from o block → o ≡ Some (record { thread = from; badge = badge; message = message })
+sender_was None true from badge message h = cc
+sender_was None false from badge message h = cc
+sender_was (Some offer) block from badge message h =
     let t : from ≡ offer.thread = cc in
     let b : badge ≡ offer.badge = cc in
     let m : message ≡ offer.message = cc in
     sym (λ i. Some (record { thread = t i; badge = b i; message = m i }))
 
-pub no_sender_was : (o : Option Offer) → D.Waiting ≡ received_from o true → o ≡ None
-no_sender_was None h = refl
-no_sender_was (Some other) h = cc
+pub no_sender_was : (o : Option Offer) (block : Bool) → D.Waiting ≡ received_from o block → (o ≡ None) × (block ≡ true)
+no_sender_was None true h = (refl, refl)
+no_sender_was None false h = cc
+no_sender_was (Some other) block h = cc
 
-pub not_empty : (o : Option Offer) → D.Empty ≡ received_from o true → ⊥
-not_empty None h = cc
-not_empty (Some other) h = cc
+pub empty_was : (o : Option Offer) (block : Bool) → D.Empty ≡ received_from o block → (o ≡ None) × (block ≡ false)
+empty_was None true h = cc
+empty_was None false h = (refl, refl)
+empty_was (Some other) block h = cc
 
 module _ (p : ProfileName) (memory store waiters : ℕ) (f : Forest Entry) (rows : List (Option ThreadRow)) (w : Waits) (kernel : IsKernel p memory store waiters f rows w) (v : Shown) (view : kernel_shown p f rows w ≡ v) (t : ℕ) (service : Service) (live : IsLiveEndpoint v service.endpoint) where
   size : ℕ
@@ -99,13 +105,13 @@ module _ (p : ProfileName) (memory store waiters : ℕ) (f : Forest Entry) (rows
       let lists = table_changed (endpoints_of f) w.queue w'.queue service.endpoint live_here others ∙ ap (insert (table (endpoints_of f) w.queue) service.endpoint) here in
       λ i. record { derivations = f; threads = seen i; endpoints = lists i }
 
-  pub send_is : (message : Message) (first : Option ℕ) → first_receiver (w.queue service.endpoint) ≡ first →
-      send_effect v t service message (waiting_at v service.endpoint) ≡ send_meets v t service message (w.queue service.endpoint) first
-  send_is message first e = ap (send_effect v t service message) list_is ∙ ap (send_meets v t service message (w.queue service.endpoint)) e
+  pub send_is : (message : Message) (block : Bool) (first : Option ℕ) → first_receiver (w.queue service.endpoint) ≡ first →
+      send_effect v t service message block (waiting_at v service.endpoint) ≡ send_meets v t service message (w.queue service.endpoint) block first
+  send_is message block first e = ap (send_effect v t service message block) list_is ∙ ap (send_meets v t service message (w.queue service.endpoint) block) e
 
-  pub receive_is : (first : Option Offer) → first_sender (w.queue service.endpoint) ≡ first →
-      receive_effect v t service (waiting_at v service.endpoint) ≡ receive_meets v t service (w.queue service.endpoint) first
-  receive_is first e = ap (receive_effect v t service) list_is ∙ ap (receive_meets v t service (w.queue service.endpoint)) e
+  pub receive_is : (block : Bool) (first : Option Offer) → first_sender (w.queue service.endpoint) ≡ first →
+      receive_effect v t service block (waiting_at v service.endpoint) ≡ receive_meets v t service (w.queue service.endpoint) block first
+  receive_is block first e = ap (receive_effect v t service block) list_is ∙ ap (receive_meets v t service (w.queue service.endpoint) block) e
 
   -- a send that is delivered
   pub shows_delivered : (rows' : List (Option ThreadRow)) (to : ℕ) (badge : Badge) (message : Message) →
@@ -153,7 +159,7 @@ module _ (p : ProfileName) (memory store waiters : ℕ) (f : Forest Entry) (rows
     -- a receive to which a message is delivered
     pub shows_received : (rows' : List (Option ThreadRow)) (offer : Offer) → IsActive (tcb_size p) rows offer.thread →
         rows_map (tcb_size p) rows' ≡ insert (rows_map (tcb_size p) rows) t (record { inactive = false; inbox = Some (record { badge = offer.badge; message = offer.message }) }) →
-        kernel_shown p f rows' (served service.endpoint offer.thread w) ≡ (receive_meets v t service (w.queue service.endpoint) (Some offer)).after
+        kernel_shown p f rows' (served service.endpoint offer.thread w) ≡ (receive_meets v t service (w.queue service.endpoint) true (Some offer)).after
     shows_received rows' offer active mapped =
         let row : ThreadRow = record { inactive = false; inbox = Some (record { badge = offer.badge; message = offer.message }) } in
         let w' = served service.endpoint offer.thread w in
@@ -175,7 +181,7 @@ module _ (p : ProfileName) (memory store waiters : ℕ) (f : Forest Entry) (rows
         shown_with rows' w' _ (drop 1 (w.queue service.endpoint)) (then ∙ ap (λ (m : FinMap nat_cmp ThreadView). insert m t (receives offer.badge offer.message)) first)
         (changed_here service.endpoint (drop 1 (w.queue service.endpoint)) (w.queue service.endpoint))
         (λ q ne. changed_else q service.endpoint (drop 1 (w.queue service.endpoint)) (w.queue q) ne)
-        ∙ ap (λ (u : Shown). (receive_meets u t service (w.queue service.endpoint) (Some offer)).after) view
+        ∙ ap (λ (u : Shown). (receive_meets u t service (w.queue service.endpoint) true (Some offer)).after) view
       where
         role_none : (b : Bool) (r : Option Role) → r ≡ None → cond b None r ≡ None
         role_none true r h = refl

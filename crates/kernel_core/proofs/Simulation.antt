@@ -1,5 +1,5 @@
 -- A step on what is shown is the step of the state.
-use Rattle.std.proofs.Common.{◌≡◌, ◌≢◌, ℕ, ◌+◌, ◌<◌, ◌≤◌, Bool, true, false, cond, ◌==◌, List, [], ◌∷◌, ◌++◌, Option, None, Some, Result, Ok, Err, slice_get, length, refl, sym, ap, subst, ◌∙◌, arith, unwrap_or, option_and_then, drop}
+use Rattle.std.proofs.Common.{◌≡◌, ◌≢◌, ℕ, zero, suc, nat_lt, ◌+◌, ◌<◌, ◌≤◌, Bool, true, false, cond, ◌==◌, List, [], ◌∷◌, ◌++◌, Option, None, Some, Result, Ok, Err, slice_get, length, refl, sym, ap, subst, ◌∙◌, arith, unwrap_or, option_and_then, drop}
 use Rattle.std.specs.List.{list_any, AllByRecursion}
 use Rattle.std.specs.FinMap.{insert}
 use Rattle.kernel_core.proofs.Receiving.{AsksUpTo, after_ask, shown_asks, no_sender}
@@ -9,20 +9,22 @@ use Rattle.kernel_core.proofs.Keyed.{get_table}
 use Rattle.kernel_core.proofs.Sending.{after_send, shown_waits, no_receiver, a_receiver}
 use Rattle.kernel_core.proofs.Delivering.{SendsUpTo, pending, shown_delivers}
 use Rattle.kernel_core.proofs.Serving.{shown_serves, list_left}
-use Rattle.kernel_core.proofs.Lists.{all_get, all_kept}
+use Rattle.kernel_core.proofs.Lists.{all_get, all_kept, get_within}
 use Rattle.kernel_core.proofs.Once.{pending_elsewhere, pending_here, pending_elsewhere', pending_here', once_kept, alone_kept, small_or_ready}
 use Rattle.kernel_core.proofs.Rising.{Rising, member_get, member_filter, all_at}
 use Rattle.kernel_core.specs.declared.call.Call.{Call}
 use Rattle.kernel_core.specs.declared.call.Op.{Op}
-use Rattle.kernel_core.specs.declared.call.Op.TheVariants.{Send, Recv}
+use Rattle.kernel_core.specs.declared.call.Op.TheVariants.{Send, NbSend, Recv, NbRecv}
 use Rattle.kernel_core.specs.declared.call.Service.{Service}
 use Rattle.kernel_core.specs.declared.call.ThreadState.TheVariants.{Ready, Inactive, Sending, Receiving}
 use Rattle.kernel_core.specs.declared.call.Reply.{Reply}
+use Rattle.kernel_core.specs.declared.call.Reply.TheVariants.{Dropped, Empty}
+use Rattle.std.proofs.lemmas.Bool.Decides.{nat_tests}
 use Rattle.kernel_core.specs.declared.call.Inbox.{Inbox}
 use Rattle.kernel_core.specs.declared.call.ThreadState.{ThreadState}
 use Rattle.ipc_core.specs.Records.{AskRecord, Instance, SendRecord}
 use Rattle.cap_core.specs.declared.profile.ProfileName.{ProfileName}
-use Rattle.kernel_core.specs.Effects.{Effect, changed, effect_of, op_effect, receive_effect, receive_meets, receive_waits, receives, send_effect, send_meets, send_waits}
+use Rattle.kernel_core.specs.Effects.{Effect, untaken, changed, effect_of, op_effect, receive_effect, receive_meets, receive_waits, receives, send_effect, send_meets, send_waits}
 use Rattle.kernel_core.specs.Reached.{IsReached, StepsTo}
 use Rattle.cap_core.specs.declared.message.Message.{Message}
 use Rattle.ipc_core.specs.declared.waiter.Offer.{Offer}
@@ -33,7 +35,7 @@ use Rattle.cap_core.specs.declared.refusal.Refusal.{Refusal}
 use Rattle.kernel_core.specs.Shown.{Shown, ThreadView, endpoints_of, inbox_at, threads_of, waiting_at}
 use Rattle.kernel_core.specs.State.{State, asks_of, endpoint_at, inbox_of, sends_to, shown, state_of, thread_at, thread_view, waiters}
 use Rattle.ipc_core.specs.declared.waiter.Waiter.{Waiter}
-use Rattle.kernel_core.specs.Step.{ask_record, counted, outcome, performed, send_record, state_after, step}
+use Rattle.kernel_core.specs.Step.{Outcome, ask_record, counted, is_receive_awaited, is_send_awaited, outcome, performed, receive_accepted, send_accepted, send_record, state_after, step, where_awaited}
 use Rattle.kernel_core.specs.Boot.{boot}
 use Rattle.slot_core.specs.Entries.{cap_at}
 use Rattle.kernel_core.specs.Checks.{cap_named, checked, service_found, service_word, slot_named, where_live, where_ready}
@@ -83,83 +85,139 @@ list_shown A e live = ap (λ (o : Option (List Waiter)). unwrap_or o []) (get_ta
 pub inbox_shown : (A : State) (t : ℕ) → list_any (λ k. t == k) (threads_of A.derivations) ≡ true → inbox_at (shown A) t ≡ inbox_of A (thread_at A t)
 inbox_shown A t live = ap (λ (o : Option ThreadView). option_and_then (λ (row : ThreadView). row.inbox) o) (get_table (threads_of A.derivations) (thread_view A) t ∙ ap (λ (b : Bool). cond b (Some (thread_view A t)) None) live)
 
-send_steps : (A : State) (call : Call) (service : Service) (message : Message) → Invariant A → Passes A call service → (address : ℕ) →
-    (o : Option AskRecord) → slice_get (asks_of A (endpoint_at A service.endpoint)) (length (sends_to A (endpoint_at A service.endpoint))) ≡ o →
-    (let x = send_effect (shown A) call.thread service message (waiting_at (shown A) service.endpoint) in
-    let y = performed A call.thread service (Send address message) in
-    (x.reply ≡ y.reply) × (x.after ≡ shown y.state))
-send_steps A call service message inv pass address None alone =
-    let e = endpoint_at A service.endpoint in
-    let list = list_shown A service.endpoint pass.endpoint_live in
-    let exact : send_effect (shown A) call.thread service message (waiting_at (shown A) service.endpoint) ≡ send_waits (shown A) call.thread service message (waiters A e) =
-    ap (send_effect (shown A) call.thread service message) list ∙ ap (send_meets (shown A) call.thread service message (waiters A e)) (no_receiver (sends_to A e) (asks_of A e) alone) in
-    let shows = shown_waits A call.thread service message (inv.fresh (A.count + 1) (omega arith)) alone pass.ready pass.endpoint_live pass.thread_live in
-    let inbox = inbox_shown A call.thread pass.thread_live in (
-      ap (λ (o : Effect). o.reply) exact ∙ sym (ap (spec.reply_to_send (send_record A call.thread service message)) alone),
-      ap (λ (o : Effect). o.after) exact
-          ∙ ap (λ (i : Option Inbox). changed (shown A) call.thread (record { state = Sending service.endpoint; inbox = i }) service.endpoint (waiters A e ++ Sender call.thread service.badge message ∷ [])) inbox
-          ∙ sym shows,
-    )
-send_steps A call service message inv pass address (Some a) met =
-    let e = endpoint_at A service.endpoint in
-    let fresh = inv.fresh (A.count + 1) (omega arith) in
-    let list = list_shown A service.endpoint pass.endpoint_live in
-    let exact : send_effect (shown A) call.thread service message (waiting_at (shown A) service.endpoint) ≡ send_meets (shown A) call.thread service message (waiters A e) (Some a.thread.base) =
-    ap (send_effect (shown A) call.thread service message) list ∙ ap (send_meets (shown A) call.thread service message (waiters A e)) (a_receiver (sends_to A e) (asks_of A e) (send_record A call.thread service message) a met) in
-    let asked = member_filter _ A.asks a (member_get (asks_of A e) _ a met) in
-    let known = all_at _ A.asks a inv.known asked.0 in
-    let shows = shown_delivers A call.thread service message fresh inv.sends_numbered inv.numbered inv.rising a met pass.endpoint_live inv.once inv.alone (inv.awake a.thread) known.0 known.1 in (
-      ap (λ (o : Effect). o.reply) exact ∙ sym (ap (spec.reply_to_send (send_record A call.thread service message)) met),
-      ap (λ (o : Effect). o.after) exact ∙ sym shows,
-    )
+-- an effect on what is shown is that of an outcome of the state
+abbrev IsShown : Effect → Outcome → Type 0
+IsShown x y = (x.reply ≡ y.reply) × (x.after ≡ shown y.state)
 
-recv_steps : (A : State) (call : Call) (service : Service) → Invariant A → Passes A call service → (address : ℕ) →
-    (o : Option SendRecord) → slice_get (sends_to A (endpoint_at A service.endpoint)) (length (asks_of A (endpoint_at A service.endpoint))) ≡ o →
-    (let x = receive_effect (shown A) call.thread service (waiting_at (shown A) service.endpoint) in
-    let y = performed A call.thread service (Recv address) in
-    (x.reply ≡ y.reply) × (x.after ≡ shown y.state))
-recv_steps A call service inv pass address None alone =
-    let e = endpoint_at A service.endpoint in
-    let list = list_shown A service.endpoint pass.endpoint_live in
-    let exact : receive_effect (shown A) call.thread service (waiting_at (shown A) service.endpoint) ≡ receive_waits (shown A) call.thread service (waiters A e) =
-    ap (receive_effect (shown A) call.thread service) list ∙ ap (receive_meets (shown A) call.thread service (waiters A e)) (no_sender (sends_to A e) (asks_of A e) alone) in
-    let shows = shown_asks A call.thread service (inv.fresh (A.count + 1) (omega arith)) inv.numbered alone pass.ready pass.endpoint_live pass.thread_live in
-    let inbox = inbox_shown A call.thread pass.thread_live in (
-      ap (λ (o : Effect). o.reply) exact ∙ sym (ap (spec.reply_to_receive (ask_record A call.thread service)) alone),
-      ap (λ (o : Effect). o.after) exact
-          ∙ ap (λ (i : Option Inbox). changed (shown A) call.thread (record { state = Receiving service.endpoint; inbox = i }) service.endpoint (waiters A e ++ Receiver call.thread ∷ [])) inbox
-          ∙ sym shows,
-    )
-recv_steps A call service inv pass address (Some s) met =
-    let e = endpoint_at A service.endpoint in
-    let fresh = inv.fresh (A.count + 1) (omega arith) in
-    let list = list_shown A service.endpoint pass.endpoint_live in
-    let offer : Offer = record { thread = s.thread.base; badge = s.badge; message = s.message } in
-    let first : first_sender (waiters A e) ≡ Some offer = ap first_sender (list_left A call.thread service fresh inv.sends_numbered inv.numbered s met) in
-    let exact : receive_effect (shown A) call.thread service (waiting_at (shown A) service.endpoint) ≡ receive_meets (shown A) call.thread service (waiters A e) (Some offer) =
-    ap (receive_effect (shown A) call.thread service) list ∙ ap (receive_meets (shown A) call.thread service (waiters A e)) first in
-    let known = all_get _ (sends_to A e) _ s (all_kept _ _ A.sends inv.sends_known) met in
-    let shows = shown_serves A call.thread service fresh inv.sends_numbered inv.numbered s met pass.endpoint_live pass.ready inv.once inv.alone (inv.awake s.thread) known.0 known.1 pass.thread_live in
-    let inbox : inbox_at (shown A) s.thread.base ≡ inbox_of A s.thread = inbox_shown A s.thread.base known.1 ∙ ap (inbox_of A) (sym known.0) in
-    let v = shown A in
-    let w : Option Inbox → Shown = λ i. record v { threads = insert v.threads s.thread.base (record { state = Ready; inbox = i }) } in (
-      ap (λ (o : Effect). o.reply) exact ∙ sym (ap (spec.reply_to_receive (ask_record A call.thread service)) met),
-      ap (λ (o : Effect). o.after) exact
-          ∙ ap (λ (i : Option Inbox). changed (w i) call.thread (receives s.badge s.message) service.endpoint (drop 1 (waiters A e))) inbox
-          ∙ sym shows,
-    )
+-- an operation that is not awaited leaves no trace
+unawaited : (A : State) (x : Effect) (b : Bool) (accepted : Outcome) (reply : Reply) → b ≡ false → x ≡ untaken (shown A) reply → IsShown x (where_awaited A b accepted reply)
+unawaited A x b accepted reply is exact = (
+  ap (λ (o : Effect). o.reply) exact ∙ sym (ap (λ (c : Bool). (where_awaited A c accepted reply).reply) is),
+  ap (λ (o : Effect). o.after) exact ∙ sym (ap (λ (c : Bool). shown (where_awaited A c accepted reply).state) is),
+)
+
+awaited : (A : State) (x : Effect) (b : Bool) (accepted : Outcome) (reply : Reply) → b ≡ true → IsShown x accepted → IsShown x (where_awaited A b accepted reply)
+awaited A x b accepted reply is same = (
+  same.0 ∙ sym (ap (λ (c : Bool). (where_awaited A c accepted reply).reply) is),
+  same.1 ∙ sym (ap (λ (c : Bool). shown (where_awaited A c accepted reply).state) is),
+)
+
+-- a list is longer than n where it has an element at n
+longer : {X : Type 0} (xs : List X) (n : ℕ) (x : X) → slice_get xs n ≡ Some x → nat_lt n (length xs) ≡ true
+longer xs n x there = let lt = get_within n xs x there in grind (arith, nat_tests)
+
+not_longer : {X : Type 0} (xs : List X) (n : ℕ) → slice_get xs n ≡ None → nat_lt n (length xs) ≡ false
+not_longer [] n none = grind (arith, nat_tests)
+not_longer (x ∷ xs) zero none = cc
+not_longer (x ∷ xs) (suc n) none = let rest = not_longer xs n none in grind (arith, nat_tests)
+
+module _ (A : State) (call : Call) (service : Service) (message : Message) (inv : Invariant A) (pass : Passes A call service) where
+  abbrev e : Instance
+  e = endpoint_at A service.endpoint
+
+  sends_alone : (block : Bool) → slice_get (asks_of A e) (length (sends_to A e)) ≡ None →
+      send_effect (shown A) call.thread service message block (waiting_at (shown A) service.endpoint) ≡ send_meets (shown A) call.thread service message (waiters A e) block None
+  sends_alone block alone =
+      ap (send_effect (shown A) call.thread service message block) (list_shown A service.endpoint pass.endpoint_live)
+      ∙ ap (send_meets (shown A) call.thread service message (waiters A e) block) (no_receiver (sends_to A e) (asks_of A e) alone)
+
+  send_waits_steps : slice_get (asks_of A e) (length (sends_to A e)) ≡ None →
+      IsShown (send_effect (shown A) call.thread service message true (waiting_at (shown A) service.endpoint)) (send_accepted A call.thread service message)
+  send_waits_steps alone =
+      let exact = sends_alone true alone in
+      let shows = shown_waits A call.thread service message (inv.fresh (A.count + 1) (omega arith)) alone pass.ready pass.endpoint_live pass.thread_live in
+      let inbox = inbox_shown A call.thread pass.thread_live in (
+        ap (λ (o : Effect). o.reply) exact ∙ sym (ap (spec.reply_to_send (send_record A call.thread service message)) alone),
+        ap (λ (o : Effect). o.after) exact
+            ∙ ap (λ (i : Option Inbox). changed (shown A) call.thread (record { state = Sending service.endpoint; inbox = i }) service.endpoint (waiters A e ++ Sender call.thread service.badge message ∷ [])) inbox
+            ∙ sym shows,
+      )
+
+  send_delivers_steps : (block : Bool) (a : AskRecord) → slice_get (asks_of A e) (length (sends_to A e)) ≡ Some a →
+      IsShown (send_effect (shown A) call.thread service message block (waiting_at (shown A) service.endpoint)) (send_accepted A call.thread service message)
+  send_delivers_steps block a met =
+      let fresh = inv.fresh (A.count + 1) (omega arith) in
+      let list = list_shown A service.endpoint pass.endpoint_live in
+      let exact : send_effect (shown A) call.thread service message block (waiting_at (shown A) service.endpoint) ≡ send_meets (shown A) call.thread service message (waiters A e) block (Some a.thread.base) =
+      ap (send_effect (shown A) call.thread service message block) list ∙ ap (send_meets (shown A) call.thread service message (waiters A e) block) (a_receiver (sends_to A e) (asks_of A e) (send_record A call.thread service message) a met) in
+      let asked = member_filter _ A.asks a (member_get (asks_of A e) _ a met) in
+      let known = all_at _ A.asks a inv.known asked.0 in
+      let shows = shown_delivers A call.thread service message fresh inv.sends_numbered inv.numbered inv.rising a met pass.endpoint_live inv.once inv.alone (inv.awake a.thread) known.0 known.1 in (
+        ap (λ (o : Effect). o.reply) exact ∙ sym (ap (spec.reply_to_send (send_record A call.thread service message)) met),
+        ap (λ (o : Effect). o.after) exact ∙ sym shows,
+      )
+
+  send_steps : (o : Option AskRecord) → slice_get (asks_of A e) (length (sends_to A e)) ≡ o →
+      IsShown (send_effect (shown A) call.thread service message true (waiting_at (shown A) service.endpoint)) (send_accepted A call.thread service message)
+  send_steps None alone = send_waits_steps alone
+  send_steps (Some a) met = send_delivers_steps true a met
+
+  nb_send_steps : (o : Option AskRecord) → slice_get (asks_of A e) (length (sends_to A e)) ≡ o →
+      IsShown (send_effect (shown A) call.thread service message false (waiting_at (shown A) service.endpoint)) (where_awaited A (is_send_awaited A e) (send_accepted A call.thread service message) Dropped)
+  nb_send_steps None alone = unawaited A _ (is_send_awaited A e) (send_accepted A call.thread service message) Dropped (not_longer (asks_of A e) (length (sends_to A e)) alone) (sends_alone false alone)
+  nb_send_steps (Some a) met = awaited A _ (is_send_awaited A e) (send_accepted A call.thread service message) Dropped (longer (asks_of A e) (length (sends_to A e)) a met) (send_delivers_steps false a met)
+
+module _ (A : State) (call : Call) (service : Service) (inv : Invariant A) (pass : Passes A call service) where
+  abbrev from : Instance
+  from = endpoint_at A service.endpoint
+
+  receives_alone : (block : Bool) → slice_get (sends_to A from) (length (asks_of A from)) ≡ None →
+      receive_effect (shown A) call.thread service block (waiting_at (shown A) service.endpoint) ≡ receive_meets (shown A) call.thread service (waiters A from) block None
+  receives_alone block alone =
+      ap (receive_effect (shown A) call.thread service block) (list_shown A service.endpoint pass.endpoint_live)
+      ∙ ap (receive_meets (shown A) call.thread service (waiters A from) block) (no_sender (sends_to A from) (asks_of A from) alone)
+
+  receive_waits_steps : slice_get (sends_to A from) (length (asks_of A from)) ≡ None →
+      IsShown (receive_effect (shown A) call.thread service true (waiting_at (shown A) service.endpoint)) (receive_accepted A call.thread service)
+  receive_waits_steps alone =
+      let exact = receives_alone true alone in
+      let shows = shown_asks A call.thread service (inv.fresh (A.count + 1) (omega arith)) inv.numbered alone pass.ready pass.endpoint_live pass.thread_live in
+      let inbox = inbox_shown A call.thread pass.thread_live in (
+        ap (λ (o : Effect). o.reply) exact ∙ sym (ap (spec.reply_to_receive (ask_record A call.thread service)) alone),
+        ap (λ (o : Effect). o.after) exact
+            ∙ ap (λ (i : Option Inbox). changed (shown A) call.thread (record { state = Receiving service.endpoint; inbox = i }) service.endpoint (waiters A from ++ Receiver call.thread ∷ [])) inbox
+            ∙ sym shows,
+      )
+
+  receive_delivers_steps : (block : Bool) (s : SendRecord) → slice_get (sends_to A from) (length (asks_of A from)) ≡ Some s →
+      IsShown (receive_effect (shown A) call.thread service block (waiting_at (shown A) service.endpoint)) (receive_accepted A call.thread service)
+  receive_delivers_steps block s met =
+      let fresh = inv.fresh (A.count + 1) (omega arith) in
+      let list = list_shown A service.endpoint pass.endpoint_live in
+      let offer : Offer = record { thread = s.thread.base; badge = s.badge; message = s.message } in
+      let first : first_sender (waiters A from) ≡ Some offer = ap first_sender (list_left A call.thread service fresh inv.sends_numbered inv.numbered s met) in
+      let exact : receive_effect (shown A) call.thread service block (waiting_at (shown A) service.endpoint) ≡ receive_meets (shown A) call.thread service (waiters A from) block (Some offer) =
+      ap (receive_effect (shown A) call.thread service block) list ∙ ap (receive_meets (shown A) call.thread service (waiters A from) block) first in
+      let known = all_get _ (sends_to A from) _ s (all_kept _ _ A.sends inv.sends_known) met in
+      let shows = shown_serves A call.thread service fresh inv.sends_numbered inv.numbered s met pass.endpoint_live pass.ready inv.once inv.alone (inv.awake s.thread) known.0 known.1 pass.thread_live in
+      let inbox : inbox_at (shown A) s.thread.base ≡ inbox_of A s.thread = inbox_shown A s.thread.base known.1 ∙ ap (inbox_of A) (sym known.0) in
+      let v = shown A in
+      let w : Option Inbox → Shown = λ i. record v { threads = insert v.threads s.thread.base (record { state = Ready; inbox = i }) } in (
+        ap (λ (o : Effect). o.reply) exact ∙ sym (ap (spec.reply_to_receive (ask_record A call.thread service)) met),
+        ap (λ (o : Effect). o.after) exact
+            ∙ ap (λ (i : Option Inbox). changed (w i) call.thread (receives s.badge s.message) service.endpoint (drop 1 (waiters A from))) inbox
+            ∙ sym shows,
+      )
+
+  receive_steps : (o : Option SendRecord) → slice_get (sends_to A from) (length (asks_of A from)) ≡ o →
+      IsShown (receive_effect (shown A) call.thread service true (waiting_at (shown A) service.endpoint)) (receive_accepted A call.thread service)
+  receive_steps None alone = receive_waits_steps alone
+  receive_steps (Some s) met = receive_delivers_steps true s met
+
+  nb_receive_steps : (o : Option SendRecord) → slice_get (sends_to A from) (length (asks_of A from)) ≡ o →
+      IsShown (receive_effect (shown A) call.thread service false (waiting_at (shown A) service.endpoint)) (where_awaited A (is_receive_awaited A from) (receive_accepted A call.thread service) Empty)
+  nb_receive_steps None alone = unawaited A _ (is_receive_awaited A from) (receive_accepted A call.thread service) Empty (not_longer (sends_to A from) (length (asks_of A from)) alone) (receives_alone false alone)
+  nb_receive_steps (Some s) met = awaited A _ (is_receive_awaited A from) (receive_accepted A call.thread service) Empty (longer (sends_to A from) (length (asks_of A from)) s met) (receive_delivers_steps false s met)
 
 taken_steps : (A : State) (call : Call) (op : Op) (service : Service) → Invariant A → Passes A call service →
-    (let x = op_effect (shown A) call.thread op (Ok service) in
-    let y = performed A call.thread service op in
-    (x.reply ≡ y.reply) × (x.after ≡ shown y.state))
-taken_steps A call (Send address message) service inv pass = send_steps A call service message inv pass address _ refl
-taken_steps A call (Recv address) service inv pass = recv_steps A call service inv pass address _ refl
+    IsShown (op_effect (shown A) call.thread op (Ok service)) (performed A call.thread service op)
+taken_steps A call (Send address message) service inv pass = send_steps A call service message inv pass _ refl
+taken_steps A call (NbSend address message) service inv pass = nb_send_steps A call service message inv pass _ refl
+taken_steps A call (Recv address) service inv pass = receive_steps A call service inv pass _ refl
+taken_steps A call (NbRecv address) service inv pass = nb_receive_steps A call service inv pass _ refl
 
 outcome_steps : (p : ProfileName) (A : State) (call : Call) → Invariant A → (r : Result Service Refusal) → checked p (shown A) call ≡ r →
-    (let x = op_effect (shown A) call.thread call.op r in
-    let y = outcome A call r in
-    (x.reply ≡ y.reply) × (x.after ≡ shown y.state))
+    IsShown (op_effect (shown A) call.thread call.op r) (outcome A call r)
 outcome_steps p A call inv (Err refusal) h = (refl, refl)
 outcome_steps p A call inv (Ok service) h = taken_steps A call call.op service inv (passes p A call service h)
 
@@ -259,13 +317,19 @@ inv_asked A t service call inv pass same_thread = record {
     ready : state_of A (thread_at A t) ≡ Ready
     ready = subst (λ (q : ℕ). state_of A (thread_at A q) ≡ Ready) same_thread pass.ready
 
+inv_awaited : (A : State) (awaited : Bool) (accepted : Outcome) (reply : Reply) → Invariant A → Invariant accepted.state → Invariant (where_awaited A awaited accepted reply).state
+inv_awaited A true accepted reply inv kept = kept
+inv_awaited A false accepted reply inv kept = inv_refused A inv
+
 inv_outcome : (p : ProfileName) (A : State) (call : Call) (r : Result Service Refusal) → checked p (shown A) call ≡ r → Invariant A → Invariant (outcome A call r).state
 inv_outcome p A call (Err refusal) h inv = inv_refused A inv
 inv_outcome p A call (Ok service) h inv = inv_taken call.op
   where
     inv_taken : (op : Op) → Invariant (performed A call.thread service op).state
     inv_taken (Send address message) = inv_sent A call.thread service message call inv (passes p A call service h) refl
+    inv_taken (NbSend address message) = inv_awaited A (is_send_awaited A (endpoint_at A service.endpoint)) (send_accepted A call.thread service message) Dropped inv (inv_sent A call.thread service message call inv (passes p A call service h) refl)
     inv_taken (Recv address) = inv_asked A call.thread service call inv (passes p A call service h) refl
+    inv_taken (NbRecv address) = inv_awaited A (is_receive_awaited A (endpoint_at A service.endpoint)) (receive_accepted A call.thread service) Empty inv (inv_asked A call.thread service call inv (passes p A call service h) refl)
 
 inv_run : (p : ProfileName) (calls : List Call) (A : State) → Invariant A → Invariant (state_after p A calls)
 inv_run p [] A inv = inv

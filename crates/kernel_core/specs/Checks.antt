@@ -17,7 +17,7 @@ use Rattle.slot_core.specs.Forest.{Forest}
 use Rattle.slot_core.specs.Entries.{Entry, cap_at}
 use Rattle.kernel_core.specs.declared.call.Call.{Call}
 use Rattle.kernel_core.specs.declared.call.Op.{Op}
-use Rattle.kernel_core.specs.declared.call.Op.TheVariants.{Send, Recv}
+use Rattle.kernel_core.specs.declared.call.Op.TheVariants.{Send, NbSend, Recv, NbRecv}
 use Rattle.kernel_core.specs.declared.call.Service.{Service}
 use Rattle.kernel_core.specs.declared.call.ThreadState.{ThreadState}
 use Rattle.kernel_core.specs.declared.call.ThreadState.TheVariants.{Ready, Inactive, Sending, Receiving}
@@ -30,12 +30,16 @@ has_right right rights = bit_and rights.0 right == right
 -- the right that an operation needs
 abbrev pub needed_right : Op → ℕ
 needed_right (Send address message) = write_bit
+needed_right (NbSend address message) = write_bit
 needed_right (Recv address) = read_bit
+needed_right (NbRecv address) = read_bit
 
 -- the word by which an operation names the capability that it invokes
 abbrev pub service_word : Op → ℕ
 service_word (Send address message) = address
+service_word (NbSend address message) = address
 service_word (Recv address) = address
+service_word (NbRecv address) = address
 
 -- the slot that a word names from a root capability: all its bits are looked up, and bits left over are ignored
 abbrev pub slot_found : Result Found LookupFault → Result ℕ LookupFault

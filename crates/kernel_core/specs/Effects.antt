@@ -1,5 +1,5 @@
 -- What a step does to what is shown.
-use Rattle.std.specs.Prelude.{◌≡◌, ℕ, List, [], ◌∷◌, ◌++◌, drop, Option, None, Some, Result, Ok, Err, IsSome, IsSomeAnd}
+use Rattle.std.specs.Prelude.{◌≡◌, ℕ, Bool, true, false, cond, List, [], ◌∷◌, ◌++◌, drop, Option, None, Some, Result, Ok, Err, IsSome, IsSomeAnd}
 use Rattle.std.specs.FinMap.{get, insert}
 use Rattle.cap_core.specs.declared.profile.ProfileName.{ProfileName}
 use Rattle.cap_core.specs.declared.capability.Badge.{Badge}
@@ -11,9 +11,9 @@ use Rattle.ipc_core.specs.declared.waiter.Offer.{Offer}
 use Rattle.ipc_core.specs.Waits.{first_receiver, first_sender}
 use Rattle.kernel_core.specs.declared.call.Call.{Call}
 use Rattle.kernel_core.specs.declared.call.Op.{Op}
-use Rattle.kernel_core.specs.declared.call.Op.TheVariants.{Send, Recv}
+use Rattle.kernel_core.specs.declared.call.Op.TheVariants.{Send, NbSend, Recv, NbRecv}
 use Rattle.kernel_core.specs.declared.call.Reply.{Reply}
-use Rattle.kernel_core.specs.declared.call.Reply.TheVariants.{Delivered, Waiting, Refused}
+use Rattle.kernel_core.specs.declared.call.Reply.TheVariants.{Delivered, Waiting, Dropped, Empty, Refused}
 use Rattle.kernel_core.specs.declared.call.Service.{Service}
 use Rattle.kernel_core.specs.declared.call.ThreadState.TheVariants.{Ready, Sending, Receiving}
 use Rattle.kernel_core.specs.Shown.{Shown, ThreadView, waiting_at, inbox_at}
@@ -40,17 +40,21 @@ send_waits v t service message list =
       after = changed v t (record { state = Sending service.endpoint; inbox = inbox_at v t }) service.endpoint (list ++ Sender t service.badge message ∷ []);
     }
 
-abbrev pub send_meets : Shown → ℕ → Service → Message → List Waiter → Option ℕ → Effect
-send_meets v t service message list None = send_waits v t service message list
-send_meets v t service message list (Some to) =
+-- what leaves no trace
+abbrev pub untaken : Shown → Reply → Effect
+untaken v reply = record { reply = reply; after = v }
+
+abbrev pub send_meets : Shown → ℕ → Service → Message → List Waiter → Bool → Option ℕ → Effect
+send_meets v t service message list block None = cond block (send_waits v t service message list) (untaken v Dropped)
+send_meets v t service message list block (Some to) =
     record {
       reply = Delivered service.endpoint t to service.badge message;
       after = changed v to (receives service.badge message) service.endpoint (drop 1 list);
     }
 
--- a send by a thread, where this is the endpoint's waiting list
-abbrev pub send_effect : Shown → ℕ → Service → Message → List Waiter → Effect
-send_effect v t service message list = send_meets v t service message list (first_receiver list)
+-- a send by a thread, which may wait or not, where this is the endpoint's waiting list
+abbrev pub send_effect : Shown → ℕ → Service → Message → Bool → List Waiter → Effect
+send_effect v t service message block list = send_meets v t service message list block (first_receiver list)
 
 abbrev pub receive_waits : Shown → ℕ → Service → List Waiter → Effect
 receive_waits v t service list =
@@ -59,23 +63,25 @@ receive_waits v t service list =
       after = changed v t (record { state = Receiving service.endpoint; inbox = inbox_at v t }) service.endpoint (list ++ Receiver t ∷ []);
     }
 
-abbrev pub receive_meets : Shown → ℕ → Service → List Waiter → Option Offer → Effect
-receive_meets v t service list None = receive_waits v t service list
-receive_meets v t service list (Some offer) =
+abbrev pub receive_meets : Shown → ℕ → Service → List Waiter → Bool → Option Offer → Effect
+receive_meets v t service list block None = cond block (receive_waits v t service list) (untaken v Empty)
+receive_meets v t service list block (Some offer) =
     let w = record v { threads = insert v.threads offer.thread (record { state = Ready; inbox = inbox_at v offer.thread }) } in
     record {
       reply = Delivered service.endpoint offer.thread t offer.badge offer.message;
       after = changed w t (receives offer.badge offer.message) service.endpoint (drop 1 list);
     }
 
--- a receive by a thread, where this is the endpoint's waiting list
-abbrev pub receive_effect : Shown → ℕ → Service → List Waiter → Effect
-receive_effect v t service list = receive_meets v t service list (first_sender list)
+-- a receive by a thread, which may wait or not, where this is the endpoint's waiting list
+abbrev pub receive_effect : Shown → ℕ → Service → Bool → List Waiter → Effect
+receive_effect v t service block list = receive_meets v t service list block (first_sender list)
 
 abbrev pub op_effect : Shown → ℕ → Op → Result Service Refusal → Effect
 op_effect v t op (Err refusal) = record { reply = Refused refusal; after = v }
-op_effect v t (Send address message) (Ok service) = send_effect v t service message (waiting_at v service.endpoint)
-op_effect v t (Recv address) (Ok service) = receive_effect v t service (waiting_at v service.endpoint)
+op_effect v t (Send address message) (Ok service) = send_effect v t service message true (waiting_at v service.endpoint)
+op_effect v t (NbSend address message) (Ok service) = send_effect v t service message false (waiting_at v service.endpoint)
+op_effect v t (Recv address) (Ok service) = receive_effect v t service true (waiting_at v service.endpoint)
+op_effect v t (NbRecv address) (Ok service) = receive_effect v t service false (waiting_at v service.endpoint)
 
 -- the step, told by what is shown alone
 abbrev pub effect_of : ProfileName → Shown → Call → Effect

@@ -1,14 +1,14 @@
 -- The abstract step, and runs of it.
-use Rattle.std.specs.Prelude.{ℕ, ◌+◌, List, [], ◌∷◌, ◌++◌, length, slice_get, Option, None, Some, Result, Ok, Err}
+use Rattle.std.specs.Prelude.{ℕ, ◌+◌, Bool, cond, nat_lt, List, [], ◌∷◌, ◌++◌, length, slice_get, Option, None, Some, Result, Ok, Err}
 use Rattle.cap_core.specs.declared.profile.ProfileName.{ProfileName}
 use Rattle.cap_core.specs.declared.message.Message.{Message}
 use Rattle.cap_core.specs.declared.refusal.Refusal.{Refusal}
-use Rattle.ipc_core.specs.Records.{SendRecord, AskRecord}
+use Rattle.ipc_core.specs.Records.{Instance, SendRecord, AskRecord}
 use Rattle.kernel_core.specs.declared.call.Call.{Call}
 use Rattle.kernel_core.specs.declared.call.Op.{Op}
-use Rattle.kernel_core.specs.declared.call.Op.TheVariants.{Send, Recv}
+use Rattle.kernel_core.specs.declared.call.Op.TheVariants.{Send, NbSend, Recv, NbRecv}
 use Rattle.kernel_core.specs.declared.call.Reply.{Reply}
-use Rattle.kernel_core.specs.declared.call.Reply.TheVariants.{Delivered, Waiting, Refused}
+use Rattle.kernel_core.specs.declared.call.Reply.TheVariants.{Delivered, Waiting, Dropped, Empty, Refused}
 use Rattle.kernel_core.specs.declared.call.Service.{Service}
 use Rattle.kernel_core.specs.Checks.{checked}
 use Rattle.kernel_core.specs.State.{State, endpoint_at, thread_at, sends_to, asks_of, shown}
@@ -45,20 +45,42 @@ abbrev pub reply_to_receive : AskRecord → Option SendRecord → Reply
 reply_to_receive a (Some s) = Delivered a.endpoint.base s.thread.base a.thread.base s.badge s.message
 reply_to_receive a None = Waiting
 
--- an operation whose checks passed
-abbrev pub performed : State → ℕ → Service → Op → Outcome
-performed A thread service (Send address message) =
+-- an accepted send, and an accepted receive
+abbrev pub send_accepted : State → ℕ → Service → Message → Outcome
+send_accepted A thread service message =
     let s = send_record A thread service message in
     record {
       reply = reply_to_send s (slice_get (asks_of A s.endpoint) (length (sends_to A s.endpoint)));
       state = record (counted A) { sends = A.sends ++ s ∷ [] };
     }
-performed A thread service (Recv address) =
+
+abbrev pub receive_accepted : State → ℕ → Service → Outcome
+receive_accepted A thread service =
     let a = ask_record A thread service in
     record {
       reply = reply_to_receive a (slice_get (sends_to A a.endpoint) (length (asks_of A a.endpoint)));
       state = record (counted A) { asks = A.asks ++ a ∷ [] };
     }
+
+-- whether a receive waits for the next send to an endpoint, and whether a send waits for the next receive
+abbrev pub is_send_awaited : State → Instance → Bool
+is_send_awaited A e = nat_lt (length (sends_to A e)) (length (asks_of A e))
+
+abbrev pub is_receive_awaited : State → Instance → Bool
+is_receive_awaited A e = nat_lt (length (asks_of A e)) (length (sends_to A e))
+
+-- an operation that does not wait is accepted only where it is awaited; otherwise nothing but the count changes
+abbrev pub where_awaited : State → Bool → Outcome → Reply → Outcome
+where_awaited A awaited accepted reply = cond awaited accepted (record { reply = reply; state = counted A })
+
+-- an operation whose checks passed
+abbrev pub performed : State → ℕ → Service → Op → Outcome
+performed A thread service (Send address message) = send_accepted A thread service message
+performed A thread service (NbSend address message) =
+    where_awaited A (is_send_awaited A (endpoint_at A service.endpoint)) (send_accepted A thread service message) Dropped
+performed A thread service (Recv address) = receive_accepted A thread service
+performed A thread service (NbRecv address) =
+    where_awaited A (is_receive_awaited A (endpoint_at A service.endpoint)) (receive_accepted A thread service) Empty
 
 abbrev pub outcome : State → Call → Result Service Refusal → Outcome
 outcome A call (Err refusal) = record { reply = Refused refusal; state = counted A }

@@ -7,8 +7,12 @@ use cap_core::{Badge, Message, Refusal};
 pub enum Op {
     /// Sends a message through an endpoint, and waits where no receiver does.
     Send { cap: u64, message: Message },
+    /// Sends a message through an endpoint where a receiver waits, and is dropped where none does.
+    NbSend { cap: u64, message: Message },
     /// Receives a message from an endpoint, and waits where no sender does.
     Recv { cap: u64 },
+    /// Receives a message from an endpoint where a sender waits, and nothing where none does.
+    NbRecv { cap: u64 },
 }
 
 /// One call of one thread, named by the address of its thread control block.

@@ -97,8 +97,10 @@ impl<P: Profile, S: CapStore<P> + Drop, W: Waiters<P> + Drop> Kernel<P, S, W> {
         match self.check(call) {
             Err(refusal) => Reply::Refused(refusal),
             Ok(service) => match call.op {
-                Op::Send { message, .. } => self.send(call.thread, service, message),
-                Op::Recv { .. } => self.recv(call.thread, service),
+                Op::Send { message, .. } => self.send(call.thread, service, message, true),
+                Op::NbSend { message, .. } => self.send(call.thread, service, message, false),
+                Op::Recv { .. } => self.recv(call.thread, service, true),
+                Op::NbRecv { .. } => self.recv(call.thread, service, false),
             },
         }
     }
@@ -115,14 +117,15 @@ impl<P: Profile, S: CapStore<P> + Drop, W: Waiters<P> + Drop> Kernel<P, S, W> {
         }
     }
 
-    fn send(&mut self, thread: u64, service: Service, message: Message) -> Reply
+    /// Sends, and where no receiver waits either waits, with `block`, or is dropped.
+    fn send(&mut self, thread: u64, service: Service, message: Message, block: bool) -> Reply
         requires ready { IsReady self.old thread }
         requires live { IsLiveEndpoint self.old service.endpoint }
-        ensures reply { result ≡ (send_effect self.old thread service message (waiting_at self.old service.endpoint)).reply }
-        ensures after { self.new ≡ (send_effect self.old thread service message (waiting_at self.old service.endpoint)).after }
+        ensures reply { result ≡ (send_effect self.old thread service message block (waiting_at self.old service.endpoint)).reply }
+        ensures after { self.new ≡ (send_effect self.old thread service message block (waiting_at self.old service.endpoint)).after }
     {
         let Service { endpoint, badge } = service;
-        match self.waiters.send(endpoint, thread, badge, message, true) {
+        match self.waiters.send(endpoint, thread, badge, message, block) {
             Sent::Delivered { to } => {
                 let inbox = Some(Inbox { badge, message });
                 let row = ThreadRow {
@@ -143,14 +146,15 @@ impl<P: Profile, S: CapStore<P> + Drop, W: Waiters<P> + Drop> Kernel<P, S, W> {
         }
     }
 
-    fn recv(&mut self, thread: u64, service: Service) -> Reply
+    /// Receives, and where no sender waits either waits, with `block`, or gets nothing.
+    fn recv(&mut self, thread: u64, service: Service, block: bool) -> Reply
         requires ready { IsReady self.old thread }
         requires live { IsLiveEndpoint self.old service.endpoint }
-        ensures reply { result ≡ (receive_effect self.old thread service (waiting_at self.old service.endpoint)).reply }
-        ensures after { self.new ≡ (receive_effect self.old thread service (waiting_at self.old service.endpoint)).after }
+        ensures reply { result ≡ (receive_effect self.old thread service block (waiting_at self.old service.endpoint)).reply }
+        ensures after { self.new ≡ (receive_effect self.old thread service block (waiting_at self.old service.endpoint)).after }
     {
         let endpoint = service.endpoint;
-        match self.waiters.recv(endpoint, thread, true) {
+        match self.waiters.recv(endpoint, thread, block) {
             Received::Delivered {
                 from,
                 badge,

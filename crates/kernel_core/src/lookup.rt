@@ -86,8 +86,8 @@ fn word_in(op: Op) -> u64
     ensures { result ≡ service_word op }
 {
     match op {
-        Op::Send { cap, .. } => cap,
-        Op::Recv { cap } => cap,
+        Op::Send { cap, .. } | Op::NbSend { cap, .. } | Op::Recv { cap } | Op::NbRecv { cap } =>
+            cap,
     }
 }
 
@@ -95,7 +95,7 @@ fn right_for(op: Op) -> Rights
     ensures { result.0 ≡ needed_right op }
 {
     match op {
-        Op::Send { .. } => Rights::WRITE,
-        Op::Recv { .. } => Rights::READ,
+        Op::Send { .. } | Op::NbSend { .. } => Rights::WRITE,
+        Op::Recv { .. } | Op::NbRecv { .. } => Rights::READ,
     }
 }

@@ -8,7 +8,7 @@ use Rattle.cap_core.specs.declared.limits.TheConstants.{MAX_MESSAGE_WORDS}
 use Rattle.cap_core.specs.Numbers.{word_bits, label_bits}
 use Rattle.setup_read.specs.declared.limits.TheConstants.{MAX_EXPECT_BYTES}
 use Rattle.setup_read.specs.declared.setup.OpName.{OpName}
-use Rattle.setup_read.specs.declared.setup.OpName.TheVariants.{Send, Recv}
+use Rattle.setup_read.specs.declared.setup.OpName.TheVariants.{Send, NbSend, Recv, NbRecv}
 use Rattle.setup_read.specs.declared.setup.Words.{Words}
 use Rattle.setup_read.specs.declared.fault.Wrong.{Wrong}
 use Rattle.setup_read.specs.declared.fault.Wrong.TheVariants.{OtherType, OtherValue}
@@ -128,7 +128,12 @@ expect d = expect_in (as_str d)
 -- op: a text that names an operation
 abbrev pub op_in : Option (List ℕ) → Result OpName Wrong
 op_in None = Err OtherType
-op_in (Some t) = if bytes_eq t (codes "send") then Ok Send else if bytes_eq t (codes "recv") then Ok Recv else Err OtherValue
+op_in (Some t) =
+    if bytes_eq t (codes "send") then Ok Send
+    else if bytes_eq t (codes "nbsend") then Ok NbSend
+    else if bytes_eq t (codes "recv") then Ok Recv
+    else if bytes_eq t (codes "nbrecv") then Ok NbRecv
+    else Err OtherValue
 
 abbrev pub op : Data → Result OpName Wrong
 op d = op_in (as_str d)

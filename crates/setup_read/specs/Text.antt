@@ -10,7 +10,7 @@ use Rattle.cap_core.specs.declared.capability.Cap.TheVariants.{Null, Untyped, En
 use Rattle.cap_core.specs.declared.refusal.Refusal.{Refusal}
 use Rattle.cap_core.specs.Refusals.{refusal_code, refusal_kind}
 use Rattle.kernel_core.specs.declared.call.Op.{Op}
-use Rattle.kernel_core.specs.declared.call.Op.TheVariants.{Send, Recv}
+use Rattle.kernel_core.specs.declared.call.Op.TheVariants.{Send, NbSend, Recv, NbRecv}
 use Rattle.kernel_core.specs.declared.call.Reply.{Reply}
 use Rattle.kernel_core.specs.declared.call.Reply.TheVariants.{Done, Delivered, Waiting, Dropped, Empty, Refused}
 use Rattle.kernel_core.specs.declared.call.ThreadState.{ThreadState}
@@ -48,7 +48,9 @@ cap_text (Tcb base) = codes "tcb " ++ decimal base
 
 abbrev pub op_text : Op → List ℕ
 op_text (Send cap message) = codes "send"
+op_text (NbSend cap message) = codes "nbsend"
 op_text (Recv cap) = codes "recv"
+op_text (NbRecv cap) = codes "nbrecv"
 
 -- the number of a refusal, and after a stroke the number of a lookup failure's kind
 abbrev pub refusal_text : Refusal → List ℕ

@@ -187,8 +187,12 @@ pub fn op(value: &Value) -> Result<OpName, Wrong>
     };
     if text == "send" {
         Ok(OpName::Send)
+    } else if text == "nbsend" {
+        Ok(OpName::NbSend)
     } else if text == "recv" {
         Ok(OpName::Recv)
+    } else if text == "nbrecv" {
+        Ok(OpName::NbRecv)
     } else {
         Err(Wrong::OtherValue)
     }

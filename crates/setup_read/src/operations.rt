@@ -18,9 +18,28 @@ pub fn call_keys(op: OpName) -> &'static [&'static str]
     ensures { map (λ k. k.now) result.now ≡ spec.call_keys op }
 {
     match op {
-        OpName::Send => &["thread", "op", "client", "expect", "cap", "label", "words"],
-        OpName::Recv => &["thread", "op", "client", "expect", "cap"],
+        OpName::Send | OpName::NbSend => &[
+            "thread", "op", "client", "expect", "cap", "label", "words",
+        ],
+        OpName::Recv | OpName::NbRecv => &["thread", "op", "client", "expect", "cap"],
     }
+}
+
+#[tactic(auto, unfolding(crate::specs::Operations::message_at))]
+fn message_at<P: Profile>(
+    names: &[Name],
+    place: Place,
+    table: &Table,
+) -> Result<Message, SetupFault>
+    ensures { Gives (λ m. m) result (spec.message_at P.the (names_view names.now) place (table_view table.now)) }
+{
+    let label = label_or::<P>(table, place, "label", 0)?;
+    let Words { words, count } = words_or_none::<P>(names, table, place, "words")?;
+    Ok(Message {
+        label,
+        words,
+        count,
+    })
 }
 
 #[tactic(auto, unfolding(crate::specs::Operations::send_at))]
@@ -28,16 +47,17 @@ fn send_at<P: Profile>(names: &[Name], place: Place, table: &Table) -> Result<Op
     ensures { Gives (λ o. o) result (spec.send_at P.the (names_view names.now) place (table_view table.now)) }
 {
     let cap = word_at::<P>(names, table, place, "cap")?;
-    let label = label_or::<P>(table, place, "label", 0)?;
-    let Words { words, count } = words_or_none::<P>(names, table, place, "words")?;
-    Ok(Op::Send {
-        cap,
-        message: Message {
-            label,
-            words,
-            count,
-        },
-    })
+    let message = message_at::<P>(names, place, table)?;
+    Ok(Op::Send { cap, message })
+}
+
+#[tactic(auto, unfolding(crate::specs::Operations::nb_send_at))]
+fn nb_send_at<P: Profile>(names: &[Name], place: Place, table: &Table) -> Result<Op, SetupFault>
+    ensures { Gives (λ o. o) result (spec.nb_send_at P.the (names_view names.now) place (table_view table.now)) }
+{
+    let cap = word_at::<P>(names, table, place, "cap")?;
+    let message = message_at::<P>(names, place, table)?;
+    Ok(Op::NbSend { cap, message })
 }
 
 #[tactic(auto, unfolding(crate::specs::Operations::recv_at))]
@@ -46,6 +66,14 @@ fn recv_at<P: Profile>(names: &[Name], place: Place, table: &Table) -> Result<Op
 {
     let cap = word_at::<P>(names, table, place, "cap")?;
     Ok(Op::Recv { cap })
+}
+
+#[tactic(auto, unfolding(crate::specs::Operations::nb_recv_at))]
+fn nb_recv_at<P: Profile>(names: &[Name], place: Place, table: &Table) -> Result<Op, SetupFault>
+    ensures { Gives (λ o. o) result (spec.nb_recv_at P.the (names_view names.now) place (table_view table.now)) }
+{
+    let cap = word_at::<P>(names, table, place, "cap")?;
+    Ok(Op::NbRecv { cap })
 }
 
 /// An operation, from the keys of its call.
@@ -59,6 +87,8 @@ pub fn operation_at<P: Profile>(
 {
     match op {
         OpName::Send => send_at::<P>(names, place, table),
+        OpName::NbSend => nb_send_at::<P>(names, place, table),
         OpName::Recv => recv_at::<P>(names, place, table),
+        OpName::NbRecv => nb_recv_at::<P>(names, place, table),
     }
 }

@@ -1,5 +1,5 @@
 //! The report of a run: each call with its reply, what the kernel shows at the end, and how many expectations are met.
-ghost use Rattle.std.specs.Prelude.{◌≡◌, ◌≤◌, length, IfOk};
+ghost use Rattle.std.specs.Prelude.{◌≡◌, length, IfOk};
 ghost use Rattle.setup_read.specs.Report.{report_of};
 
 mod calls;
@@ -12,7 +12,6 @@ mod text;
 use crate::setup::Setup;
 pub use calls::{ExpectationCount, expectations};
 use cap_core::Profile;
-use cap_core::limits::MAX_MEMORY_BITS;
 use ipc_core::Waiters;
 use kernel_core::{Kernel, Reply};
 use slot_core::CapStore;
@@ -36,8 +35,7 @@ pub fn report<P: Profile, S: CapStore<P> + Drop, W: Waiters<P> + Drop>(
     replies: &[Reply],
     kernel: &Kernel<P, S, W>,
 ) -> Result<Vec<u8>, AllocError>
-    requires memory { setup.now.plan.memory_bits ≤ MAX_MEMORY_BITS }
-    requires replies { length replies.now ≡ length setup.now.calls }
+    requires { length replies.now ≡ length setup.now.calls }
     ensures { IfOk result (λ v. v.items ≡ report_of P.the setup.now.plan.memory_bits setup.now.calls replies.now kernel.now) }
 {
     let mut out = String::new(alloc);

@@ -1,7 +1,7 @@
 //! What a set-up is.
-ghost use Rattle.std.specs.Prelude.{◌≡◌, ◌<◌, map, length, IfOk, Some, option_map, option_copied, slice_get};
+ghost use Rattle.std.specs.Prelude.{◌≡◌, ◌<◌, ◌≤◌, map, length, IfOk, Some, option_map, option_copied, slice_get};
 
-use cap_core::limits::MAX_MESSAGE_WORDS;
+use cap_core::limits::{MAX_MEMORY_BITS, MAX_MESSAGE_WORDS, MIN_MEMORY_BITS};
 use kernel_core::{BootPlan, Call};
 use std::alloc::{AllocError, Global};
 use std::marker::Model;
@@ -10,7 +10,9 @@ use std::marker::Model;
 #[derive(Clone, Copy, Debug, PartialEq, Eq)]
 pub enum OpName {
     Send,
+    NbSend,
     Recv,
+    NbRecv,
 }
 
 /// The words of a message: the first `count` of `words`. The others are 0.
@@ -37,7 +39,8 @@ pub struct SetupCall {
     pub expect: Option<String>,
 }
 
-/// A set-up: the plan of a boot, and the calls that are then made.
+/// A set-up: the plan of a boot, whose memory has 2^`MIN_MEMORY_BITS` to 2^`MAX_MEMORY_BITS` bytes, and the calls that are
+/// then made.
 #[derive(Drop)]
 pub struct Setup {
     plan: BootPlan,
@@ -48,14 +51,15 @@ pub struct Setup {
 }
 
 impl Model for Setup {
-    ghost use Rattle.std.specs.Prelude.{◌≡◌, map};
+    ghost use Rattle.std.specs.Prelude.{◌≡◌, ◌≤◌, map};
+    ghost use Rattle.cap_core.specs.declared.limits.TheConstants.{MIN_MEMORY_BITS, MAX_MEMORY_BITS};
     ghost use Rattle.setup_read.specs.Views.{SetupView, call_view};
 
     ghost Value = { SetupView };
 
     ghost view = { λ s. record { plan = s.plan; clients = s.clients; limit = s.limit; calls = map call_view s.rows.items } };
 
-    ghost invariant = { λ s. s.calls.items ≡ map (λ r. r.call) s.rows.items };
+    ghost invariant = { λ s. (s.calls.items ≡ map (λ r. r.call) s.rows.items) × (MIN_MEMORY_BITS ≤ s.plan.memory_bits) × (s.plan.memory_bits ≤ MAX_MEMORY_BITS) };
 }
 
 impl Setup {
@@ -68,6 +72,8 @@ impl Setup {
         limit: u32,
         rows: Vec<SetupCall>,
     ) -> Result<Setup, AllocError>
+        requires least { MIN_MEMORY_BITS ≤ plan.memory_bits }
+        requires most { plan.memory_bits ≤ MAX_MEMORY_BITS }
         ensures { IfOk result (λ s. s ≡ record { plan = plan; clients = clients; limit = limit; calls = map call_view rows.items }) }
     {
         let calls = calls_in(alloc, rows.as_slice())?;
@@ -82,7 +88,9 @@ impl Setup {
 
     /// What the kernel is booted from.
     pub fn plan(&self) -> &BootPlan
-        ensures { result.now ≡ self.now.plan }
+        ensures plan { result.now ≡ self.now.plan }
+        ensures least { MIN_MEMORY_BITS ≤ self.now.plan.memory_bits }
+        ensures most { self.now.plan.memory_bits ≤ MAX_MEMORY_BITS }
     {
         &self.plan
     }

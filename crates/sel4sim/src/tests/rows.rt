@@ -131,3 +131,74 @@ fn root_cnode_exactly_full(rt: HostRuntime) -> Result<(), Fail> {
     assert!(rt; bytes.ends_with(b"\nexpected 0 of 0\n"));
     Ok(())
 }
+
+#[test]
+fn send_that_does_not_wait(rt: HostRuntime) -> Result<(), Fail> {
+    let calls =
+        "[[call]]\nthread = 4096\nop = \"recv\"\ncap = 4\n[[call]]\nthread = 2048\nop = \"nbsend\"\ncap = 4\nlabel = 9\n";
+    let wanted = format!(in rt.alloc();
+        "1 4096 recv: waiting\n2 2048 nbsend: delivered 6144 from 2048 to 4096 badge 0 label 9 words\nthread 2048 ready\nthread 4096 ready inbox badge 0 label 9 words\nendpoint 6144 idle\n{SLOTS}expected 0 of 0\n"
+    )?;
+    gives(&rt, "", calls, wanted.as_str())
+}
+
+#[test]
+fn receive_that_does_not_wait(rt: HostRuntime) -> Result<(), Fail> {
+    let calls =
+        "[[call]]\nthread = 2048\nop = \"send\"\ncap = 4\nlabel = 9\n[[call]]\nthread = 4096\nop = \"nbrecv\"\ncap = 4\n";
+    let wanted = format!(in rt.alloc();
+        "1 2048 send: waiting\n2 4096 nbrecv: delivered 6144 from 2048 to 4096 badge 0 label 9 words\nthread 2048 ready\nthread 4096 ready inbox badge 0 label 9 words\nendpoint 6144 idle\n{SLOTS}expected 0 of 0\n"
+    )?;
+    gives(&rt, "", calls, wanted.as_str())
+}
+
+#[test]
+fn nothing_waits(rt: HostRuntime) -> Result<(), Fail> {
+    let calls =
+        "[[call]]\nthread = 2048\nop = \"nbsend\"\ncap = 4\n[[call]]\nthread = 4096\nop = \"nbrecv\"\ncap = 4\n";
+    let wanted = format!(in rt.alloc();
+        "1 2048 nbsend: dropped\n2 4096 nbrecv: empty\nthread 2048 ready\nthread 4096 ready\nendpoint 6144 idle\n{SLOTS}expected 0 of 0\n"
+    )?;
+    gives(&rt, "", calls, wanted.as_str())
+}
+
+#[test]
+fn largest_message(rt: HostRuntime) -> Result<(), Fail> {
+    let calls =
+        "[[call]]\nthread = 4096\nop = \"recv\"\ncap = 4\n[[call]]\nthread = 2048\nop = \"nbsend\"\ncap = 4\nlabel = 4503599627370495\nwords = [\"0xffffffffffffffff\", 0, 1, 2]\n";
+    let wanted = format!(in rt.alloc();
+        "1 4096 recv: waiting\n2 2048 nbsend: delivered 6144 from 2048 to 4096 badge 0 label 4503599627370495 words 18446744073709551615 0 1 2\nthread 2048 ready\nthread 4096 ready inbox badge 0 label 4503599627370495 words 18446744073709551615 0 1 2\nendpoint 6144 idle\n{SLOTS}expected 0 of 0\n"
+    )?;
+    gives(&rt, "", calls, wanted.as_str())
+}
+
+#[test]
+fn words_that_lead_to_no_endpoint(rt: HostRuntime) -> Result<(), Fail> {
+    let calls =
+        "[[call]]\nthread = 2048\nop = \"nbsend\"\ncap = 16\n[[call]]\nthread = 2048\nop = \"nbsend\"\ncap = 15\n[[call]]\nthread = 2048\nop = \"nbsend\"\ncap = 5\n";
+    let wanted = format!(in rt.alloc();
+        "1 2048 nbsend: refused 6/4\n2 2048 nbsend: refused 2\n3 2048 nbsend: refused 3\nthread 2048 ready\nthread 4096 ready\nendpoint 6144 idle\n{SLOTS}expected 0 of 0\n"
+    )?;
+    gives(&rt, "", calls, wanted.as_str())
+}
+
+#[test]
+fn dropped_where_waiting_was_expected(rt: HostRuntime) -> Result<(), Fail> {
+    let calls = "[[call]]\nthread = 2048\nop = \"nbsend\"\ncap = 4\nexpect = \"waiting\"\n";
+    let wanted = format!(in rt.alloc();
+        "1 2048 nbsend: dropped [not met: waiting]\nthread 2048 ready\nthread 4096 ready\nendpoint 6144 idle\n{SLOTS}expected 0 of 1\n"
+    )?;
+    gives(&rt, "", calls, wanted.as_str())
+}
+
+#[test]
+fn label_past_the_largest(rt: HostRuntime) -> Result<(), Fail> {
+    let calls =
+        "[[call]]\nthread = 4096\nop = \"recv\"\ncap = 4\n[[call]]\nthread = 2048\nop = \"nbsend\"\ncap = 4\nlabel = 4503599627370496\n";
+    let text = format!(in rt.alloc(); "{HEAD}{UNTYPED}{calls}")?;
+    refused(
+        &rt,
+        text.as_bytes(),
+        "set-up refused 204 at call 2 key label\n",
+    )
+}

@@ -214,8 +214,12 @@ fn edges_of_the_keys_of_a_call(rt: HostRuntime) -> Result<(), Fail> {
         ("op = 1", "203: set-up refused 203 at call 1 key op"),
         ("op = \"call\"", "204: set-up refused 204 at call 1 key op"),
         (
-            "op = \"nbsend\"",
-            "204: set-up refused 204 at call 1 key op",
+            "op = \"nbsend\", thread = 2048",
+            "202: set-up refused 202 at call 1 key cap",
+        ),
+        (
+            "op = \"nbrecv\", words = []",
+            "201: set-up refused 201 at call 1 key words",
         ),
         (
             "op = \"recv\", label = 1",
@@ -325,7 +329,7 @@ fn one_message_from_thread_to_thread(rt: HostRuntime) -> Result<(), Fail> {
             assert_eq!(rt; message.words, [1, u64::MAX, 0, 0]);
             assert_eq!(rt; message.count, 2);
         }
-        Op::Recv { .. } => assert!(rt; false),
+        _ => assert!(rt; false),
     }
     assert_eq!(rt; calls[1].op, Op::Recv { cap: 4 });
     assert_eq!(rt; setup.client_of(0), 0);

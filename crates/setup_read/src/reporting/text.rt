@@ -109,7 +109,9 @@ pub fn op_text(op: &Op) -> &'static str
 {
     match op {
         Op::Send { .. } => "send",
+        Op::NbSend { .. } => "nbsend",
         Op::Recv { .. } => "recv",
+        Op::NbRecv { .. } => "nbrecv",
     }
 }
 

@@ -11,7 +11,7 @@ pub returns-clause-kernel : goal.returns-clause-kernel
 unfolding end_of
 returns-clause-kernel c =
     let setup = c.args.setup.now in
-    let plan : c.plan.result.now ≡ setup.plan = c.plan.ensures in
+    let plan : c.plan.result.now ≡ setup.plan = c.plan.ensures.plan in
     let calls : c.calls-calls.result.now ≡ calls_of setup = c.calls-calls.ensures in
     let shows : c.in_ok-kernel.kernel ≡ shown (boot Wide setup.plan) =
     c.in_ok-kernel.ensures ∙ ap (λ q. shown (boot Wide q)) plan in
@@ -22,7 +22,7 @@ pub returns-clause-replies : goal.returns-clause-replies
 unfolding replies_to
 returns-clause-replies c =
     let setup = c.args.setup.now in
-    let plan : c.plan.result.now ≡ setup.plan = c.plan.ensures in
+    let plan : c.plan.result.now ≡ setup.plan = c.plan.ensures.plan in
     let calls : c.calls-calls.result.now ≡ calls_of setup = c.calls-calls.ensures in
     let shows : c.in_ok-kernel.kernel ≡ shown (boot Wide setup.plan) =
     c.in_ok-kernel.ensures ∙ ap (λ q. shown (boot Wide q)) plan in

@@ -1,5 +1,5 @@
 use Rattle.std.proofs.Common.{sym, ◌∙◌}
-use Rattle.kernel_core.proofs.Sends.{endpoint_stands, thread_stands, thread_there, waits_nowhere, receives_reply, receives_kernel, receives_shown, receive_waits_reply, receive_waits_kernel, receive_waits_shown}
+use Rattle.kernel_core.proofs.Sends.{endpoint_stands, thread_stands, thread_there, waits_nowhere, receives_reply, receives_kernel, receives_shown, receive_waits_reply, receive_waits_kernel, receive_waits_shown, receive_empty_reply, receive_empty_kernel, receive_empty_shown}
 use Rattle.kernel_core.proofs.kernel.Kernel.recv.Goals as goal
 
 pub recv-requires-clause-endpoint : goal.recv-requires-clause-endpoint
@@ -15,19 +15,28 @@ pub set_row-requires : goal.set_row-requires
 set_row-requires g c = thread_there g.P.Profile.the c.self.inside.memory_bits (g.S.CapStore.memory_bits c.self.inside.store) (g.W.Waiters.memory_bits c.self.inside.waiters) (g.S.CapStore.forest c.self.inside.store) c.self.inside.threads.items (g.W.Waiters.waits c.self.inside.waiters) c.self.invariant c.args.self.now c.self.view_is c.args.thread c.args.service c.requires.live c.requires.ready
 
 pub invariant_of-self : goal.invariant_of-self
-invariant_of-self g c = receives_kernel g.P.Profile.the c.self.inside.memory_bits (g.S.CapStore.memory_bits c.self.inside.store) (g.W.Waiters.memory_bits c.self.inside.waiters) (g.S.CapStore.forest c.self.inside.store) c.self.inside.threads.items (g.W.Waiters.waits c.self.inside.waiters) c.self.invariant c.args.self.now c.self.view_is c.args.thread c.args.service c.requires.live c.requires.ready (g.W.Waiters.waits c.recv.new.self) (g.W.Waiters.memory_bits c.recv.new.self) c.recv.ensures.memory c.recv.ensures.waits c.in-Delivered.from c.in-Delivered.badge c.in-Delivered.message (sym c.in-Delivered.is ∙ c.recv.ensures.answer) c.set_row.new.rows.items c.set_row.ensures.map c.set_row.ensures.length
+invariant_of-self g c = receives_kernel g.P.Profile.the c.self.inside.memory_bits (g.S.CapStore.memory_bits c.self.inside.store) (g.W.Waiters.memory_bits c.self.inside.waiters) (g.S.CapStore.forest c.self.inside.store) c.self.inside.threads.items (g.W.Waiters.waits c.self.inside.waiters) c.self.invariant c.args.self.now c.self.view_is c.args.thread c.args.service c.requires.live c.requires.ready (g.W.Waiters.waits c.recv.new.self) (g.W.Waiters.memory_bits c.recv.new.self) c.recv.ensures.memory c.args.block c.recv.ensures.waits c.in-Delivered.from c.in-Delivered.badge c.in-Delivered.message (sym c.in-Delivered.is ∙ c.recv.ensures.answer) c.set_row.new.rows.items c.set_row.ensures.map c.set_row.ensures.length
 
 pub invariant_of-self-in-Waiting : goal.invariant_of-self-in-Waiting
-invariant_of-self-in-Waiting g c = receive_waits_kernel g.P.Profile.the c.self.inside.memory_bits (g.S.CapStore.memory_bits c.self.inside.store) (g.W.Waiters.memory_bits c.self.inside.waiters) (g.S.CapStore.forest c.self.inside.store) c.self.inside.threads.items (g.W.Waiters.waits c.self.inside.waiters) c.self.invariant c.args.self.now c.self.view_is c.args.thread c.args.service c.requires.live c.requires.ready (g.W.Waiters.waits c.recv.new.self) (g.W.Waiters.memory_bits c.recv.new.self) c.recv.ensures.memory c.recv.ensures.waits (sym c.in-Waiting.is ∙ c.recv.ensures.answer)
+invariant_of-self-in-Waiting g c = receive_waits_kernel g.P.Profile.the c.self.inside.memory_bits (g.S.CapStore.memory_bits c.self.inside.store) (g.W.Waiters.memory_bits c.self.inside.waiters) (g.S.CapStore.forest c.self.inside.store) c.self.inside.threads.items (g.W.Waiters.waits c.self.inside.waiters) c.self.invariant c.args.self.now c.self.view_is c.args.thread c.args.service c.requires.live c.requires.ready (g.W.Waiters.waits c.recv.new.self) (g.W.Waiters.memory_bits c.recv.new.self) c.recv.ensures.memory c.args.block c.recv.ensures.waits (sym c.in-Waiting.is ∙ c.recv.ensures.answer)
 
 pub returns-in-Delivered-clause-reply : goal.returns-in-Delivered-clause-reply
-returns-in-Delivered-clause-reply g c = receives_reply g.P.Profile.the c.self.inside.memory_bits (g.S.CapStore.memory_bits c.self.inside.store) (g.W.Waiters.memory_bits c.self.inside.waiters) (g.S.CapStore.forest c.self.inside.store) c.self.inside.threads.items (g.W.Waiters.waits c.self.inside.waiters) c.self.invariant c.args.self.now c.self.view_is c.args.thread c.args.service c.requires.live c.requires.ready (g.W.Waiters.waits c.recv.new.self) (g.W.Waiters.memory_bits c.recv.new.self) c.recv.ensures.memory c.recv.ensures.waits c.in-Delivered.from c.in-Delivered.badge c.in-Delivered.message (sym c.in-Delivered.is ∙ c.recv.ensures.answer)
+returns-in-Delivered-clause-reply g c = receives_reply g.P.Profile.the c.self.inside.memory_bits (g.S.CapStore.memory_bits c.self.inside.store) (g.W.Waiters.memory_bits c.self.inside.waiters) (g.S.CapStore.forest c.self.inside.store) c.self.inside.threads.items (g.W.Waiters.waits c.self.inside.waiters) c.self.invariant c.args.self.now c.self.view_is c.args.thread c.args.service c.requires.live c.requires.ready (g.W.Waiters.waits c.recv.new.self) (g.W.Waiters.memory_bits c.recv.new.self) c.recv.ensures.memory c.args.block c.recv.ensures.waits c.in-Delivered.from c.in-Delivered.badge c.in-Delivered.message (sym c.in-Delivered.is ∙ c.recv.ensures.answer)
 
 pub returns-in-Delivered-clause-after : goal.returns-in-Delivered-clause-after
-returns-in-Delivered-clause-after g c = receives_shown g.P.Profile.the c.self.inside.memory_bits (g.S.CapStore.memory_bits c.self.inside.store) (g.W.Waiters.memory_bits c.self.inside.waiters) (g.S.CapStore.forest c.self.inside.store) c.self.inside.threads.items (g.W.Waiters.waits c.self.inside.waiters) c.self.invariant c.args.self.now c.self.view_is c.args.thread c.args.service c.requires.live c.requires.ready (g.W.Waiters.waits c.recv.new.self) (g.W.Waiters.memory_bits c.recv.new.self) c.recv.ensures.memory c.recv.ensures.waits c.in-Delivered.from c.in-Delivered.badge c.in-Delivered.message (sym c.in-Delivered.is ∙ c.recv.ensures.answer) c.set_row.new.rows.items c.set_row.ensures.map
+returns-in-Delivered-clause-after g c = receives_shown g.P.Profile.the c.self.inside.memory_bits (g.S.CapStore.memory_bits c.self.inside.store) (g.W.Waiters.memory_bits c.self.inside.waiters) (g.S.CapStore.forest c.self.inside.store) c.self.inside.threads.items (g.W.Waiters.waits c.self.inside.waiters) c.self.invariant c.args.self.now c.self.view_is c.args.thread c.args.service c.requires.live c.requires.ready (g.W.Waiters.waits c.recv.new.self) (g.W.Waiters.memory_bits c.recv.new.self) c.recv.ensures.memory c.args.block c.recv.ensures.waits c.in-Delivered.from c.in-Delivered.badge c.in-Delivered.message (sym c.in-Delivered.is ∙ c.recv.ensures.answer) c.set_row.new.rows.items c.set_row.ensures.map
 
 pub returns-in-Waiting-clause-reply : goal.returns-in-Waiting-clause-reply
-returns-in-Waiting-clause-reply g c = receive_waits_reply g.P.Profile.the c.self.inside.memory_bits (g.S.CapStore.memory_bits c.self.inside.store) (g.W.Waiters.memory_bits c.self.inside.waiters) (g.S.CapStore.forest c.self.inside.store) c.self.inside.threads.items (g.W.Waiters.waits c.self.inside.waiters) c.self.invariant c.args.self.now c.self.view_is c.args.thread c.args.service c.requires.live c.requires.ready (g.W.Waiters.waits c.recv.new.self) (g.W.Waiters.memory_bits c.recv.new.self) c.recv.ensures.memory c.recv.ensures.waits (sym c.in-Waiting.is ∙ c.recv.ensures.answer)
+returns-in-Waiting-clause-reply g c = receive_waits_reply g.P.Profile.the c.self.inside.memory_bits (g.S.CapStore.memory_bits c.self.inside.store) (g.W.Waiters.memory_bits c.self.inside.waiters) (g.S.CapStore.forest c.self.inside.store) c.self.inside.threads.items (g.W.Waiters.waits c.self.inside.waiters) c.self.invariant c.args.self.now c.self.view_is c.args.thread c.args.service c.requires.live c.requires.ready (g.W.Waiters.waits c.recv.new.self) (g.W.Waiters.memory_bits c.recv.new.self) c.recv.ensures.memory c.args.block c.recv.ensures.waits (sym c.in-Waiting.is ∙ c.recv.ensures.answer)
 
 pub returns-in-Waiting-clause-after : goal.returns-in-Waiting-clause-after
-returns-in-Waiting-clause-after g c = receive_waits_shown g.P.Profile.the c.self.inside.memory_bits (g.S.CapStore.memory_bits c.self.inside.store) (g.W.Waiters.memory_bits c.self.inside.waiters) (g.S.CapStore.forest c.self.inside.store) c.self.inside.threads.items (g.W.Waiters.waits c.self.inside.waiters) c.self.invariant c.args.self.now c.self.view_is c.args.thread c.args.service c.requires.live c.requires.ready (g.W.Waiters.waits c.recv.new.self) (g.W.Waiters.memory_bits c.recv.new.self) c.recv.ensures.memory c.recv.ensures.waits (sym c.in-Waiting.is ∙ c.recv.ensures.answer)
+returns-in-Waiting-clause-after g c = receive_waits_shown g.P.Profile.the c.self.inside.memory_bits (g.S.CapStore.memory_bits c.self.inside.store) (g.W.Waiters.memory_bits c.self.inside.waiters) (g.S.CapStore.forest c.self.inside.store) c.self.inside.threads.items (g.W.Waiters.waits c.self.inside.waiters) c.self.invariant c.args.self.now c.self.view_is c.args.thread c.args.service c.requires.live c.requires.ready (g.W.Waiters.waits c.recv.new.self) (g.W.Waiters.memory_bits c.recv.new.self) c.recv.ensures.memory c.args.block c.recv.ensures.waits (sym c.in-Waiting.is ∙ c.recv.ensures.answer)
+
+pub invariant_of-self-in-Empty : goal.invariant_of-self-in-Empty
+invariant_of-self-in-Empty g c = receive_empty_kernel g.P.Profile.the c.self.inside.memory_bits (g.S.CapStore.memory_bits c.self.inside.store) (g.W.Waiters.memory_bits c.self.inside.waiters) (g.S.CapStore.forest c.self.inside.store) c.self.inside.threads.items (g.W.Waiters.waits c.self.inside.waiters) c.self.invariant c.args.self.now c.self.view_is c.args.thread c.args.service c.requires.live c.requires.ready (g.W.Waiters.waits c.recv.new.self) (g.W.Waiters.memory_bits c.recv.new.self) c.recv.ensures.memory c.args.block c.recv.ensures.waits (sym c.in-Empty.is ∙ c.recv.ensures.answer)
+
+pub returns-in-Empty-clause-reply : goal.returns-in-Empty-clause-reply
+returns-in-Empty-clause-reply g c = receive_empty_reply g.P.Profile.the c.self.inside.memory_bits (g.S.CapStore.memory_bits c.self.inside.store) (g.W.Waiters.memory_bits c.self.inside.waiters) (g.S.CapStore.forest c.self.inside.store) c.self.inside.threads.items (g.W.Waiters.waits c.self.inside.waiters) c.self.invariant c.args.self.now c.self.view_is c.args.thread c.args.service c.requires.live c.requires.ready (g.W.Waiters.waits c.recv.new.self) (g.W.Waiters.memory_bits c.recv.new.self) c.recv.ensures.memory c.args.block c.recv.ensures.waits (sym c.in-Empty.is ∙ c.recv.ensures.answer)
+
+pub returns-in-Empty-clause-after : goal.returns-in-Empty-clause-after
+returns-in-Empty-clause-after g c = receive_empty_shown g.P.Profile.the c.self.inside.memory_bits (g.S.CapStore.memory_bits c.self.inside.store) (g.W.Waiters.memory_bits c.self.inside.waiters) (g.S.CapStore.forest c.self.inside.store) c.self.inside.threads.items (g.W.Waiters.waits c.self.inside.waiters) c.self.invariant c.args.self.now c.self.view_is c.args.thread c.args.service c.requires.live c.requires.ready (g.W.Waiters.waits c.recv.new.self) (g.W.Waiters.memory_bits c.recv.new.self) c.recv.ensures.memory c.args.block c.recv.ensures.waits (sym c.in-Empty.is ∙ c.recv.ensures.answer)

@@ -1,0 +1,42 @@
+use Rattle.std.proofs.Common.{◌≢◌, Bool, true, ◌≤◌, ◌*◌, ◌^◌, ℕ, not, sym, ap, subst, ◌∙◌, rules}
+use Rattle.std.proofs.lemmas.Fn.{filter_same}
+use Rattle.std.proofs.lemmas.List.Kept.{AllPairs-filter}
+use Rattle.std.proofs.lemmas.List.Elements.{All-filter}
+use Rattle.cap_core.specs.Numbers.{tcb_size}
+use Rattle.ipc_core.specs.Rows.{row_thread, is_at, waits_of, AreDistinct, ArePlaced}
+use Rattle.ipc_core.specs.Waits.{IsThreadAddress}
+use Rattle.ipc_core.specs.declared.row.WaitRow.{WaitRow}
+use Rattle.ipc_core.proofs.Cancelling.{endpoint_by_histories}
+use Rattle.ipc_core.proofs.Kept.{rows_cancelled, all_leave, endpoint_tests}
+use Rattle.ipc_core.proofs.rows.RowWaitersWaiters.cancel_endpoint.Goals as goal
+
+abbrev keeps : ℕ → WaitRow → Bool
+keeps e row = not (is_at e row)
+
+pub invariant_of-self-clause-distinct : goal.invariant_of-self-clause-distinct
+invariant_of-self-clause-distinct g c =
+    let own = c.args.self.now in
+    let left = filter_same _ (keeps c.args.endpoint) _ (λ x b f' k. search rules) own.rows.items _ c.retain.ensures.filtered in
+    subst AreDistinct (sym left) (AllPairs-filter (λ a b. row_thread a ≢ row_thread b) (keeps c.args.endpoint) own.rows.items own.distinct)
+
+pub invariant_of-self-clause-placed : goal.invariant_of-self-clause-placed
+invariant_of-self-clause-placed g c =
+    let own = c.args.self.now in
+    let left = filter_same _ (keeps c.args.endpoint) _ (λ x b f' k. search rules) own.rows.items _ c.retain.ensures.filtered in
+    subst (ArePlaced g.P.Profile.the own.memory_bits) (sym left) (All-filter (keeps c.args.endpoint) (λ row. IsThreadAddress g.P.Profile.the own.memory_bits (row_thread row)) own.rows.items own.placed)
+
+pub invariant_of-self-clause-room : goal.invariant_of-self-clause-room
+invariant_of-self-clause-room g c =
+    subst (λ (n : ℕ). 2 ^ c.args.self.now.memory_bits ≤ n * tcb_size g.P.Profile.the) (sym c.retain.ensures.capacity) c.args.self.now.room
+
+pub returns-clause-waits : goal.returns-clause-waits
+returns-clause-waits g c =
+    let own = c.args.self.now in
+    let left = filter_same _ (keeps c.args.endpoint) _ (λ x b f' k. search rules) own.rows.items _ c.retain.ensures.filtered in
+    ap waits_of left ∙ endpoint_tests c.args.endpoint own.rows.items ∙ rows_cancelled own.rows.items c.args.endpoint (λ _. true) own.distinct ∙ all_leave c.args.endpoint (waits_of own.rows.items)
+
+pub returns-clause-histories : goal.returns-clause-histories
+returns-clause-histories g c =
+    let own = c.args.self.now in
+    let left = filter_same _ (keeps c.args.endpoint) _ (λ x b f' k. search rules) own.rows.items _ c.retain.ensures.filtered in
+    endpoint_by_histories c.args.endpoint (waits_of own.rows.items) (waits_of c.retain.new.self.items) (ap waits_of left ∙ endpoint_tests c.args.endpoint own.rows.items ∙ rows_cancelled own.rows.items c.args.endpoint (λ _. true) own.distinct ∙ all_leave c.args.endpoint (waits_of own.rows.items))
