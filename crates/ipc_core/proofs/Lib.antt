@@ -6,3 +6,13 @@ pub mod Deliveries
 mod Room
 pub mod Cancelling
 mod Kept
+pub mod Chains
+mod Led
+mod Queues
+mod TakenOut
+mod PutLast
+mod InTables
+mod QueueReads
+mod Emptied
+mod Drained
+mod FirstOut

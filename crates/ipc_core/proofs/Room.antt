@@ -13,14 +13,14 @@ use Rattle.std.specs.List.{list_any, AllPairs}
 use Rattle.ipc_core.specs.declared.waiter.Waiter.TheVariants.{Receiver}
 use Rattle.cap_core.specs.declared.profile.ProfileName.{ProfileName}
 use Rattle.cap_core.specs.declared.profile.ProfileName.TheVariants.{Wide, Narrow}
-use Rattle.cap_core.specs.Numbers.{tcb_bits, tcb_size}
+use Rattle.cap_core.specs.Numbers.{tcb_bits, tcb_size, endpoint_bits}
 use Rattle.ipc_core.specs.declared.row.WaitRow.{WaitRow}
 use Rattle.ipc_core.specs.Rows.{row_thread, waits_of, AreDistinct, ArePlaced}
 use Rattle.ipc_core.specs.Waits.{IsThreadAddress}
 use Rattle.ipc_core.proofs.Served.{distinct_push}
 
 -- multiples of a size with one quotient are one
-quotient_of : (a b size : ℕ) → a % size ≡ 0 → b % size ≡ 0 → a / size ≡ b / size → a ≡ b
+pub quotient_of : (a b size : ℕ) → a % size ≡ 0 → b % size ≡ 0 → a / size ≡ b / size → a ≡ b
 quotient_of a b size left right same =
     let whole : size * (a / size) ≡ size * (b / size) = ap (λ q. size * q) same in
     let x = div-add-mod a size in
@@ -67,6 +67,10 @@ room_left rows row p memory room distinct placed enough address free =
 pub tcb_bits-most : (p : ProfileName) → tcb_bits p ≤ 11
 tcb_bits-most Wide = omega arith
 tcb_bits-most Narrow = omega arith
+
+pub endpoint_bits-most : (p : ProfileName) → endpoint_bits p ≤ 11
+endpoint_bits-most Wide = omega arith
+endpoint_bits-most Narrow = omega arith
 
 -- two to the difference of the bits is room for all of them
 pub enough_room : (m s room : ℕ) → s ≤ m → room ≡ 2 ^ (m - s) → 2 ^ m ≤ room * 2 ^ s

@@ -1,5 +1,5 @@
--- Sends and receives on one endpoint, one after another, and what they deliver.
-use Rattle.std.specs.Prelude.{ℕ, Bool, List, [], ◌∷◌, ◌++◌}
+-- Calls on endpoints, one after another: what an endpoint delivers, and what stands on it.
+use Rattle.std.specs.Prelude.{ℕ, Bool, true, false, cond, ◌==◌, List, [], ◌∷◌, ◌++◌}
 use Rattle.cap_core.specs.declared.message.Message.{Message}
 use Rattle.cap_core.specs.declared.capability.Badge.{Badge}
 use Rattle.ipc_core.specs.declared.waiter.Sent.{Sent}
@@ -9,11 +9,15 @@ use Rattle.ipc_core.specs.declared.waiter.Received.TheVariants as R
 use Rattle.ipc_core.specs.Records.{SendRecord, AskRecord}
 use Rattle.ipc_core.specs.Waits.{Waits, sent, after_send, received, after_receive}
 use Rattle.ipc_core.specs.Pairing.{sends_with, asks_with}
+use Rattle.ipc_core.specs.Cancelled.{after_cancel_thread, after_cancel_badge, after_cancel_endpoint, sends_less, asks_less, is_sent_by, is_asked_by, is_sent_with}
 
--- a send or a receive, and whether it waits where it meets none
+-- a send or a receive on the endpoint of its record, and whether it waits where it meets none; and the calls that cancel
 pub data Request : Type 0 where
   Sends : (block : Bool) (s : SendRecord) → Request
   Receives : (block : Bool) (a : AskRecord) → Request
+  CancelsThread : (thread : ℕ) → Request
+  CancelsBadge : (endpoint : ℕ) (badge : Badge) → Request
+  CancelsEndpoint : (endpoint : ℕ) → Request
 
 -- a message that came from a thread to a thread, with its badge
 pub record Delivery : Type 0 where
@@ -40,13 +44,26 @@ delivered_to a (R.Delivered from badge message) =
 delivered_to a R.Waiting = []
 delivered_to a R.Empty = []
 
--- all that requests on an endpoint deliver, in order
+-- who waits after a request
+abbrev pub after_request : Waits → Request → Waits
+after_request w (Sends block s) = after_send block s.endpoint.base s.thread.base s.badge s.message w
+after_request w (Receives block a) = after_receive block a.endpoint.base a.thread.base w
+after_request w (CancelsThread thread) = after_cancel_thread thread w
+after_request w (CancelsBadge endpoint badge) = after_cancel_badge endpoint badge w
+after_request w (CancelsEndpoint endpoint) = after_cancel_endpoint endpoint w
+
+-- what an endpoint delivers by a request
+abbrev pub delivered_on : ℕ → Waits → Request → List Delivery
+delivered_on e w (Sends block s) = cond (s.endpoint.base == e) (delivered_by s (sent block s.endpoint.base w)) []
+delivered_on e w (Receives block a) = cond (a.endpoint.base == e) (delivered_to a (received block a.endpoint.base w)) []
+delivered_on e w (CancelsThread thread) = []
+delivered_on e w (CancelsBadge endpoint badge) = []
+delivered_on e w (CancelsEndpoint endpoint) = []
+
+-- all that an endpoint delivers by requests, in order
 abbrev pub deliveries : ℕ → Waits → List Request → List Delivery
 deliveries e w [] = []
-deliveries e w (Sends block s ∷ requests) =
-    delivered_by s (sent block e w) ++ deliveries e (after_send block e s.thread.base s.badge s.message w) requests
-deliveries e w (Receives block a ∷ requests) =
-    delivered_to a (received block e w) ++ deliveries e (after_receive block e a.thread.base w) requests
+deliveries e w (request ∷ requests) = delivered_on e w request ++ deliveries e (after_request w request) requests
 
 -- the sends and the receives that stand on an endpoint
 pub record History : Type 0 where
@@ -56,10 +73,22 @@ pub record History : Type 0 where
 abbrev pub no_history : History
 no_history = record { sends = []; asks = [] }
 
--- those that stand after requests: the accepted ones
-abbrev pub standing : History → List Request → History
-standing h [] = h
-standing h (Sends block s ∷ requests) =
-    standing (record { sends = sends_with block s h.sends h.asks; asks = h.asks }) requests
-standing h (Receives block a ∷ requests) =
-    standing (record { sends = h.sends; asks = asks_with block a h.sends h.asks }) requests
+-- what is cancelled of a history: those that wait and that the tests name
+abbrev pub history_less : (SendRecord → Bool) → (AskRecord → Bool) → History → History
+history_less of_sends of_asks h =
+    record { sends = sends_less of_sends h.sends h.asks; asks = asks_less of_asks h.sends h.asks }
+
+-- the history of an endpoint after a request
+abbrev pub grown : ℕ → History → Request → History
+grown e h (Sends block s) =
+    cond (s.endpoint.base == e) (record { sends = sends_with block s h.sends h.asks; asks = h.asks }) h
+grown e h (Receives block a) =
+    cond (a.endpoint.base == e) (record { sends = h.sends; asks = asks_with block a h.sends h.asks }) h
+grown e h (CancelsThread thread) = history_less (is_sent_by thread) (is_asked_by thread) h
+grown e h (CancelsBadge endpoint badge) = cond (endpoint == e) (history_less (is_sent_with badge) (λ _. false) h) h
+grown e h (CancelsEndpoint endpoint) = cond (endpoint == e) (history_less (λ _. true) (λ _. true) h) h
+
+-- what stands on an endpoint after requests: what was accepted and was not cancelled
+abbrev pub standing : ℕ → History → List Request → History
+standing e h [] = h
+standing e h (request ∷ requests) = standing e (grown e h request) requests

@@ -4,3 +4,6 @@ pub mod Pairing
 pub mod Cancelled
 pub mod Rows
 pub mod Deliveries
+pub mod Chains
+pub mod Linked
+pub mod Alike

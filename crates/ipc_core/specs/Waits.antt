@@ -99,3 +99,8 @@ thread_of (Receiver thread) = thread
 abbrev pub role_at : ℕ → Waiter → Role
 role_at e (Sender thread badge message) = Sending e
 role_at e (Receiver thread) = Receiving e
+
+-- the endpoint on which it waits
+abbrev pub endpoint_of : Role → ℕ
+endpoint_of (Sending e) = e
+endpoint_of (Receiving e) = e

@@ -1,3 +1,5 @@
+mod both;
+
 use super::*;
 use cap_core::{Badge, Message, Narrow, Profile, Wide};
 use std::alloc::Global;
@@ -223,6 +225,40 @@ fn rows_are_copied(rt: HostRuntime) -> Result<(), Fail> {
 }
 
 #[test]
+fn queues_meet_the_receiver(rt: HostRuntime) -> Result<(), Fail> {
+    meets_the_receiver::<Wide, LinkedWaiters<Wide>>(&rt, rt.alloc())?;
+    meets_the_receiver::<Narrow, LinkedWaiters<Narrow>>(&rt, rt.alloc())
+}
+
+#[test]
+fn queues_serve_senders_in_order(rt: HostRuntime) -> Result<(), Fail> {
+    serves_senders_in_order::<Wide, LinkedWaiters<Wide>>(&rt, rt.alloc())?;
+    serves_senders_in_order::<Narrow, LinkedWaiters<Narrow>>(&rt, rt.alloc())
+}
+
+#[test]
+fn queues_leave_no_trace(rt: HostRuntime) -> Result<(), Fail> {
+    leaves_no_trace::<Wide, LinkedWaiters<Wide>>(&rt, rt.alloc())?;
+    leaves_no_trace::<Narrow, LinkedWaiters<Narrow>>(&rt, rt.alloc())
+}
+
+#[test]
+fn queues_cancel(rt: HostRuntime) -> Result<(), Fail> {
+    cancels_a_badge::<Wide, LinkedWaiters<Wide>>(&rt, rt.alloc())?;
+    cancels_a_badge::<Narrow, LinkedWaiters<Narrow>>(&rt, rt.alloc())?;
+    cancels_a_thread::<Wide, LinkedWaiters<Wide>>(&rt, rt.alloc())?;
+    cancels_a_thread::<Narrow, LinkedWaiters<Narrow>>(&rt, rt.alloc())?;
+    starts_empty_after_its_end::<Wide, LinkedWaiters<Wide>>(&rt, rt.alloc())?;
+    starts_empty_after_its_end::<Narrow, LinkedWaiters<Narrow>>(&rt, rt.alloc())
+}
+
+#[test]
+fn queues_are_copied(rt: HostRuntime) -> Result<(), Fail> {
+    copies_stand_apart::<Wide, LinkedWaiters<Wide>>(&rt, rt.alloc())?;
+    copies_stand_apart::<Narrow, LinkedWaiters<Narrow>>(&rt, rt.alloc())
+}
+
+#[test]
 fn waiters_have_their_thread_and_role(rt: HostRuntime) -> Result<(), Fail> {
     let sender = Waiter::Sender {
         thread: 2048,
@@ -237,6 +273,10 @@ fn waiters_have_their_thread_and_role(rt: HostRuntime) -> Result<(), Fail> {
     assert_eq!(rt; sender.is_sender_with(Badge(5)), true);
     assert_eq!(rt; sender.is_sender_with(Badge(0)), false);
     assert_eq!(rt; receiver.is_sender_with(Badge(5)), false);
+    assert_eq!(rt; Role::Sending(64).endpoint(), 64);
+    assert_eq!(rt; Role::Receiving(128).endpoint(), 128);
     law::each_pair_is_delivered_once();
+    law::pairs_go_on_standing();
+    law::emptied_endpoint_starts_anew();
     Ok(())
 }

@@ -1,6 +1,6 @@
 //! What waits, and what a call on an endpoint answers.
 ghost use Rattle.std.specs.Prelude.{◌≡◌};
-ghost use Rattle.ipc_core.specs.Waits.{thread_of, role_at};
+ghost use Rattle.ipc_core.specs.Waits.{thread_of, role_at, endpoint_of};
 ghost use Rattle.ipc_core.specs.Cancelled.{is_sender_with};
 
 use cap_core::{Badge, Message};
@@ -65,6 +65,18 @@ pub struct Offer {
 pub enum Role {
     Sending(u64),
     Receiving(u64),
+}
+
+impl Role {
+    /// The address of the endpoint on which the thread waits.
+    pub fn endpoint(&self) -> u64
+        ensures { result ≡ endpoint_of self.now }
+    {
+        match self {
+            Role::Sending(endpoint) => *endpoint,
+            Role::Receiving(endpoint) => *endpoint,
+        }
+    }
 }
 
 /// What became of a send.

@@ -1,0 +1,5 @@
+use Rattle.ipc_core.proofs.Deliveries.{starts_anew}
+use Rattle.ipc_core.proofs.law.emptied_endpoint_starts_anew.Goals as goal
+
+pub returns : goal.returns
+returns c = starts_anew

@@ -1,0 +1,125 @@
+//! Waiting threads as queues inside tables.
+ghost use Rattle.std.specs.Prelude.{◌*◌, ◌^◌, ◌≤◌, length};
+ghost use Rattle.cap_core.specs.Numbers.{tcb_size, endpoint_size};
+ghost use Rattle.ipc_core.specs.Linked.{IsLinked, waits_in};
+ghost use Rattle.ipc_core.specs.Alike.{linked-prop};
+
+use crate::tables::{EndpointRow, Tables, ThreadRow};
+use crate::waiter::{Received, Role, Sent};
+use crate::waiters::{MakeWaiters, Waiters};
+use cap_core::{Badge, Message, Profile};
+use std::alloc::{AllocError, Global};
+use std::marker::PhantomData;
+
+/// The threads that wait, each in a row of its own that names the threads before and after it.
+///
+/// There is a row for every thread and for every endpoint of the memory from the first, so that no call takes memory.
+/// `send`, `recv` and `cancel_thread` look at a few rows, however many threads wait.
+#[derive(Drop)]
+pub struct LinkedWaiters<P: Profile> {
+    tables: Tables,
+    memory_bits: u32,
+    profile: PhantomData<P>,
+    ghost linked: { IsLinked P.the tables } by { linked-prop P.the tables },
+    ghost threads: { 2 ^ memory_bits ≤ length tables.threads.items * tcb_size P.the },
+    ghost endpoints: { 2 ^ memory_bits ≤ length tables.endpoints.items * endpoint_size P.the },
+}
+
+impl<P: Profile> Waiters<P> for LinkedWaiters<P> {
+    ghost waits = { λ w. waits_in P.the w.tables };
+
+    ghost memory_bits = { λ w. w.memory_bits };
+
+    fn send(
+        &mut self,
+        endpoint: u64,
+        thread: u64,
+        badge: Badge,
+        message: Message,
+        block: bool,
+    ) -> Sent {
+        match self.tables.first_receiver::<P>(endpoint) {
+            Some(to) => {
+                self.tables.take_out::<P>(to);
+                Sent::Delivered { to }
+            },
+            None if block => {
+                let row = ThreadRow::sending(endpoint, badge, message);
+                self.tables.wait_last::<P>(endpoint, thread, row);
+                Sent::Waiting
+            },
+            None => Sent::Dropped,
+        }
+    }
+
+    fn recv(&mut self, endpoint: u64, thread: u64, block: bool) -> Received {
+        match self.tables.first_sender::<P>(endpoint) {
+            Some(offer) => {
+                self.tables.take_out::<P>(offer.thread);
+                Received::Delivered {
+                    from: offer.thread,
+                    badge: offer.badge,
+                    message: offer.message,
+                }
+            },
+            None if block => {
+                let row = ThreadRow::receiving(endpoint);
+                self.tables.wait_last::<P>(endpoint, thread, row);
+                Received::Waiting
+            },
+            None => Received::Empty,
+        }
+    }
+
+    fn cancel_thread(&mut self, thread: u64) {
+        self.tables.take_out::<P>(thread);
+    }
+
+    fn cancel_badge(&mut self, endpoint: u64, badge: Badge) {
+        self.tables.cancel_badge::<P>(endpoint, badge);
+    }
+
+    fn cancel_endpoint(&mut self, endpoint: u64) {
+        self.tables.cancel_endpoint::<P>(endpoint);
+    }
+
+    fn role(&self, thread: u64) -> Option<Role> {
+        self.tables.thread::<P>(thread).role
+    }
+
+    fn waiting(&self, endpoint: u64, place: u64) -> Option<u64> {
+        self.tables.waiting_at::<P>(endpoint, place)
+    }
+}
+
+impl<P: Profile> MakeWaiters<P> for LinkedWaiters<P> {
+    fn new(alloc: Global, memory_bits: u32) -> Result<Self, AllocError> {
+        let threads = 1usize << (memory_bits - P::TCB_BITS);
+        let endpoints = 1usize << (memory_bits - P::ENDPOINT_BITS);
+        let idle = EndpointRow {
+            first: None,
+            last: None,
+        };
+        let tables = Tables {
+            threads: vec![in alloc; ThreadRow::free(); threads]?,
+            endpoints: vec![in alloc; idle; endpoints]?,
+        };
+        Ok(LinkedWaiters {
+            tables,
+            memory_bits,
+            profile: PhantomData,
+        })
+    }
+
+    fn copy(&self, alloc: Global) -> Result<Self, AllocError> {
+        let tables = Tables {
+            threads: Vec::from_slice(alloc, &self.tables.threads)?,
+            endpoints: Vec::from_slice(alloc, &self.tables.endpoints)?,
+        };
+        Ok(LinkedWaiters {
+            tables,
+            memory_bits: self.memory_bits,
+            profile: PhantomData,
+        })
+    }
+}
