@@ -29,6 +29,8 @@ mod LinkedSteps
 mod LinkedReads
 mod LinkedRows
 mod LinkedMade
+mod Standing
+mod LinkedLaw
 mod LinkedCalls
 mod MarkedKept
 mod Family
