@@ -136,13 +136,13 @@ disjoint-freed p slot n f d = record { objects = objects; lines = lines }
     in_line a b (inr (inl m)) =
         let q : Entry → Bool = is_at (w a).slot in
         let same : below_those q (renamed w f) ≡ renamed w (below_those (is_at a.slot) f) =
-          renamed-below_those w q f ∙ ap (renamed w) (below_those-same (is_at a.slot) (λ (e : Entry). q (w e)) (λ (e : Entry). ap (λ i. i == (w a).slot) (freeing_slot slot n e) ∙ ap (λ i. e.slot == i) (freeing_slot slot n a)) f) in
+        renamed-below_those w q f ∙ ap (renamed w) (below_those-same (is_at a.slot) (λ (e : Entry). q (w e)) (λ (e : Entry). ap (λ i. i == (w a).slot) (freeing_slot slot n e) ∙ ap (λ i. e.slot == i) (freeing_slot slot n a)) f) in
         let Q : List Entry → Type 0 = λ l. Contains l (w b) in
         inr (inl (subst Q (sym (ap preorder same ∙ preorder-renamed w (below_those (is_at a.slot) f))) (contains-map w (preorder (below_those (is_at a.slot) f)) b m)))
     in_line a b (inr (inr m)) =
         let q : Entry → Bool = is_at (w a).slot in
         let same : ancestors q (renamed w f) ≡ map w (ancestors (is_at a.slot) f) =
-          ancestors-renamed w q f ∙ ap (map w) (ancestors-same (is_at a.slot) (λ (e : Entry). q (w e)) (λ (e : Entry). ap (λ i. i == (w a).slot) (freeing_slot slot n e) ∙ ap (λ i. e.slot == i) (freeing_slot slot n a)) f) in
+        ancestors-renamed w q f ∙ ap (map w) (ancestors-same (is_at a.slot) (λ (e : Entry). q (w e)) (λ (e : Entry). ap (λ i. i == (w a).slot) (freeing_slot slot n e) ∙ ap (λ i. e.slot == i) (freeing_slot slot n a)) f) in
         let Q : List Entry → Type 0 = λ l. Contains l (w b) in
         inr (inr (subst Q (sym same) (contains-map w (ancestors (is_at a.slot) f) b m)))
 
@@ -158,7 +158,7 @@ disjoint-freed p slot n f d = record { objects = objects; lines = lines }
 
 -- a slot that is emptied
 
-each-out : {A : Type 0} (P : A → Type 0) (is : A → Bool) (f : Forest A) → Each P (preorder f) → Each P (preorder (out is f))
+pub each-out : {A : Type 0} (P : A → Type 0) (is : A → Bool) (f : Forest A) → Each P (preorder f) → Each P (preorder (out is f))
 each-out P is none h = tt
 each-out {A} P is (tree a k r) h =
     let hk : Each P (preorder k) = each-left_part P (preorder k) (preorder r) h.1 in
@@ -173,12 +173,16 @@ each-out_old P is none h = tt
 each-out_old {A} P is (tree a k r) h =
     (elim (is a) as (λ c. is a ≡ c → Each P (preorder (cond c (join k r) (tree a (out is k) (out is r)))) → Each (λ x. is x ≡ false → P x) (a ∷ (preorder k ++ preorder r))) [
       | true ↦ λ e g.
-          let b : Each P (preorder k) × Each P (preorder r) = each-join_parts P k r g in
-          ((λ n. absurd (let no' : true ≡ false = sym e ∙ n in cc)),
-           each-weaker P (λ x. is x ≡ false → P x) (λ x d n. d) (preorder k ++ preorder r) (each-append P (preorder k) (preorder r) b.0 b.1))
-      | false ↦ λ e g. ((λ n. g.0), each-append (λ x. is x ≡ false → P x) (preorder k) (preorder r)
-          (each-out_old P is k (each-left_part P (preorder (out is k)) (preorder (out is r)) g.1))
-          (each-out_old P is r (each-right_part P (preorder (out is k)) (preorder (out is r)) g.1)))
+          let b : Each P (preorder k) × Each P (preorder r) = each-join_parts P k r g in (
+            (λ n. absurd (let no' : true ≡ false = sym e ∙ n in cc)),
+            each-weaker P (λ x. is x ≡ false → P x) (λ x d n. d) (preorder k ++ preorder r) (each-append P (preorder k) (preorder r) b.0 b.1),
+          )
+      | false ↦ λ e g. (
+        (λ n. g.0),
+        each-append (λ x. is x ≡ false → P x) (preorder k) (preorder r)
+            (each-out_old P is k (each-left_part P (preorder (out is k)) (preorder (out is r)) g.1))
+            (each-out_old P is r (each-right_part P (preorder (out is k)) (preorder (out is r)) g.1)),
+      )
     ]) refl h
 
 absent-out : {A : Type 0} (is : A → Bool) (f : Forest A) → Once is (preorder f) → Absent is (preorder (out is f))

@@ -87,7 +87,7 @@ pub region-transitive : (p : ProfileName) (a b c : Cap) → in_region p a b ≡ 
 region-transitive p (Untyped i bits free) (Untyped j bits' free') c h k =
     let q = and_parts (not (is_null c)) (contains p (Untyped j bits' free') c) k in
     and_from (not (is_null c)) (contains p (Untyped i bits free) c) q.0
-      (contains-transitive i (2 ^ bits) j (2 ^ bits') (base_of c) (2 ^ bits_of p c) h q.1)
+    (contains-transitive i (2 ^ bits) j (2 ^ bits') (base_of c) (2 ^ bits_of p c) h q.1)
 region-transitive p (Untyped i bits free) Null c h k = absurd (let n : false ≡ true = h in cc)
 region-transitive p (Untyped i bits free) (Endpoint j badge rights) c h k = sym ((same_one p (Endpoint j badge rights) c k).of (Untyped i bits free)) ∙ h
 region-transitive p (Untyped i bits free) (CNode j radix guard) c h k = sym ((same_one p (CNode j radix guard) c k).of (Untyped i bits free)) ∙ h

@@ -31,6 +31,7 @@ mod LinkedRows
 mod LinkedMade
 mod Standing
 mod LinkedLaw
+mod OneEndpoint
 mod LinkedCalls
 mod MarkedKept
 mod Family

@@ -51,12 +51,12 @@ pub rooted_call : (p : ProfileName) (old mid new k : List Link) (first first' la
     → IsLinkedStore p k first' last' × (forest_of p (rows_of k first') ≡ rooted (n * slot_size p) cap (forest_of p value.0))
 rooted_call p old mid new k first first' last last' n cap value e ek v inv within empty lawful named dis w =
     through p old mid new k first last first' last' value (λ f. rooted (n * slot_size p) cap f) e ek v inv
-      (λ v' i. rooted_store p mid new first first' last last' n cap i
-        (let P : List Marked × ℕ → Type 0 = λ x. n * slot_size p < 2 ^ x.1 in subst P (sym v') within)
-        (let P : List Marked × ℕ → Type 0 = λ x. is_full (n * slot_size p) (forest_of p x.0) ≡ false in subst P (sym v') empty)
-        (let P : List Marked × ℕ → Type 0 = λ x. IsLawful p x.1 cap in subst P (sym v') lawful)
-        (let P : List Marked × ℕ → Type 0 = λ x. is_named cap (forest_of p x.0) ≡ false in subst P (sym v') named)
-        (let P : List Marked × ℕ → Type 0 = λ x. IsDisjoint p (rooted (n * slot_size p) cap (forest_of p x.0)) in subst P (sym v') dis) w)
+    (λ v' i. rooted_store p mid new first first' last last' n cap i
+    (let P : List Marked × ℕ → Type 0 = λ x. n * slot_size p < 2 ^ x.1 in subst P (sym v') within)
+    (let P : List Marked × ℕ → Type 0 = λ x. is_full (n * slot_size p) (forest_of p x.0) ≡ false in subst P (sym v') empty)
+    (let P : List Marked × ℕ → Type 0 = λ x. IsLawful p x.1 cap in subst P (sym v') lawful)
+    (let P : List Marked × ℕ → Type 0 = λ x. is_named cap (forest_of p x.0) ≡ false in subst P (sym v') named)
+    (let P : List Marked × ℕ → Type 0 = λ x. IsDisjoint p (rooted (n * slot_size p) cap (forest_of p x.0)) in subst P (sym v') dis) w)
 
 pub retyped_call : (p : ProfileName) (old mid new k : List Link) (first first' last last' : Option ℕ) (u n : ℕ) (cap : Cap) (value : List Marked × ℕ) → mid ≡ old → k ≡ new → (rows_of old first, memory_of p old) ≡ value → IsLinkedStore p old first last
     → is_untyped (cap_at (forest_of p value.0) (u * slot_size p)) ≡ true → contains p (cap_at (forest_of p value.0) (u * slot_size p)) cap ≡ true
@@ -65,14 +65,14 @@ pub retyped_call : (p : ProfileName) (old mid new k : List Link) (first first' l
     → IsLinkedStore p k first' last' × (forest_of p (rows_of k first') ≡ retyped (u * slot_size p) (n * slot_size p) cap (forest_of p value.0))
 retyped_call p old mid new k first first' last last' u n cap value e ek v inv untyped inside within empty lawful named dis w =
     through p old mid new k first last first' last' value (λ f. retyped (u * slot_size p) (n * slot_size p) cap f) e ek v inv
-      (λ v' i. retyped_store p mid new first first' last last' u n cap i (found p mid first last u value v' i (full_untyped p u value.0 untyped))
-        (let P : List Marked × ℕ → Type 0 = λ x. is_untyped (cap_at (forest_of p x.0) (u * slot_size p)) ≡ true in subst P (sym v') untyped)
-        (let P : List Marked × ℕ → Type 0 = λ x. contains p (cap_at (forest_of p x.0) (u * slot_size p)) cap ≡ true in subst P (sym v') inside)
-        (let P : List Marked × ℕ → Type 0 = λ x. n * slot_size p < 2 ^ x.1 in subst P (sym v') within)
-        (let P : List Marked × ℕ → Type 0 = λ x. is_full (n * slot_size p) (forest_of p x.0) ≡ false in subst P (sym v') empty)
-        (let P : List Marked × ℕ → Type 0 = λ x. IsLawful p x.1 cap in subst P (sym v') lawful)
-        (let P : List Marked × ℕ → Type 0 = λ x. is_named cap (forest_of p x.0) ≡ false in subst P (sym v') named)
-        (let P : List Marked × ℕ → Type 0 = λ x. IsDisjoint p (retyped (u * slot_size p) (n * slot_size p) cap (forest_of p x.0)) in subst P (sym v') dis) w)
+    (λ v' i. retyped_store p mid new first first' last last' u n cap i (found p mid first last u value v' i (full_untyped p u value.0 untyped))
+    (let P : List Marked × ℕ → Type 0 = λ x. is_untyped (cap_at (forest_of p x.0) (u * slot_size p)) ≡ true in subst P (sym v') untyped)
+    (let P : List Marked × ℕ → Type 0 = λ x. contains p (cap_at (forest_of p x.0) (u * slot_size p)) cap ≡ true in subst P (sym v') inside)
+    (let P : List Marked × ℕ → Type 0 = λ x. n * slot_size p < 2 ^ x.1 in subst P (sym v') within)
+    (let P : List Marked × ℕ → Type 0 = λ x. is_full (n * slot_size p) (forest_of p x.0) ≡ false in subst P (sym v') empty)
+    (let P : List Marked × ℕ → Type 0 = λ x. IsLawful p x.1 cap in subst P (sym v') lawful)
+    (let P : List Marked × ℕ → Type 0 = λ x. is_named cap (forest_of p x.0) ≡ false in subst P (sym v') named)
+    (let P : List Marked × ℕ → Type 0 = λ x. IsDisjoint p (retyped (u * slot_size p) (n * slot_size p) cap (forest_of p x.0)) in subst P (sym v') dis) w)
 
 pub derived_call : (p : ProfileName) (old mid new k : List Link) (first first' last last' : Option ℕ) (s n : ℕ) (cap : Cap) (o : Bool) (value : List Marked × ℕ) → mid ≡ old → k ≡ new → (rows_of old first, memory_of p old) ≡ value → IsLinkedStore p old first last
     → is_full (s * slot_size p) (forest_of p value.0) ≡ true → o ≡ is_new_original (row_of old s).cap cap
@@ -84,14 +84,14 @@ pub derived_call : (p : ProfileName) (old mid new k : List Link) (first first' l
     → IsLinkedStore p k first' last' × (forest_of p (rows_of k first') ≡ derived (s * slot_size p) (n * slot_size p) cap (forest_of p value.0))
 derived_call p old mid new k first first' last last' s n cap o value e ek v inv full is within empty lawful same badge childless dis w =
     through p old mid new k first last first' last' value (λ f. derived (s * slot_size p) (n * slot_size p) cap f) e ek v inv
-      (λ v' i. derived_store p mid new first first' last last' s n cap o i (found p mid first last s value v' i full) (is ∙ ap (λ m. is_new_original (row_of m s).cap cap) (sym e))
-        (let P : List Marked × ℕ → Type 0 = λ x. n * slot_size p < 2 ^ x.1 in subst P (sym v') within)
-        (let P : List Marked × ℕ → Type 0 = λ x. is_full (n * slot_size p) (forest_of p x.0) ≡ false in subst P (sym v') empty)
-        (let P : List Marked × ℕ → Type 0 = λ x. IsLawful p x.1 cap in subst P (sym v') lawful)
-        (let P : List Marked × ℕ → Type 0 = λ x. names_same (cap_at (forest_of p x.0) (s * slot_size p)) cap ≡ true in subst P (sym v') same)
-        (let P : List Marked × ℕ → Type 0 = λ x. (badge_of cap ≡ badge_of (cap_at (forest_of p x.0) (s * slot_size p))) ⊎ (badge_of (cap_at (forest_of p x.0) (s * slot_size p)) ≡ 0) in subst P (sym v') badge)
-        (let P : List Marked × ℕ → Type 0 = λ x. is_untyped cap ≡ true → first_child (s * slot_size p) (forest_of p x.0) ≡ None in subst P (sym v') childless)
-        (let P : List Marked × ℕ → Type 0 = λ x. IsDisjoint p (derived (s * slot_size p) (n * slot_size p) cap (forest_of p x.0)) in subst P (sym v') dis) w)
+    (λ v' i. derived_store p mid new first first' last last' s n cap o i (found p mid first last s value v' i full) (is ∙ ap (λ m. is_new_original (row_of m s).cap cap) (sym e))
+    (let P : List Marked × ℕ → Type 0 = λ x. n * slot_size p < 2 ^ x.1 in subst P (sym v') within)
+    (let P : List Marked × ℕ → Type 0 = λ x. is_full (n * slot_size p) (forest_of p x.0) ≡ false in subst P (sym v') empty)
+    (let P : List Marked × ℕ → Type 0 = λ x. IsLawful p x.1 cap in subst P (sym v') lawful)
+    (let P : List Marked × ℕ → Type 0 = λ x. names_same (cap_at (forest_of p x.0) (s * slot_size p)) cap ≡ true in subst P (sym v') same)
+    (let P : List Marked × ℕ → Type 0 = λ x. (badge_of cap ≡ badge_of (cap_at (forest_of p x.0) (s * slot_size p))) ⊎ (badge_of (cap_at (forest_of p x.0) (s * slot_size p)) ≡ 0) in subst P (sym v') badge)
+    (let P : List Marked × ℕ → Type 0 = λ x. is_untyped cap ≡ true → first_child (s * slot_size p) (forest_of p x.0) ≡ None in subst P (sym v') childless)
+    (let P : List Marked × ℕ → Type 0 = λ x. IsDisjoint p (derived (s * slot_size p) (n * slot_size p) cap (forest_of p x.0)) in subst P (sym v') dis) w)
 
 pub moved_call : (p : ProfileName) (old mid new k : List Link) (first first' last last' : Option ℕ) (s n : ℕ) (cap : Cap) (value : List Marked × ℕ) → mid ≡ old → k ≡ new → (rows_of old first, memory_of p old) ≡ value → IsLinkedStore p old first last
     → is_full (s * slot_size p) (forest_of p value.0) ≡ true → n * slot_size p < 2 ^ value.1 → is_full (n * slot_size p) (forest_of p value.0) ≡ false → IsLawful p value.1 cap
@@ -100,20 +100,20 @@ pub moved_call : (p : ProfileName) (old mid new k : List Link) (first first' las
     → IsLinkedStore p k first' last' × (forest_of p (rows_of k first') ≡ moved (s * slot_size p) (n * slot_size p) cap (forest_of p value.0))
 moved_call p old mid new k first first' last last' s n cap value e ek v inv full within empty lawful same badge dis w =
     through p old mid new k first last first' last' value (λ f. moved (s * slot_size p) (n * slot_size p) cap f) e ek v inv
-      (λ v' i. moved_store p mid new first first' last last' s n cap i (found p mid first last s value v' i full)
-        (let P : List Marked × ℕ → Type 0 = λ x. n * slot_size p < 2 ^ x.1 in subst P (sym v') within)
-        (let P : List Marked × ℕ → Type 0 = λ x. is_full (n * slot_size p) (forest_of p x.0) ≡ false in subst P (sym v') empty)
-        (let P : List Marked × ℕ → Type 0 = λ x. IsLawful p x.1 cap in subst P (sym v') lawful)
-        (let P : List Marked × ℕ → Type 0 = λ x. names_same (cap_at (forest_of p x.0) (s * slot_size p)) cap ≡ true in subst P (sym v') same)
-        (let P : List Marked × ℕ → Type 0 = λ x. badge_of cap ≡ badge_of (cap_at (forest_of p x.0) (s * slot_size p)) in subst P (sym v') badge)
-        (let P : List Marked × ℕ → Type 0 = λ x. IsDisjoint p (moved (s * slot_size p) (n * slot_size p) cap (forest_of p x.0)) in subst P (sym v') dis) w)
+    (λ v' i. moved_store p mid new first first' last last' s n cap i (found p mid first last s value v' i full)
+    (let P : List Marked × ℕ → Type 0 = λ x. n * slot_size p < 2 ^ x.1 in subst P (sym v') within)
+    (let P : List Marked × ℕ → Type 0 = λ x. is_full (n * slot_size p) (forest_of p x.0) ≡ false in subst P (sym v') empty)
+    (let P : List Marked × ℕ → Type 0 = λ x. IsLawful p x.1 cap in subst P (sym v') lawful)
+    (let P : List Marked × ℕ → Type 0 = λ x. names_same (cap_at (forest_of p x.0) (s * slot_size p)) cap ≡ true in subst P (sym v') same)
+    (let P : List Marked × ℕ → Type 0 = λ x. badge_of cap ≡ badge_of (cap_at (forest_of p x.0) (s * slot_size p)) in subst P (sym v') badge)
+    (let P : List Marked × ℕ → Type 0 = λ x. IsDisjoint p (moved (s * slot_size p) (n * slot_size p) cap (forest_of p x.0)) in subst P (sym v') dis) w)
 
 pub emptied_call : (p : ProfileName) (old mid new k : List Link) (first first' last last' : Option ℕ) (s : ℕ) (value : List Marked × ℕ) → mid ≡ old → k ≡ new → (rows_of old first, memory_of p old) ≡ value → IsLinkedStore p old first last
     → is_full (s * slot_size p) (forest_of p value.0) ≡ true → TakesOut mid new first first' last last' s
     → IsLinkedStore p k first' last' × (forest_of p (rows_of k first') ≡ emptied (s * slot_size p) (forest_of p value.0))
 emptied_call p old mid new k first first' last last' s value e ek v inv full w =
     through p old mid new k first last first' last' value (λ f. emptied (s * slot_size p) f) e ek v inv
-      (λ v' i. emptied_store p mid new first first' last last' s i (found p mid first last s value v' i full) w)
+    (λ v' i. emptied_store p mid new first first' last last' s i (found p mid first last s value v' i full) w)
 
 -- the free index of an untyped capability is set
 pub record Frees (links links' : List Link) (s free : ℕ) : Type 0 where
@@ -146,7 +146,7 @@ freed_store p links links' first last s free inv sp lawful w =
       starts = ok.starts;
       ends = ok.ends;
       linked = linked-same (next_of links) (previous_of links) (next_of links') (previous_of links') None (sp.pre ++ s ∷ sp.post) None ok.linked
-        (each-all (λ i. next_of links' i ≡ next_of links i) w.next (sp.pre ++ s ∷ sp.post)) (each-all (λ i. previous_of links' i ≡ previous_of links i) w.previous (sp.pre ++ s ∷ sp.post));
+          (each-all (λ i. next_of links' i ≡ next_of links i) w.next (sp.pre ++ s ∷ sp.post)) (each-all (λ i. previous_of links' i ≡ previous_of links i) w.previous (sp.pre ++ s ∷ sp.post));
       apart = ok.apart;
       within = (let P : ℕ → Type 0 = λ n. Each (λ i. i < n) (sp.pre ++ s ∷ sp.post) in subst P (sym w.size) ok.within);
       free = λ i h. record {
@@ -156,19 +156,19 @@ freed_store p links links' first last s free inv sp lawful w =
       };
     } in
     let rows : map (row_of links') (sp.pre ++ s ∷ sp.post) ≡ map R sp.pre ++ x ∷ map R sp.post =
-      map-parts (row_of links') sp.pre (s ∷ sp.post)
-      ∙ ap (λ (m : List Marked). m ++ row_of links' s ∷ map (row_of links') sp.post) (map-same R (row_of links') sp.pre (each-other links links' s free w sp.pre sp.between.not_front))
-      ∙ ap (λ (r : Marked). map R sp.pre ++ r ∷ map (row_of links') sp.post) w.row
-      ∙ ap (λ (m : List Marked). map R sp.pre ++ x ∷ m) (map-same R (row_of links') sp.post (each-other links links' s free w sp.post sp.between.not_back)) in
+    map-parts (row_of links') sp.pre (s ∷ sp.post)
+    ∙ ap (λ (m : List Marked). m ++ row_of links' s ∷ map (row_of links') sp.post) (map-same R (row_of links') sp.pre (each-other links links' s free w sp.pre sp.between.not_front))
+    ∙ ap (λ (r : Marked). map R sp.pre ++ r ∷ map (row_of links') sp.post) w.row
+    ∙ ap (λ (m : List Marked). map R sp.pre ++ x ∷ m) (map-same R (row_of links') sp.post (each-other links links' s free w sp.post sp.between.not_back)) in
     let F : Cap → Type 0 = λ a. IsLawful p (memory_of p links) (with_free free a) in
     let k = freed_list p (memory_of p links) (map R sp.pre) (R s) (map R sp.post) free sp.kept sp.stands (subst F (cap_split p links first last s sp) lawful) in
     finished p links links' first last (sp.pre ++ s ∷ sp.post) (map R sp.pre ++ x ∷ map R sp.post) (freed (s * slot_size p) free (forest_of p (rows_of links first)))
-      inv.size w.size linked rows k.0 (k.1 ∙ ap (λ (l : List Marked). freed (s * slot_size p) free (forest_of p l)) (sym sp.rows))
+    inv.size w.size linked rows k.0 (k.1 ∙ ap (λ (l : List Marked). freed (s * slot_size p) free (forest_of p l)) (sym sp.rows))
 
 pub freed_call : (p : ProfileName) (old mid new k : List Link) (first last : Option ℕ) (s free : ℕ) (value : List Marked × ℕ) → mid ≡ old → k ≡ new → (rows_of old first, memory_of p old) ≡ value → IsLinkedStore p old first last
     → is_untyped (cap_at (forest_of p value.0) (s * slot_size p)) ≡ true → IsLawful p value.1 (with_free free (cap_at (forest_of p value.0) (s * slot_size p))) → Frees mid new s free
     → IsLinkedStore p k first last × (forest_of p (rows_of k first) ≡ freed (s * slot_size p) free (forest_of p value.0))
 freed_call p old mid new k first last s free value e ek v inv untyped lawful w =
     through p old mid new k first last first last value (λ f. freed (s * slot_size p) free f) e ek v inv
-      (λ v' i. freed_store p mid new first last s free i (found p mid first last s value v' i (full_untyped p s value.0 untyped))
-        (let P : List Marked × ℕ → Type 0 = λ x. IsLawful p x.1 (with_free free (cap_at (forest_of p x.0) (s * slot_size p))) in subst P (sym v') lawful) w)
+    (λ v' i. freed_store p mid new first last s free i (found p mid first last s value v' i (full_untyped p s value.0 untyped))
+    (let P : List Marked × ℕ → Type 0 = λ x. IsLawful p x.1 (with_free free (cap_at (forest_of p x.0) (s * slot_size p))) in subst P (sym v') lawful) w)

@@ -178,8 +178,8 @@ any_before p links (i ∷ (j ∷ l)) s post u g a some none =
             let r = split l j in
             let parts : map (row_of links) (j ∷ l) ≡ map (row_of links) r.0 ++ row_of links r.1 ∷ [] = ap (map (row_of links)) r.2 ∙ map-parts (row_of links) r.0 (r.1 ∷ []) in
             let gathered : IsGathered p ((row_of links i ∷ map (row_of links) r.0) ++ row_of links r.1 ∷ s ∷ post) =
-              (let Q : List Marked → Type 0 = λ t. IsGathered p (row_of links i ∷ t) in
-                subst Q (ap (λ (t : List Marked). t ++ s ∷ post) parts ∙ append_assoc (map (row_of links) r.0) (row_of links r.1 ∷ []) (s ∷ post)) g) in
+            (let Q : List Marked → Type 0 = λ t. IsGathered p (row_of links i ∷ t) in
+            subst Q (ap (λ (t : List Marked). t ++ s ∷ post) parts ∙ append_assoc (map (row_of links) r.0) (row_of links r.1 ∷ []) (s ∷ post)) g) in
             some r.1 r.3 ∙
             (elim (same_object (row_of links r.1).cap s.cap) as (λ c. same_object (row_of links r.1).cap s.cap ≡ c → c ≡ true) [
               | true ↦ λ t. refl
@@ -201,14 +201,14 @@ last_read p links first last n a b s u a_some a_none b_some b_none =
     let B : List Marked = map (row_of links) s.post in
     let q : Entry → Bool = λ e. not (e.slot == n * slot_size p) && same_object e.cap r.cap in
     let before : list_any (λ (x : Marked). same_object x.cap r.cap) A ≡ a =
-      any_before p links s.pre r B u s.kept.gathered a (λ d e. a_some d (s.between.previous ∙ e)) (λ e. a_none (s.between.previous ∙ e)) in
+    any_before p links s.pre r B u s.kept.gathered a (λ d e. a_some d (s.between.previous ∙ e)) (λ e. a_none (s.between.previous ∙ e)) in
     let behind : list_any (λ (x : Marked). same_object x.cap r.cap) B ≡ b =
-      any_behind p r B u (gathered-back p A (r ∷ B) s.kept.gathered).0 b (heads s.post s.between.next) (empties s.post s.between.next) in
+    any_behind p r B u (gathered-back p A (r ∷ B) s.kept.gathered).0 b (heads s.post s.between.next) (empties s.post s.between.next) in
     let self : (n * slot_size p == n * slot_size p) ≡ true = eq-eqb (n * slot_size p) (n * slot_size p) refl in
     let all : list_any q (map (entry_of p) (A ++ r ∷ B)) ≡ (a || b) =
-      ap (list_any q) (map-entries A (r ∷ B)) ∙ list_any-append q (map (entry_of p) A) (map (entry_of p) (r ∷ B))
-      ∙ ap (λ t. t || list_any q (map (entry_of p) (r ∷ B))) (elsewhere p r A s.stands.front ∙ before)
-      ∙ ap (λ t. a || t) (rw self (elsewhere p r B s.stands.back ∙ behind)) in
+    ap (list_any q) (map-entries A (r ∷ B)) ∙ list_any-append q (map (entry_of p) A) (map (entry_of p) (r ∷ B))
+    ∙ ap (λ t. t || list_any q (map (entry_of p) (r ∷ B))) (elsewhere p r A s.stands.front ∙ before)
+    ∙ ap (λ t. a || t) (rw self (elsewhere p r B s.stands.back ∙ behind)) in
     let entries : preorder (forest_of p (rows_of links first)) ≡ map (entry_of p) (A ++ r ∷ B) = entries_of p (rows_of links first) ∙ ap (map (entry_of p)) s.rows in
     let c : cap_at (forest_of p (rows_of links first)) (n * slot_size p) ≡ r.cap = cap_split p links first last n s in
     rw c (rw u (ap not (ap (list_any q) entries ∙ all)))
@@ -243,5 +243,5 @@ last_before p links first last n a s u a_some a_none t = next (next_of links n) 
     next (Some x) e =
         let b : Bool = same_object (row_of links x).cap (row_of links n).cap in
         last_read p links first last n a b s u a_some a_none
-          (λ d f. ap (λ k. same_object (row_of links k).cap (row_of links n).cap) (same_some x d (sym e ∙ f))) (λ f. absurd (none_or x (sym e ∙ f)))
+        (λ d f. ap (λ k. same_object (row_of links k).cap (row_of links n).cap) (same_some x d (sym e ∙ f))) (λ f. absurd (none_or x (sym e ∙ f)))
         ∙ ap (λ c. not (c || b)) t

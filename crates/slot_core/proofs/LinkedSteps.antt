@@ -103,7 +103,7 @@ pub splits : (p : ProfileName) (links : List Link) (first last : Option ℕ) (n 
     → is_full (n * slot_size p) (forest_of p (rows_of links first)) ≡ true → Splits p links first last n
 splits p links first last n inv full =
     let r : (pre : List ℕ) × (post : List ℕ) × (order_of links first ≡ pre ++ n ∷ post) =
-      order_split p links n (order_of links first) (sym (ap (list_any (is_at (n * slot_size p))) (entries_of p (rows_of links first))) ∙ full) in
+    order_split p links n (order_of links first) (sym (ap (list_any (is_at (n * slot_size p))) (entries_of p (rows_of links first))) ∙ full) in
     let L : List ℕ → Type 0 = IsLinked links first last in
     let linked : IsLinked links first last (r.0 ++ n ∷ r.1) = subst L r.2 inv.linked in
     let rows : rows_of links first ≡ map (row_of links) r.0 ++ row_of links n ∷ map (row_of links) r.1 = ap (map (row_of links)) r.2 ∙ map-parts (row_of links) r.0 (n ∷ r.1) in
@@ -176,12 +176,14 @@ finished p links links' first' last' order rows f size long ok is kept e =
     let memory : memory_of p links' ≡ memory_of p links = ap (λ n. slot_bits p + exponent n n) long in
     let L : List ℕ → Type 0 = IsLinked links' first' last' in
     let K : List Marked → Type 0 = IsMarkedList p (memory_of p links) in
-    let M : ℕ → Type 0 = λ m. IsMarkedList p m (rows_of links' first') in
-    (record {
-      linked = subst L (sym o) ok;
-      kept = subst M (sym memory) (subst K (sym is') kept);
-      size = ap (λ n. 2 ^ n) memory ∙ size ∙ ap (λ n. n * slot_size p) (sym long);
-    }, ap (forest_of p) is' ∙ e)
+    let M : ℕ → Type 0 = λ m. IsMarkedList p m (rows_of links' first') in (
+      record {
+        linked = subst L (sym o) ok;
+        kept = subst M (sym memory) (subst K (sym is') kept);
+        size = ap (λ n. 2 ^ n) memory ∙ size ∙ ap (λ n. n * slot_size p) (sym long);
+      },
+      ap (forest_of p) is' ∙ e,
+    )
 
 -- the store's calls
 
@@ -194,7 +196,7 @@ rooted_store p links links' first first' last last' n cap inv within empty lawfu
     let a = appended links links' first first' last last' (order_of links first) n (marked n cap true true) inv.linked (empty_lacks p links first n empty) (place_within p (2 ^ memory_of p links) (length links) n inv.size within) w in
     let k = rooted_list p (memory_of p links) (rows_of links first) n cap inv.kept lawful empty named dis in
     finished p links links' first' last' (order_of links first ++ n ∷ []) (rows_of links first ++ marked n cap true true ∷ []) (rooted (n * slot_size p) cap (forest_of p (rows_of links first)))
-      inv.size w.size a.0 a.1 k.0 k.1
+    inv.size w.size a.0 a.1 k.0 k.1
 
 pub retyped_store : (p : ProfileName) (links links' : List Link) (first first' last last' : Option ℕ) (u n : ℕ) (cap : Cap) → IsLinkedStore p links first last → Splits p links first last u
     → is_untyped (cap_at (forest_of p (rows_of links first)) (u * slot_size p)) ≡ true → contains p (cap_at (forest_of p (rows_of links first)) (u * slot_size p)) cap ≡ true
@@ -213,10 +215,10 @@ retyped_store p links links' first first' last last' u n cap inv s untyped insid
     let U : Cap → Type 0 = λ a. is_untyped a ≡ true in
     let C : Cap → Type 0 = λ a. contains p a cap ≡ true in
     let a = inserted links links' first first' last last' s.pre u n s.post (marked n cap true true) s.linked (subst L s.order (empty_lacks p links first n empty))
-      (place_within p (2 ^ memory_of p links) (length links) n inv.size within) w in
+    (place_within p (2 ^ memory_of p links) (length links) n inv.size within) w in
     let k = retyped_list p (memory_of p links) (map R s.pre) (R u) (map R s.post) n cap s.kept s.apart (subst U c untyped) (subst C c inside) lawful (subst F s.rows empty) (subst N s.rows named) (subst D s.rows dis) in
     finished p links links' first' last' (s.pre ++ u ∷ n ∷ s.post) (map R s.pre ++ R u ∷ marked n cap true true ∷ map R s.post) (retyped (u * slot_size p) (n * slot_size p) cap (forest_of p (rows_of links first)))
-      inv.size w.size a.0 a.1 k.0 (k.1 ∙ ap (λ (l : List Marked). retyped (u * slot_size p) (n * slot_size p) cap (forest_of p l)) (sym s.rows))
+    inv.size w.size a.0 a.1 k.0 (k.1 ∙ ap (λ (l : List Marked). retyped (u * slot_size p) (n * slot_size p) cap (forest_of p l)) (sym s.rows))
 
 pub derived_store : (p : ProfileName) (links links' : List Link) (first first' last last' : Option ℕ) (s n : ℕ) (cap : Cap) (o : Bool) → IsLinkedStore p links first last → Splits p links first last s
     → o ≡ is_new_original (row_of links s).cap cap → n * slot_size p < 2 ^ memory_of p links → is_full (n * slot_size p) (forest_of p (rows_of links first)) ≡ false → IsLawful p (memory_of p links) cap
@@ -238,10 +240,10 @@ derived_store p links links' first first' last last' s n cap o inv sp is within 
     let D : List Marked → Type 0 = λ l. IsDisjoint p (derived (s * slot_size p) (n * slot_size p) cap (forest_of p l)) in
     let w' : PutsBehind links links' first first' last last' s n x = subst W is w in
     let a = inserted links links' first first' last last' sp.pre s n sp.post x sp.linked (subst L sp.order (empty_lacks p links first n empty))
-      (place_within p (2 ^ memory_of p links) (length links) n inv.size within) w' in
+    (place_within p (2 ^ memory_of p links) (length links) n inv.size within) w' in
     let k = derived_list p (memory_of p links) (map R sp.pre) (R s) (map R sp.post) n cap sp.kept sp.stands lawful (subst S c same) (subst B c badge) (subst H sp.rows childless) (subst D sp.rows dis) in
     finished p links links' first' last' (sp.pre ++ s ∷ n ∷ sp.post) (map R sp.pre ++ R s ∷ x ∷ map R sp.post) (derived (s * slot_size p) (n * slot_size p) cap (forest_of p (rows_of links first)))
-      inv.size w.size a.0 a.1 k.0 (k.1 ∙ ap (λ (l : List Marked). derived (s * slot_size p) (n * slot_size p) cap (forest_of p l)) (sym sp.rows))
+    inv.size w.size a.0 a.1 k.0 (k.1 ∙ ap (λ (l : List Marked). derived (s * slot_size p) (n * slot_size p) cap (forest_of p l)) (sym sp.rows))
 
 pub moved_store : (p : ProfileName) (links links' : List Link) (first first' last last' : Option ℕ) (s n : ℕ) (cap : Cap) → IsLinkedStore p links first last → Splits p links first last s
     → n * slot_size p < 2 ^ memory_of p links → is_full (n * slot_size p) (forest_of p (rows_of links first)) ≡ false → IsLawful p (memory_of p links) cap
@@ -256,10 +258,10 @@ moved_store p links links' first first' last last' s n cap inv sp within empty l
     let S : Cap → Type 0 = λ a. names_same a cap ≡ true in
     let D : List Marked → Type 0 = λ l. IsDisjoint p (moved (s * slot_size p) (n * slot_size p) cap (forest_of p l)) in
     let a = replaced links links' first first' last last' sp.pre s n sp.post cap sp.linked (subst L sp.order (empty_lacks p links first n empty))
-      (place_within p (2 ^ memory_of p links) (length links) n inv.size within) w in
+    (place_within p (2 ^ memory_of p links) (length links) n inv.size within) w in
     let k = moved_list p (memory_of p links) (map R sp.pre) (R s) (map R sp.post) n cap sp.kept sp.stands lawful (subst S c same) (badge ∙ ap badge_of c) (subst D sp.rows dis) in
     finished p links links' first' last' (sp.pre ++ n ∷ sp.post) (map R sp.pre ++ at_place n (with_cap cap (R s)) ∷ map R sp.post) (moved (s * slot_size p) (n * slot_size p) cap (forest_of p (rows_of links first)))
-      inv.size w.size a.0 a.1 k.0 (k.1 ∙ ap (λ (l : List Marked). moved (s * slot_size p) (n * slot_size p) cap (forest_of p l)) (sym sp.rows))
+    inv.size w.size a.0 a.1 k.0 (k.1 ∙ ap (λ (l : List Marked). moved (s * slot_size p) (n * slot_size p) cap (forest_of p l)) (sym sp.rows))
 
 pub emptied_store : (p : ProfileName) (links links' : List Link) (first first' last last' : Option ℕ) (s : ℕ) → IsLinkedStore p links first last → Splits p links first last s
     → TakesOut links links' first first' last last' s
@@ -269,7 +271,7 @@ emptied_store p links links' first first' last last' s inv sp w =
     let a = removed links links' first first' last last' sp.pre s sp.post sp.linked w in
     let k = removed_list p (memory_of p links) (map R sp.pre) (R s) (map R sp.post) sp.kept sp.apart in
     finished p links links' first' last' (sp.pre ++ sp.post) (map R sp.pre ++ handed_on (R s).first_badged (map R sp.post)) (emptied (s * slot_size p) (forest_of p (rows_of links first)))
-      inv.size w.size a.0 a.1 k.0 (k.1 ∙ ap (λ (l : List Marked). emptied (s * slot_size p) (forest_of p l)) (sym sp.rows))
+    inv.size w.size a.0 a.1 k.0 (k.1 ∙ ap (λ (l : List Marked). emptied (s * slot_size p) (forest_of p l)) (sym sp.rows))
 
 -- seen through the slice of a vector
 pub through : (p : ProfileName) (old mid new k : List Link) (first last first' last' : Option ℕ) (value : List Marked × ℕ) (edit : Forest Entry → Forest Entry)

@@ -89,24 +89,36 @@ pub record PutsBehind (links links' : List Link) (first first' last last' : Opti
 pub inserted : (links links' : List Link) (first first' last last' : Option ℕ) (pre : List ℕ) (s x : ℕ) (post : List ℕ) (row : Marked)
     → IsLinked links first last (pre ++ s ∷ post) → Lacks x (pre ++ s ∷ post) → x < length links → PutsBehind links links' first first' last last' s x row
     → IsLinked links' first' last' (pre ++ s ∷ x ∷ post)
-      × (map (row_of links') (pre ++ s ∷ x ∷ post) ≡ map (row_of links) pre ++ row_of links s ∷ row ∷ map (row_of links) post)
-inserted links links' first first' last last' pre s x post row ok k lx w =
-    (record {
-      starts = w.first_same ∙ b.starts ∙ sym (head-append pre (s ∷ x ∷ post) None);
-      ends = ends post b.next b.ends ∙ sym (last-append None pre (s ∷ x ∷ post));
-      linked = linked-append f' g' None pre (s ∷ x ∷ post) None
+    × (map (row_of links') (pre ++ s ∷ x ∷ post) ≡ map (row_of links) pre ++ row_of links s ∷ row ∷ map (row_of links) post)
+inserted links links' first first' last last' pre s x post row ok k lx w = (
+  record {
+    starts = w.first_same ∙ b.starts ∙ sym (head-append pre (s ∷ x ∷ post) None);
+    ends = ends post b.next b.ends ∙ sym (last-append None pre (s ∷ x ∷ post));
+    linked = linked-append f' g' None pre (s ∷ x ∷ post) None
         (linked-same f g f' g' None pre (Some s) b.front
-          (each-both (λ i. Lacks i (s ∷ post)) (λ i. i ≢ x) (λ i. f' i ≡ f i) (λ i d e. w.next i (λ z. d.0 (sym z)) e) pre b.front_lacks kf)
-          (each-both (λ i. Lacks i (s ∷ post)) (λ i. i ≢ x) (λ i. g' i ≡ g i) (λ i d e. w.previous i e (λ z. not_head i post d.1 (sym b.next ∙ z))) pre b.front_lacks kf))
-        (w.previous s kb.0 ns ∙ b.previous, (w.next_source kb.0, (w.previous_slot nx, (w.next_slot kb.0 ∙ b.next,
-          linked-back f g f' g' (Some s) (Some x) post None b.back b.back_apart
-            (each-both (λ i. i ≢ s) (λ i. i ≢ x) (λ i. f' i ≡ f i) (λ i d e. w.next i d e) post b.not_back kb.1)
-            (each-one (λ i. i ≢ x) (λ i. (head_or post None ≡ Some i → ⊥) → g' i ≡ g i) (λ i d e. w.previous i d (λ z. e (sym b.next ∙ z))) post kb.1)
-            (λ i e. w.previous_next i (b.next ∙ e))))));
-      apart = apart-behind pre s x post ok.apart k;
-      within = (let P : ℕ → Type 0 = λ n. Each (λ i. i < n) (pre ++ s ∷ x ∷ post) in subst P (sym w.size) (each-behind (λ i. i < length links) pre s x post ok.within lx));
-      free = free;
-    }, rows)
+        (each-both (λ i. Lacks i (s ∷ post)) (λ i. i ≢ x) (λ i. f' i ≡ f i) (λ i d e. w.next i (λ z. d.0 (sym z)) e) pre b.front_lacks kf)
+        (each-both (λ i. Lacks i (s ∷ post)) (λ i. i ≢ x) (λ i. g' i ≡ g i) (λ i d e. w.previous i e (λ z. not_head i post d.1 (sym b.next ∙ z))) pre b.front_lacks kf)) (
+          w.previous s kb.0 ns ∙ b.previous,
+          (
+            w.next_source kb.0,
+            (
+              w.previous_slot nx,
+              (
+                w.next_slot kb.0 ∙ b.next,
+                linked-back f g f' g' (Some s) (Some x) post None b.back b.back_apart
+                    (each-both (λ i. i ≢ s) (λ i. i ≢ x) (λ i. f' i ≡ f i) (λ i d e. w.next i d e) post b.not_back kb.1)
+                    (each-one (λ i. i ≢ x) (λ i. (head_or post None ≡ Some i → ⊥) → g' i ≡ g i) (λ i d e. w.previous i d (λ z. e (sym b.next ∙ z))) post kb.1)
+                    (λ i e. w.previous_next i (b.next ∙ e)),
+              ),
+            ),
+          ),
+        );
+    apart = apart-behind pre s x post ok.apart k;
+    within = (let P : ℕ → Type 0 = λ n. Each (λ i. i < n) (pre ++ s ∷ x ∷ post) in subst P (sym w.size) (each-behind (λ i. i < length links) pre s x post ok.within lx));
+    free = free;
+  },
+  rows,
+)
   where
     f : ℕ → Option ℕ
     f = next_of links
@@ -182,20 +194,22 @@ pub record Appends (links links' : List Link) (first first' last last' : Option 
 pub appended : (links links' : List Link) (first first' last last' : Option ℕ) (l : List ℕ) (x : ℕ) (row : Marked)
     → IsLinked links first last l → Lacks x l → x < length links → Appends links links' first first' last last' x row
     → IsLinked links' first' last' (l ++ x ∷ []) × (map (row_of links') (l ++ x ∷ []) ≡ map (row_of links) l ++ row ∷ [])
-appended links links' first first' last last' l x row ok k lx w =
-    (record {
-      starts = starts l ok.starts ok.ends;
-      ends = w.last_slot ∙ sym (last-append None l (x ∷ []));
-      linked = linked-append f' g' None l (x ∷ []) None
+appended links links' first first' last last' l x row ok k lx w = (
+  record {
+    starts = starts l ok.starts ok.ends;
+    ends = w.last_slot ∙ sym (last-append None l (x ∷ []));
+    linked = linked-append f' g' None l (x ∷ []) None
         (linked-front f g f' g' None l None (Some x) ok.linked ok.apart
-          (each-one (λ i. i ≢ x) (λ i. (last_or None l ≡ Some i → ⊥) → f' i ≡ f i) (λ i d e. w.next i (λ z. e (sym ok.ends ∙ z)) d) l k)
-          (λ i e. w.next_last i (ok.ends ∙ e) (λ d. not_last x l k (e ∙ ap Some d)))
-          (each-one (λ i. i ≢ x) (λ i. g' i ≡ g i) w.previous l k))
+        (each-one (λ i. i ≢ x) (λ i. (last_or None l ≡ Some i → ⊥) → f' i ≡ f i) (λ i d e. w.next i (λ z. e (sym ok.ends ∙ z)) d) l k)
+        (λ i e. w.next_last i (ok.ends ∙ e) (λ d. not_last x l k (e ∙ ap Some d)))
+        (each-one (λ i. i ≢ x) (λ i. g' i ≡ g i) w.previous l k))
         (w.previous_slot ∙ ok.ends, (w.next_slot (λ e. not_last x l k (sym ok.ends ∙ e)), tt));
-      apart = apart l ok.apart k;
-      within = (let P : ℕ → Type 0 = λ n. Each (λ i. i < n) (l ++ x ∷ []) in subst P (sym w.size) (push (λ i. i < length links) l ok.within lx));
-      free = free;
-    }, rows)
+    apart = apart l ok.apart k;
+    within = (let P : ℕ → Type 0 = λ n. Each (λ i. i < n) (l ++ x ∷ []) in subst P (sym w.size) (push (λ i. i < length links) l ok.within lx));
+    free = free;
+  },
+  rows,
+)
   where
     f : ℕ → Option ℕ
     f = next_of links

@@ -76,15 +76,17 @@ back_others p (x ∷ pre) u post h =
 pub rooted_list : (p : ProfileName) (memory : ℕ) (l : List Marked) (n : ℕ) (cap : Cap) → IsMarkedList p memory l → IsLawful p memory cap
     → is_full (n * slot_size p) (forest_of p l) ≡ false → is_named cap (forest_of p l) ≡ false → IsDisjoint p (rooted (n * slot_size p) cap (forest_of p l))
     → IsMarkedList p memory (l ++ marked n cap true true ∷ []) × (forest_of p (l ++ marked n cap true true ∷ []) ≡ rooted (n * slot_size p) cap (forest_of p l))
-rooted_list p memory l n cap k lawful empty named dis =
-    (record {
-      lawful = each-append (λ (r : Marked). IsLawful p memory r.cap) l (x ∷ []) k.lawful (lawful, tt);
-      disjoint = (let P : Forest Entry → Type 0 = IsDisjoint p in subst P (sym forest) dis);
-      gathered = gathered-push p l x outside k.gathered;
-      led = led-push None l x refl k.led;
-      named_first = first l (unnamed p cap l named) k.named_first;
-      marks = each-append HasMarks l (x ∷ []) k.marks (record { untyped = λ u. refl; badged = λ z r. refl }, tt);
-    }, forest)
+rooted_list p memory l n cap k lawful empty named dis = (
+  record {
+    lawful = each-append (λ (r : Marked). IsLawful p memory r.cap) l (x ∷ []) k.lawful (lawful, tt);
+    disjoint = (let P : Forest Entry → Type 0 = IsDisjoint p in subst P (sym forest) dis);
+    gathered = gathered-push p l x outside k.gathered;
+    led = led-push None l x refl k.led;
+    named_first = first l (unnamed p cap l named) k.named_first;
+    marks = each-append HasMarks l (x ∷ []) k.marks (record { untyped = λ u. refl; badged = λ z r. refl }, tt);
+  },
+  forest,
+)
   where
     x : Marked
     x = marked n cap true true
@@ -97,9 +99,11 @@ rooted_list p memory l n cap k lawful empty named dis =
 
     first : (m : List Marked) → Each (λ (a : Marked). same_object a.cap cap ≡ false) m → IsNamedFirst m → IsNamedFirst (m ++ x ∷ [])
     first [] u h = (tt, tt)
-    first (a ∷ m) u h =
-        (each-append (λ (b : Marked). same_object a.cap b.cap ≡ true → b.revocable ≡ true → badge_of b.cap ≢ 0) m (x ∷ []) h.0
-          ((λ e r. absurd (let no' : true ≡ false = sym e ∙ u.0 in cc)), tt), first m u.1 h.1)
+    first (a ∷ m) u h = (
+      each-append (λ (b : Marked). same_object a.cap b.cap ≡ true → b.revocable ≡ true → badge_of b.cap ≢ 0) m (x ∷ []) h.0
+          ((λ e r. absurd (let no' : true ≡ false = sym e ∙ u.0 in cc)), tt),
+      first m u.1 h.1,
+    )
 
 -- a new object's capability, directly behind its untyped region
 
@@ -115,16 +119,18 @@ pub retyped_list : (p : ProfileName) (memory : ℕ) (pre : List Marked) (u : Mar
     → is_full (n * slot_size p) (forest_of p (pre ++ u ∷ post)) ≡ false → is_named cap (forest_of p (pre ++ u ∷ post)) ≡ false
     → IsDisjoint p (retyped (u.place * slot_size p) (n * slot_size p) cap (forest_of p (pre ++ u ∷ post)))
     → IsMarkedList p memory (pre ++ u ∷ marked n cap true true ∷ post)
-      × (forest_of p (pre ++ u ∷ marked n cap true true ∷ post) ≡ retyped (u.place * slot_size p) (n * slot_size p) cap (forest_of p (pre ++ u ∷ post)))
-retyped_list p memory pre u post n cap k apart untyped inside lawful empty named dis =
-    (record {
-      lawful = put (λ (r : Marked). IsLawful p memory r.cap) pre k.lawful lawful;
-      disjoint = (let P : Forest Entry → Type 0 = IsDisjoint p in subst P (sym forest) dis);
-      gathered = gathered-retype p pre u x post region front_outside takes_none k.gathered;
-      led = led-put None pre u x post (λ z e. absurd (let no' : true ≡ false = e in cc)) (behind post (led-back None pre u post k.led)) k.led;
-      named_first = first pre (unnamed p cap (pre ++ u ∷ post) named) k.named_first;
-      marks = put HasMarks pre k.marks (record { untyped = λ w. refl; badged = λ z r. refl });
-    }, forest)
+    × (forest_of p (pre ++ u ∷ marked n cap true true ∷ post) ≡ retyped (u.place * slot_size p) (n * slot_size p) cap (forest_of p (pre ++ u ∷ post)))
+retyped_list p memory pre u post n cap k apart untyped inside lawful empty named dis = (
+  record {
+    lawful = put (λ (r : Marked). IsLawful p memory r.cap) pre k.lawful lawful;
+    disjoint = (let P : Forest Entry → Type 0 = IsDisjoint p in subst P (sym forest) dis);
+    gathered = gathered-retype p pre u x post region front_outside takes_none k.gathered;
+    led = led-put None pre u x post (λ z e. absurd (let no' : true ≡ false = e in cc)) (behind post (led-back None pre u post k.led)) k.led;
+    named_first = first pre (unnamed p cap (pre ++ u ∷ post) named) k.named_first;
+    marks = put HasMarks pre k.marks (record { untyped = λ w. refl; badged = λ z r. refl });
+  },
+  forest,
+)
   where
     x : Marked
     x = marked n cap true true
@@ -152,7 +158,7 @@ retyped_list p memory pre u post n cap k apart untyped inside lawful empty named
         (each-through (λ (a : Marked). Absent (stands_at p a.place) (u ∷ post)) (λ (a : Marked). Absent (stands_at p a.place) post) (λ a h. h.1) pre (front_others p pre (u ∷ post) apart))
         (each-through (λ (a : Marked). Absent (stands_at p a.place) (u ∷ post)) (λ (a : Marked). stands_at p a.place u ≡ false) (λ a h. h.0) pre (front_others p pre (u ∷ post) apart))
         (λ first a rest e. let w : AreApart p (first ++ a ∷ rest) = (let Q : List Marked → Type 0 = AreApart p in subst Q (sym e) (apart-front p pre (u ∷ post) apart)) in
-          (absent-front p first a rest w, (apart-back p first (a ∷ rest) w).0))
+        (absent-front p first a rest w, (apart-back p first (a ∷ rest) w).0))
 
     stops : (l : List Marked) → Outside p x l → StopsAtOnce (λ (c : Marked). in_region p cap c.cap) l
     stops [] h = tt
@@ -219,26 +225,28 @@ changed_list p memory g h pre s post k st same lawful e dis =
     let G : List Marked → Type 0 = IsGathered p in
     let L : List Marked → Type 0 = IsLed None in
     let F : List Marked → Type 0 = IsNamedFirst in
-    let M : List Marked → Type 0 = Each HasMarks in
-    (record {
-      lawful = each-put (λ (r : Marked). IsLawful p memory r.cap) pre (g s) post (each-gone (λ (r : Marked). IsLawful p memory r.cap) pre s post k.lawful) lawful;
-      disjoint = (let P : Forest Entry → Type 0 = IsDisjoint p in subst P (sym forest) dis);
-      gathered = subst G m (gathered-renamed p w l each k.gathered);
-      led = subst L m (led-renamed p w None None l (λ b b' i f. f) each k.led);
-      named_first = subst F m (first-renamed p w l each k.named_first);
-      marks = subst M m (marks-renamed p w l each k.marks);
-    }, forest)
+    let M : List Marked → Type 0 = Each HasMarks in (
+      record {
+        lawful = each-put (λ (r : Marked). IsLawful p memory r.cap) pre (g s) post (each-gone (λ (r : Marked). IsLawful p memory r.cap) pre s post k.lawful) lawful;
+        disjoint = (let P : Forest Entry → Type 0 = IsDisjoint p in subst P (sym forest) dis);
+        gathered = subst G m (gathered-renamed p w l each k.gathered);
+        led = subst L m (led-renamed p w None None l (λ b b' i f. f) each k.led);
+        named_first = subst F m (first-renamed p w l each k.named_first);
+        marks = subst M m (marks-renamed p w l each k.marks);
+      },
+      forest,
+    )
 
 -- a capability that moves
 pub moved_list : (p : ProfileName) (memory : ℕ) (pre : List Marked) (s : Marked) (post : List Marked) (n : ℕ) (cap : Cap) → IsMarkedList p memory (pre ++ s ∷ post) → StandsIn p pre s post
     → IsLawful p memory cap → names_same s.cap cap ≡ true → badge_of cap ≡ badge_of s.cap → IsDisjoint p (moved (s.place * slot_size p) (n * slot_size p) cap (forest_of p (pre ++ s ∷ post)))
     → IsMarkedList p memory (pre ++ at_place n (with_cap cap s) ∷ post)
-      × (forest_of p (pre ++ at_place n (with_cap cap s) ∷ post) ≡ moved (s.place * slot_size p) (n * slot_size p) cap (forest_of p (pre ++ s ∷ post)))
+    × (forest_of p (pre ++ at_place n (with_cap cap s) ∷ post) ≡ moved (s.place * slot_size p) (n * slot_size p) cap (forest_of p (pre ++ s ∷ post)))
 moved_list p memory pre s post n cap k st lawful same badge dis =
     changed_list p memory (λ r. at_place n (with_cap cap r)) (λ (e : Entry). cond (is_at (s.place * slot_size p) e) (entry (n * slot_size p) cap e.original) e) pre s post k st
-      (record { names = names_one p s.cap cap same; badge = badge; revocable = refl; first = refl }) lawful
-      (λ a. elim (stands_at p s.place a) as (λ c. entry_of p (cond c (at_place n (with_cap cap a)) a) ≡ cond c (entry (n * slot_size p) cap a.revocable) (entry_of p a)) [ true ↦ refl | false ↦ refl ])
-      dis
+    (record { names = names_one p s.cap cap same; badge = badge; revocable = refl; first = refl }) lawful
+    (λ a. elim (stands_at p s.place a) as (λ c. entry_of p (cond c (at_place n (with_cap cap a)) a) ≡ cond c (entry (n * slot_size p) cap a.revocable) (entry_of p a)) [ true ↦ refl | false ↦ refl ])
+    dis
 
 -- another free index
 
@@ -252,12 +260,12 @@ freed_one p free (Tcb i) = (names-self p (Tcb i), refl)
 pub freed_list : (p : ProfileName) (memory : ℕ) (pre : List Marked) (s : Marked) (post : List Marked) (free : ℕ) → IsMarkedList p memory (pre ++ s ∷ post) → StandsIn p pre s post
     → IsLawful p memory (with_free free s.cap)
     → IsMarkedList p memory (pre ++ with_cap (with_free free s.cap) s ∷ post)
-      × (forest_of p (pre ++ with_cap (with_free free s.cap) s ∷ post) ≡ freed (s.place * slot_size p) free (forest_of p (pre ++ s ∷ post)))
+    × (forest_of p (pre ++ with_cap (with_free free s.cap) s ∷ post) ≡ freed (s.place * slot_size p) free (forest_of p (pre ++ s ∷ post)))
 freed_list p memory pre s post free k st lawful =
     changed_list p memory (λ r. with_cap (with_free free r.cap) r) (λ (e : Entry). cond (is_at (s.place * slot_size p) e) (entry e.slot (with_free free e.cap) e.original) e) pre s post k st
-      (record { names = (freed_one p free s.cap).0; badge = (freed_one p free s.cap).1; revocable = refl; first = refl }) lawful
-      (λ a. elim (stands_at p s.place a) as (λ c. entry_of p (cond c (with_cap (with_free free a.cap) a) a) ≡ cond c (entry (a.place * slot_size p) (with_free free a.cap) a.revocable) (entry_of p a)) [ true ↦ refl | false ↦ refl ])
-      (disjoint-freed p (s.place * slot_size p) free (forest_of p (pre ++ s ∷ post)) k.disjoint)
+    (record { names = (freed_one p free s.cap).0; badge = (freed_one p free s.cap).1; revocable = refl; first = refl }) lawful
+    (λ a. elim (stands_at p s.place a) as (λ c. entry_of p (cond c (with_cap (with_free free a.cap) a) a) ≡ cond c (entry (a.place * slot_size p) (with_free free a.cap) a.revocable) (entry_of p a)) [ true ↦ refl | false ↦ refl ])
+    (disjoint-freed p (s.place * slot_size p) free (forest_of p (pre ++ s ∷ post)) k.disjoint)
 
 -- a slot that is emptied
 
@@ -271,32 +279,36 @@ entries_once p (a ∷ l) h n = ((λ e. away l (eqb-true (a.place * slot_size p) 
 
 pub removed_list : (p : ProfileName) (memory : ℕ) (pre : List Marked) (s : Marked) (post : List Marked) → IsMarkedList p memory (pre ++ s ∷ post) → AreApart p (pre ++ s ∷ post)
     → IsMarkedList p memory (pre ++ handed_on s.first_badged post)
-      × (forest_of p (pre ++ handed_on s.first_badged post) ≡ emptied (s.place * slot_size p) (forest_of p (pre ++ s ∷ post)))
+    × (forest_of p (pre ++ handed_on s.first_badged post) ≡ emptied (s.place * slot_size p) (forest_of p (pre ++ s ∷ post)))
 removed_list p memory pre s [] k apart =
     let st : StandsIn p pre s [] = stands_in p pre s [] apart in
     let forest : forest_of p (pre ++ []) ≡ emptied (s.place * slot_size p) (forest_of p (pre ++ s ∷ [])) = remove_last p pre s st.front in
-    let once : (n : ℕ) → Once (is_at n) (preorder (forest_of p (pre ++ s ∷ []))) = λ n. (let Q : List Entry → Type 0 = Once (is_at n) in subst Q (sym (entries_of p (pre ++ s ∷ []))) (entries_once p (pre ++ s ∷ []) apart n)) in
-    (record {
-      lawful = each-gone (λ (r : Marked). IsLawful p memory r.cap) pre s [] k.lawful;
-      disjoint = (let P : Forest Entry → Type 0 = IsDisjoint p in subst P (sym forest) (disjoint-emptied p (s.place * slot_size p) (forest_of p (pre ++ s ∷ [])) once k.disjoint));
-      gathered = gathered-gone p pre s [] k.gathered;
-      led = led-cut None pre s k.led;
-      named_first = first-gone pre s [] k.named_first;
-      marks = each-gone HasMarks pre s [] k.marks;
-    }, forest)
+    let once : (n : ℕ) → Once (is_at n) (preorder (forest_of p (pre ++ s ∷ []))) = λ n. (let Q : List Entry → Type 0 = Once (is_at n) in subst Q (sym (entries_of p (pre ++ s ∷ []))) (entries_once p (pre ++ s ∷ []) apart n)) in (
+      record {
+        lawful = each-gone (λ (r : Marked). IsLawful p memory r.cap) pre s [] k.lawful;
+        disjoint = (let P : Forest Entry → Type 0 = IsDisjoint p in subst P (sym forest) (disjoint-emptied p (s.place * slot_size p) (forest_of p (pre ++ s ∷ [])) once k.disjoint));
+        gathered = gathered-gone p pre s [] k.gathered;
+        led = led-cut None pre s k.led;
+        named_first = first-gone pre s [] k.named_first;
+        marks = each-gone HasMarks pre s [] k.marks;
+      },
+      forest,
+    )
 removed_list p memory pre s (h ∷ q) k apart =
     let st : StandsIn p pre s (h ∷ q) = stands_in p pre s (h ∷ q) apart in
     let sh : Absent (stands_at p h.place) pre × (stands_at p h.place s ≡ false) = (back_others p pre s (h ∷ q) apart).0 in
     let tail : AreApart p (s ∷ h ∷ q) = apart-back p pre (s ∷ h ∷ q) apart in
     let led : IsLed (Some s) (h ∷ q) = led-back None pre s (h ∷ q) k.led in
     let forest : forest_of p (pre ++ with_mark s.first_badged h ∷ q) ≡ emptied (s.place * slot_size p) (forest_of p (pre ++ s ∷ h ∷ q)) =
-      remove_before p pre s h q k.gathered (λ z e. (led.0 z e).1) st.front st.back sh.0 tail.1.0 in
-    let once : (n : ℕ) → Once (is_at n) (preorder (forest_of p (pre ++ s ∷ h ∷ q))) = λ n. (let Q : List Entry → Type 0 = Once (is_at n) in subst Q (sym (entries_of p (pre ++ s ∷ h ∷ q))) (entries_once p (pre ++ s ∷ h ∷ q) apart n)) in
-    (record {
-      lawful = each-marked (λ (r : Marked). IsLawful p memory r.cap) s.first_badged pre h q (λ z. z) (each-gone (λ (r : Marked). IsLawful p memory r.cap) pre s (h ∷ q) k.lawful);
-      disjoint = (let P : Forest Entry → Type 0 = IsDisjoint p in subst P (sym forest) (disjoint-emptied p (s.place * slot_size p) (forest_of p (pre ++ s ∷ h ∷ q)) once k.disjoint));
-      gathered = gathered-marked p s.first_badged pre h q (gathered-gone p pre s (h ∷ q) k.gathered);
-      led = led-gone None pre s h q k.led;
-      named_first = first-marked s.first_badged pre h q (first-gone pre s (h ∷ q) k.named_first);
-      marks = each-marked HasMarks s.first_badged pre h q (marks-marked s.first_badged h) (each-gone HasMarks pre s (h ∷ q) k.marks);
-    }, forest)
+    remove_before p pre s h q k.gathered (λ z e. (led.0 z e).1) st.front st.back sh.0 tail.1.0 in
+    let once : (n : ℕ) → Once (is_at n) (preorder (forest_of p (pre ++ s ∷ h ∷ q))) = λ n. (let Q : List Entry → Type 0 = Once (is_at n) in subst Q (sym (entries_of p (pre ++ s ∷ h ∷ q))) (entries_once p (pre ++ s ∷ h ∷ q) apart n)) in (
+      record {
+        lawful = each-marked (λ (r : Marked). IsLawful p memory r.cap) s.first_badged pre h q (λ z. z) (each-gone (λ (r : Marked). IsLawful p memory r.cap) pre s (h ∷ q) k.lawful);
+        disjoint = (let P : Forest Entry → Type 0 = IsDisjoint p in subst P (sym forest) (disjoint-emptied p (s.place * slot_size p) (forest_of p (pre ++ s ∷ h ∷ q)) once k.disjoint));
+        gathered = gathered-marked p s.first_badged pre h q (gathered-gone p pre s (h ∷ q) k.gathered);
+        led = led-gone None pre s h q k.led;
+        named_first = first-marked s.first_badged pre h q (first-gone pre s (h ∷ q) k.named_first);
+        marks = each-marked HasMarks s.first_badged pre h q (marks-marked s.first_badged h) (each-gone HasMarks pre s (h ∷ q) k.marks);
+      },
+      forest,
+    )

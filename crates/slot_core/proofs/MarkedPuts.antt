@@ -65,8 +65,8 @@ pub derive_below : (p : ProfileName) (pre : List Marked) (s x : Marked) (post : 
     → forest_of p (pre ++ s ∷ x ∷ post) ≡ below (is_at (s.place * slot_size p)) (entry_of p x) (forest_of p (pre ++ s ∷ post))
 derive_below p pre s x post r n d led childless a b =
     ap (renamed (entry_of p)) (build-below (is_parent p) (stands_at p s.place) pre s x post (eq-eqb (s.place * slot_size p) (s.place * slot_size p) refl) a b
-      (parent_from p s x r (sym (d.names.of s.cap) ∙ region-self p s.cap n) (badge_fits_from s x (record { badge = d.badge; first = λ z. (d.not_original (badge_typed p s z) (d.badge z)).1 })))
-      (derived_stops p s x post d led childless))
+    (parent_from p s x r (sym (d.names.of s.cap) ∙ region-self p s.cap n) (badge_fits_from s x (record { badge = d.badge; first = λ z. (d.not_original (badge_typed p s z) (d.badge z)).1 })))
+    (derived_stops p s x post d led childless))
     ∙ renamed-below (entry_of p) (is_at (s.place * slot_size p)) x (build (is_parent p) (pre ++ s ∷ post))
 
 -- s is not: x is its next sibling
@@ -76,7 +76,7 @@ pub derive_after : (p : ProfileName) (pre : List Marked) (s x : Marked) (post : 
     → forest_of p (pre ++ s ∷ x ∷ post) ≡ after (is_at (s.place * slot_size p)) (entry_of p x) (forest_of p (pre ++ s ∷ post))
 derive_after p pre s x post r d led childless a b =
     ap (renamed (entry_of p)) (build-after (is_parent p) (stands_at p s.place) pre s x post (eq-eqb (s.place * slot_size p) (s.place * slot_size p) refl) a b
-      (not_revocable p s x r) (stops post) (derived_stops p s x post d led childless) (each pre))
+    (not_revocable p s x r) (stops post) (derived_stops p s x post d led childless) (each pre))
     ∙ renamed-after (entry_of p) (is_at (s.place * slot_size p)) x (build (is_parent p) (pre ++ s ∷ post))
   where
     stops : (l : List Marked) → StopsAtOnce (is_parent p s) l
@@ -93,7 +93,7 @@ pub retype_below : (p : ProfileName) (pre : List Marked) (u x : Marked) (post : 
     → forest_of p (pre ++ u ∷ x ∷ post) ≡ below (is_at (u.place * slot_size p)) (entry_of p x) (forest_of p (pre ++ u ∷ post))
 retype_below p pre u x post r z c stop a b =
     ap (renamed (entry_of p)) (build-below (is_parent p) (stands_at p u.place) pre u x post (eq-eqb (u.place * slot_size p) (u.place * slot_size p) refl) a b
-      (parent_from p u x r c (badge_fits_from u x (record { badge = λ n. absurd (n z); first = λ n. absurd (n z) }))) (stops post stop))
+    (parent_from p u x r c (badge_fits_from u x (record { badge = λ n. absurd (n z); first = λ n. absurd (n z) }))) (stops post stop))
     ∙ renamed-below (entry_of p) (is_at (u.place * slot_size p)) x (build (is_parent p) (pre ++ u ∷ post))
   where
     stops : (l : List Marked) → StopsAtOnce (λ (c : Marked). in_region p x.cap c.cap) l → StopsAtOnce (is_parent p x) l

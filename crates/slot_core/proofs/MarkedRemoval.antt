@@ -142,7 +142,7 @@ remove_before p pre s h q ga led a b c d =
     let mark : Bool = s.first_badged in
     let t' : Marked → Marked → Bool = after_test p mark h.place in
     let built : build t' (pre ++ h ∷ q) ≡ out (stands_at p s.place) (build (is_parent p) (pre ++ s ∷ h ∷ q)) =
-      build-out (is_parent p) t' (parent-transitive p) (stands_at p s.place) pre s (h ∷ q) e1 a b (handed p s h pre q ga led c d) in
+    build-out (is_parent p) t' (parent-transitive p) (stands_at p s.place) pre s (h ∷ q) e1 a b (handed p s h pre q ga led c d) in
     ap (forest_of p) (sym (map_handing p mark h pre q c d))
     ∙ ap (renamed (entry_of p)) (build-renamed (handing p mark h.place) t' (is_parent p) (pre ++ h ∷ q) (under_handing p mark h.place (pre ++ h ∷ q)))
     ∙ entries-handing p mark h.place (build t' (pre ++ h ∷ q))

@@ -92,8 +92,10 @@ first-renamed p g (a ∷ l) s h = (each l s.1 h.0, first-renamed p g l s.1 h.1)
 
 pub marks-renamed : (p : ProfileName) (g : Marked → Marked) (l : List Marked) → Each (λ (a : Marked). IsSameRow p a (g a)) l → Each HasMarks l → Each HasMarks (map g l)
 marks-renamed p g [] s h = tt
-marks-renamed p g (a ∷ l) s h =
-    (record {
-      untyped = λ e. s.0.revocable ∙ h.0.untyped (s.0.names.untyped ∙ e);
-      badged = λ z r. s.0.first ∙ h.0.badged (λ y. z (s.0.badge ∙ y)) (sym s.0.revocable ∙ r);
-    }, marks-renamed p g l s.1 h.1)
+marks-renamed p g (a ∷ l) s h = (
+  record {
+    untyped = λ e. s.0.revocable ∙ h.0.untyped (s.0.names.untyped ∙ e);
+    badged = λ z r. s.0.first ∙ h.0.badged (λ y. z (s.0.badge ∙ y)) (sym s.0.revocable ∙ r);
+  },
+  marks-renamed p g l s.1 h.1,
+)

@@ -33,7 +33,7 @@ pub retype_takes_none : (p : ProfileName) (pre : List Marked) (u : Marked) (post
     → Each (IsOther p pre u) post → Each (λ (h : Marked). in_region p cap h.cap ≡ false) post
 retype_takes_none p pre u post n cap r others =
     go post others (back (λ (a : Marked). Contains (preorder f) (entry_of p a)) pre (members p l)) (back (λ (a : Marked). stands_at p n a ≡ false) pre (absent_at p n l r.empty))
-      (back (λ (a : Marked). same_object a.cap cap ≡ false) pre (unnamed p cap l r.named))
+    (back (λ (a : Marked). same_object a.cap cap ≡ false) pre (unnamed p cap l r.named))
   where
     l : List Marked
     l = pre ++ u ∷ post
@@ -61,10 +61,10 @@ retype_takes_none p pre u post n cap r others =
     above h o =
         let P : Entry → Type 0 = λ e. (e.slot == h.place * slot_size p) ≡ false in
         ancestors-new P is q x f (same_number (n * slot_size p)) absent
-          (let Q : List Entry → Type 0 = Each P in subst Q (sym (ancestors-renamed (entry_of p) is (build (is_parent p) l)))
-            (each-map P (entry_of p) (ancestors (stands_at p u.place) (build (is_parent p) l))
-              (ancestors_before (λ (a : Marked). stands_at p h.place a ≡ false) (is_parent p) (stands_at p u.place) pre u post r.front r.back o.0)))
-          (each-from_entry p (λ (e : Entry). is e ≡ true → P e) l (at_one (stands_at p u.place) (λ (a : Marked). stands_at p h.place a ≡ false) pre u post r.front r.back o.1))
+        (let Q : List Entry → Type 0 = Each P in subst Q (sym (ancestors-renamed (entry_of p) is (build (is_parent p) l)))
+        (each-map P (entry_of p) (ancestors (stands_at p u.place) (build (is_parent p) l))
+        (ancestors_before (λ (a : Marked). stands_at p h.place a ≡ false) (is_parent p) (stands_at p u.place) pre u post r.front r.back o.0)))
+        (each-from_entry p (λ (e : Entry). is e ≡ true → P e) l (at_one (stands_at p u.place) (λ (a : Marked). stands_at p h.place a ≡ false) pre u post r.front r.back o.1))
 
     not_in : (h : Marked) → IsOther p pre u h → Contains (preorder f) (entry_of p h) → stands_at p n h ≡ false → is_untyped cap ≡ true → contains p cap h.cap ≡ true → ⊥
     not_in h o m s z c =
@@ -89,7 +89,7 @@ pub retype_outside : (p : ProfileName) (pre : List Marked) (u : Marked) (post : 
     → Each (λ (a : Marked). in_region p a.cap u.cap ≡ false → in_region p a.cap cap ≡ false) pre
 retype_outside p pre u post n cap r others own apart =
     go [] pre refl (front (λ (a : Marked). Contains (preorder f) (entry_of p a)) pre (members p l)) (front (λ (a : Marked). stands_at p n a ≡ false) pre (absent_at p n l r.empty))
-      (front (λ (a : Marked). same_object a.cap cap ≡ false) pre (unnamed p cap l r.named)) others own
+    (front (λ (a : Marked). same_object a.cap cap ≡ false) pre (unnamed p cap l r.named)) others own
   where
     l : List Marked
     l = pre ++ u ∷ post
@@ -122,13 +122,13 @@ retype_outside p pre u post n cap r others own apart =
         let g : Forest Marked = taken (t a) (build t behind) in
         let all : Each (λ (c : Marked). t a c ≡ true) (preorder g) = each-taken (t a) (build t behind) (whole-nested t (parent-transitive p) a (build t behind) (nested-build t (parent-transitive p) behind)) in
         let ones : Each (λ (c : Marked). stands_at p u.place c ≡ true → in_region p a.cap c.cap ≡ false) (preorder g) =
-          each-taken_part (λ (c : Marked). stands_at p u.place c ≡ true → in_region p a.cap c.cap ≡ false) (t a) (build t behind)
-            (let Q : List Marked → Type 0 = Each (λ (c : Marked). stands_at p u.place c ≡ true → in_region p a.cap c.cap ≡ false) in
-              subst Q (sym (preorder-build t behind)) (at_one (stands_at p u.place) (λ (c : Marked). in_region p a.cap c.cap ≡ false) rest u post rest_part r.back out)) in
+        each-taken_part (λ (c : Marked). stands_at p u.place c ≡ true → in_region p a.cap c.cap ≡ false) (t a) (build t behind)
+        (let Q : List Marked → Type 0 = Each (λ (c : Marked). stands_at p u.place c ≡ true → in_region p a.cap c.cap ≡ false) in
+        subst Q (sym (preorder-build t behind)) (at_one (stands_at p u.place) (λ (c : Marked). in_region p a.cap c.cap ≡ false) rest u post rest_part r.back out)) in
         let same : below_those (is_at (a.place * slot_size p)) f ≡ renamed (entry_of p) g =
-          ap (λ (m : List Marked). below_those (is_at (a.place * slot_size p)) (forest_of p m)) (sym whole)
-          ∙ renamed-below_those (entry_of p) (is_at (a.place * slot_size p)) (build t (first ++ a ∷ behind))
-          ∙ ap (renamed (entry_of p)) (build-below_those t (stands_at p a.place) first a behind (same_number (a.place * slot_size p)) (apart first a rest e).0 ab) in
+        ap (λ (m : List Marked). below_those (is_at (a.place * slot_size p)) (forest_of p m)) (sym whole)
+        ∙ renamed-below_those (entry_of p) (is_at (a.place * slot_size p)) (build t (first ++ a ∷ behind))
+        ∙ ap (renamed (entry_of p)) (build-below_those t (stands_at p a.place) first a behind (same_number (a.place * slot_size p)) (apart first a rest e).0 ab) in
         let Q : List Entry → Type 0 = Absent is in
         subst Q (sym (ap preorder same ∙ preorder-renamed (entry_of p) g)) (each-map (λ (c : Entry). is c ≡ false) (entry_of p) (preorder g) (never (preorder g) all ones))
       where
@@ -142,11 +142,13 @@ retype_outside p pre u post n cap r others own apart =
 
         never : (m : List Marked) → Each (λ (c : Marked). is_parent p a c ≡ true) m → Each (λ (c : Marked). stands_at p u.place c ≡ true → in_region p a.cap c.cap ≡ false) m → Absent (stands_at p u.place) m
         never [] h k = tt
-        never (c ∷ m) h k =
-            ((elim (stands_at p u.place c) as (λ b. stands_at p u.place c ≡ b → b ≡ false) [
-              | true ↦ λ t. absurd (let y : in_region p a.cap c.cap ≡ true = (parent_parts p a c h.0).1 in let z : in_region p a.cap c.cap ≡ false = k.0 t in cc)
-              | false ↦ λ t. refl
-            ]) refl, never m h.1 k.1)
+        never (c ∷ m) h k = (
+          (elim (stands_at p u.place c) as (λ b. stands_at p u.place c ≡ b → b ≡ false) [
+            | true ↦ λ t. absurd (let y : in_region p a.cap c.cap ≡ true = (parent_parts p a c h.0).1 in let z : in_region p a.cap c.cap ≡ false = k.0 t in cc)
+            | false ↦ λ t. refl
+          ]) refl,
+          never m h.1 k.1,
+        )
 
     not_in : (first : List Marked) (a : Marked) (rest : List Marked) → first ++ a ∷ rest ≡ pre → Absent (stands_at p a.place) post → stands_at p a.place u ≡ false
         → in_region p a.cap u.cap ≡ false → Contains (preorder f) (entry_of p a) → stands_at p n a ≡ false → is_untyped a.cap ≡ true → contains p a.cap cap ≡ true → ⊥
@@ -156,7 +158,7 @@ retype_outside p pre u post n cap r others own apart =
           | inr k ↦ elim k [
             | inl i ↦ nowhere (n * slot_size p) (preorder (below_those q f)) x refl (each-below_those (λ (d : Entry). (d.slot == n * slot_size p) ≡ false) q f none)
                 (let Q : Forest Entry → Type 0 = λ g. Contains (preorder g) x in
-                  subst Q (below_those-other is q x f other differ (apart_below first a rest e b o out)) i)
+                subst Q (below_those-other is q x f other differ (apart_below first a rest e b o out)) i)
             | inr i ↦ nowhere (n * slot_size p) (ancestors q f) x refl (each-ancestors (λ (d : Entry). (d.slot == n * slot_size p) ≡ false) q f none)
                 (let Q : List Entry → Type 0 = λ g. Contains g x in subst Q (ancestors-below is q x f other) i)
           ]
@@ -188,9 +190,10 @@ retype_outside p pre u post n cap r others own apart =
         → Each (λ (a : Marked). same_object a.cap cap ≡ false) rest → Each (λ (a : Marked). Absent (stands_at p a.place) post) rest → Each (λ (a : Marked). stands_at p a.place u ≡ false) rest
         → Each (λ (a : Marked). in_region p a.cap u.cap ≡ false → in_region p a.cap cap ≡ false) rest
     go first [] e h s w b o = tt
-    go first (a ∷ rest) e h s w b o =
-        ((λ out. outside_by p a.cap cap w.0 (not_in first a rest e b.0 o.0 out h.0 s.0)),
-         go (first ++ a ∷ []) rest (append_assoc first (a ∷ []) rest ∙ e) h.1 s.1 w.1 b.1 o.1)
+    go first (a ∷ rest) e h s w b o = (
+      (λ out. outside_by p a.cap cap w.0 (not_in first a rest e b.0 o.0 out h.0 s.0)),
+      go (first ++ a ∷ []) rest (append_assoc first (a ∷ []) rest ∙ e) h.1 s.1 w.1 b.1 o.1,
+    )
 
 -- the list stays gathered
 pub gathered-retype : (p : ProfileName) (pre : List Marked) (u x : Marked) (post : List Marked) → in_region p u.cap x.cap ≡ true

@@ -120,16 +120,18 @@ pub derived_list : (p : ProfileName) (memory : ℕ) (pre : List Marked) (s : Mar
     → (is_untyped cap ≡ true → first_child (s.place * slot_size p) (forest_of p (pre ++ s ∷ post)) ≡ None)
     → IsDisjoint p (derived (s.place * slot_size p) (n * slot_size p) cap (forest_of p (pre ++ s ∷ post)))
     → IsMarkedList p memory (pre ++ s ∷ marked n cap (is_new_original s.cap cap) (is_new_original s.cap cap) ∷ post)
-      × (forest_of p (pre ++ s ∷ marked n cap (is_new_original s.cap cap) (is_new_original s.cap cap) ∷ post) ≡ derived (s.place * slot_size p) (n * slot_size p) cap (forest_of p (pre ++ s ∷ post)))
-derived_list p memory pre s post n cap l st lawful same badge childless dis =
-    (record {
-      lawful = each_put (λ (r : Marked). IsLawful p memory r.cap) pre l.lawful lawful;
-      disjoint = (let P : Forest Entry → Type 0 = IsDisjoint p in subst P (sym forest) dis);
-      gathered = gathered-derive p pre s x post d.names (region-self p s.cap not_null) l.gathered;
-      led = led-put None pre s x post (λ z e. follows z e) (behind post (led-back None pre s post l.led)) l.led;
-      named_first = first pre (λ (a : Marked) e. e) l.named_first;
-      marks = each_put HasMarks pre l.marks (record { untyped = λ u. original u; badged = λ z r. r });
-    }, forest)
+    × (forest_of p (pre ++ s ∷ marked n cap (is_new_original s.cap cap) (is_new_original s.cap cap) ∷ post) ≡ derived (s.place * slot_size p) (n * slot_size p) cap (forest_of p (pre ++ s ∷ post)))
+derived_list p memory pre s post n cap l st lawful same badge childless dis = (
+  record {
+    lawful = each_put (λ (r : Marked). IsLawful p memory r.cap) pre l.lawful lawful;
+    disjoint = (let P : Forest Entry → Type 0 = IsDisjoint p in subst P (sym forest) dis);
+    gathered = gathered-derive p pre s x post d.names (region-self p s.cap not_null) l.gathered;
+    led = led-put None pre s x post (λ z e. follows z e) (behind post (led-back None pre s post l.led)) l.led;
+    named_first = first pre (λ (a : Marked) e. e) l.named_first;
+    marks = each_put HasMarks pre l.marks (record { untyped = λ u. original u; badged = λ z r. r });
+  },
+  forest,
+)
   where
     o : Bool
     o = is_new_original s.cap cap
@@ -206,7 +208,7 @@ derived_list p memory pre s post n cap l st lawful same badge childless dis =
         let f : Forest Entry = forest_of p (pre ++ s ∷ post) in
         let is : Entry → Bool = is_at (s.place * slot_size p) in
         rw (original_standing p pre s post st.front, cap_standing p pre s post st.front)
-          ((elim s.revocable as (λ c. s.revocable ≡ c → forest_of p (pre ++ s ∷ x ∷ post) ≡ cond c (below is (entry_of p x) f) (after is (entry_of p x) f)) [
-            | true ↦ λ r. derive_below p pre s x post r not_null d (led-back None pre s post l.led) stops st.front st.back
-            | false ↦ λ r. derive_after p pre s x post r d (led-back None pre s post l.led) stops st.front st.back
-          ]) refl)
+        ((elim s.revocable as (λ c. s.revocable ≡ c → forest_of p (pre ++ s ∷ x ∷ post) ≡ cond c (below is (entry_of p x) f) (after is (entry_of p x) f)) [
+          | true ↦ λ r. derive_below p pre s x post r not_null d (led-back None pre s post l.led) stops st.front st.back
+          | false ↦ λ r. derive_after p pre s x post r d (led-back None pre s post l.led) stops st.front st.back
+        ]) refl)

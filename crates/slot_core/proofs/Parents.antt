@@ -46,10 +46,10 @@ parent-transitive p a b c h k =
     let d : BadgeFits a b = badge_fits_is a b q.2 in
     let e : BadgeFits b c = badge_fits_is b c r.2 in
     parent_from p a c q.0 (region-transitive p a.cap b.cap c.cap q.1 r.1)
-      (badge_fits_from a c (record {
-        badge = λ z. e.badge (λ y. z (sym (d.badge z) ∙ y)) ∙ d.badge z;
-        first = λ z. e.first (λ y. z (sym (d.badge z) ∙ y));
-      }))
+    (badge_fits_from a c (record {
+      badge = λ z. e.badge (λ y. z (sym (d.badge z) ∙ y)) ∙ d.badge z;
+      first = λ z. e.first (λ y. z (sym (d.badge z) ∙ y));
+    }))
 
 -- where a's region does not have b, a is not its parent
 pub parent_outside : (p : ProfileName) (a b : Marked) → in_region p a.cap b.cap ≡ false → is_parent p a b ≡ false

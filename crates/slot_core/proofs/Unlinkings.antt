@@ -36,24 +36,26 @@ pub record TakesOut (links links' : List Link) (first first' last last' : Option
 pub removed : (links links' : List Link) (first first' last last' : Option ℕ) (pre : List ℕ) (s : ℕ) (post : List ℕ)
     → IsLinked links first last (pre ++ s ∷ post) → TakesOut links links' first first' last last' s
     → IsLinked links' first' last' (pre ++ post)
-      × (map (row_of links') (pre ++ post) ≡ map (row_of links) pre ++ handed_on (row_of links s).first_badged (map (row_of links) post))
-removed links links' first first' last last' pre s post ok w =
-    (record {
-      starts = starts pre b.previous b.starts ∙ sym (head-append pre post None);
-      ends = ends post b.next b.ends ∙ sym (last-append None pre post);
-      linked = linked-append f' g' None pre post None
+    × (map (row_of links') (pre ++ post) ≡ map (row_of links) pre ++ handed_on (row_of links s).first_badged (map (row_of links) post))
+removed links links' first first' last last' pre s post ok w = (
+  record {
+    starts = starts pre b.previous b.starts ∙ sym (head-append pre post None);
+    ends = ends post b.next b.ends ∙ sym (last-append None pre post);
+    linked = linked-append f' g' None pre post None
         (linked-front f g f' g' None pre (Some s) (head_or post None) b.front b.front_apart
-          (each-one (λ i. Lacks i (s ∷ post)) (λ i. (last_or None pre ≡ Some i → ⊥) → f' i ≡ f i) (λ i d e. w.next i (λ z. d.0 (sym z)) (λ z. e (sym b.previous ∙ z))) pre b.front_lacks)
-          (λ i e. w.next_previous i (b.previous ∙ e) (λ d. not_last s pre b.not_front (e ∙ ap Some d)) ∙ b.next)
-          (each-one (λ i. Lacks i (s ∷ post)) (λ i. g' i ≡ g i) (λ i d. w.previous i (λ z. d.0 (sym z)) (λ z. not_head i post d.1 (sym b.next ∙ z))) pre b.front_lacks))
+        (each-one (λ i. Lacks i (s ∷ post)) (λ i. (last_or None pre ≡ Some i → ⊥) → f' i ≡ f i) (λ i d e. w.next i (λ z. d.0 (sym z)) (λ z. e (sym b.previous ∙ z))) pre b.front_lacks)
+        (λ i e. w.next_previous i (b.previous ∙ e) (λ d. not_last s pre b.not_front (e ∙ ap Some d)) ∙ b.next)
+        (each-one (λ i. Lacks i (s ∷ post)) (λ i. g' i ≡ g i) (λ i d. w.previous i (λ z. d.0 (sym z)) (λ z. not_head i post d.1 (sym b.next ∙ z))) pre b.front_lacks))
         (linked-back f g f' g' (Some s) (last_or None pre) post None b.back b.back_apart
-          (each-both (λ i. i ≢ s) (λ i. Lacks i pre) (λ i. f' i ≡ f i) (λ i d e. w.next i d (λ z. not_last i pre e (sym b.previous ∙ z))) post b.not_back b.back_lacks)
-          (each-one (λ i. i ≢ s) (λ i. (head_or post None ≡ Some i → ⊥) → g' i ≡ g i) (λ i d e. w.previous i d (λ z. e (sym b.next ∙ z))) post b.not_back)
-          (λ i e. w.previous_next i (b.next ∙ e) (λ d. not_head s post b.not_back (e ∙ ap Some d)) ∙ b.previous));
-      apart = apart-without pre s post ok.apart;
-      within = (let P : ℕ → Type 0 = λ n. Each (λ i. i < n) (pre ++ post) in subst P (sym w.size) (each-without (λ i. i < length links) pre s post ok.within));
-      free = free;
-    }, rows)
+        (each-both (λ i. i ≢ s) (λ i. Lacks i pre) (λ i. f' i ≡ f i) (λ i d e. w.next i d (λ z. not_last i pre e (sym b.previous ∙ z))) post b.not_back b.back_lacks)
+        (each-one (λ i. i ≢ s) (λ i. (head_or post None ≡ Some i → ⊥) → g' i ≡ g i) (λ i d e. w.previous i d (λ z. e (sym b.next ∙ z))) post b.not_back)
+        (λ i e. w.previous_next i (b.next ∙ e) (λ d. not_head s post b.not_back (e ∙ ap Some d)) ∙ b.previous));
+    apart = apart-without pre s post ok.apart;
+    within = (let P : ℕ → Type 0 = λ n. Each (λ i. i < n) (pre ++ post) in subst P (sym w.size) (each-without (λ i. i < length links) pre s post ok.within));
+    free = free;
+  },
+  rows,
+)
   where
     f : ℕ → Option ℕ
     f = next_of links
@@ -104,7 +106,7 @@ removed links links' first first' last last' pre s post ok w =
     back_rows (h ∷ q) e n a =
         ap (λ (r : Marked). r ∷ map (row_of links') q) (w.row_next h e n.0)
         ∙ ap (λ (m : List Marked). with_mark (row_of links s).first_badged (row_of links h) ∷ m) (map-same (row_of links) (row_of links') q
-          (each-both (λ i. i ≢ s) (λ i. i ≢ h) (λ i. row_of links' i ≡ row_of links i) (λ i d c. w.rows i d (λ z. c (let k : h ≡ i = some_is (sym e ∙ z) in sym k))) q n.1 a.0))
+        (each-both (λ i. i ≢ s) (λ i. i ≢ h) (λ i. row_of links' i ≡ row_of links i) (λ i d c. w.rows i d (λ z. c (let k : h ≡ i = some_is (sym e ∙ z) in sym k))) q n.1 a.0))
       where
         some_is : {i j : ℕ} → Some i ≡ Some j → i ≡ j
         some_is e = cc
@@ -112,7 +114,7 @@ removed links links' first first' last last' pre s post ok w =
     rows : map (row_of links') (pre ++ post) ≡ map (row_of links) pre ++ handed_on (row_of links s).first_badged (map (row_of links) post)
     rows =
         let ef : map (row_of links') pre ≡ map (row_of links) pre = map-same (row_of links) (row_of links') pre
-          (each-one (λ i. Lacks i (s ∷ post)) (λ i. row_of links' i ≡ row_of links i) (λ i d. w.rows i (λ z. d.0 (sym z)) (λ z. not_head i post d.1 (sym b.next ∙ z))) pre b.front_lacks) in
+        (each-one (λ i. Lacks i (s ∷ post)) (λ i. row_of links' i ≡ row_of links i) (λ i d. w.rows i (λ z. d.0 (sym z)) (λ z. not_head i post d.1 (sym b.next ∙ z))) pre b.front_lacks) in
         map-parts (row_of links') pre post
         ∙ ap (λ (m : List Marked). m ++ map (row_of links') post) ef
         ∙ ap (λ (m : List Marked). map (row_of links) pre ++ m) (back_rows post b.next b.not_back b.back_apart)
@@ -139,25 +141,31 @@ pub record Replaces (links links' : List Link) (first first' last last' : Option
 pub replaced : (links links' : List Link) (first first' last last' : Option ℕ) (pre : List ℕ) (s x : ℕ) (post : List ℕ) (cap : Cap)
     → IsLinked links first last (pre ++ s ∷ post) → Lacks x (pre ++ s ∷ post) → x < length links → Replaces links links' first first' last last' s x cap
     → IsLinked links' first' last' (pre ++ x ∷ post)
-      × (map (row_of links') (pre ++ x ∷ post) ≡ map (row_of links) pre ++ at_place x (with_cap cap (row_of links s)) ∷ map (row_of links) post)
-replaced links links' first first' last last' pre s x post cap ok k lx w =
-    (record {
-      starts = starts pre b.previous b.starts ∙ sym (head-append pre (x ∷ post) None);
-      ends = ends post b.next b.ends ∙ sym (last-append None pre (x ∷ post));
-      linked = linked-append f' g' None pre (x ∷ post) None
+    × (map (row_of links') (pre ++ x ∷ post) ≡ map (row_of links) pre ++ at_place x (with_cap cap (row_of links s)) ∷ map (row_of links) post)
+replaced links links' first first' last last' pre s x post cap ok k lx w = (
+  record {
+    starts = starts pre b.previous b.starts ∙ sym (head-append pre (x ∷ post) None);
+    ends = ends post b.next b.ends ∙ sym (last-append None pre (x ∷ post));
+    linked = linked-append f' g' None pre (x ∷ post) None
         (linked-front f g f' g' None pre (Some s) (Some x) b.front b.front_apart
-          (each-both (λ i. Lacks i (s ∷ post)) (λ i. i ≢ x) (λ i. (last_or None pre ≡ Some i → ⊥) → f' i ≡ f i) (λ i d c e. w.next i (λ z. d.0 (sym z)) c (λ z. e (sym b.previous ∙ z))) pre b.front_lacks kf)
-          (λ i e. w.next_previous i (b.previous ∙ e) (λ d. not_last s pre b.not_front (e ∙ ap Some d)) (λ d. not_last x pre kf (e ∙ ap Some d)))
-          (each-both (λ i. Lacks i (s ∷ post)) (λ i. i ≢ x) (λ i. g' i ≡ g i) (λ i d c. w.previous i (λ z. d.0 (sym z)) c (λ z. not_head i post d.1 (sym b.next ∙ z))) pre b.front_lacks kf))
-        (w.previous_slot xs nx ∙ b.previous, (w.next_slot xs px ∙ b.next,
-          linked-back f g f' g' (Some s) (Some x) post None b.back b.back_apart
-            (each-both (λ i. (i ≢ s) × (i ≢ x)) (λ i. Lacks i pre) (λ i. f' i ≡ f i) (λ i d e. w.next i d.0 d.1 (λ z. not_last i pre e (sym b.previous ∙ z))) post two b.back_lacks)
-            (each-one (λ i. (i ≢ s) × (i ≢ x)) (λ i. (head_or post None ≡ Some i → ⊥) → g' i ≡ g i) (λ i d e. w.previous i d.0 d.1 (λ z. e (sym b.next ∙ z))) post two)
-            (λ i e. w.previous_next i (b.next ∙ e) (λ d. not_head s post b.not_back (e ∙ ap Some d)) (λ d. not_head x post kb.1 (e ∙ ap Some d)))));
-      apart = apart-insert pre x post (apart-without pre s post ok.apart) (each-without (λ j. j ≢ x) pre s post k);
-      within = (let P : ℕ → Type 0 = λ n. Each (λ i. i < n) (pre ++ x ∷ post) in subst P (sym w.size) (each-insert (λ i. i < length links) pre x post (each-without (λ i. i < length links) pre s post ok.within) lx));
-      free = free;
-    }, rows)
+        (each-both (λ i. Lacks i (s ∷ post)) (λ i. i ≢ x) (λ i. (last_or None pre ≡ Some i → ⊥) → f' i ≡ f i) (λ i d c e. w.next i (λ z. d.0 (sym z)) c (λ z. e (sym b.previous ∙ z))) pre b.front_lacks kf)
+        (λ i e. w.next_previous i (b.previous ∙ e) (λ d. not_last s pre b.not_front (e ∙ ap Some d)) (λ d. not_last x pre kf (e ∙ ap Some d)))
+        (each-both (λ i. Lacks i (s ∷ post)) (λ i. i ≢ x) (λ i. g' i ≡ g i) (λ i d c. w.previous i (λ z. d.0 (sym z)) c (λ z. not_head i post d.1 (sym b.next ∙ z))) pre b.front_lacks kf)) (
+          w.previous_slot xs nx ∙ b.previous,
+          (
+            w.next_slot xs px ∙ b.next,
+            linked-back f g f' g' (Some s) (Some x) post None b.back b.back_apart
+                (each-both (λ i. (i ≢ s) × (i ≢ x)) (λ i. Lacks i pre) (λ i. f' i ≡ f i) (λ i d e. w.next i d.0 d.1 (λ z. not_last i pre e (sym b.previous ∙ z))) post two b.back_lacks)
+                (each-one (λ i. (i ≢ s) × (i ≢ x)) (λ i. (head_or post None ≡ Some i → ⊥) → g' i ≡ g i) (λ i d e. w.previous i d.0 d.1 (λ z. e (sym b.next ∙ z))) post two)
+                (λ i e. w.previous_next i (b.next ∙ e) (λ d. not_head s post b.not_back (e ∙ ap Some d)) (λ d. not_head x post kb.1 (e ∙ ap Some d))),
+          ),
+        );
+    apart = apart-insert pre x post (apart-without pre s post ok.apart) (each-without (λ j. j ≢ x) pre s post k);
+    within = (let P : ℕ → Type 0 = λ n. Each (λ i. i < n) (pre ++ x ∷ post) in subst P (sym w.size) (each-insert (λ i. i < length links) pre x post (each-without (λ i. i < length links) pre s post ok.within) lx));
+    free = free;
+  },
+  rows,
+)
   where
     f : ℕ → Option ℕ
     f = next_of links
@@ -225,7 +233,7 @@ replaced links links' first first' last last' pre s x post cap ok k lx w =
     rows : map (row_of links') (pre ++ x ∷ post) ≡ map (row_of links) pre ++ at_place x (with_cap cap (row_of links s)) ∷ map (row_of links) post
     rows =
         let ef : map (row_of links') pre ≡ map (row_of links) pre = map-same (row_of links) (row_of links') pre
-          (each-both (λ i. Lacks i (s ∷ post)) (λ i. i ≢ x) (λ i. row_of links' i ≡ row_of links i) (λ i d c. w.rows i (λ z. d.0 (sym z)) c) pre b.front_lacks kf) in
+        (each-both (λ i. Lacks i (s ∷ post)) (λ i. i ≢ x) (λ i. row_of links' i ≡ row_of links i) (λ i d c. w.rows i (λ z. d.0 (sym z)) c) pre b.front_lacks kf) in
         let eb : map (row_of links') post ≡ map (row_of links) post = map-same (row_of links) (row_of links') post (each-one (λ i. (i ≢ s) × (i ≢ x)) (λ i. row_of links' i ≡ row_of links i) (λ i d. w.rows i d.0 d.1) post two) in
         map-parts (row_of links') pre (x ∷ post)
         ∙ ap (λ (m : List Marked). m ++ row_of links' x ∷ map (row_of links') post) ef

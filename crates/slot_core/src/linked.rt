@@ -2,7 +2,10 @@
 ghost use Rattle.std.specs.Prelude.{◌≡◌};
 
 pub mod table;
+#[cfg(test)]
+mod tests;
 
+pub use self::table::Link;
 use self::table::{EMPTY, append, free_from, insert_after, is_parent, names, replace, row, unlink};
 use crate::derivation::is_new_original;
 use crate::slot::Slot;
@@ -10,8 +13,6 @@ use crate::store::{CapStore, MakeStore};
 use cap_core::{Cap, Profile};
 use std::alloc::{AllocError, Global};
 use std::marker::{Model, PhantomData};
-
-pub use self::table::Link;
 
 /// The linked form of a capability store: a row for each slot of the memory, and the first and the last slot of the list.
 #[derive(Drop)]
@@ -52,15 +53,38 @@ impl<P: Profile> CapStore<P> for LinkedStore<P> {
 
     fn derive(&mut self, source: Slot, slot: Slot, cap: Cap) {
         let marks = is_new_original(row(&self.links, source).cap, cap);
-        insert_after(&mut self.links, &mut self.first, &mut self.last, source, slot, cap, marks);
+        insert_after(
+            &mut self.links,
+            &mut self.first,
+            &mut self.last,
+            source,
+            slot,
+            cap,
+            marks,
+        );
     }
 
     fn put_new(&mut self, parent: Slot, slot: Slot, cap: Cap) {
-        insert_after(&mut self.links, &mut self.first, &mut self.last, parent, slot, cap, true);
+        insert_after(
+            &mut self.links,
+            &mut self.first,
+            &mut self.last,
+            parent,
+            slot,
+            cap,
+            true,
+        );
     }
 
     fn relocate(&mut self, source: Slot, slot: Slot, cap: Cap) {
-        replace(&mut self.links, &mut self.first, &mut self.last, source, slot, cap);
+        replace(
+            &mut self.links,
+            &mut self.first,
+            &mut self.last,
+            source,
+            slot,
+            cap,
+        );
     }
 
     fn set_free(&mut self, slot: Slot, free: u64) {

@@ -68,7 +68,12 @@ fn lead_on(links: &mut [Link], first: &mut Option<Slot>, before: Option<Slot>, n
 }
 
 /// Lets the list go back from `behind` to `previous`, where `behind` is no slot from its end.
-fn lead_back(links: &mut [Link], last: &mut Option<Slot>, behind: Option<Slot>, previous: Option<Slot>)
+fn lead_back(
+    links: &mut [Link],
+    last: &mut Option<Slot>,
+    behind: Option<Slot>,
+    previous: Option<Slot>,
+)
     requires behind_in { IfSome (place_in behind) (λ n. n < length links.old) }
     ensures next { (i : ℕ) → next_of links.new i ≡ next_of links.old i }
     ensures previous { (i : ℕ) → (place_in behind ≡ Some i → ⊥) → previous_of links.new i ≡ previous_of links.old i }
@@ -105,7 +110,15 @@ fn hand_on(links: &mut [Link], slot: Option<Slot>, mark: bool)
 }
 
 /// Links `slot` in directly behind `source`, with both marks set or neither.
-pub fn insert_after(links: &mut [Link], first: &mut Option<Slot>, last: &mut Option<Slot>, source: Slot, slot: Slot, cap: Cap, marks: bool)
+pub fn insert_after(
+    links: &mut [Link],
+    first: &mut Option<Slot>,
+    last: &mut Option<Slot>,
+    source: Slot,
+    slot: Slot,
+    cap: Cap,
+    marks: bool,
+)
     requires source_in { source.place < length links.old }
     requires slot_in { slot.place < length links.old }
     requires next_in { IfSome (next_of links.old source.place) (λ n. n < length links.old) }
@@ -139,7 +152,13 @@ pub fn insert_after(links: &mut [Link], first: &mut Option<Slot>, last: &mut Opt
 }
 
 /// Links `slot` in at the end of the list, with both marks set.
-pub fn append(links: &mut [Link], first: &mut Option<Slot>, last: &mut Option<Slot>, slot: Slot, cap: Cap)
+pub fn append(
+    links: &mut [Link],
+    first: &mut Option<Slot>,
+    last: &mut Option<Slot>,
+    slot: Slot,
+    cap: Cap,
+)
     requires slot_in { slot.place < length links.old }
     requires last_in { IfSome (place_in last.old) (λ n. n < length links.old) }
     ensures next { (i : ℕ) → (place_in last.old ≡ Some i → ⊥) → i ≢ slot.place → next_of links.new i ≡ next_of links.old i }
@@ -198,7 +217,14 @@ pub fn unlink(links: &mut [Link], first: &mut Option<Slot>, last: &mut Option<Sl
 }
 
 /// Puts `slot`, with the capability `cap`, in the place of `source`; both marks go along.
-pub fn replace(links: &mut [Link], first: &mut Option<Slot>, last: &mut Option<Slot>, source: Slot, slot: Slot, cap: Cap)
+pub fn replace(
+    links: &mut [Link],
+    first: &mut Option<Slot>,
+    last: &mut Option<Slot>,
+    source: Slot,
+    slot: Slot,
+    cap: Cap,
+)
     requires source_in { source.place < length links.old }
     requires slot_in { slot.place < length links.old }
     requires next_in { IfSome (next_of links.old source.place) (λ n. n < length links.old) }
@@ -226,7 +252,6 @@ pub fn replace(links: &mut [Link], first: &mut Option<Slot>, last: &mut Option<S
     lead_back(links, last, row.next, Some(slot));
     put(links, source, EMPTY);
 }
-
 
 /// Sets the free index, in bytes, of an untyped capability in the row of `slot`.
 pub fn free_from(links: &mut [Link], slot: Slot, free: u64)

@@ -13,4 +13,4 @@ returns-clause-alone g c f h = no_other g.P.Profile.the c.args.self.now.0 f h
 pub returns-clause-descendants : goal.returns-clause-descendants
 returns-clause-descendants g c pre s post e =
     run_in_store g.P.Profile.the c.self.inside.links.items (place_in c.self.inside.first) (place_in c.self.inside.last) c.args.self.now.0
-      (ap (λ (v : List Marked × ℕ). v.0) c.self.view_is) c.self.invariant pre s post e
+    (ap (λ (v : List Marked × ℕ). v.0) c.self.view_is) c.self.invariant pre s post e

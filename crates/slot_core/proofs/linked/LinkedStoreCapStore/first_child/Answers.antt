@@ -25,8 +25,8 @@ returns-then-is_parent g c =
     let e' = c.row.ensures ∙ ap (λ (m : List Link). link_at m c.in_ok-next.next.place) c.deref-2.ensures.value in
     let f : Link → Link → Bool = λ a b. is_parent p (marked 0 a.cap a.revocable a.first_badged) (marked 0 b.cap b.revocable b.first_badged) in
     sym (child_next p l (place_in c.self.inside.first) (place_in c.self.inside.last) c.args.slot.place c.in_ok-next.next.place true c.self.invariant
-      (ap (λ (x : Link). place_in x.next) (sym e) ∙ ap place_in c.in_ok-next.was)
-      (sym (ap (λ (a : Link). f a c.row.result) e ∙ ap (f (link_at l c.args.slot.place)) e') ∙ sym c.is_parent.ensures ∙ c.if-is_parent.true))
+    (ap (λ (x : Link). place_in x.next) (sym e) ∙ ap place_in c.in_ok-next.was)
+    (sym (ap (λ (a : Link). f a c.row.result) e ∙ ap (f (link_at l c.args.slot.place)) e') ∙ sym c.is_parent.ensures ∙ c.if-is_parent.true))
     ∙ ap (λ (v : List Marked × ℕ). first_child (address_of p c.args.slot) (forest_of p v.0)) c.self.view_is
 
 pub returns-else-is_parent : goal.returns-else-is_parent
@@ -37,6 +37,6 @@ returns-else-is_parent g c =
     let e' = c.row.ensures ∙ ap (λ (m : List Link). link_at m c.in_ok-next.next.place) c.deref-2.ensures.value in
     let f : Link → Link → Bool = λ a b. is_parent p (marked 0 a.cap a.revocable a.first_badged) (marked 0 b.cap b.revocable b.first_badged) in
     sym (child_next p l (place_in c.self.inside.first) (place_in c.self.inside.last) c.args.slot.place c.in_ok-next.next.place false c.self.invariant
-      (ap (λ (x : Link). place_in x.next) (sym e) ∙ ap place_in c.in_ok-next.was)
-      (sym (ap (λ (a : Link). f a c.row.result) e ∙ ap (f (link_at l c.args.slot.place)) e') ∙ sym c.is_parent.ensures ∙ c.if-is_parent.false))
+    (ap (λ (x : Link). place_in x.next) (sym e) ∙ ap place_in c.in_ok-next.was)
+    (sym (ap (λ (a : Link). f a c.row.result) e ∙ ap (f (link_at l c.args.slot.place)) e') ∙ sym c.is_parent.ensures ∙ c.if-is_parent.false))
     ∙ ap (λ (v : List Marked × ℕ). first_child (address_of p c.args.slot) (forest_of p v.0)) c.self.view_is

@@ -29,11 +29,11 @@ returns-then-not-names g c =
     let u : is_untyped (link_at l n).cap ≡ false = ap (λ (x : Link). is_untyped x.cap) (sym e) ∙ not_untyped c.row-link.result.cap c.in_default.not-Untyped in
     ap (λ b. not (b || c.names-then-not-names.result)) (sym c.if-not-names.true)
     ∙ sym (last_read p l (place_in c.self.inside.first) (place_in c.self.inside.last) n c.names.result c.names-then-not-names.result
-      (found p l (place_in c.self.inside.first) (place_in c.self.inside.last) n c.args.self.now c.self.view_is c.self.invariant c.requires.full) u
-      (λ d h. c.names.ensures.some d (ap (λ (x : Link). place_in x.previous) e ∙ h) ∙ ap (λ (m : List Link). same_object (link_at m d).cap c.row-link.result.cap) c.deref-in_default.ensures.value ∙ ap (same_object (link_at l d).cap) k)
-      (λ h. c.names.ensures.none (ap (λ (x : Link). place_in x.previous) e ∙ h))
-      (λ d h. c.names-then-not-names.ensures.some d (ap (λ (x : Link). place_in x.next) e ∙ h) ∙ ap (λ (m : List Link). same_object (link_at m d).cap c.row-link.result.cap) c.deref-then-not-names.ensures.value ∙ ap (same_object (link_at l d).cap) k)
-      (λ h. c.names-then-not-names.ensures.none (ap (λ (x : Link). place_in x.next) e ∙ h)))
+    (found p l (place_in c.self.inside.first) (place_in c.self.inside.last) n c.args.self.now c.self.view_is c.self.invariant c.requires.full) u
+    (λ d h. c.names.ensures.some d (ap (λ (x : Link). place_in x.previous) e ∙ h) ∙ ap (λ (m : List Link). same_object (link_at m d).cap c.row-link.result.cap) c.deref-in_default.ensures.value ∙ ap (same_object (link_at l d).cap) k)
+    (λ h. c.names.ensures.none (ap (λ (x : Link). place_in x.previous) e ∙ h))
+    (λ d h. c.names-then-not-names.ensures.some d (ap (λ (x : Link). place_in x.next) e ∙ h) ∙ ap (λ (m : List Link). same_object (link_at m d).cap c.row-link.result.cap) c.deref-then-not-names.ensures.value ∙ ap (same_object (link_at l d).cap) k)
+    (λ h. c.names-then-not-names.ensures.none (ap (λ (x : Link). place_in x.next) e ∙ h)))
     ∙ ap (λ (v : List Marked × ℕ). is_last (address_of p c.args.slot) (forest_of p v.0)) c.self.view_is
 
 pub returns-else-not-names : goal.returns-else-not-names
@@ -46,8 +46,8 @@ returns-else-not-names g c =
     let u : is_untyped (link_at l n).cap ≡ false = ap (λ (x : Link). is_untyped x.cap) (sym e) ∙ not_untyped c.row-link.result.cap c.in_default.not-Untyped in
     ap not c.if-not-names.false
     ∙ sym (last_before p l (place_in c.self.inside.first) (place_in c.self.inside.last) n c.names.result
-      (found p l (place_in c.self.inside.first) (place_in c.self.inside.last) n c.args.self.now c.self.view_is c.self.invariant c.requires.full) u
-      (λ d h. c.names.ensures.some d (ap (λ (x : Link). place_in x.previous) e ∙ h) ∙ ap (λ (m : List Link). same_object (link_at m d).cap c.row-link.result.cap) c.deref-in_default.ensures.value ∙ ap (same_object (link_at l d).cap) k)
-      (λ h. c.names.ensures.none (ap (λ (x : Link). place_in x.previous) e ∙ h))
-      c.if-not-names.false)
+    (found p l (place_in c.self.inside.first) (place_in c.self.inside.last) n c.args.self.now c.self.view_is c.self.invariant c.requires.full) u
+    (λ d h. c.names.ensures.some d (ap (λ (x : Link). place_in x.previous) e ∙ h) ∙ ap (λ (m : List Link). same_object (link_at m d).cap c.row-link.result.cap) c.deref-in_default.ensures.value ∙ ap (same_object (link_at l d).cap) k)
+    (λ h. c.names.ensures.none (ap (λ (x : Link). place_in x.previous) e ∙ h))
+    c.if-not-names.false)
     ∙ ap (λ (v : List Marked × ℕ). is_last (address_of p c.args.slot) (forest_of p v.0)) c.self.view_is

@@ -17,7 +17,7 @@ invariant_of-result g c =
     let one = one_shl (c.args.memory_bits - slot_bits p) 64 (omega arith) in
     let items = rw bits at c.in_ok-from_elem.ensures.items_if_clones_equal (λ y e. e) in
     store_made p c.args.memory_bits l (omega arith) (ap length items ∙ length-replicate _ empty_link ∙ one)
-      (λ i. ap (λ (m : List Link). get_or m i empty_link) items ∙ all_empty _ i)
+    (λ i. ap (λ (m : List Link). get_or m i empty_link) items ∙ all_empty _ i)
 
 pub returns-clause-memory : goal.returns-clause-memory
 returns-clause-memory g c =
