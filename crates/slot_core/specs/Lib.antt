@@ -5,3 +5,5 @@ pub mod Derivation
 pub mod Disjoint
 pub mod Places
 pub mod Rows
+pub mod Marked
+pub mod Links

@@ -26,7 +26,7 @@ pub fn with_free(cap: Cap, free: u64) -> Cap
 }
 
 /// The badge of a capability, 0 where it has none.
-fn badge_of(cap: Cap) -> u64
+pub fn badge_of(cap: Cap) -> u64
     ensures { result ≡ badge_in cap }
 {
     match cap {

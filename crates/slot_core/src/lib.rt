@@ -2,10 +2,12 @@
 #![tactic(auto)]
 
 mod derivation;
+pub mod linked;
 pub mod rows;
 pub mod slot;
 pub mod store;
 
+pub use linked::{Link, LinkedStore};
 pub use rows::RowStore;
 pub use slot::Slot;
 pub use store::{CapStore, MakeStore};

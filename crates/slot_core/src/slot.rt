@@ -63,6 +63,13 @@ impl Slot {
         }
     }
 
+    /// The slot's place in a table with one row a slot of the memory.
+    pub(crate) fn index(self) -> usize
+        ensures { result ≡ self.place }
+    {
+        self.place as usize
+    }
+
     /// The slot's address in bytes.
     pub fn address<P: Profile>(self) -> u64
         ensures { result ≡ self.place * slot_size P.the }

@@ -151,3 +151,23 @@ fn rows_answer_every_call_of_wide_words(rt: HostRuntime) -> Result<(), Fail> {
 fn rows_answer_every_call_of_narrow_words(rt: HostRuntime) -> Result<(), Fail> {
     answers_every_call::<Narrow, RowStore<Narrow>>(&rt, rt.alloc())
 }
+
+#[test]
+fn links_hold_a_family_of_wide_words(rt: HostRuntime) -> Result<(), Fail> {
+    holds_its_family::<Wide, LinkedStore<Wide>>(&rt, rt.alloc())
+}
+
+#[test]
+fn links_hold_a_family_of_narrow_words(rt: HostRuntime) -> Result<(), Fail> {
+    holds_its_family::<Narrow, LinkedStore<Narrow>>(&rt, rt.alloc())
+}
+
+#[test]
+fn links_answer_every_call_of_wide_words(rt: HostRuntime) -> Result<(), Fail> {
+    answers_every_call::<Wide, LinkedStore<Wide>>(&rt, rt.alloc())
+}
+
+#[test]
+fn links_answer_every_call_of_narrow_words(rt: HostRuntime) -> Result<(), Fail> {
+    answers_every_call::<Narrow, LinkedStore<Narrow>>(&rt, rt.alloc())
+}

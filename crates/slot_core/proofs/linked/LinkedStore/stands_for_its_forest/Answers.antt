@@ -1,0 +1,16 @@
+use Rattle.std.proofs.Common.{ℕ, List, ap}
+use Rattle.slot_core.specs.Marked.{Marked}
+use Rattle.slot_core.specs.Links.{place_in}
+use Rattle.slot_core.proofs.LinkedLaw.{stands_for, no_other, run_in_store}
+use Rattle.slot_core.proofs.linked.LinkedStore.stands_for_its_forest.Goals as goal
+
+pub returns-clause-stands : goal.returns-clause-stands
+returns-clause-stands g c = stands_for g.P.Profile.the c.args.self.now.0
+
+pub returns-clause-alone : goal.returns-clause-alone
+returns-clause-alone g c f h = no_other g.P.Profile.the c.args.self.now.0 f h
+
+pub returns-clause-descendants : goal.returns-clause-descendants
+returns-clause-descendants g c pre s post e =
+    run_in_store g.P.Profile.the c.self.inside.links.items (place_in c.self.inside.first) (place_in c.self.inside.last) c.args.self.now.0
+    (ap (λ (v : List Marked × ℕ). v.0) c.self.view_is) c.self.invariant pre s post e

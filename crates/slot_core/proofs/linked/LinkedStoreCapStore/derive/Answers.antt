@@ -1,0 +1,33 @@
+use Rattle.std.proofs.Common.{◌∙◌, ap, sym}
+use Rattle.std.proofs.lemmas.List.{with_items_is}
+use Rattle.slot_core.specs.Derivation.{is_new_original}
+use Rattle.slot_core.specs.Links.{link_at}
+use Rattle.slot_core.specs.Links.{place_in}
+use Rattle.slot_core.proofs.LinkedCalls.{found, in_next, in_table, derived_call}
+use Rattle.slot_core.proofs.linked.LinkedStoreCapStore.derive.Goals as goal
+
+pub insert_after-requires-clause-source_in : goal.insert_after-requires-clause-source_in
+insert_after-requires-clause-source_in g c =
+    in_table g.P.Profile.the c.self.inside.links.items c.deref_mut.result.now (place_in c.self.inside.first) (place_in c.self.inside.last) c.args.source.place c.deref_mut.ensures.value
+    (found g.P.Profile.the c.self.inside.links.items (place_in c.self.inside.first) (place_in c.self.inside.last) c.args.source.place c.args.self.now c.self.view_is c.self.invariant c.requires.source)
+
+pub insert_after-requires-clause-next_in : goal.insert_after-requires-clause-next_in
+insert_after-requires-clause-next_in g c =
+    in_next g.P.Profile.the c.self.inside.links.items c.deref_mut.result.now (place_in c.self.inside.first) (place_in c.self.inside.last) c.args.source.place c.deref_mut.ensures.value
+    (found g.P.Profile.the c.self.inside.links.items (place_in c.self.inside.first) (place_in c.self.inside.last) c.args.source.place c.args.self.now c.self.view_is c.self.invariant c.requires.source)
+
+pub invariant_of-self : goal.invariant_of-self
+invariant_of-self g c =
+    let h = c.insert_after.ensures in
+    (derived_call g.P.Profile.the c.self.inside.links.items c.deref_mut.result.now c.insert_after.new.links _ (place_in c.self.inside.first) (place_in c.insert_after.new.first) (place_in c.self.inside.last) (place_in c.insert_after.new.last) c.args.source.place c.args.slot.place c.args.cap c.is_new_original-marks.result c.args.self.now
+    c.deref_mut.ensures.value (with_items_is c.self.inside.links c.insert_after.new.links (h.size ∙ c.deref_mut.ensures.len)) c.self.view_is c.self.invariant
+    c.requires.source (c.is_new_original-marks.ensures ∙ ap (λ l. is_new_original l.cap c.args.cap) (c.row.ensures ∙ ap (λ m. link_at m c.args.source.place) c.deref.ensures.value)) c.requires.within c.requires.empty c.requires.lawful c.requires.same c.requires.badge c.requires.childless c.requires.disjoint
+    (record { next = h.next; next_source = h.next_source; next_slot = h.next_slot; previous = h.previous; previous_slot = h.previous_slot; previous_next = h.previous_next; last_none = h.last_none; last_some = h.last_some; first_same = h.first; rows = h.rows; row_slot = h.row; size = h.size })).0
+
+pub returns-clause-forest : goal.returns-clause-forest
+returns-clause-forest g c =
+    let h = c.insert_after.ensures in
+    (derived_call g.P.Profile.the c.self.inside.links.items c.deref_mut.result.now c.insert_after.new.links _ (place_in c.self.inside.first) (place_in c.insert_after.new.first) (place_in c.self.inside.last) (place_in c.insert_after.new.last) c.args.source.place c.args.slot.place c.args.cap c.is_new_original-marks.result c.args.self.now
+    c.deref_mut.ensures.value (with_items_is c.self.inside.links c.insert_after.new.links (h.size ∙ c.deref_mut.ensures.len)) c.self.view_is c.self.invariant
+    c.requires.source (c.is_new_original-marks.ensures ∙ ap (λ l. is_new_original l.cap c.args.cap) (c.row.ensures ∙ ap (λ m. link_at m c.args.source.place) c.deref.ensures.value)) c.requires.within c.requires.empty c.requires.lawful c.requires.same c.requires.badge c.requires.childless c.requires.disjoint
+    (record { next = h.next; next_source = h.next_source; next_slot = h.next_slot; previous = h.previous; previous_slot = h.previous_slot; previous_next = h.previous_next; last_none = h.last_none; last_some = h.last_some; first_same = h.first; rows = h.rows; row_slot = h.row; size = h.size })).1

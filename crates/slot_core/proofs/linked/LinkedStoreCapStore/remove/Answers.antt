@@ -1,0 +1,36 @@
+use Rattle.std.proofs.Common.{◌∙◌, ap, sym}
+use Rattle.std.proofs.lemmas.List.{with_items_is}
+use Rattle.slot_core.specs.Links.{place_in}
+use Rattle.slot_core.proofs.LinkedCalls.{found, in_next, in_previous, in_table, emptied_call}
+use Rattle.slot_core.proofs.linked.LinkedStoreCapStore.remove.Goals as goal
+
+pub unlink-requires-clause-slot_in : goal.unlink-requires-clause-slot_in
+unlink-requires-clause-slot_in g c =
+    in_table g.P.Profile.the c.self.inside.links.items c.deref_mut.result.now (place_in c.self.inside.first) (place_in c.self.inside.last) c.args.slot.place c.deref_mut.ensures.value
+    (found g.P.Profile.the c.self.inside.links.items (place_in c.self.inside.first) (place_in c.self.inside.last) c.args.slot.place c.args.self.now c.self.view_is c.self.invariant c.requires.full)
+
+pub unlink-requires-clause-next_in : goal.unlink-requires-clause-next_in
+unlink-requires-clause-next_in g c =
+    in_next g.P.Profile.the c.self.inside.links.items c.deref_mut.result.now (place_in c.self.inside.first) (place_in c.self.inside.last) c.args.slot.place c.deref_mut.ensures.value
+    (found g.P.Profile.the c.self.inside.links.items (place_in c.self.inside.first) (place_in c.self.inside.last) c.args.slot.place c.args.self.now c.self.view_is c.self.invariant c.requires.full)
+
+pub unlink-requires-clause-previous_in : goal.unlink-requires-clause-previous_in
+unlink-requires-clause-previous_in g c =
+    in_previous g.P.Profile.the c.self.inside.links.items c.deref_mut.result.now (place_in c.self.inside.first) (place_in c.self.inside.last) c.args.slot.place c.deref_mut.ensures.value
+    (found g.P.Profile.the c.self.inside.links.items (place_in c.self.inside.first) (place_in c.self.inside.last) c.args.slot.place c.args.self.now c.self.view_is c.self.invariant c.requires.full)
+
+pub invariant_of-self : goal.invariant_of-self
+invariant_of-self g c =
+    let h = c.unlink.ensures in
+    (emptied_call g.P.Profile.the c.self.inside.links.items c.deref_mut.result.now c.unlink.new.links _ (place_in c.self.inside.first) (place_in c.unlink.new.first) (place_in c.self.inside.last) (place_in c.unlink.new.last) c.args.slot.place c.args.self.now
+    c.deref_mut.ensures.value (with_items_is c.self.inside.links c.unlink.new.links (h.size ∙ c.deref_mut.ensures.len)) c.self.view_is c.self.invariant
+    c.requires.full
+    (record { next = h.next; next_previous = h.next_previous; first_none = h.first_none; first_some = h.first_some; previous = h.previous; previous_next = h.previous_next; last_none = h.last_none; last_some = h.last_some; rows = h.rows; row_next = h.row_next; row = h.row; next_slot = h.next_slot; previous_slot = h.previous_slot; size = h.size })).0
+
+pub returns-clause-forest : goal.returns-clause-forest
+returns-clause-forest g c =
+    let h = c.unlink.ensures in
+    (emptied_call g.P.Profile.the c.self.inside.links.items c.deref_mut.result.now c.unlink.new.links _ (place_in c.self.inside.first) (place_in c.unlink.new.first) (place_in c.self.inside.last) (place_in c.unlink.new.last) c.args.slot.place c.args.self.now
+    c.deref_mut.ensures.value (with_items_is c.self.inside.links c.unlink.new.links (h.size ∙ c.deref_mut.ensures.len)) c.self.view_is c.self.invariant
+    c.requires.full
+    (record { next = h.next; next_previous = h.next_previous; first_none = h.first_none; first_some = h.first_some; previous = h.previous; previous_next = h.previous_next; last_none = h.last_none; last_some = h.last_some; rows = h.rows; row_next = h.row_next; row = h.row; next_slot = h.next_slot; previous_slot = h.previous_slot; size = h.size })).1

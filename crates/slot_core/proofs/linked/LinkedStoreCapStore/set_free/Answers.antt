@@ -1,0 +1,28 @@
+use Rattle.std.proofs.Common.{◌∙◌, ap, sym}
+use Rattle.std.proofs.lemmas.List.{with_items_is}
+use Rattle.slot_core.specs.Links.{place_in}
+use Rattle.slot_core.proofs.LinkedCalls.{found, full_untyped, in_table, freed_call}
+use Rattle.slot_core.proofs.linked.LinkedStoreCapStore.set_free.Goals as goal
+
+pub free_from-requires : goal.free_from-requires
+free_from-requires g c =
+    record {
+      slot_in = in_table g.P.Profile.the c.self.inside.links.items c.deref_mut.result.now (place_in c.self.inside.first) (place_in c.self.inside.last) c.args.slot.place c.deref_mut.ensures.value
+          (found g.P.Profile.the c.self.inside.links.items (place_in c.self.inside.first) (place_in c.self.inside.last) c.args.slot.place c.args.self.now c.self.view_is c.self.invariant (full_untyped g.P.Profile.the c.args.slot.place c.args.self.now.0 c.requires.untyped));
+    }
+
+pub invariant_of-self : goal.invariant_of-self
+invariant_of-self g c =
+    let h = c.free_from.ensures in
+    (freed_call g.P.Profile.the c.self.inside.links.items c.deref_mut.result.now c.free_from.new.links _ (place_in c.self.inside.first) (place_in c.self.inside.last) c.args.slot.place c.args.free c.args.self.now
+    c.deref_mut.ensures.value (with_items_is c.self.inside.links c.free_from.new.links (h.size ∙ c.deref_mut.ensures.len)) c.self.view_is c.self.invariant
+    c.requires.untyped c.requires.lawful
+    (record { next = h.next; previous = h.previous; rows = h.rows; row = h.row; size = h.size })).0
+
+pub returns-clause-forest : goal.returns-clause-forest
+returns-clause-forest g c =
+    let h = c.free_from.ensures in
+    (freed_call g.P.Profile.the c.self.inside.links.items c.deref_mut.result.now c.free_from.new.links _ (place_in c.self.inside.first) (place_in c.self.inside.last) c.args.slot.place c.args.free c.args.self.now
+    c.deref_mut.ensures.value (with_items_is c.self.inside.links c.free_from.new.links (h.size ∙ c.deref_mut.ensures.len)) c.self.view_is c.self.invariant
+    c.requires.untyped c.requires.lawful
+    (record { next = h.next; previous = h.previous; rows = h.rows; row = h.row; size = h.size })).1
