@@ -37,7 +37,7 @@ verdict_of calls replies = verdict_on (met_count calls replies) (expectation_cou
 -- the report of a set-up's run, and its verdict
 unfoldable pub outcome_of : ProfileName → SetupView → List ℕ × Verdict
 outcome_of p setup =
-    (report_of p setup.plan.memory_bits setup.calls (replies_to p setup) (shown (end_of p setup)), verdict_of setup.calls (replies_to p setup))
+    (report_of p setup.calls (replies_to p setup) (shown (end_of p setup)), verdict_of setup.calls (replies_to p setup))
 
 abbrev pub outcome_in : Result SetupView Fault → List ℕ × Verdict
 outcome_in (Ok setup) = outcome_of Wide setup

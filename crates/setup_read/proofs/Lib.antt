@@ -1,9 +1,11 @@
-pub mod Walks
+pub mod Rising
+pub mod Slots
 pub mod Fronts
-pub mod Bases
 pub mod Bytes
 pub mod Keys
 pub mod LookUp
 pub mod Loops
 pub mod Padding
 pub mod Calls
+pub mod Readings
+pub mod Booted

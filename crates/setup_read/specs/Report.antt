@@ -1,34 +1,25 @@
 -- The report of a run: a line for each call, then what the kernel shows of its memory, then how many expectations are met.
-use Rattle.std.specs.Prelude.{codes, ℕ, zero, suc, ◌+◌, ◌-◌, ◌*◌, ◌/◌, ◌^◌, nat_le, nat_lt, List, [], ◌∷◌, ◌++◌, map, Bool, true, false, not, ◌==◌, ◌&&◌, cond, if◌then◌else◌, Option, Some, None, is_some}
+use Rattle.std.specs.Prelude.{codes, ℕ, ◌+◌, ◌-◌, ◌/◌, ◌^◌, nat_le, nat_lt, List, [], ◌∷◌, ◌++◌, map, filter, Bool, true, false, not, ◌==◌, ◌&&◌, cond, if◌then◌else◌, Option, Some, None, is_some}
 use Rattle.std.specs.List.{flat_map, filter_map, list_any}
+use Rattle.std.specs.Ordering.{nat_cmp}
+use Rattle.std.specs.BTreeSet.{insert_key}
 use Rattle.std.specs.Fmt.{decimal}
 use Rattle.cap_core.specs.declared.profile.ProfileName.{ProfileName}
-use Rattle.cap_core.specs.Numbers.{slot_bits, tcb_bits, endpoint_bits}
+use Rattle.cap_core.specs.Numbers.{slot_bits}
 use Rattle.cap_core.specs.declared.capability.Cap.{Cap}
 use Rattle.cap_core.specs.declared.capability.Cap.TheVariants.{Null, Untyped, Endpoint, CNode, Tcb}
 use Rattle.cap_core.specs.Objects.{is_null}
-use Rattle.slot_core.specs.Entries.{cap_at}
+use Rattle.slot_core.specs.Entries.{slots, cap_at}
 use Rattle.ipc_core.specs.Waits.{thread_of}
 use Rattle.kernel_core.specs.declared.call.Call.{Call}
 use Rattle.kernel_core.specs.declared.call.Reply.{Reply}
 use Rattle.kernel_core.specs.declared.call.ThreadState.{ThreadState}
 use Rattle.kernel_core.specs.declared.call.ThreadState.TheVariants.{Ready, Inactive, Sending, Receiving}
 use Rattle.kernel_core.specs.declared.call.Inbox.{Inbox}
-use Rattle.kernel_core.specs.Shown.{Shown, state_at, inbox_at, waiting_at, has_child}
+use Rattle.kernel_core.specs.Shown.{Shown, tcb_base, endpoint_base, state_at, inbox_at, waiting_at, has_child}
 use Rattle.setup_read.specs.Views.{CallView}
 use Rattle.setup_read.specs.declared.reporting.naming.Naming.{Naming}
 use Rattle.setup_read.specs.Text.{cap_text, numbers_text, op_text, reply_text, is_met, verdict_text, state_text, inbox_text}
-
--- ---- addresses
-
--- the first n multiples of a size, in rising order
-unfoldable pub multiples : ℕ → ℕ → List ℕ
-multiples size zero = []
-multiples size (suc n) = multiples size n ++ n * size ∷ []
-
--- the addresses below 2^memory at which an object of 2^bits bytes can stand, in rising order
-abbrev pub addresses : ℕ → ℕ → List ℕ
-addresses bits memory = multiples (2 ^ bits) (2 ^ memory / 2 ^ bits)
 
 abbrev pub line : List ℕ → List ℕ
 line text = text ++ codes "\n"
@@ -71,68 +62,79 @@ abbrev pub expectation_line : List CallView → List Reply → List ℕ
 expectation_line calls replies =
     line (codes "expected " ++ (decimal (met_count calls replies) ++ (codes " of " ++ decimal (expectation_count calls replies))))
 
--- ---- threads: a line for each live thread, by rising address
+-- ---- addresses
 
-abbrev pub thread_text : ℕ → ThreadState → Option Inbox → List ℕ
-thread_text address state inbox = codes "thread " ++ (decimal address ++ (codes " " ++ (state_text state ++ inbox_text inbox)))
+abbrev pub is_in : ℕ → List ℕ → Bool
+is_in address list = list_any (λ a. address == a) list
 
-abbrev pub thread_lines_with : ℕ → Option ThreadState → Option Inbox → List ℕ
-thread_lines_with address None inbox = []
-thread_lines_with address (Some state) inbox = line (thread_text address state inbox)
-
-abbrev pub thread_lines_at : Shown → ℕ → List ℕ
-thread_lines_at v address = thread_lines_with address (state_at v address) (inbox_at v address)
-
-abbrev pub thread_lines : ProfileName → ℕ → Shown → List ℕ
-thread_lines p memory v = flat_map (thread_lines_at v) (addresses (tcb_bits p) memory)
+-- each of some addresses once, in rising order
+abbrev pub rising : List ℕ → List ℕ
+rising [] = []
+rising (address ∷ addresses) = insert_key nat_cmp (rising addresses) address
 
 -- ---- slots: a line for each full slot, by rising address
+
+-- the slots that hold a capability
+abbrev pub is_full : Shown → ℕ → Bool
+is_full v slot = not (is_null (cap_at v.derivations slot))
+
+abbrev pub full_slots : Shown → List ℕ
+full_slots v = filter (is_full v) (slots v.derivations)
 
 abbrev pub slot_text : ℕ → Cap → Bool → List ℕ
 slot_text address cap has_children =
     codes "slot " ++ (decimal address ++ (codes " " ++ (cap_text cap ++ (if has_children then codes " children" else []))))
 
-abbrev pub slot_lines_at : Shown → ℕ → List ℕ
-slot_lines_at v slot =
-    if is_null (cap_at v.derivations slot) then [] else line (slot_text slot (cap_at v.derivations slot) (has_child slot v.derivations))
+abbrev pub slot_line : Shown → ℕ → List ℕ
+slot_line v slot = line (slot_text slot (cap_at v.derivations slot) (has_child slot v.derivations))
 
-abbrev pub slot_lines : ProfileName → ℕ → Shown → List ℕ
-slot_lines p memory v = flat_map (slot_lines_at v) (addresses (slot_bits p) memory)
+abbrev pub slot_lines : Shown → List ℕ
+slot_lines v = flat_map (slot_line v) (rising (full_slots v))
 
--- ---- which objects the slots name
-
-abbrev pub is_in : ℕ → List ℕ → Bool
-is_in address list = list_any (λ a. address == a) list
-
--- the object is the one that is named, where one is
-abbrev pub is_named : ℕ → Option ℕ → Bool
-is_named address None = false
-is_named address (Some base) = is_in address (base ∷ [])
+-- ---- the objects that the full slots name, which are those that are live
 
 -- a slot is one of the 2^radix slots of a CNode at a base
 abbrev pub is_slot_of : ProfileName → ℕ → ℕ → ℕ → Bool
 is_slot_of p base radix slot = nat_le base slot && nat_lt ((slot - base) / 2 ^ slot_bits p) (2 ^ radix)
 
--- the object that a slot names with its capability: an endpoint; a CNode to which the slot belongs; or another CNode
+-- the CNode that a capability names, where its base and its radix pass a test
+abbrev pub node_base : (ℕ → ℕ → Bool) → Cap → Option ℕ
+node_base test Null = None
+node_base test (Untyped base bits free) = None
+node_base test (Endpoint base badge rights) = None
+node_base test (CNode base radix guard) = cond (test base radix) (Some base) None
+node_base test (Tcb base) = None
+
+-- the object that a slot names with its capability: a thread; an endpoint; a CNode to which the slot belongs; or another CNode
 abbrev pub base_named : ProfileName → Naming → ℕ → Cap → Option ℕ
-base_named p naming slot Null = None
-base_named p naming slot (Untyped base bits free) = None
-base_named p Naming.Endpoint slot (Endpoint base badge rights) = Some base
-base_named p Naming.OwnNode slot (Endpoint base badge rights) = None
-base_named p Naming.OtherNode slot (Endpoint base badge rights) = None
-base_named p Naming.Endpoint slot (CNode base radix guard) = None
-base_named p Naming.OwnNode slot (CNode base radix guard) = cond (is_slot_of p base radix slot) (Some base) None
-base_named p Naming.OtherNode slot (CNode base radix guard) = cond (is_slot_of p base radix slot) None (Some base)
-base_named p naming slot (Tcb base) = None
+base_named p Naming.Thread slot cap = tcb_base cap
+base_named p Naming.Endpoint slot cap = endpoint_base cap
+base_named p Naming.OwnNode slot cap = node_base (λ base radix. is_slot_of p base radix slot) cap
+base_named p Naming.OtherNode slot cap = node_base (λ base radix. not (is_slot_of p base radix slot)) cap
 
 abbrev pub base_at : ProfileName → Naming → Shown → ℕ → Option ℕ
 base_at p naming v slot = base_named p naming slot (cap_at v.derivations slot)
 
--- the objects that the slots of the memory name
-abbrev pub bases_named : ProfileName → Naming → ℕ → Shown → List ℕ
-bases_named p naming memory v = filter_map (base_at p naming v) (addresses (slot_bits p) memory)
+abbrev pub bases_named : ProfileName → Naming → Shown → List ℕ
+bases_named p naming v = filter_map (base_at p naming v) (full_slots v)
 
--- ---- endpoints: a line for each live endpoint, one that some slot names, by rising address
+-- ---- threads: a line for each live thread, by rising address
+
+abbrev pub thread_text : ℕ → ThreadState → Option Inbox → List ℕ
+thread_text address state inbox = codes "thread " ++ (decimal address ++ (codes " " ++ (state_text state ++ inbox_text inbox)))
+
+abbrev pub thread_line_with : ℕ → Option ThreadState → Option Inbox → List ℕ
+thread_line_with address None inbox = []
+thread_line_with address (Some state) inbox = line (thread_text address state inbox)
+
+-- of each live thread a state is shown
+abbrev pub thread_line : Shown → ℕ → List ℕ
+thread_line v address = thread_line_with address (state_at v address) (inbox_at v address)
+
+abbrev pub thread_lines : ProfileName → Shown → List ℕ
+thread_lines p v = flat_map (thread_line v) (rising (bases_named p Naming.Thread v))
+
+-- ---- endpoints: a line for each live endpoint, by rising address
 
 abbrev pub is_sending : Option ThreadState → Bool
 is_sending None = false
@@ -159,38 +161,29 @@ abbrev pub first_sends : Shown → List ℕ → Bool
 first_sends v [] = false
 first_sends v (thread ∷ threads) = is_sending (state_at v thread)
 
-abbrev pub endpoint_lines_if : Bool → Shown → ℕ → List ℕ
-endpoint_lines_if is_live v address =
-    if is_live then line (endpoint_text address (first_sends v (threads_at v address)) (threads_at v address)) else []
+abbrev pub endpoint_line : Shown → ℕ → List ℕ
+endpoint_line v address = line (endpoint_text address (first_sends v (threads_at v address)) (threads_at v address))
 
-abbrev pub endpoint_lines_at : List ℕ → Shown → ℕ → List ℕ
-endpoint_lines_at live v address = endpoint_lines_if (is_in address live) v address
+abbrev pub endpoint_lines : ProfileName → Shown → List ℕ
+endpoint_lines p v = flat_map (endpoint_line v) (rising (bases_named p Naming.Endpoint v))
 
-abbrev pub endpoint_lines : ProfileName → ℕ → Shown → List ℕ
-endpoint_lines p memory v =
-    flat_map (endpoint_lines_at (bases_named p Naming.Endpoint memory v) v) (addresses (endpoint_bits p) memory)
+-- ---- selfheld CNodes, those that slots of their own name and no other slots: a line for each, by rising address
 
--- ---- selfheld CNodes, those that only slots of their own name, by rising address
+abbrev pub selfheld : ProfileName → Shown → List ℕ
+selfheld p v = filter (λ base. not (is_in base (bases_named p Naming.OtherNode v))) (bases_named p Naming.OwnNode v)
 
-abbrev pub selfheld_lines_if : Bool → Bool → ℕ → List ℕ
-selfheld_lines_if is_inside is_outside address =
-    if is_inside && not is_outside then line (codes "selfheld " ++ decimal address) else []
+abbrev pub selfheld_line : ℕ → List ℕ
+selfheld_line address = line (codes "selfheld " ++ decimal address)
 
-abbrev pub selfheld_lines_at : List ℕ → List ℕ → ℕ → List ℕ
-selfheld_lines_at inside outside address = selfheld_lines_if (is_in address inside) (is_in address outside) address
-
-abbrev pub selfheld_lines : ProfileName → ℕ → Shown → List ℕ
-selfheld_lines p memory v =
-    flat_map (selfheld_lines_at (bases_named p Naming.OwnNode memory v) (bases_named p Naming.OtherNode memory v)) (addresses (slot_bits p) memory)
+abbrev pub selfheld_lines : ProfileName → Shown → List ℕ
+selfheld_lines p v = flat_map selfheld_line (rising (selfheld p v))
 
 -- ---- what a kernel shows of its memory
 
-abbrev pub state_lines : ProfileName → ℕ → Shown → List ℕ
-state_lines p memory v =
-    thread_lines p memory v ++ (endpoint_lines p memory v ++ (slot_lines p memory v ++ selfheld_lines p memory v))
+abbrev pub state_lines : ProfileName → Shown → List ℕ
+state_lines p v = thread_lines p v ++ (endpoint_lines p v ++ (slot_lines v ++ selfheld_lines p v))
 
 -- ---- the report of a run: of the calls of a set-up with their replies, and of what the kernel then shows
 
-unfoldable pub report_of : ProfileName → ℕ → List CallView → List Reply → Shown → List ℕ
-report_of p memory calls replies v =
-    call_lines 1 calls replies ++ (state_lines p memory v ++ expectation_line calls replies)
+unfoldable pub report_of : ProfileName → List CallView → List Reply → Shown → List ℕ
+report_of p calls replies v = call_lines 1 calls replies ++ (state_lines p v ++ expectation_line calls replies)

@@ -1,11 +1,12 @@
 //! A whole set-up, from its text or from the table of it.
-ghost use Rattle.std.specs.Prelude.{◌≡◌, ◌≤◌, map, length, All, IfOk};
+ghost use Rattle.std.specs.Prelude.{◌≡◌, ◌≢◌, ◌≤◌, map, length, All, IfOk, IfErr};
 ghost use Rattle.toml.specs.View.{table_view};
 ghost use Rattle.cap_core.specs.declared.profile.ProfileName.TheVariants as profile;
 ghost use Rattle.kernel_core.specs.Plan.{IsUntypedSize, IsWithinLimits, IsPlan};
 ghost use Rattle.setup_read.specs.Names.{names_view};
 ghost use Rattle.setup_read.specs.Faults.{Gives};
 ghost use Rattle.setup_read.specs.Kinds.{each};
+ghost use Rattle.setup_read.specs.Messages.{HasMessage};
 ghost use Rattle.setup_read.specs.Views.{call_view};
 ghost use Rattle.setup_read.specs.Setups as spec;
 
@@ -191,15 +192,9 @@ fn setup_at<P: Profile>(alloc: Global, table: &Table) -> Result<Setup, SetupFaul
     Ok(Setup::new(alloc, plan, clients, limit, calls)?)
 }
 
-/// The set-up that a table is read as, or its first fault.
-///
-/// # Errors
-///
-/// The first fault in this order, or `Memory` in place of any answer where memory was refused: the key `format`; an unknown key
-/// of the table, the least by its bytes; its other keys; each table of `untyped`; the plan of the boot; each table of `call`.
-/// `Text` is never answered. The format is this project's profile.
+/// What a table is read as, in the format that is read.
 #[tactic(auto, unfolding(crate::specs::Setups::setup_of))]
-pub fn read_table(alloc: Global, table: &Table) -> Result<Setup, SetupFault>
+fn setup_of(alloc: Global, table: &Table) -> Result<Setup, SetupFault>
     ensures setup { Gives (λ s. s) result (spec.setup_of (table_view table.now)) }
     ensures plan { IfOk result (λ s. IsPlan profile.Wide s.plan) }
 {
@@ -222,6 +217,23 @@ pub fn read_table(alloc: Global, table: &Table) -> Result<Setup, SetupFault>
     setup_at::<Wide>(alloc, table)
 }
 
+/// The set-up that a table is read as, or its first fault.
+///
+/// # Errors
+///
+/// The first fault in this order, or `Memory` in place of any answer where memory was refused: the key `format`; an unknown key
+/// of the table, the least by its bytes; its other keys; each table of `untyped`; the plan of the boot; each table of `call`.
+/// `Text` is never answered. The format is this project's profile.
+#[tactic(auto, using(crate::proofs::Readings::messages_read, crate::proofs::Readings::never_text))]
+pub fn read_table(alloc: Global, table: &Table) -> Result<Setup, SetupFault>
+    ensures setup { Gives (λ s. s) result (spec.setup_of (table_view table.now)) }
+    ensures plan { IfOk result (λ s. IsPlan profile.Wide s.plan) }
+    ensures messages { IfOk result (λ s. All (HasMessage profile.Wide) s.calls) }
+    ensures never_text { IfErr result (λ e. e ≢ SetupFault.Text) }
+{
+    setup_of(alloc, table)
+}
+
 /// The set-up that a text is read as, or its first fault.
 ///
 /// # Errors
@@ -231,6 +243,7 @@ pub fn read_table(alloc: Global, table: &Table) -> Result<Setup, SetupFault>
 pub fn read_setup(alloc: Global, bytes: &[u8]) -> Result<Setup, SetupFault>
     ensures setup { Gives (λ s. s) result (spec.setup_of_bytes bytes.now) }
     ensures plan { IfOk result (λ s. IsPlan profile.Wide s.plan) }
+    ensures messages { IfOk result (λ s. All (HasMessage profile.Wide) s.calls) }
 {
     let Ok(text) = std::str::from_utf8(bytes) else {
         return Err(SetupFault::Text);

@@ -1,5 +1,7 @@
 //! The report of a run: each call with its reply, what the kernel shows at the end, and how many expectations are met.
-ghost use Rattle.std.specs.Prelude.{◌≡◌, length, IfOk};
+ghost use Rattle.std.specs.Prelude.{◌≡◌, All, length, IfOk};
+ghost use Rattle.slot_core.specs.Entries.{slots as slots_of};
+ghost use Rattle.kernel_core.specs.Rows.{IsSlotAddress};
 ghost use Rattle.setup_read.specs.Report.{report_of};
 
 mod calls;
@@ -7,6 +9,7 @@ mod lines;
 mod memory;
 mod naming;
 mod readable;
+mod slots;
 mod text;
 
 use crate::setup::Setup;
@@ -22,8 +25,8 @@ use std::fmt::Write;
 /// line for each live thread, each live endpoint, each full slot and each CNode that only slots of its own name, each by
 /// rising address; and how many of the expectations are met.
 ///
-/// `replies` has the reply to each call, in order. What stands past the set-up's memory of 2^`memory_bits` bytes is left
-/// out. The lines, and what is read of a kernel, are this project's profile.
+/// `replies` has the reply to each call, in order, and the full slots of `kernel` lie in the set-up's memory. The lines, and
+/// what is read of a kernel, are this project's profile.
 ///
 /// # Errors
 ///
@@ -35,8 +38,9 @@ pub fn report<P: Profile, S: CapStore<P> + Drop, W: Waiters<P> + Drop>(
     replies: &[Reply],
     kernel: &Kernel<P, S, W>,
 ) -> Result<Vec<u8>, AllocError>
-    requires { length replies.now ≡ length setup.now.calls }
-    ensures { IfOk result (λ v. v.items ≡ report_of P.the setup.now.plan.memory_bits setup.now.calls replies.now kernel.now) }
+    requires replies { length replies.now ≡ length setup.now.calls }
+    requires slots { All (IsSlotAddress P.the setup.now.plan.memory_bits) (slots_of kernel.now.derivations) }
+    ensures { IfOk result (λ v. v.items ≡ report_of P.the setup.now.calls replies.now kernel.now) }
 {
     let mut out = String::new(alloc);
     calls::add_calls(alloc, &mut out, setup, replies)?;

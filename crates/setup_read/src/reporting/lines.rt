@@ -1,6 +1,5 @@
 //! The lines of a report.
-ghost use Rattle.std.specs.Prelude.{◌≡◌, ◌++◌, Some, map};
-ghost use Rattle.setup_read.specs.Text as text;
+ghost use Rattle.std.specs.Prelude.{Some};
 ghost use Rattle.setup_read.specs.Report as spec;
 
 use super::text::{CapText, InboxText, NumbersText, StateText};

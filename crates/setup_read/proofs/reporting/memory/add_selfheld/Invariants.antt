@@ -1,13 +1,8 @@
-use Rattle.std.proofs.Common.{◌≡◌, ◌++◌, string_bytes}
+use Rattle.std.proofs.Common.{◌≡◌, ◌++◌, map, string_bytes}
 use Rattle.std.specs.List.{flat_map}
-use Rattle.cap_core.specs.Numbers.{slot_size}
-use Rattle.setup_read.specs.declared.reporting.naming.Naming.TheVariants as Naming
-use Rattle.setup_read.specs.Report.{multiples, bases_named, selfheld_lines_at}
+use Rattle.std.specs.Map.Iter.{deref}
+use Rattle.setup_read.specs.Report.{selfheld_line}
 use Rattle.setup_read.proofs.reporting.memory.add_selfheld.Given as goal
 
-abbrev pub invariant-loop-place : goal.invariant-loop-place
-invariant-loop-place g l =
-    let v = g.K.Readable.shown l.kernel in
-    let inside = bases_named g.P.Profile.the Naming.OwnNode l.memory_bits v in
-    let outside = bases_named g.P.Profile.the Naming.OtherNode l.memory_bits v in
-    string_bytes l.out ≡ string_bytes l.initial.out ++ flat_map (selfheld_lines_at inside outside) (multiples (slot_size g.P.Profile.the) l.place)
+abbrev pub invariant-loop-node : goal.invariant-loop-node
+invariant-loop-node l = string_bytes l.out ≡ string_bytes l.initial.out ++ flat_map selfheld_line (map deref l.yielded)

@@ -1,0 +1,8 @@
+use Rattle.std.proofs.Common.{◌≡◌, filter}
+use Rattle.cap_core.specs.Numbers.{slot_size}
+use Rattle.setup_read.specs.Report.{rising, is_full}
+use Rattle.setup_read.proofs.Slots.{multiples}
+use Rattle.setup_read.proofs.reporting.slots.full_slots.Given as goal
+
+abbrev pub invariant-loop-place : goal.invariant-loop-place
+invariant-loop-place g l = l.slots.keys ≡ rising (filter (is_full (g.K.Readable.shown l.kernel)) (multiples (slot_size g.P.Profile.the) l.place))
