@@ -9,6 +9,8 @@ pub mod Retyped
 pub mod Moved
 pub mod Freed
 pub mod Emptied
+pub mod Alike
+pub mod DisjointRenamed
 pub mod Built
 pub mod Nested
 pub mod BuiltRenamed
