@@ -30,6 +30,7 @@ impl<P: Profile> Waiters<P> for LinkedWaiters<P> {
 
     ghost memory_bits = { λ w. w.memory_bits };
 
+    #[inline]
     fn send(
         &mut self,
         endpoint: u64,
@@ -52,6 +53,7 @@ impl<P: Profile> Waiters<P> for LinkedWaiters<P> {
         }
     }
 
+    #[inline]
     fn recv(&mut self, endpoint: u64, thread: u64, block: bool) -> Received {
         match self.tables.first_sender::<P>(endpoint) {
             Some(offer) => {
