@@ -12,10 +12,10 @@ use crate::fault::{RunFault, Verdict};
 use crate::sink::Sink;
 use crate::source::Source;
 use cap_core::Wide;
-use ipc_core::RowWaiters;
+use ipc_core::LinkedWaiters;
 use kernel_core::{Kernel, Reply};
 use setup_read::{ExpectationCount, Setup, SetupFault, expectations, read_setup, report};
-use slot_core::RowStore;
+use slot_core::LinkedStore;
 use std::alloc::{AllocError, Global};
 
 /// The number of bytes that an input has to stay below.
@@ -85,7 +85,7 @@ pub(crate) fn write_all<K: Sink>(sink: &mut K, text: &[u8]) -> Result<(), RunFau
 }
 
 /// The kernel that `check` runs: with words of 64 bits, over the plain forms of both stores.
-type CheckedKernel = Kernel<Wide, RowStore<Wide>, RowWaiters<Wide>>;
+type CheckedKernel = Kernel<Wide, LinkedStore<Wide>, LinkedWaiters<Wide>>;
 
 /// Boots a kernel from the set-up's plan and makes its calls: the kernel then, and the replies.
 #[tactic(auto, unfolding(crate::specs::Program::replies_to, crate::specs::Program::end_of))]
