@@ -1,10 +1,10 @@
 -- The derivation forests of tests, all of whose capabilities name one endpoint.
-use Rattle.std.proofs.Common.{◌≡◌, ℕ, Bool, true, false, cond, ◌||◌, ◌==◌, List, [], ◌∷◌, refl, sym, ◌∙◌, ap, subst, IsTrue}
+use Rattle.std.proofs.Common.{◌≡◌, ℕ, true, false, cond, ◌||◌, ◌==◌, List, [], ◌∷◌, refl, sym, ◌∙◌, ap, IsTrue}
 use Rattle.std.specs.List.{AllByRecursion as Each, Contains, list_any}
 use Rattle.cap_core.specs.declared.profile.ProfileName.{ProfileName}
 use Rattle.cap_core.specs.declared.capability.Cap.{Cap}
 use Rattle.cap_core.specs.declared.capability.Cap.TheVariants.{Null, Untyped, Endpoint, CNode, Tcb}
-use Rattle.cap_core.specs.Objects.{is_null, is_untyped, same_object, contains}
+use Rattle.cap_core.specs.Objects.{is_null, is_untyped, same_object}
 use Rattle.slot_core.specs.Forest.{Forest, preorder}
 use Rattle.slot_core.specs.Entries.{Entry, is_at, is_full, cap_at, cap_in}
 use Rattle.slot_core.specs.Derivation.{derived, emptied, names_same}
