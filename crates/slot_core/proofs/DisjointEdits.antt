@@ -1,11 +1,11 @@
 -- Another free index, and a slot that is emptied, keep live objects disjoint.
-use Rattle.std.proofs.Common.{◌≡◌, ℕ, ◌+◌, Bool, true, false, cond, ◌&&◌, ◌||◌, ◌==◌, List, [], ◌∷◌, ◌++◌, map, ◌⊎◌, inl, inr, refl, sym, ◌∙◌, ap, subst, append_assoc, IsTrue}
+use Rattle.std.proofs.Common.{◌≡◌, ℕ, Bool, true, false, cond, ◌||◌, ◌==◌, List, [], ◌∷◌, ◌++◌, map, inl, inr, refl, sym, ◌∙◌, ap, subst, append_assoc, IsTrue}
 use Rattle.std.specs.List.{AllByRecursion as Each, Contains}
 use Rattle.std.proofs.lemmas.Bool.{eqb-true}
 use Rattle.cap_core.specs.declared.profile.ProfileName.{ProfileName}
 use Rattle.cap_core.specs.declared.capability.Cap.{Cap}
 use Rattle.cap_core.specs.declared.capability.Cap.TheVariants.{Null, Untyped, Endpoint, CNode, Tcb}
-use Rattle.cap_core.specs.Objects.{is_untyped, same_object, contains, base_of, bits_of}
+use Rattle.cap_core.specs.Objects.{is_untyped, same_object, contains}
 use Rattle.slot_core.specs.Forest.{Forest, none, tree, preorder, join, below_those, has, ancestors, out, renamed}
 use Rattle.slot_core.specs.Entries.{Entry, entry, is_at}
 use Rattle.slot_core.specs.Derivation.{freed, with_free, emptied}
@@ -13,7 +13,7 @@ use Rattle.slot_core.specs.Disjoint.{are_disjoint, AreInLine, IsDisjoint}
 use Rattle.slot_core.proofs.Forests.{preorder-join, each-append, each-left_part, each-right_part, each-weaker, each-contained, each-contains, each-join, each-join_parts}
 use Rattle.slot_core.proofs.Built.{Absent, Once, once-right_part, join-assoc, join-nothing, below_those_none, renamed-below_those, preorder-renamed}
 use Rattle.slot_core.proofs.Disjointness.{same_object-swap}
-use Rattle.slot_core.proofs.Above.{no_has, no_ancestors, has-any, ancestors-renamed}
+use Rattle.slot_core.proofs.Above.{no_has, no_ancestors, ancestors-renamed}
 
 -- under a function of the entries
 

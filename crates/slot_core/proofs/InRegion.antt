@@ -1,12 +1,12 @@
 -- Regions: what two names of one object share, and that lying in a region is transitive.
-use Rattle.std.proofs.Common.{◌≡◌, ◌≢◌, ℕ, ◌+◌, ◌≤◌, ◌^◌, Bool, true, false, not, ◌&&◌, ◌||◌, ◌==◌, nat_le, refl, sym, ◌∙◌, ap, subst, arith}
+use Rattle.std.proofs.Common.{◌≡◌, ℕ, ◌+◌, ◌^◌, true, false, not, ◌&&◌, ◌==◌, nat_le, refl, sym, ◌∙◌, arith}
 use Rattle.std.proofs.lemmas.Bool.{and_parts, and_from, eqb-true}
 use Rattle.std.proofs.lemmas.Bool.Decides.{nat_tests}
 use Rattle.cap_core.specs.declared.profile.ProfileName.{ProfileName}
 use Rattle.cap_core.specs.declared.profile.ProfileName.TheVariants.{Wide}
 use Rattle.cap_core.specs.declared.capability.Cap.{Cap}
 use Rattle.cap_core.specs.declared.capability.Cap.TheVariants.{Null, Untyped, Endpoint, CNode, Tcb}
-use Rattle.cap_core.specs.Objects.{is_null, is_untyped, badge_of, base_of, bits_of, end_of, same_object, contains, in_region}
+use Rattle.cap_core.specs.Objects.{is_null, is_untyped, badge_of, base_of, bits_of, same_object, contains, in_region}
 use Rattle.slot_core.specs.Derivation.{names_same}
 use Rattle.slot_core.proofs.Disjointness.{same_object-swap, AreSame, are_same}
 

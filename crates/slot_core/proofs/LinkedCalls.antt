@@ -1,20 +1,18 @@
 -- The store's calls on its table, as its contracts see them: through the slice of a vector, and by the value that it shows.
-use Rattle.std.proofs.Common.{◌≡◌, ◌≢◌, ℕ, ◌*◌, ◌^◌, ◌<◌, Bool, true, false, cond, ◌==◌, eq-eqb, List, [], ◌∷◌, ◌++◌, map, length, Option, Some, None, ◌⊎◌, refl, sym, ◌∙◌, ap, subst, IfSome}
+use Rattle.std.proofs.Common.{◌≡◌, ◌≢◌, ℕ, ◌*◌, ◌^◌, ◌<◌, Bool, true, false, List, [], ◌∷◌, ◌++◌, map, length, Option, None, ◌⊎◌, refl, sym, ◌∙◌, ap, subst, IfSome}
 use Rattle.std.specs.List.{AllByRecursion as Each}
-use Rattle.std.proofs.lemmas.Bool.{eqb-true}
 use Rattle.cap_core.specs.declared.profile.ProfileName.{ProfileName}
 use Rattle.cap_core.specs.declared.capability.Cap.{Cap}
 use Rattle.cap_core.specs.declared.capability.Cap.TheVariants.{Null}
 use Rattle.cap_core.specs.Numbers.{slot_size}
 use Rattle.cap_core.specs.Objects.{is_untyped, badge_of, contains, IsLawful}
 use Rattle.slot_core.specs.declared.linked.table.Link.{Link}
-use Rattle.slot_core.specs.Forest.{Forest}
-use Rattle.slot_core.specs.Entries.{Entry, is_full, cap_at, first_child}
+use Rattle.slot_core.specs.Entries.{is_full, cap_at, first_child}
 use Rattle.slot_core.specs.Derivation.{derived, rooted, retyped, moved, freed, emptied, with_free, is_new_original, names_same, is_named}
 use Rattle.slot_core.specs.Disjoint.{IsDisjoint}
-use Rattle.slot_core.specs.Marked.{Marked, marked, with_cap, forest_of, IsMarkedList}
-use Rattle.slot_core.specs.Links.{next_of, previous_of, row_of, Lacks, IsFree, IsLinked, rows_of, memory_of, IsLinkedStore}
-use Rattle.slot_core.proofs.Chains.{linked-same, lacks-with}
+use Rattle.slot_core.specs.Marked.{Marked, marked, with_cap, forest_of}
+use Rattle.slot_core.specs.Links.{next_of, previous_of, row_of, Lacks, IsLinked, rows_of, memory_of, IsLinkedStore}
+use Rattle.slot_core.proofs.Chains.{linked-same}
 use Rattle.slot_core.proofs.Linkings.{map-same, map-parts, PutsBehind, Appends}
 use Rattle.slot_core.proofs.Unlinkings.{TakesOut, Replaces}
 use Rattle.slot_core.proofs.MarkedLines.{absent_at}

@@ -1,12 +1,12 @@
 -- Derivation without a tree: what a marked list stands for.
-use Rattle.std.proofs.Common.{◌≡◌, ℕ, ◌*◌, List, ◌∷◌, ◌++◌, map, length, Option, refl, sym, ◌∙◌, ap, subst, eq-eqb}
+use Rattle.std.proofs.Common.{◌≡◌, ℕ, ◌*◌, List, ◌∷◌, ◌++◌, map, Option, refl, sym, ◌∙◌, ap, subst, eq-eqb}
 use Rattle.cap_core.specs.declared.profile.ProfileName.{ProfileName}
 use Rattle.cap_core.specs.Numbers.{slot_size}
 use Rattle.slot_core.specs.declared.linked.table.Link.{Link}
-use Rattle.slot_core.specs.Forest.{Forest, preorder, descendants, counted, renamed, taken, build}
+use Rattle.slot_core.specs.Forest.{Forest, preorder, descendants, build}
 use Rattle.slot_core.specs.Entries.{Entry, is_at}
 use Rattle.slot_core.specs.Marked.{Marked, is_parent, entry_of, forest_of, stands_at, StandsForEntries, run_of}
-use Rattle.slot_core.specs.Links.{row_of, order_of, rows_of, IsLinkedStore}
+use Rattle.slot_core.specs.Links.{order_of, rows_of, IsLinkedStore}
 use Rattle.slot_core.proofs.Built.{preorder-renamed, build-below_those, renamed-below_those}
 use Rattle.slot_core.proofs.Parents.{parent-transitive}
 use Rattle.slot_core.proofs.Standing.{one_fits, stands-build, counted-renamed, taken_run}

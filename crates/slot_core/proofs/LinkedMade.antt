@@ -1,13 +1,12 @@
 -- The table of an empty store, and how many bits of memory it stands for.
-use Rattle.std.proofs.Common.{◌≡◌, ◌≢◌, ℕ, zero, suc, ◌+◌, ◌-◌, ◌*◌, ◌^◌, ◌<◌, ◌≤◌, Bool, true, false, cond, ◌==◌, eq-eqb, List, [], ◌∷◌, map, length, replicate, Option, Some, None, refl, sym, ◌∙◌, ap, subst, arith}
-use Rattle.std.specs.List.{AllByRecursion as Each}
+use Rattle.std.proofs.Common.{◌≡◌, ℕ, zero, suc, ◌+◌, ◌-◌, ◌*◌, ◌^◌, ◌<◌, ◌≤◌, true, false, cond, ◌==◌, eq-eqb, List, [], map, length, replicate, Option, None, refl, sym, ◌∙◌, ap, subst, arith}
 use Rattle.std.proofs.lemmas.Bool.{eqb-true}
 use Rattle.std.proofs.lemmas.Nat.{pow-add, pow_below}
 use Rattle.cap_core.specs.declared.profile.ProfileName.{ProfileName}
 use Rattle.cap_core.specs.Numbers.{slot_bits, slot_size}
 use Rattle.slot_core.specs.declared.linked.table.Link.{Link}
-use Rattle.slot_core.specs.Marked.{Marked, marked, IsMarkedList}
-use Rattle.slot_core.specs.Links.{place_in, link_at, empty_link, next_of, row_of, walk, order_of, rows_of, IsLinked, exponent, memory_of, IsLinkedStore}
+use Rattle.slot_core.specs.Marked.{marked, IsMarkedList}
+use Rattle.slot_core.specs.Links.{place_in, link_at, empty_link, next_of, row_of, walk, order_of, IsLinked, exponent, memory_of, IsLinkedStore}
 use Rattle.slot_core.proofs.Disjointness.{disjoint-none}
 
 above_exponent : (k : ℕ) → k < 2 ^ k

@@ -1,27 +1,25 @@
 -- What the store's methods read: a capability, the next slot for a child, and the two neighbours for the last of an object.
-use Rattle.std.proofs.Common.{◌≡◌, ◌≢◌, ℕ, ◌+◌, ◌*◌, ◌^◌, ◌<◌, ◌≤◌, Bool, true, false, cond, not, ◌&&◌, ◌||◌, ◌==◌, eq-eqb, List, [], ◌∷◌, ◌++◌, map, length, Option, Some, None, ◌⊎◌, inl, inr, refl, sym, ◌∙◌, ap, subst, arith, append_assoc}
+use Rattle.std.proofs.Common.{◌≡◌, ℕ, ◌+◌, ◌*◌, ◌^◌, ◌<◌, ◌≤◌, Bool, true, false, cond, not, ◌&&◌, ◌||◌, ◌==◌, eq-eqb, List, [], ◌∷◌, ◌++◌, map, length, Option, Some, None, ◌⊎◌, inl, inr, refl, sym, ◌∙◌, ap, subst, arith, append_assoc}
 use Rattle.std.specs.Prelude.{option_map}
 use Rattle.std.specs.List.{AllByRecursion as Each, list_any}
 use Rattle.std.proofs.Math.Nat.{mul-le-mul_right}
 use Rattle.std.proofs.lemmas.List.Folds.{list_any-append}
 use Rattle.cap_core.specs.declared.profile.ProfileName.{ProfileName}
-use Rattle.cap_core.specs.declared.capability.Cap.{Cap}
 use Rattle.cap_core.specs.declared.capability.Cap.TheVariants.{Null}
 use Rattle.cap_core.specs.Numbers.{slot_size}
 use Rattle.cap_core.specs.Objects.{is_untyped, same_object, in_region, IsLawful}
 use Rattle.slot_core.specs.declared.linked.table.Link.{Link}
 use Rattle.slot_core.specs.Forest.{preorder}
-use Rattle.slot_core.specs.Entries.{Entry, is_at, is_full, cap_at, first_child}
+use Rattle.slot_core.specs.Entries.{Entry, is_full, cap_at, first_child}
 use Rattle.slot_core.specs.Derivation.{is_last}
-use Rattle.slot_core.specs.Marked.{Marked, is_parent, entry_of, forest_of, stands_at, IsFront, IsGathered, IsMarkedList}
+use Rattle.slot_core.specs.Marked.{Marked, is_parent, entry_of, forest_of, stands_at, IsFront, IsGathered}
 use Rattle.slot_core.specs.Links.{next_of, previous_of, row_of, head_or, last_or, Lacks, IsFree, order_of, rows_of, memory_of, IsLinkedStore}
 use Rattle.slot_core.proofs.Built.{Absent, next_passing}
 use Rattle.slot_core.proofs.Disjointness.{same_object-swap}
 use Rattle.slot_core.proofs.InRegion.{region_same, same-through, named_typed}
-use Rattle.slot_core.proofs.Chains.{not_head}
 use Rattle.slot_core.proofs.MarkedLines.{entries_of}
 use Rattle.slot_core.proofs.MarkedKept.{Outside, each-back, gathered-back}
-use Rattle.slot_core.proofs.MarkedSteps.{StandsIn, cap_nowhere, cap_standing, child_standing, child_nowhere}
+use Rattle.slot_core.proofs.MarkedSteps.{cap_nowhere, child_standing, child_nowhere}
 use Rattle.slot_core.proofs.Linkings.{map-parts}
 use Rattle.slot_core.proofs.LinkedSteps.{size_positive, Splits, splits, cap_split, empty_lacks, absent_rows}
 

@@ -1,5 +1,5 @@
 -- The edits of the table, seen as the store's calls: what the store keeps, and what each is to its forest.
-use Rattle.std.proofs.Common.{nat_le, ◌≡◌, ◌≢◌, ℕ, zero, suc, ◌+◌, ◌*◌, ◌^◌, ◌<◌, ◌≤◌, Bool, true, false, cond, ◌||◌, ◌==◌, eq-eqb, List, [], ◌∷◌, ◌++◌, map, length, Option, Some, None, ◌⊎◌, refl, sym, ◌∙◌, ap, subst, arith, IfSome}
+use Rattle.std.proofs.Common.{nat_le, ◌≡◌, ◌≢◌, ℕ, ◌+◌, ◌*◌, ◌^◌, ◌<◌, ◌≤◌, Bool, true, false, ◌==◌, List, [], ◌∷◌, ◌++◌, map, length, Option, Some, None, ◌⊎◌, refl, sym, ◌∙◌, ap, subst, arith, IfSome}
 use Rattle.std.specs.List.{AllByRecursion as Each, list_any}
 use Rattle.std.proofs.Math.Nat.{one-le-pow, mul-le-mul_right}
 use Rattle.std.proofs.lemmas.Bool.{eqb-true}
@@ -9,19 +9,19 @@ use Rattle.cap_core.specs.declared.capability.Cap.{Cap}
 use Rattle.cap_core.specs.Numbers.{slot_bits, slot_size}
 use Rattle.cap_core.specs.Objects.{is_untyped, badge_of, contains, IsLawful}
 use Rattle.slot_core.specs.declared.linked.table.Link.{Link}
-use Rattle.slot_core.specs.Forest.{Forest, preorder}
+use Rattle.slot_core.specs.Forest.{Forest}
 use Rattle.slot_core.specs.Entries.{Entry, is_at, is_full, cap_at, first_child}
-use Rattle.slot_core.specs.Derivation.{derived, rooted, retyped, moved, freed, emptied, with_free, is_new_original, names_same, is_named}
+use Rattle.slot_core.specs.Derivation.{derived, rooted, retyped, moved, emptied, is_new_original, names_same, is_named}
 use Rattle.slot_core.specs.Disjoint.{IsDisjoint}
 use Rattle.slot_core.specs.Marked.{Marked, marked, at_place, with_cap, entry_of, forest_of, stands_at, IsMarkedList}
 use Rattle.slot_core.specs.Links.{next_of, previous_of, row_of, head_or, last_or, Lacks, IsApart, IsLinked, order_of, rows_of, exponent, memory_of, IsLinkedStore}
 use Rattle.slot_core.proofs.Built.{Absent}
 use Rattle.slot_core.proofs.Chains.{each-at}
-use Rattle.slot_core.proofs.Linkings.{walked, map-same, map-parts, StandsBetween, between, PutsBehind, inserted, Appends, appended}
+use Rattle.slot_core.proofs.Linkings.{walked, map-parts, StandsBetween, between, PutsBehind, inserted, Appends, appended}
 use Rattle.slot_core.proofs.Unlinkings.{handed_on, TakesOut, removed, Replaces, replaced}
 use Rattle.slot_core.proofs.MarkedLines.{entries_of, absent_at}
 use Rattle.slot_core.proofs.MarkedSteps.{StandsIn, cap_standing, derived_list}
-use Rattle.slot_core.proofs.MarkedEdits.{AreApart, stands_in, rooted_list, retyped_list, moved_list, freed_list, removed_list}
+use Rattle.slot_core.proofs.MarkedEdits.{AreApart, stands_in, rooted_list, retyped_list, moved_list, removed_list}
 
 -- places and addresses
 

@@ -1,14 +1,11 @@
 -- What each edit of the table is to the list that it leads along, and to its rows.
-use Rattle.std.proofs.Common.{◌≡◌, ◌≢◌, ℕ, zero, suc, ◌<◌, ◌≤◌, Bool, true, false, cond, ◌==◌, eq-eqb, List, [], ◌∷◌, ◌++◌, map, length, Option, Some, None, refl, sym, ◌∙◌, ap, subst, arith, IfSome}
+use Rattle.std.proofs.Common.{◌≡◌, ◌≢◌, ℕ, ◌<◌, List, [], ◌∷◌, ◌++◌, map, length, Option, Some, None, refl, sym, ◌∙◌, ap, subst}
 use Rattle.std.specs.List.{AllByRecursion as Each}
-use Rattle.std.proofs.lemmas.Bool.{eqb-true}
-use Rattle.cap_core.specs.declared.capability.Cap.{Cap}
-use Rattle.cap_core.specs.declared.capability.Cap.TheVariants.{Null}
 use Rattle.slot_core.specs.declared.linked.table.Link.{Link}
-use Rattle.slot_core.specs.Marked.{Marked, marked, at_place, with_cap, with_mark}
+use Rattle.slot_core.specs.Marked.{Marked}
 use Rattle.slot_core.specs.Links.{next_of, previous_of, row_of, head_or, last_or, AreLinked, Lacks, IsApart, IsFree, IsLinked, order_of}
 use Rattle.slot_core.proofs.Forests.{each-left_part, each-right_part}
-use Rattle.slot_core.proofs.Chains.{each-both, each-one, head-append, last-append, linked-front_part, linked-back_part, linked-append, not_head, not_last, linked-same, linked-front, linked-back, walk_is, few, apart-front_part, apart-back_part, apart-lacks, apart-before, lacks-front, each-insert, each-without, each-at, apart-insert, apart-without, lacks-with}
+use Rattle.slot_core.proofs.Chains.{each-both, each-one, head-append, last-append, linked-front_part, linked-back_part, linked-append, not_head, not_last, linked-same, linked-front, linked-back, walk_is, few, apart-front_part, apart-back_part, apart-lacks, apart-before, lacks-front}
 
 -- the list is what is walked
 pub walked : (links : List Link) (first last : Option ℕ) (l : List ℕ) → IsLinked links first last l → order_of links first ≡ l

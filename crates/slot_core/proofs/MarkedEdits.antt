@@ -1,5 +1,5 @@
 -- The other calls' edits of the marked list: what the list keeps, and what each edit is to its forest.
-use Rattle.std.proofs.Common.{◌≡◌, ◌≢◌, ℕ, ◌*◌, Bool, true, false, cond, not, ◌&&◌, ◌||◌, ◌==◌, eq-eqb, List, [], ◌∷◌, ◌++◌, map, Option, Some, None, ◌⊎◌, inl, inr, refl, sym, ◌∙◌, ap, subst, arith}
+use Rattle.std.proofs.Common.{◌≡◌, ◌≢◌, ℕ, ◌*◌, true, false, cond, not, ◌==◌, eq-eqb, List, [], ◌∷◌, ◌++◌, map, Some, None, refl, sym, ◌∙◌, ap, subst}
 use Rattle.std.specs.Bool.{⊤}
 use Rattle.std.specs.List.{AllByRecursion as Each}
 use Rattle.std.proofs.lemmas.Bool.{eqb-true, and_from}
@@ -12,17 +12,17 @@ use Rattle.slot_core.specs.Forest.{Forest, preorder, renamed as relabelled}
 use Rattle.slot_core.specs.Entries.{Entry, entry, is_at, is_full}
 use Rattle.slot_core.specs.Derivation.{rooted, retyped, moved, freed, emptied, with_free, names_same, is_named}
 use Rattle.slot_core.specs.Disjoint.{IsDisjoint}
-use Rattle.slot_core.specs.Marked.{Marked, marked, at_place, with_cap, with_mark, entry_of, forest_of, stands_at, IsGathered, Follows, IsLed, IsNamedFirst, HasMarks, IsMarkedList}
+use Rattle.slot_core.specs.Marked.{Marked, marked, at_place, with_cap, with_mark, entry_of, forest_of, stands_at, IsGathered, IsLed, IsNamedFirst, HasMarks, IsMarkedList}
 use Rattle.slot_core.proofs.Forests.{each-left_part, each-right_part, each-append}
-use Rattle.slot_core.proofs.Built.{Absent, Once, StopsAtOnce, at_one, once-split, once-absent}
+use Rattle.slot_core.proofs.Built.{Absent, Once, StopsAtOnce, at_one}
 use Rattle.slot_core.proofs.Disjointness.{same_object-swap}
 use Rattle.slot_core.proofs.DisjointEdits.{disjoint-freed, disjoint-emptied}
 use Rattle.slot_core.proofs.InRegion.{NamesOne, names_one, untyped_one, untyped-badge}
 use Rattle.slot_core.proofs.MarkedPuts.{retype_below, root_behind}
 use Rattle.slot_core.proofs.MarkedRenamed.{names-self, IsSameRow, row-self, forest_renamed, gathered-renamed, led-renamed, first-renamed, marks-renamed}
 use Rattle.slot_core.proofs.MarkedRemoval.{remove_before, remove_last}
-use Rattle.slot_core.proofs.MarkedKept.{Outside, each-put, each-gone, each-back, each-marked, gathered-push, gathered-gone, gathered-marked, led-back, led-put, led-push, led-gone, led-cut, first-put, first-gone, first-marked, marks-marked}
-use Rattle.slot_core.proofs.MarkedLines.{entries_of, root_outside, absent_at, unnamed, IsRetype}
+use Rattle.slot_core.proofs.MarkedKept.{Outside, each-put, each-gone, each-back, each-marked, gathered-push, gathered-gone, gathered-marked, led-back, led-put, led-push, led-gone, led-cut, first-gone, first-marked, marks-marked}
+use Rattle.slot_core.proofs.MarkedLines.{entries_of, root_outside, unnamed, IsRetype}
 use Rattle.slot_core.proofs.MarkedRetype.{IsOther, retype_takes_none, retype_outside, gathered-retype}
 use Rattle.slot_core.proofs.MarkedSteps.{StandsIn}
 use Rattle.slot_core.proofs.Unlinkings.{handed_on}

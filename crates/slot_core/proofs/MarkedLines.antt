@@ -1,5 +1,5 @@
 -- What disjoint objects say of a further slot: in whose region it lies, and what lies in its own.
-use Rattle.std.proofs.Common.{◌≡◌, ◌≢◌, ℕ, ◌*◌, Bool, true, false, cond, not, ◌&&◌, ◌||◌, ◌==◌, eq-eqb, List, [], ◌∷◌, ◌++◌, map, ◌⊎◌, inl, inr, refl, sym, ◌∙◌, ap, subst, arith, append_assoc, IsTrue}
+use Rattle.std.proofs.Common.{◌≡◌, ℕ, ◌*◌, Bool, true, false, not, ◌||◌, ◌==◌, eq-eqb, List, [], ◌∷◌, ◌++◌, map, inl, inr, refl, sym, ◌∙◌, ap, subst, arith}
 use Rattle.std.specs.List.{AllByRecursion as Each, Contains, list_any}
 use Rattle.std.proofs.lemmas.Bool.{and_parts}
 use Rattle.std.proofs.lemmas.List.Elements.{Contains-append_right}
@@ -8,19 +8,16 @@ use Rattle.cap_core.specs.declared.capability.Cap.{Cap}
 use Rattle.cap_core.specs.declared.capability.Cap.TheVariants.{Null, Untyped, Endpoint, CNode, Tcb}
 use Rattle.cap_core.specs.Numbers.{slot_size}
 use Rattle.cap_core.specs.Objects.{is_null, is_untyped, same_object, contains, in_region}
-use Rattle.slot_core.specs.Forest.{Forest, preorder, below_those, ancestors, below, root, renamed, taken, build}
+use Rattle.slot_core.specs.Forest.{Forest, preorder, below_those, ancestors, below, build}
 use Rattle.slot_core.specs.Entries.{Entry, entry, is_at, is_full}
 use Rattle.slot_core.specs.Derivation.{rooted, retyped, is_named}
-use Rattle.slot_core.specs.Disjoint.{AreInLine, IsDisjoint}
+use Rattle.slot_core.specs.Disjoint.{IsDisjoint}
 use Rattle.slot_core.specs.Marked.{Marked, is_parent, entry_of, forest_of, stands_at}
-use Rattle.slot_core.proofs.Forests.{each-contained, each-contains, contains-root_old, contains-root_new, contains-below_old, below_those-root, ancestors-root, ancestors-below}
-use Rattle.slot_core.proofs.Built.{Absent, Once, once-split, at_one, preorder-build, preorder-renamed, build-below_those, renamed-below_those}
-use Rattle.slot_core.proofs.Nested.{whole-nested, nested-build, each-taken}
+use Rattle.slot_core.proofs.Forests.{each-contained, each-contains, contains-root_old, contains-root_new, below_those-root, ancestors-root}
+use Rattle.slot_core.proofs.Built.{Absent, Once, once-split, preorder-build, preorder-renamed}
 use Rattle.slot_core.proofs.Distinct.{IsInserted, inserted-below}
-use Rattle.slot_core.proofs.Disjointness.{same_object-swap}
 use Rattle.slot_core.proofs.InRegion.{region_same}
-use Rattle.slot_core.proofs.Parents.{parent_parts, parent-transitive}
-use Rattle.slot_core.proofs.Above.{each-below_those, each-ancestors, each-taken_part, ancestors_before, below_those-new, ancestors-new, below_those-other, ancestors-renamed}
+use Rattle.slot_core.proofs.Above.{each-below_those, each-ancestors}
 
 -- the entries of a marked list
 

@@ -1,12 +1,12 @@
 -- What a further slot of the marked list is to the forest that the list stands for.
-use Rattle.std.proofs.Common.{◌≡◌, ◌≢◌, ℕ, zero, suc, ◌*◌, Bool, true, false, ◌==◌, eq-eqb, Some, List, [], ◌∷◌, ◌++◌, refl, sym, ◌∙◌, ap, subst, arith}
+use Rattle.std.proofs.Common.{◌≡◌, ◌≢◌, ℕ, zero, suc, ◌*◌, Bool, true, false, eq-eqb, Some, List, [], ◌∷◌, ◌++◌, refl, sym, ◌∙◌, ap}
 use Rattle.std.specs.List.{AllByRecursion as Each}
 use Rattle.cap_core.specs.declared.profile.ProfileName.{ProfileName}
 use Rattle.cap_core.specs.Numbers.{slot_size}
 use Rattle.cap_core.specs.Objects.{is_null, is_untyped, badge_of, in_region}
-use Rattle.slot_core.specs.Forest.{Forest, below, after, root, renamed, build}
-use Rattle.slot_core.specs.Entries.{Entry, is_at}
-use Rattle.slot_core.specs.Marked.{Marked, badge_fits, is_parent, entry_of, forest_of, Follows, IsLed, HasMarks, stands_at}
+use Rattle.slot_core.specs.Forest.{below, after, root, renamed, build}
+use Rattle.slot_core.specs.Entries.{is_at}
+use Rattle.slot_core.specs.Marked.{Marked, badge_fits, is_parent, entry_of, forest_of, IsLed, stands_at}
 use Rattle.slot_core.proofs.Built.{Absent, StopsAtOnce, build-below, build-after, build-root, renamed-below, renamed-after, renamed-root}
 use Rattle.slot_core.proofs.InRegion.{NamesOne, region-self, untyped-badge}
 use Rattle.slot_core.proofs.Parents.{BadgeFits, badge_fits_is, badge_fits_from, parent_parts, parent_from, parent_outside, not_revocable}

@@ -1,5 +1,5 @@
 -- A slot leaves the marked list and hands its first-badged mark on: in the forest, what stood below it takes its place.
-use Rattle.std.proofs.Common.{◌≡◌, ◌≢◌, ℕ, ◌*◌, Bool, true, false, cond, not, ◌&&◌, ◌||◌, ◌==◌, eq-eqb, List, [], ◌∷◌, ◌++◌, map, Option, Some, None, refl, sym, ◌∙◌, ap, subst, arith}
+use Rattle.std.proofs.Common.{◌≡◌, ◌≢◌, ℕ, ◌*◌, Bool, true, false, cond, not, ◌&&◌, ◌||◌, ◌==◌, eq-eqb, List, [], ◌∷◌, ◌++◌, map, refl, sym, ◌∙◌, ap, arith}
 use Rattle.std.specs.List.{AllByRecursion as Each}
 use Rattle.std.proofs.lemmas.Bool.Decides.{nat_tests}
 use Rattle.cap_core.specs.declared.profile.ProfileName.{ProfileName}
@@ -7,12 +7,11 @@ use Rattle.cap_core.specs.Numbers.{slot_size}
 use Rattle.cap_core.specs.Objects.{badge_of, in_region}
 use Rattle.slot_core.specs.Forest.{Forest, none, tree, out, renamed, build}
 use Rattle.slot_core.specs.Entries.{is_at}
-use Rattle.slot_core.specs.Marked.{Marked, badge_fits, is_parent, entry_of, forest_of, with_mark, IsFront, IsGathered, IsLed, stands_at}
-use Rattle.slot_core.proofs.Built.{Absent, StopsAtOnce}
+use Rattle.slot_core.specs.Marked.{Marked, badge_fits, is_parent, entry_of, forest_of, with_mark, IsFront, IsGathered, stands_at}
+use Rattle.slot_core.proofs.Built.{Absent}
 use Rattle.slot_core.proofs.BuiltOut.{AgreeOn, Handed, build-out, renamed-out}
 use Rattle.slot_core.proofs.BuiltRenamed.{AgreeUnder, build-renamed}
 use Rattle.slot_core.proofs.Parents.{BadgeFits, badge_fits_is, badge_fits_from, parent_parts, parent_from, parent-transitive}
-use Rattle.slot_core.proofs.MarkedRenamed.{renamed-both}
 
 -- the slot at a place gets the mark
 abbrev pub handing : ProfileName → Bool → ℕ → Marked → Marked

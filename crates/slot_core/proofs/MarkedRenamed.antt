@@ -1,12 +1,12 @@
 -- Slots of the marked list under another place, or with another capability of the same object: the same forest, relabelled.
-use Rattle.std.proofs.Common.{◌≡◌, ◌≢◌, ℕ, Bool, true, false, cond, not, ◌&&◌, ◌||◌, ◌==◌, List, [], ◌∷◌, ◌++◌, map, Option, Some, None, refl, sym, ◌∙◌, ap, subst, arith}
+use Rattle.std.proofs.Common.{◌≡◌, ◌≢◌, true, false, List, [], ◌∷◌, map, Option, Some, None, refl, sym, ◌∙◌, ap}
 use Rattle.std.specs.List.{AllByRecursion as Each}
 use Rattle.cap_core.specs.declared.profile.ProfileName.{ProfileName}
 use Rattle.cap_core.specs.declared.capability.Cap.{Cap}
-use Rattle.cap_core.specs.Objects.{is_untyped, badge_of, same_object, in_region}
+use Rattle.cap_core.specs.Objects.{badge_of, same_object, in_region}
 use Rattle.slot_core.specs.Forest.{Forest, none, tree, renamed, build}
 use Rattle.slot_core.specs.Entries.{Entry}
-use Rattle.slot_core.specs.Marked.{Marked, badge_fits, is_parent, entry_of, forest_of, IsFront, IsGathered, Follows, IsLed, IsNamedFirst, HasMarks}
+use Rattle.slot_core.specs.Marked.{Marked, is_parent, entry_of, forest_of, IsFront, IsGathered, Follows, IsLed, IsNamedFirst, HasMarks}
 use Rattle.slot_core.proofs.BuiltRenamed.{AgreeUnder, build-renamed}
 use Rattle.slot_core.proofs.Disjointness.{same_object-swap}
 use Rattle.slot_core.proofs.InRegion.{NamesOne}

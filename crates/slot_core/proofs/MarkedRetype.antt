@@ -1,5 +1,5 @@
 -- The capability of a new object, directly behind its untyped region: it takes nothing, and the marked list stays gathered.
-use Rattle.std.proofs.Common.{◌≡◌, ◌≢◌, ℕ, ◌*◌, Bool, true, false, cond, ◌||◌, ◌==◌, eq-eqb, List, [], ◌∷◌, ◌++◌, map, ◌⊎◌, inl, inr, refl, sym, ◌∙◌, ap, subst, arith, append_assoc, IsTrue}
+use Rattle.std.proofs.Common.{◌≡◌, ℕ, ◌*◌, Bool, true, false, ◌==◌, eq-eqb, List, [], ◌∷◌, ◌++◌, inl, inr, refl, sym, ◌∙◌, ap, subst, arith, append_assoc}
 use Rattle.std.specs.List.{AllByRecursion as Each, Contains}
 use Rattle.cap_core.specs.declared.profile.ProfileName.{ProfileName}
 use Rattle.cap_core.specs.declared.capability.Cap.{Cap}
@@ -8,17 +8,15 @@ use Rattle.cap_core.specs.Objects.{is_untyped, same_object, contains, in_region}
 use Rattle.std.proofs.lemmas.Bool.{eqb-true}
 use Rattle.slot_core.specs.Forest.{Forest, preorder, below_those, ancestors, below, renamed, taken, build}
 use Rattle.slot_core.specs.Entries.{Entry, entry, is_at}
-use Rattle.slot_core.specs.Derivation.{retyped}
-use Rattle.slot_core.specs.Disjoint.{AreInLine, IsDisjoint}
-use Rattle.slot_core.specs.Marked.{Marked, marked, is_parent, entry_of, forest_of, IsFront, IsGathered, stands_at}
-use Rattle.slot_core.proofs.Forests.{each-contained, contains-below_old, ancestors-below}
-use Rattle.slot_core.proofs.Built.{Absent, StopsAtOnce, at_one, preorder-build, preorder-renamed, build-below_those, renamed-below_those}
+use Rattle.slot_core.specs.Marked.{Marked, is_parent, entry_of, forest_of, IsFront, IsGathered, stands_at}
+use Rattle.slot_core.proofs.Forests.{contains-below_old, ancestors-below}
+use Rattle.slot_core.proofs.Built.{Absent, at_one, preorder-build, preorder-renamed, build-below_those, renamed-below_those}
 use Rattle.slot_core.proofs.Nested.{whole-nested, nested-build, each-taken}
 use Rattle.slot_core.proofs.Disjointness.{same_object-swap}
-use Rattle.slot_core.proofs.InRegion.{region_same, region-transitive}
+use Rattle.slot_core.proofs.InRegion.{region-transitive}
 use Rattle.slot_core.proofs.Parents.{parent_parts, parent-transitive}
 use Rattle.slot_core.proofs.Above.{each-below_those, each-ancestors, each-taken_part, ancestors_before, below_those-new, ancestors-new, below_those-other, ancestors-renamed}
-use Rattle.slot_core.proofs.MarkedLines.{entries_of, each-map, each-from_entry, members, none_passes, absent_at, unnamed, outside_by, nowhere, IsRetype, new_is_there}
+use Rattle.slot_core.proofs.MarkedLines.{each-map, each-from_entry, members, none_passes, absent_at, unnamed, outside_by, nowhere, IsRetype, new_is_there}
 use Rattle.slot_core.proofs.MarkedKept.{Outside, front-behind, front-at}
 
 same_number : (n : ℕ) → (n == n) ≡ true

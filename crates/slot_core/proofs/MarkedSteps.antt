@@ -1,27 +1,24 @@
 -- Each call's edit of the marked list: what the list keeps, and what the edit is to its forest.
-use Rattle.std.proofs.Common.{◌≡◌, ◌≢◌, ℕ, ◌*◌, Bool, true, false, cond, not, ◌&&◌, ◌||◌, ◌==◌, eq-eqb, List, [], ◌∷◌, ◌++◌, map, Option, Some, None, ◌⊎◌, inl, inr, refl, sym, ◌∙◌, ap, subst, arith}
+use Rattle.std.proofs.Common.{◌≡◌, ◌≢◌, ℕ, ◌*◌, Bool, true, false, cond, not, ◌||◌, ◌==◌, eq-eqb, List, [], ◌∷◌, ◌++◌, map, Some, None, ◌⊎◌, inl, inr, refl, sym, ◌∙◌, ap, subst}
 use Rattle.std.specs.Prelude.{option_map}
 use Rattle.std.specs.List.{AllByRecursion as Each}
-use Rattle.std.proofs.lemmas.Bool.{eqb-true, and_parts}
+use Rattle.std.proofs.lemmas.Bool.{eqb-true}
 use Rattle.cap_core.specs.declared.profile.ProfileName.{ProfileName}
 use Rattle.cap_core.specs.declared.capability.Cap.{Cap}
 use Rattle.cap_core.specs.declared.capability.Cap.TheVariants.{Null}
 use Rattle.cap_core.specs.Numbers.{slot_size}
-use Rattle.cap_core.specs.Objects.{is_null, is_untyped, badge_of, same_object, contains, in_region, IsLawful}
-use Rattle.slot_core.specs.Forest.{Forest, preorder, tops, below_those, below, after, renamed, taken, build}
-use Rattle.slot_core.specs.Entries.{Entry, entry, is_at, is_full, cap_at, cap_in, is_original, original_in, first_child, first_slot}
-use Rattle.slot_core.specs.Derivation.{derived, derived_entry, rooted, retyped, moved, is_new_original, names_same, is_named}
+use Rattle.cap_core.specs.Objects.{is_null, is_untyped, badge_of, same_object, in_region, IsLawful}
+use Rattle.slot_core.specs.Forest.{Forest, tops, below, after, renamed, taken, build}
+use Rattle.slot_core.specs.Entries.{Entry, is_at, cap_at, cap_in, is_original, original_in, first_child, first_slot}
+use Rattle.slot_core.specs.Derivation.{derived, is_new_original, names_same}
 use Rattle.slot_core.specs.Disjoint.{IsDisjoint}
-use Rattle.slot_core.specs.Marked.{Marked, marked, at_place, with_cap, badge_fits, is_parent, entry_of, forest_of, stands_at, IsGathered, IsLed, IsNamedFirst, HasMarks, IsMarkedList}
+use Rattle.slot_core.specs.Marked.{Marked, marked, is_parent, entry_of, forest_of, stands_at, IsLed, IsNamedFirst, HasMarks, IsMarkedList}
 use Rattle.slot_core.proofs.Built.{Absent, StopsAtOnce, renamed-below_those, build-below_those, tops-renamed, tops-taken, next_passing, first_of, below_those_none, preorder-build}
-use Rattle.slot_core.proofs.Disjointness.{same_object-swap}
-use Rattle.slot_core.proofs.InRegion.{NamesOne, names_one, region-self, region_same, same_one, named_typed, untyped-badge}
-use Rattle.slot_core.proofs.Parents.{BadgeFits, badge_fits_from, parent_from}
-use Rattle.slot_core.proofs.MarkedPuts.{IsDerived, badge_typed, derive_below, derive_after, retype_below, root_behind, zero_from}
-use Rattle.slot_core.proofs.MarkedRenamed.{IsSameRow, row-self, forest_renamed, gathered-renamed, led-renamed, first-renamed, marks-renamed}
-use Rattle.slot_core.proofs.MarkedKept.{Outside, each-behind, each-back, gathered-derive, gathered-push, led-back, led-put, led-push, first-put}
-use Rattle.slot_core.proofs.MarkedLines.{entries_of, root_outside, absent_at, unnamed, IsRetype}
-use Rattle.slot_core.proofs.MarkedRetype.{IsOther, retype_takes_none, retype_outside, gathered-retype}
+use Rattle.slot_core.proofs.InRegion.{names_one, region-self, region_same, same_one, named_typed, untyped-badge}
+use Rattle.slot_core.proofs.Parents.{badge_fits_from, parent_from}
+use Rattle.slot_core.proofs.MarkedPuts.{IsDerived, badge_typed, derive_below, derive_after}
+use Rattle.slot_core.proofs.MarkedKept.{each-back, gathered-derive, led-back, led-put}
+use Rattle.slot_core.proofs.MarkedLines.{entries_of}
 
 same_number : (n : ℕ) → (n == n) ≡ true
 same_number n = eq-eqb n n refl

@@ -1,9 +1,8 @@
 -- A list and a transitive test stand for one forest, what is built of them.
-use Rattle.std.proofs.Common.{suc, zero-add, ◌≡◌, ℕ, ◌+◌, ◌≤◌, Bool, true, false, cond, List, [], ◌∷◌, ◌++◌, map, length, take, refl, sym, ◌∙◌, ap, subst, arith, append_assoc, length-append}
+use Rattle.std.proofs.Common.{suc, zero-add, ◌≡◌, ℕ, ◌+◌, Bool, true, false, cond, List, [], ◌∷◌, ◌++◌, map, length, take, refl, sym, ◌∙◌, ap, arith, append_assoc, length-append}
 use Rattle.std.specs.List.{prefix_len, AllByRecursion as Each}
 use Rattle.std.proofs.lemmas.List.{map-append, length-map}
 use Rattle.slot_core.specs.Forest.{Forest, none, tree, preorder, join, counted, renamed, runs, StandsFor, taken, left, build}
-use Rattle.slot_core.proofs.Forests.{each-right_part}
 use Rattle.slot_core.proofs.Built.{taken-left, preorder-build, preorder-renamed}
 use Rattle.slot_core.proofs.Nested.{IsTransitive, Whole, whole-nested, nested-build}
 

@@ -1,12 +1,12 @@
 -- What the removal of a slot from the table, and its move to another, are to the list that the table leads along.
-use Rattle.std.proofs.Common.{◌≡◌, ◌≢◌, ℕ, ◌<◌, Bool, true, false, ◌==◌, eq-eqb, List, [], ◌∷◌, ◌++◌, map, length, Option, Some, None, refl, sym, ◌∙◌, ap, subst, arith}
+use Rattle.std.proofs.Common.{◌≡◌, ◌≢◌, ℕ, ◌<◌, Bool, true, false, ◌==◌, eq-eqb, List, [], ◌∷◌, ◌++◌, map, length, Option, Some, None, refl, sym, ◌∙◌, ap, subst}
 use Rattle.std.specs.List.{AllByRecursion as Each}
 use Rattle.std.proofs.lemmas.Bool.{eqb-true}
 use Rattle.cap_core.specs.declared.capability.Cap.{Cap}
 use Rattle.cap_core.specs.declared.capability.Cap.TheVariants.{Null}
 use Rattle.slot_core.specs.declared.linked.table.Link.{Link}
 use Rattle.slot_core.specs.Marked.{Marked, marked, at_place, with_cap, with_mark}
-use Rattle.slot_core.specs.Links.{next_of, previous_of, row_of, head_or, last_or, AreLinked, Lacks, IsApart, IsFree, IsLinked}
+use Rattle.slot_core.specs.Links.{next_of, previous_of, row_of, head_or, last_or, Lacks, IsApart, IsFree, IsLinked}
 use Rattle.slot_core.proofs.Forests.{each-left_part, each-right_part}
 use Rattle.slot_core.proofs.Chains.{each-both, each-one, head-append, last-append, linked-append, not_head, not_last, linked-front, linked-back, each-insert, each-without, apart-insert, apart-without, lacks-with}
 use Rattle.slot_core.proofs.Linkings.{map-same, map-parts, last_is, StandsBetween, between}

@@ -1,7 +1,7 @@
 //! The capability store as one doubly linked list of slots, with two marks a slot and no tree.
 ghost use Rattle.std.specs.Prelude.{◌≡◌};
 
-pub mod table;
+mod table;
 #[cfg(test)]
 mod tests;
 

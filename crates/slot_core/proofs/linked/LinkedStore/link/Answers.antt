@@ -1,4 +1,4 @@
-use Rattle.std.proofs.Common.{ℕ, List, Option, None, sym, ◌∙◌, ap}
+use Rattle.std.proofs.Common.{ℕ, List, None, ◌∙◌, ap}
 use Rattle.slot_core.specs.declared.linked.table.Link.{Link}
 use Rattle.slot_core.specs.Links.{place_in, link_at}
 use Rattle.slot_core.specs.Marked.{Marked, row_in, previous_in, next_in}

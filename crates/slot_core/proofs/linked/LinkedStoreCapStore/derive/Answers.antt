@@ -1,4 +1,4 @@
-use Rattle.std.proofs.Common.{◌∙◌, ap, sym}
+use Rattle.std.proofs.Common.{◌∙◌, ap}
 use Rattle.std.proofs.lemmas.List.{with_items_is}
 use Rattle.slot_core.specs.Derivation.{is_new_original}
 use Rattle.slot_core.specs.Links.{link_at}

@@ -6,7 +6,7 @@ use Rattle.slot_core.specs.declared.linked.table.Link.{Link}
 use Rattle.slot_core.specs.Entries.{cap_at}
 use Rattle.slot_core.specs.Places.{address_of}
 use Rattle.slot_core.specs.Marked.{Marked, forest_of}
-use Rattle.slot_core.specs.Links.{place_in, link_at, memory_of}
+use Rattle.slot_core.specs.Links.{place_in, link_at}
 use Rattle.slot_core.proofs.LinkedReads.{cap_read, lawful_read, past_read}
 use Rattle.slot_core.proofs.linked.LinkedStoreCapStore.get.Goals as goal
 

@@ -1,5 +1,4 @@
-use Rattle.std.proofs.Common.{ℕ, Bool, true, false, not, ◌||◌, List, Option, Some, None, ◌≡◌, refl, sym, ◌∙◌, ap}
-use Rattle.cap_core.specs.declared.capability.Cap.{Cap}
+use Rattle.std.proofs.Common.{ℕ, false, not, ◌||◌, List, ◌≡◌, sym, ◌∙◌, ap}
 use Rattle.cap_core.specs.Objects.{is_untyped, same_object}
 use Rattle.slot_core.specs.declared.linked.table.Link.{Link}
 use Rattle.slot_core.specs.Derivation.{is_last}

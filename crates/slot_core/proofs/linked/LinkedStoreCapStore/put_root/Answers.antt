@@ -1,4 +1,4 @@
-use Rattle.std.proofs.Common.{◌∙◌, ap, sym}
+use Rattle.std.proofs.Common.{◌∙◌, sym}
 use Rattle.std.proofs.lemmas.List.{with_items_is}
 use Rattle.std.proofs.Common.{List, length, IfSome, subst, ◌<◌}
 use Rattle.slot_core.specs.declared.linked.table.Link.{Link}

@@ -1,4 +1,4 @@
-use Rattle.std.proofs.Common.{◌∙◌, ap, sym}
+use Rattle.std.proofs.Common.{◌∙◌}
 use Rattle.std.proofs.lemmas.List.{with_items_is}
 use Rattle.slot_core.specs.Links.{place_in}
 use Rattle.slot_core.proofs.LinkedCalls.{found, in_next, in_previous, in_table, moved_call}
