@@ -11,6 +11,8 @@ pub mod Freed
 pub mod Emptied
 pub mod Alike
 pub mod DisjointRenamed
+pub mod Lines
+pub mod DisjointDerived
 pub mod Built
 pub mod Nested
 pub mod BuiltRenamed
