@@ -52,7 +52,7 @@ disjoint-put p f g x cases d with_old with_self kept over under = record { objec
           ]
         ]
 
-any_contained : (t : Entry → Bool) (l : List Entry) (e : Entry) → Contains l e → t e ≡ true → list_any t l ≡ true
+pub any_contained : (t : Entry → Bool) (l : List Entry) (e : Entry) → Contains l e → t e ≡ true → list_any t l ≡ true
 any_contained t l e m = each-contained (λ (y : Entry). t y ≡ true → list_any t l ≡ true) l e (go l) m
   where
     or_true : (b : Bool) → (b || true) ≡ true

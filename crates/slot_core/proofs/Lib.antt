@@ -13,6 +13,7 @@ pub mod Alike
 pub mod DisjointRenamed
 pub mod Lines
 pub mod DisjointDerived
+pub mod DisjointRetyped
 pub mod Built
 pub mod Nested
 pub mod BuiltRenamed
