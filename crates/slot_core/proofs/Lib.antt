@@ -14,6 +14,7 @@ pub mod DisjointRenamed
 pub mod Lines
 pub mod DisjointDerived
 pub mod DisjointRetyped
+pub mod FirstChildren
 pub mod Built
 pub mod Nested
 pub mod BuiltRenamed

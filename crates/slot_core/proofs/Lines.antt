@@ -17,7 +17,7 @@ none_any : {A : Type 0} (is : A → Bool) (l : List A) → Absent is l → list_
 none_any is [] h = refl
 none_any is (a ∷ l) h = rw h.0 (none_any is l h.1)
 
-any_none : {A : Type 0} (is : A → Bool) (l : List A) → list_any is l ≡ false → Absent is l
+pub any_none : {A : Type 0} (is : A → Bool) (l : List A) → list_any is l ≡ false → Absent is l
 any_none is [] h = tt
 any_none is (a ∷ l) h = (front (is a) (list_any is l) h, any_none is l (rest (is a) (list_any is l) h))
   where
