@@ -1,9 +1,9 @@
 -- The newest child of a slot after a put.
-use Rattle.std.proofs.Common.{◌≡◌, ℕ, Bool, true, false, cond, ◌||◌, eqb, List, [], ◌∷◌, ◌++◌, Some, refl, sym, ◌∙◌, ap, subst}
-use Rattle.std.specs.List.{list_any}
+use Rattle.std.proofs.Common.{◌≡◌, ℕ, Bool, true, false, cond, ◌||◌, eqb, List, [], ◌∷◌, ◌++◌, Some, None, refl, sym, ◌∙◌, ap, arith}
+use Rattle.std.specs.List.{Contains, list_any}
 use Rattle.std.proofs.lemmas.List.Folds.{list_any-append}
 use Rattle.cap_core.specs.declared.capability.Cap.{Cap}
-use Rattle.slot_core.specs.Forest.{Forest, none, tree, preorder, join, tops, below_those, below, after}
+use Rattle.slot_core.specs.Forest.{Forest, none, tree, preorder, join, tops, below_those, descendants, below, after}
 use Rattle.slot_core.specs.Entries.{Entry, entry, is_at, is_full, is_original, first_child, first_slot}
 use Rattle.slot_core.specs.Derivation.{retyped, derived, derived_entry}
 use Rattle.slot_core.proofs.Built.{fixed-below, below_those_none}
@@ -38,3 +38,11 @@ pub first_child-derived : (source slot : ℕ) (cap : Cap) (f : Forest Entry) →
 first_child-derived source slot cap f h o =
     ap (λ b. first_slot (tops (below_those (is_at source) (cond b (below (is_at source) (derived_entry source slot cap f) f) (after (is_at source) (derived_entry source slot cap f) f))))) o
     ∙ first-below (is_at source) (derived_entry source slot cap f) f h
+
+-- below a slot that has no child there is nothing
+pub childless-bare : (a : ℕ) (f : Forest Entry) → first_child a f ≡ None → (u : Entry) → Contains (descendants (is_at a) f) u → ⊥
+childless-bare a f h u m = go (below_those (is_at a) f) h m
+  where
+    go : (g : Forest Entry) → first_slot (tops g) ≡ None → Contains (preorder g) u → ⊥
+    go none e n = omega (arith, n.1)
+    go (tree b k r) e n = cc
