@@ -3,7 +3,8 @@
 set -e
 cd "$(dirname "$0")"
 mkdir -p out/crates
-cp crates.txt ../../HANDLES out/
+cp crates.list out/crates.txt
+cp ../../HANDLES out/
 copy() { # a crate's folder, and its name
     mkdir -p "out/crates/$2"
     for part in src specs proofs; do
