@@ -16,7 +16,7 @@ const COUNT: u64 = 64;
 #[link(name = "libc_c", kind = "static")]
 extern "C" {
     // The allocator takes no bytes, so nothing is passed for it.
-    fn store_cycle_run(rounds: u64) -> u64;
+    fn store_cycle_run(place: u64, badge: u64, rounds: u64) -> u64;
 }
 
 fn endpoint(badge: u64) -> Cap {
@@ -27,15 +27,20 @@ fn endpoint(badge: u64) -> Cap {
     }
 }
 
-fn plain_run(rounds: u64) -> u64 {
+/// The first slot's place, and the badge of what is derived.
+const FIRST: u64 = 1;
+const BADGE: u64 = 5;
+
+fn plain_run(first: u64, badge: u64, rounds: u64) -> u64 {
     let mut store = Store::new(16);
-    store.put_root(1, endpoint(0));
+    store.put_root(first, endpoint(0));
+    let cap = endpoint(badge);
     let mut found = 0;
     for _ in 0..rounds {
         for i in 0..COUNT {
-            store.derive(1, i + 2, endpoint(5));
+            store.derive(first, i + 2, cap);
         }
-        let child = store.first_child(1);
+        let child = store.first_child(first);
         for i in (0..COUNT).rev() {
             store.remove(i + 2);
         }
@@ -44,18 +49,21 @@ fn plain_run(rounds: u64) -> u64 {
     found
 }
 
-/// Runs all rounds; nanoseconds a round.
-fn time(run: impl Fn(u64) -> u64) -> f64 {
+/// Runs all rounds; nanoseconds a round. Slot and badge are hidden from the compiler.
+fn time(run: impl Fn(u64, u64, u64) -> u64) -> f64 {
     let start = Instant::now();
-    assert_eq!(run(black_box(ROUNDS)), ROUNDS, "each round finds the first child");
+    let found = run(black_box(FIRST), black_box(BADGE), black_box(ROUNDS));
+    assert_eq!(found, ROUNDS, "each round finds the first child");
     start.elapsed().as_secs_f64() * 1e9 / ROUNDS as f64
 }
 
 fn main() {
     let (mut proved, mut plain) = (f64::MAX, f64::MAX);
     for _ in 0..REPEATS {
-        // SAFETY: the declaration fits the library's, which asks for nothing.
-        proved = proved.min(time(|rounds| unsafe { store_cycle_run(rounds) }));
+        // SAFETY: the declaration fits the library's, which asks for this place and this badge.
+        proved = proved.min(time(|first, badge, rounds| unsafe {
+            store_cycle_run(first, badge, rounds)
+        }));
         plain = plain.min(time(plain_run));
     }
     println!(

@@ -18,57 +18,69 @@ const MEMORY_BITS: u32 = 16;
 const COUNT: u64 = 64;
 
 /// Makes a store and goes through so many rounds; the number of rounds in which a derived capability was found as the first
-/// child, or 0 where there was no memory for the store.
+/// child, or 0 where there was no memory for the store. The place of the first slot and the badge are handed in, so that the
+/// compiler knows as little of them as it would in a kernel.
 #[unsafe(no_mangle)]
-pub extern "C" fn store_cycle_run(alloc: Global, rounds: u64) -> u64 {
-    match run(alloc, rounds) {
+pub extern "C" fn store_cycle_run(alloc: Global, place: u64, badge: u64, rounds: u64) -> u64
+    requires place { place ≡ 1 }
+    requires badge { badge ≡ 5 }
+{
+    match run(alloc, slot(place), endpoint(badge), rounds) {
         Ok(found) => found,
         Err(_) => 0,
     }
 }
 
-fn run(alloc: Global, rounds: u64) -> Result<u64, AllocError> {
+fn run(alloc: Global, source: Slot, cap: Cap, rounds: u64) -> Result<u64, AllocError>
+    requires source { address_of wide source ≡ at 1 }
+    requires cap { cap ≡ endpoint_cap 5 }
+{
     let mut store = LinkedStore::<Wide>::new(alloc, MEMORY_BITS)?;
-    start(&mut store);
+    start(&mut store, source);
     let mut found = 0;
     for i in 0..rounds {
-        if round(&mut store) {
+        if round(&mut store, source, cap) {
             found += 1;
         }
     }
     Ok(found)
 }
 
-fn start<S: CapStore<Wide>>(store: &mut S)
+fn start<S: CapStore<Wide>>(store: &mut S, source: Slot)
+    requires source { address_of wide source ≡ at 1 }
     requires memory { S.memory_bits store.old ≡ memory_bits }
     requires forest { S.forest store.old ≡ none }
     ensures memory { S.memory_bits store.new ≡ memory_bits }
     ensures forest { S.forest store.new ≡ whole }
 {
-    store.put_root(slot(1), endpoint(0));
+    store.put_root(source, endpoint(0));
 }
 
 /// Derives capabilities with a badge into so many slots, looks for the first child, and removes them, the newest first.
-fn round<S: CapStore<Wide>>(store: &mut S) -> bool
+fn round<S: CapStore<Wide>>(store: &mut S, source: Slot, cap: Cap) -> bool
+    requires source { address_of wide source ≡ at 1 }
+    requires cap { cap ≡ endpoint_cap 5 }
     requires memory { S.memory_bits store.old ≡ memory_bits }
     requires forest { S.forest store.old ≡ whole }
     ensures memory { S.memory_bits store.new ≡ memory_bits }
     ensures forest { S.forest store.new ≡ whole }
 {
-    derive_all(store);
-    let child = store.first_child(slot(1));
+    derive_all(store, source, cap);
+    let child = store.first_child(source);
     remove_all(store);
     child == Some(slot(COUNT + 1))
 }
 
-fn derive_all<S: CapStore<Wide>>(store: &mut S)
+fn derive_all<S: CapStore<Wide>>(store: &mut S, source: Slot, cap: Cap)
+    requires source { address_of wide source ≡ at 1 }
+    requires cap { cap ≡ endpoint_cap 5 }
     requires memory { S.memory_bits store.old ≡ memory_bits }
     requires forest { S.forest store.old ≡ whole }
     ensures memory { S.memory_bits store.new ≡ memory_bits }
     ensures forest { S.forest store.new ≡ family COUNT }
 {
     for i in 0..COUNT {
-        store.derive(slot(1), slot(i + 2), endpoint(5));
+        store.derive(source, slot(i + 2), cap);
     }
 }
 
