@@ -25,8 +25,8 @@ use std::fmt::Write;
 /// line for each live thread, each live endpoint, each full slot and each CNode that only slots of its own name, each by
 /// rising address; and how many of the expectations are met.
 ///
-/// `replies` has the reply to each call, in order, and the full slots of `kernel` lie in the set-up's memory. The lines, and
-/// what is read of a kernel, are this project's profile.
+/// `replies` has the reply to each call, in order, and the full slots of `kernel` lie in the set-up's memory, at multiples of a
+/// slot's size. The lines, and what is read of a kernel, are this project's profile.
 ///
 /// # Errors
 ///
