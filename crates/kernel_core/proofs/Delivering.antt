@@ -10,7 +10,7 @@ use Rattle.kernel_core.proofs.Sending.{record_sent, after_send, sends_here, send
 use Rattle.kernel_core.proofs.Receiving.{AsksUpTo}
 use Rattle.kernel_core.proofs.Deliveries.{UpTo, untouched, now_last, Here}
 use Rattle.kernel_core.proofs.Rising.{Rising, Member, member_get, member_filter, all_filter, all_map, rising_filter, only_one, next_unpaired, find_push_no, find_push_yes, tally, zero_none, find_nothing, any_kept, none_kept}
-use Rattle.kernel_core.specs.declared.call.Service.{Service}
+use Rattle.kernel_core.specs.declared.task.Service.{Service}
 use Rattle.kernel_core.specs.declared.call.ThreadState.TheVariants.{Ready, Inactive}
 use Rattle.ipc_core.specs.Records.{AskRecord, Instance, SendRecord, same_instance, waiting_list}
 use Rattle.cap_core.specs.declared.message.Message.{Message}

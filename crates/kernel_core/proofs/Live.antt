@@ -10,7 +10,7 @@ use Rattle.cap_core.specs.declared.refusal.Refusal.TheVariants.{InvalidCapabilit
 use Rattle.slot_core.specs.Forest.{Forest, preorder}
 use Rattle.slot_core.specs.Entries.{Entry, cap_at, cap_in}
 use Rattle.kernel_core.specs.declared.call.Op.{Op}
-use Rattle.kernel_core.specs.declared.call.Service.{Service}
+use Rattle.kernel_core.specs.declared.task.Service.{Service}
 use Rattle.kernel_core.specs.Shown.{endpoint_base, endpoints_of}
 use Rattle.kernel_core.specs.Checks.{cap_found, service_of, service_found, has_right, needed_right}
 

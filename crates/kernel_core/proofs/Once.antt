@@ -8,7 +8,7 @@ use Rattle.kernel_core.proofs.Sending.{record_sent, after_send, sends_here, send
 use Rattle.kernel_core.proofs.Receiving.{none_received, AsksUpTo, record_asked, after_ask, asks_here, asks_elsewhere, asks_wait}
 use Rattle.kernel_core.proofs.Rising.{tally, none_zero}
 use Rattle.kernel_core.proofs.Delivering.{pending}
-use Rattle.kernel_core.specs.declared.call.Service.{Service}
+use Rattle.kernel_core.specs.declared.task.Service.{Service}
 use Rattle.kernel_core.specs.declared.call.ThreadState.TheVariants.{Ready}
 use Rattle.ipc_core.specs.Records.{AskRecord, Instance, SendRecord, same_instance}
 use Rattle.cap_core.specs.declared.message.Message.{Message}

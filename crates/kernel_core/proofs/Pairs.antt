@@ -12,7 +12,7 @@ use Rattle.kernel_core.specs.declared.call.Call.{Call}
 use Rattle.kernel_core.specs.declared.call.Op.{Op}
 use Rattle.kernel_core.specs.declared.call.Op.TheVariants.{Send, NbSend, Recv, NbRecv}
 use Rattle.kernel_core.specs.declared.call.Reply.{Reply}
-use Rattle.kernel_core.specs.declared.call.Service.{Service}
+use Rattle.kernel_core.specs.declared.task.Service.{Service}
 use Rattle.kernel_core.specs.Shown.{endpoints_of}
 use Rattle.kernel_core.specs.State.{State, shown, pairs, endpoint_at, sends_to, asks_of}
 use Rattle.kernel_core.specs.Checks.{checked}

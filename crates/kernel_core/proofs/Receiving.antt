@@ -11,7 +11,7 @@ use Rattle.kernel_core.proofs.Lists.{drop_all, get_none, zip_none_right, find_on
 use Rattle.kernel_core.proofs.Sending.{same_itself, not_same, same_tells, in_table}
 use Rattle.kernel_core.specs.declared.call.ThreadState.{ThreadState}
 use Rattle.kernel_core.specs.declared.call.ThreadState.TheVariants.{Ready, Inactive, Receiving}
-use Rattle.kernel_core.specs.declared.call.Service.{Service}
+use Rattle.kernel_core.specs.declared.task.Service.{Service}
 use Rattle.ipc_core.specs.Records.{AskRecord, Instance, SendRecord, receiver, same_instance, sender, waiting_list}
 use Rattle.kernel_core.specs.State.{State, asks_of, endpoint_at, first_of, inbox_of, inbox_with, is_receiving, is_sending, last_completed, pair_of, pairs, sends_to, shown, state_of, thread_at, thread_view, waiters, waiting_asks}
 use Rattle.kernel_core.specs.Step.{ask_record, counted}

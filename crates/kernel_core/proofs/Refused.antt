@@ -10,7 +10,7 @@ use Rattle.kernel_core.specs.declared.call.Call.{Call}
 use Rattle.kernel_core.specs.declared.call.Op.{Op}
 use Rattle.kernel_core.specs.declared.call.Op.TheVariants.{Send, NbSend, Recv, NbRecv}
 use Rattle.kernel_core.specs.declared.call.Reply.TheVariants.{Refused}
-use Rattle.kernel_core.specs.declared.call.Service.{Service}
+use Rattle.kernel_core.specs.declared.task.Service.{Service}
 use Rattle.kernel_core.specs.Shown.{Shown, waiting_at}
 use Rattle.kernel_core.specs.Checks.{checked}
 use Rattle.kernel_core.specs.Effects.{send_meets, receive_meets, op_effect, effect_of}

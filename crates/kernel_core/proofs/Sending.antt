@@ -10,7 +10,7 @@ use Rattle.std.proofs.lemmas.List.Elements.{filter-append}
 use Rattle.kernel_core.proofs.Lists.{drop_all, get_none, drop_get, get_within, zip_more_none, find_one, any_push_false, any_push_true}
 use Rattle.kernel_core.specs.declared.call.ThreadState.{ThreadState}
 use Rattle.kernel_core.specs.declared.call.ThreadState.TheVariants.{Ready, Inactive, Sending}
-use Rattle.kernel_core.specs.declared.call.Service.{Service}
+use Rattle.kernel_core.specs.declared.task.Service.{Service}
 use Rattle.ipc_core.specs.Records.{AskRecord, Instance, SendRecord, receiver, same_instance, sender, waiting_list}
 use Rattle.cap_core.specs.declared.message.Message.{Message}
 use Rattle.kernel_core.specs.State.{State, asks_of, endpoint_at, first_of, inbox_of, inbox_with, is_receiving, is_sending, last_completed, pairs, sends_to, shown, state_of, thread_at, thread_view, waiters, waiting_sends}

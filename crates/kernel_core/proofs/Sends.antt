@@ -15,7 +15,7 @@ use Rattle.ipc_core.specs.declared.waiter.Received.TheVariants as D
 use Rattle.ipc_core.specs.declared.waiter.Offer.{Offer}
 use Rattle.ipc_core.specs.Waits.{Waits, IsEndpointAddress, IsThreadAddress, first_receiver, first_sender, sent, after_send, waits_sent_to, received, after_receive, waits_received_from}
 use Rattle.kernel_core.specs.declared.call.Reply.TheVariants.{Delivered, Waiting, Dropped, Empty}
-use Rattle.kernel_core.specs.declared.call.Service.{Service}
+use Rattle.kernel_core.specs.declared.task.Service.{Service}
 use Rattle.kernel_core.specs.declared.call.ThreadState.TheVariants.{Sending, Receiving}
 use Rattle.kernel_core.specs.declared.rows.ThreadRow.{ThreadRow}
 use Rattle.kernel_core.specs.Shown.{Shown, endpoints_of, waiting_at}

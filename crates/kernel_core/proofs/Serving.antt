@@ -15,7 +15,7 @@ use Rattle.kernel_core.proofs.Deliveries.{untouched, now_last, Here}
 use Rattle.kernel_core.proofs.Rising.{Member, all_filter, all_map, find_push_no, find_push_yes, tally, zero_none, find_nothing, any_kept, none_kept}
 use Rattle.kernel_core.proofs.Delivering.{SendsUpTo, deliveries_up_to, pending}
 use Rattle.kernel_core.proofs.Once.{ready_waits_not}
-use Rattle.kernel_core.specs.declared.call.Service.{Service}
+use Rattle.kernel_core.specs.declared.task.Service.{Service}
 use Rattle.kernel_core.specs.declared.call.ThreadState.TheVariants.{Ready, Inactive}
 use Rattle.ipc_core.specs.Records.{AskRecord, Instance, SendRecord, receiver, same_instance, sender}
 use Rattle.kernel_core.specs.State.{State, asks_of, endpoint_at, first_of, inbox_of, inbox_with, is_receiving, is_sending, last_completed, pair_of, pairs, sends_to, shown, state_of, thread_at, thread_view, waiters, waiting_asks, waiting_sends}

@@ -21,7 +21,7 @@ use Rattle.kernel_core.specs.declared.call.Inbox.{Inbox}
 use Rattle.kernel_core.specs.declared.call.Op.{Op}
 use Rattle.kernel_core.specs.Checks.{service_found, cap_named, slot_named}
 use Rattle.kernel_core.proofs.Live.{found_live}
-use Rattle.kernel_core.specs.declared.call.Service.{Service}
+use Rattle.kernel_core.specs.declared.task.Service.{Service}
 use Rattle.kernel_core.specs.declared.call.ThreadState.{ThreadState}
 use Rattle.kernel_core.specs.declared.call.ThreadState.TheVariants.{Ready}
 use Rattle.kernel_core.specs.declared.rows.ThreadRow.{ThreadRow}

@@ -15,7 +15,7 @@ use Rattle.kernel_core.proofs.Rising.{Rising, member_get, member_filter, all_at}
 use Rattle.kernel_core.specs.declared.call.Call.{Call}
 use Rattle.kernel_core.specs.declared.call.Op.{Op}
 use Rattle.kernel_core.specs.declared.call.Op.TheVariants.{Send, NbSend, Recv, NbRecv}
-use Rattle.kernel_core.specs.declared.call.Service.{Service}
+use Rattle.kernel_core.specs.declared.task.Service.{Service}
 use Rattle.kernel_core.specs.declared.call.ThreadState.TheVariants.{Ready, Inactive, Sending, Receiving}
 use Rattle.kernel_core.specs.declared.call.Reply.{Reply}
 use Rattle.kernel_core.specs.declared.call.Reply.TheVariants.{Dropped, Empty}

@@ -1,22 +1,28 @@
 -- What a step does to what is shown.
 use Rattle.std.specs.Prelude.{◌≡◌, ℕ, Bool, true, false, cond, List, [], ◌∷◌, ◌++◌, drop, Option, None, Some, Result, Ok, Err, IsSome, IsSomeAnd}
-use Rattle.std.specs.FinMap.{get, insert}
+use Rattle.std.specs.Ordering.{nat_cmp}
+use Rattle.std.specs.FinMap.{FinMap, get, insert}
 use Rattle.cap_core.specs.declared.profile.ProfileName.{ProfileName}
 use Rattle.cap_core.specs.declared.capability.Badge.{Badge}
 use Rattle.cap_core.specs.declared.message.Message.{Message}
 use Rattle.cap_core.specs.declared.refusal.Refusal.{Refusal}
+use Rattle.slot_core.specs.Forest.{Forest}
+use Rattle.slot_core.specs.Entries.{Entry}
 use Rattle.ipc_core.specs.declared.waiter.Waiter.{Waiter}
 use Rattle.ipc_core.specs.declared.waiter.Waiter.TheVariants.{Sender, Receiver}
 use Rattle.ipc_core.specs.declared.waiter.Offer.{Offer}
 use Rattle.ipc_core.specs.Waits.{first_receiver, first_sender}
 use Rattle.kernel_core.specs.declared.call.Call.{Call}
-use Rattle.kernel_core.specs.declared.call.Op.{Op}
-use Rattle.kernel_core.specs.declared.call.Op.TheVariants.{Send, NbSend, Recv, NbRecv}
 use Rattle.kernel_core.specs.declared.call.Reply.{Reply}
-use Rattle.kernel_core.specs.declared.call.Reply.TheVariants.{Delivered, Waiting, Dropped, Empty, Refused}
-use Rattle.kernel_core.specs.declared.call.Service.{Service}
-use Rattle.kernel_core.specs.declared.call.ThreadState.TheVariants.{Ready, Sending, Receiving}
-use Rattle.kernel_core.specs.Shown.{Shown, ThreadView, waiting_at, inbox_at}
+use Rattle.kernel_core.specs.declared.call.Reply.TheVariants.{Done, Delivered, Waiting, Dropped, Empty, Refused}
+use Rattle.kernel_core.specs.declared.call.ThreadState.TheVariants.{Ready, Inactive, Sending, Receiving}
+use Rattle.kernel_core.specs.declared.task.Service.{Service}
+use Rattle.kernel_core.specs.declared.task.NewObjects.{NewObjects}
+use Rattle.kernel_core.specs.declared.task.Task.{Task}
+use Rattle.kernel_core.specs.declared.task.Task.TheVariants as task
+use Rattle.kernel_core.specs.Shown.{Shown, ThreadView, waiting_at, inbox_at, endpoints_of, tcb_base, table}
+use Rattle.kernel_core.specs.Retyping.{with_objects, new_bases}
+use Rattle.kernel_core.specs.Transfers.{with_derived, with_moved}
 use Rattle.kernel_core.specs.Checks.{checked}
 
 -- the reply, and what is shown after
@@ -76,16 +82,41 @@ receive_meets v t service list block (Some offer) =
 abbrev pub receive_effect : Shown → ℕ → Service → Bool → List Waiter → Effect
 receive_effect v t service block list = receive_meets v t service list block (first_sender list)
 
-abbrev pub op_effect : Shown → ℕ → Op → Result Service Refusal → Effect
-op_effect v t op (Err refusal) = record { reply = Refused refusal; after = v }
-op_effect v t (Send address message) (Ok service) = send_effect v t service message true (waiting_at v service.endpoint)
-op_effect v t (NbSend address message) (Ok service) = send_effect v t service message false (waiting_at v service.endpoint)
-op_effect v t (Recv address) (Ok service) = receive_effect v t service true (waiting_at v service.endpoint)
-op_effect v t (NbRecv address) (Ok service) = receive_effect v t service false (waiting_at v service.endpoint)
+-- the capabilities change: each endpoint that is live after keeps its waiting list, and a new one has none
+abbrev pub rearranged : Shown → Forest Entry → Shown
+rearranged v f = record v { derivations = f; endpoints = table (endpoints_of f) (waiting_at v) }
+
+-- a thread that was just made
+abbrev pub new_thread : ThreadView
+new_thread = record { state = Inactive; inbox = None }
+
+abbrev pub with_threads : List ℕ → FinMap nat_cmp ThreadView → FinMap nat_cmp ThreadView
+with_threads [] threads = threads
+with_threads (base ∷ bases) threads = with_threads bases (insert threads base new_thread)
+
+-- objects are made, and the new threads are inactive
+abbrev pub objects_shown : ProfileName → Shown → NewObjects → Shown
+objects_shown p v new =
+    record (rearranged v (with_objects p new v.derivations)) { threads = with_threads (new_bases tcb_base p new) v.threads }
+
+abbrev pub done : Shown → Effect
+done v = record { reply = Done; after = v }
+
+-- what a call whose checks passed does
+abbrev pub task_effect : ProfileName → Shown → ℕ → Task → Effect
+task_effect p v t (task.Send service message block) = send_effect v t service message block (waiting_at v service.endpoint)
+task_effect p v t (task.Receive service block) = receive_effect v t service block (waiting_at v service.endpoint)
+task_effect p v t (task.Retype new) = done (objects_shown p v new)
+task_effect p v t (task.Derive transfer) = done (rearranged v (with_derived p transfer v.derivations))
+task_effect p v t (task.Move transfer) = done (rearranged v (with_moved transfer v.derivations))
+
+abbrev pub effect_found : ProfileName → Shown → ℕ → Result Task Refusal → Effect
+effect_found p v t (Err refusal) = untaken v (Refused refusal)
+effect_found p v t (Ok task) = task_effect p v t task
 
 -- the step, told by what is shown alone
 abbrev pub effect_of : ProfileName → Shown → Call → Effect
-effect_of p v call = op_effect v call.thread call.op (checked p v call)
+effect_of p v call = effect_found p v call.thread (checked p v call)
 
 abbrev pub IsReady : Shown → ℕ → Type 0
 IsReady v t = IsSomeAnd (get v.threads t) (λ (thread : ThreadView). thread.state ≡ Ready)

@@ -1,5 +1,5 @@
 -- What the rows of a kernel stand for.
-use Rattle.std.specs.Prelude.{◌≡◌, ℕ, ◌+◌, ◌*◌, ◌%◌, ◌^◌, ◌≤◌, ◌<◌, ◌==◌, Bool, cond, List, [], ◌∷◌, map, length, Option, None, Some, IsSomeAnd, All, false}
+use Rattle.std.specs.Prelude.{◌≡◌, ℕ, ◌+◌, ◌*◌, ◌%◌, ◌^◌, ◌≤◌, ◌<◌, ◌==◌, Bool, cond, List, [], ◌∷◌, map, length, Option, None, Some, IsSomeAnd, is_some, All, false}
 use Rattle.std.specs.List.{list_any, IsDistinct}
 use Rattle.std.specs.Ordering.{nat_cmp}
 use Rattle.std.specs.FinMap.{FinMap, from_entries, get}
@@ -16,7 +16,8 @@ use Rattle.ipc_core.specs.Waits.{Waits, thread_of}
 use Rattle.kernel_core.specs.declared.call.ThreadState.{ThreadState}
 use Rattle.kernel_core.specs.declared.call.ThreadState.TheVariants.{Ready, Inactive, Sending, Receiving}
 use Rattle.kernel_core.specs.declared.rows.ThreadRow.{ThreadRow}
-use Rattle.kernel_core.specs.Shown.{Shown, ThreadView, endpoints_of, table}
+use Rattle.kernel_core.specs.Shown.{Shown, ThreadView, endpoints_of, threads_of, table}
+use Rattle.kernel_core.specs.Regions.{AreRegions}
 
 -- row k, from i on, is at the address size * k
 abbrev pub keyed : {X : Type 0} → ℕ → ℕ → List (Option X) → List (ℕ × X)
@@ -51,6 +52,10 @@ kernel_shown p f rows w =
       endpoints = table (endpoints_of f) w.queue;
     }
 
+-- a multiple of a slot's size
+abbrev pub IsAligned : ProfileName → ℕ → Type 0
+IsAligned p address = address % slot_size p ≡ 0
+
 -- an address at which a slot can stand
 pub record IsSlotAddress (p : ProfileName) (memory address : ℕ) : Type 0 where
   pub aligned : address % slot_size p ≡ 0
@@ -60,8 +65,9 @@ pub record IsSlotAddress (p : ProfileName) (memory address : ℕ) : Type 0 where
 abbrev pub IsActive : ℕ → List (Option ThreadRow) → ℕ → Type 0
 IsActive size rows t = IsSomeAnd (get (rows_map size rows) t) (λ (row : ThreadRow). row.inactive ≡ false)
 
--- what holds of every kernel's parts: one memory, in which the slots stand apart and name lawful, disjoint objects; a
--- row for each place of a thread control block; each waiting thread has a row and is active; and nobody waits on an
+-- what holds of every kernel's parts: one memory, in which the slots stand apart and name lawful, disjoint objects, those
+-- below a capability in its region; a place for the row of each thread control block, and a row for each live thread; each
+-- waiting thread has a row and is active; and nobody waits on an
 -- endpoint that is not live, nor in a thread that has no row
 pub record IsKernel (p : ProfileName) (memory store_memory waiters_memory : ℕ) (f : Forest Entry) (rows : List (Option ThreadRow)) (w : Waits) : Type 0 where
   pub store_memory_is : store_memory ≡ memory
@@ -73,6 +79,13 @@ pub record IsKernel (p : ProfileName) (memory store_memory waiters_memory : ℕ)
   pub slots_placed : All (IsSlotAddress p memory) (slots f)
   pub lawful : All (IsLawful p memory) (caps f)
   pub disjoint : IsDisjoint p f
+  pub regions : AreRegions p f
+  pub live_rows : (t : ℕ) → is_some (get (rows_map (tcb_size p) rows) t) ≡ list_any (λ k. t == k) (threads_of f)
   pub waiting_active : (e : ℕ) → All (λ (x : Waiter). IsActive (tcb_size p) rows (thread_of x)) (w.queue e)
   pub dead_queue : (e : ℕ) → list_any (λ k. e == k) (endpoints_of f) ≡ false → w.queue e ≡ []
   pub rowless_role : (t : ℕ) → get (rows_map (tcb_size p) rows) t ≡ None → w.role t ≡ None
+
+-- what a kernel shows lies in a memory of 2^memory bytes: its slots, and the objects that they name
+pub record IsInMemory (p : ProfileName) (memory : ℕ) (v : Shown) : Type 0 where
+  pub slots_placed : All (IsSlotAddress p memory) (slots v.derivations)
+  pub lawful : All (IsLawful p memory) (caps v.derivations)

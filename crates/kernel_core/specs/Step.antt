@@ -1,16 +1,23 @@
 -- The abstract step, and runs of it.
-use Rattle.std.specs.Prelude.{ℕ, ◌+◌, Bool, cond, nat_lt, List, [], ◌∷◌, ◌++◌, length, slice_get, Option, None, Some, Result, Ok, Err}
+use Rattle.std.specs.Prelude.{ℕ, ◌+◌, Bool, true, false, cond, nat_lt, ◌==◌, ◌&&◌, ◌||◌, List, [], ◌∷◌, ◌++◌, length, slice_get, Option, None, Some, Result, Ok, Err}
+use Rattle.std.specs.List.{list_any}
 use Rattle.cap_core.specs.declared.profile.ProfileName.{ProfileName}
 use Rattle.cap_core.specs.declared.message.Message.{Message}
 use Rattle.cap_core.specs.declared.refusal.Refusal.{Refusal}
+use Rattle.slot_core.specs.Forest.{Forest}
+use Rattle.slot_core.specs.Entries.{Entry}
 use Rattle.ipc_core.specs.Records.{Instance, SendRecord, AskRecord}
 use Rattle.kernel_core.specs.declared.call.Call.{Call}
-use Rattle.kernel_core.specs.declared.call.Op.{Op}
-use Rattle.kernel_core.specs.declared.call.Op.TheVariants.{Send, NbSend, Recv, NbRecv}
 use Rattle.kernel_core.specs.declared.call.Reply.{Reply}
-use Rattle.kernel_core.specs.declared.call.Reply.TheVariants.{Delivered, Waiting, Dropped, Empty, Refused}
-use Rattle.kernel_core.specs.declared.call.Service.{Service}
+use Rattle.kernel_core.specs.declared.call.Reply.TheVariants.{Done, Delivered, Waiting, Dropped, Empty, Refused}
+use Rattle.kernel_core.specs.declared.task.Service.{Service}
+use Rattle.kernel_core.specs.declared.task.NewObjects.{NewObjects}
+use Rattle.kernel_core.specs.declared.task.Task.{Task}
+use Rattle.kernel_core.specs.declared.task.Task.TheVariants.{Send, Receive, Retype, Derive, Move}
 use Rattle.kernel_core.specs.Checks.{checked}
+use Rattle.kernel_core.specs.Shown.{tcb_base, endpoint_base}
+use Rattle.kernel_core.specs.Retyping.{with_objects, new_bases}
+use Rattle.kernel_core.specs.Transfers.{with_derived, with_moved}
 use Rattle.kernel_core.specs.State.{State, endpoint_at, thread_at, sends_to, asks_of, shown}
 
 pub record Outcome : Type 0 where
@@ -73,22 +80,50 @@ is_receive_awaited A e = nat_lt (length (asks_of A e)) (length (sends_to A e))
 abbrev pub where_awaited : State → Bool → Outcome → Reply → Outcome
 where_awaited A awaited accepted reply = cond awaited accepted (record { reply = reply; state = counted A })
 
--- an operation whose checks passed
-abbrev pub performed : State → ℕ → Service → Op → Outcome
-performed A thread service (Send address message) = send_accepted A thread service message
-performed A thread service (NbSend address message) =
-    where_awaited A (is_send_awaited A (endpoint_at A service.endpoint)) (send_accepted A thread service message) Dropped
-performed A thread service (Recv address) = receive_accepted A thread service
-performed A thread service (NbRecv address) =
-    where_awaited A (is_receive_awaited A (endpoint_at A service.endpoint)) (receive_accepted A thread service) Empty
+-- the capabilities change, and nothing else
+abbrev pub rearranged : State → Forest Entry → Outcome
+rearranged A f = record { reply = Done; state = record (counted A) { derivations = f } }
 
-abbrev pub outcome : State → Call → Result Service Refusal → Outcome
-outcome A call (Err refusal) = record { reply = Refused refusal; state = counted A }
-outcome A call (Ok service) = performed A call.thread service call.op
+-- the number of this call where an object stands at one of these addresses, and else its former birth
+abbrev pub born_at : State → List ℕ → (ℕ → ℕ) → ℕ → ℕ
+born_at A bases birth base = cond (list_any (λ b. base == b) bases) (A.count + 1) (birth base)
+
+-- a thread that this call made at one of these addresses
+abbrev pub is_made : State → List ℕ → Instance → Bool
+is_made A bases t = list_any (λ b. t.base == b) bases && t.birth == A.count + 1
+
+-- objects are made: they are born by this call, and the new threads are inactive
+abbrev pub objects_made : ProfileName → State → NewObjects → Outcome
+objects_made p A new =
+    record {
+      reply = Done;
+      state = record (counted A) {
+        derivations = with_objects p new A.derivations;
+        endpoint_birth = born_at A (new_bases endpoint_base p new) A.endpoint_birth;
+        thread_birth = born_at A (new_bases tcb_base p new) A.thread_birth;
+        is_idle = λ t. A.is_idle t || is_made A (new_bases tcb_base p new) t;
+      };
+    }
+
+-- what a call whose checks passed does
+abbrev pub performed : ProfileName → State → ℕ → Task → Outcome
+performed p A thread (Send service message true) = send_accepted A thread service message
+performed p A thread (Send service message false) =
+    where_awaited A (is_send_awaited A (endpoint_at A service.endpoint)) (send_accepted A thread service message) Dropped
+performed p A thread (Receive service true) = receive_accepted A thread service
+performed p A thread (Receive service false) =
+    where_awaited A (is_receive_awaited A (endpoint_at A service.endpoint)) (receive_accepted A thread service) Empty
+performed p A thread (Retype new) = objects_made p A new
+performed p A thread (Derive transfer) = rearranged A (with_derived p transfer A.derivations)
+performed p A thread (Move transfer) = rearranged A (with_moved transfer A.derivations)
+
+abbrev pub outcome : ProfileName → State → ℕ → Result Task Refusal → Outcome
+outcome p A thread (Err refusal) = record { reply = Refused refusal; state = counted A }
+outcome p A thread (Ok task) = performed p A thread task
 
 -- one call: where a check fails it is refused, and nothing but the count changes
 abbrev pub step : ProfileName → State → Call → Outcome
-step p A call = outcome A call (checked p (shown A) call)
+step p A call = outcome p A call.thread (checked p (shown A) call)
 
 -- the replies to a list of calls, and the state after them
 abbrev pub replies_of : ProfileName → State → List Call → List Reply

@@ -1,18 +1,82 @@
 //! Calls, replies, and what is seen of a thread.
-use cap_core::{Badge, Message, Refusal};
+use cap_core::{Badge, Message, Refusal, Rights};
 
-/// What a thread asks of the kernel (seL4 Reference Manual, on system calls). `cap` is the address, in the thread's
-/// capability space, of the capability that it uses.
+/// What a thread asks of the kernel (seL4 Reference Manual, on system calls and on the methods of its objects). `cap` is
+/// the address, in the thread's capability space, of the capability that it uses; `root` and `src_root` are addresses there
+/// too. An index names the slot that its low bits, as many as the depth, lead to from a CNode.
 #[derive(Clone, Copy, Debug, PartialEq, Eq)]
 pub enum Op {
+    /// Makes `count` objects in an untyped region, of the kind with a number and of a size in bits, and puts their
+    /// capabilities into the slots of a CNode from `offset` on. The CNode is the one that `root` names at depth 0, and else
+    /// the one in the slot that `index` and `depth` name from it.
+    Retype {
+        cap: u64,
+        kind: u64,
+        size_bits: u64,
+        root: u64,
+        index: u64,
+        depth: u64,
+        offset: u64,
+        count: u64,
+    },
+    /// Derives a capability from the one in a slot, with no rights but those given, into an empty slot.
+    CapCopy {
+        cap: u64,
+        index: u64,
+        depth: u64,
+        src_root: u64,
+        src_index: u64,
+        src_depth: u64,
+        rights: Rights,
+    },
+    /// Derives a capability as a copy does, with its data set by a word: the badge of an endpoint's, the guard of a CNode's.
+    CapMint {
+        cap: u64,
+        index: u64,
+        depth: u64,
+        src_root: u64,
+        src_index: u64,
+        src_depth: u64,
+        rights: Rights,
+        word: u64,
+    },
+    /// Moves a capability from one slot to an empty one.
+    CapMove {
+        cap: u64,
+        index: u64,
+        depth: u64,
+        src_root: u64,
+        src_index: u64,
+        src_depth: u64,
+    },
+    /// Moves a capability, with its data set by a word: the guard of a CNode's.
+    CapMutate {
+        cap: u64,
+        index: u64,
+        depth: u64,
+        src_root: u64,
+        src_index: u64,
+        src_depth: u64,
+        word: u64,
+    },
     /// Sends a message through an endpoint, and waits where no receiver does.
-    Send { cap: u64, message: Message },
+    Send {
+        cap: u64,
+        message: Message,
+    },
     /// Sends a message through an endpoint where a receiver waits, and is dropped where none does.
-    NbSend { cap: u64, message: Message },
+    NbSend {
+        cap: u64,
+        message: Message,
+    },
     /// Receives a message from an endpoint, and waits where no sender does.
-    Recv { cap: u64 },
+    Recv {
+        cap: u64,
+    },
     /// Receives a message from an endpoint where a sender waits, and nothing where none does.
-    NbRecv { cap: u64 },
+    NbRecv {
+        cap: u64,
+    },
 }
 
 /// One call of one thread, named by the address of its thread control block.
@@ -63,11 +127,4 @@ pub enum ThreadState {
 pub struct Inbox {
     pub badge: Badge,
     pub message: Message,
-}
-
-/// An endpoint that a call may use, and the badge of the capability by which it does.
-#[derive(Clone, Copy, Debug, PartialEq, Eq)]
-pub struct Service {
-    pub endpoint: u64,
-    pub badge: Badge,
 }

@@ -1,25 +1,32 @@
 //! The kernel.
-ghost use Rattle.std.specs.Prelude.{◌≡◌, ◌⊎◌, ℕ, Some, None, IfOk, option_map, slice_get, vec_len, vec_capacity, length, drop, map, ◌≤◌, ◌<◌, ◌+◌, ◌++◌, ◌∷◌, []};
+ghost use Rattle.std.specs.Prelude.{◌≡◌, ◌⊎◌, ℕ, Some, None, IfOk, option_map, slice_get, All, vec_len, vec_capacity, length, drop, map, ◌≤◌, ◌<◌, ◌+◌, ◌++◌, ◌∷◌, []};
 ghost use Rattle.cap_core.specs.Numbers.{tcb_size};
-ghost use Rattle.slot_core.specs.Entries.{cap_at as cap_held};
+ghost use Rattle.slot_core.specs.Entries.{slots, cap_at as cap_held};
 ghost use Rattle.ipc_core.specs.Waits.{thread_of};
 ghost use Rattle.kernel_core.specs.Shown.{state_at, inbox_at, waiting_at, has_child};
 ghost use Rattle.kernel_core.specs.Checks.{checked};
-ghost use Rattle.kernel_core.specs.Effects.{send_effect, receive_effect, effect_of, IsReady, IsLiveEndpoint};
+ghost use Rattle.kernel_core.specs.Effects.{send_effect, receive_effect, effect_of, task_effect, rearranged, objects_shown, IsReady, IsLiveEndpoint};
+ghost use Rattle.kernel_core.specs.Transfers.{with_derived, with_moved};
+ghost use Rattle.kernel_core.specs.Rows.{IsInMemory, IsAligned};
+ghost use Rattle.kernel_core.specs.Regions.{AreObjectsApart};
+ghost use Rattle.kernel_core.specs.Tasks.{IsTask, IsRetype, IsDerivation, IsMove};
 ghost use Rattle.cap_core.specs.declared.refusal.Refusal.{Refusal};
 ghost use Rattle.ipc_core.specs.Records.{Instance};
-ghost use Rattle.kernel_core.specs.declared.call.Reply.TheVariants.{Refused};
+ghost use Rattle.kernel_core.specs.declared.call.Reply.TheVariants.{Done, Refused};
 ghost use Rattle.kernel_core.specs.State.{State, shown, pairs};
 ghost use Rattle.kernel_core.specs.Deliveries.{delivery, delivered};
 ghost use Rattle.kernel_core.specs.Step.{replies_of, state_after};
 ghost use Rattle.kernel_core.specs.Reached.{IsReached, StepsTo};
 
-use crate::call::{Call, Inbox, Op, Reply, Service, ThreadState};
-use crate::lookup::{is_endpoint_address, service_for, slot_within};
+use crate::call::{Call, Inbox, Reply, ThreadState};
+use crate::checks::lookup::{is_endpoint_address, slot_within};
+use crate::checks::task_for;
+use crate::objects::{add_threads, put_objects};
 use crate::rows::{ThreadRow, row_at, set_row};
-use cap_core::{Cap, Message, Profile, Refusal};
+use crate::task::{NewObjects, Service, Task, Transfer};
+use cap_core::{Cap, Kind, Message, Profile, Refusal};
 use ipc_core::{Received, Sent, Waiters};
-use slot_core::CapStore;
+use slot_core::{CapStore, Slot};
 use std::marker::{Model, PhantomData};
 
 /// The capability part of a kernel, over a store of capabilities and a store of waiting threads.
@@ -60,14 +67,27 @@ impl<P: Profile, S: CapStore<P> + Drop, W: Waiters<P> + Drop> Kernel<P, S, W> {
     /// - `NoThread` where no live thread control block is at the address, `NotReady` where the thread is not ready;
     /// - `FailedLookup` with its kind where the word `cap`, all its bits, leads to no slot of the thread's capability
     ///   space;
-    /// - `InvalidCapability` where that slot is empty, `IllegalOperation` where it holds no endpoint capability;
-    /// - `InvalidCapability` where the capability lacks the right: to write for a send, to read for a receive.
+    /// - `InvalidCapability` where that slot is empty, `IllegalOperation` where it holds a capability of another kind than the
+    ///   operation asks for: an endpoint's to send and to receive, an untyped one to retype, a CNode's for the others;
+    /// - `InvalidCapability` where an endpoint's capability lacks the right: to write for a send, to read for a receive.
+    ///
+    /// Those of a retype: `FailedLookup` where `root` leads to no slot; `InvalidArgument` where no kind has the number, and
+    /// for a CNode without slots or an untyped region below the least size; `RangeError` where the size is beyond the profile
+    /// or, with a depth, the depth is; `FailedLookup` where the CNode is not found, and `MissingCapability` where it is none;
+    /// `RangeError` for slots that it does not have, and for no object or too many; `DeleteFirst` where a slot is full;
+    /// `NotEnoughMemory` where the objects do not fit.
+    ///
+    /// Those of a copy, a mint, a move and a mutate: `FailedLookup` where `src_root` leads to no slot; `RangeError` for a
+    /// depth beyond the profile, or `FailedLookup`, where the slot to fill is not found, and `DeleteFirst` where it is full;
+    /// the same two where the source is not found, and `MissingCapability` where it is empty; `IllegalOperation` where its
+    /// data cannot be set, `RevokeFirst` where an untyped one has children and is derived from.
     ///
     /// For a kernel that stands for a state that runs reach, the reply and what is shown after are those of the abstract
     /// step. It takes no memory.
     pub fn step(&mut self, call: Call) -> Reply
         ensures stands { (A : State) → IsReached P.the A → self.old ≡ shown A → StepsTo P.the A call result self.new }
         ensures refused { (refusal : Refusal) → result ≡ Refused refusal → self.new ≡ self.old }
+        ensures within { (memory : ℕ) → IsInMemory P.the memory self.old → IsInMemory P.the memory self.new }
     {
         self.perform(call)
     }
@@ -77,12 +97,15 @@ impl<P: Profile, S: CapStore<P> + Drop, W: Waiters<P> + Drop> Kernel<P, S, W> {
     /// For a kernel that stands for a state that runs reach, the replies and what is shown after are those of the abstract
     /// run. By these replies each endpoint, while it is live, delivers one message for each pair that it gains of an accepted
     /// send and the accepted receive at its place, in the order of the pairs, with the badge that the send kept; after boot
-    /// there are no pairs. It takes no memory.
+    /// there are no pairs. Whatever the calls, the live objects are disjoint, or one is an untyped region around the other, and
+    /// what is made in an untyped region ends within what is used of it. It takes no memory.
     pub fn run(&mut self, calls: &[Call], replies: &mut Vec<Reply>)
         requires room { vec_len replies.old + length calls.now ≤ vec_capacity replies.old }
         ensures replies { (A : State) → IsReached P.the A → self.old ≡ shown A → replies.new.items ≡ replies.old.items ++ replies_of P.the A calls.now }
         ensures stands { (A : State) → IsReached P.the A → self.old ≡ shown A → self.new ≡ shown (state_after P.the A calls.now) }
         ensures in_order { (A : State) → IsReached P.the A → self.old ≡ shown A → (e : Instance) → map delivery (pairs (state_after P.the A calls.now) e) ≡ map delivery (pairs A e) ++ delivered P.the A e calls.now (drop (length replies.old.items) replies.new.items) }
+        ensures apart { AreObjectsApart P.the self.new.derivations }
+        ensures within { (memory : ℕ) → IsInMemory P.the memory self.old → IsInMemory P.the memory self.new }
     {
         for call in calls {
             let reply = self.step(*call);
@@ -93,28 +116,87 @@ impl<P: Profile, S: CapStore<P> + Drop, W: Waiters<P> + Drop> Kernel<P, S, W> {
     fn perform(&mut self, call: Call) -> Reply
         ensures reply { result ≡ (effect_of P.the self.old call).reply }
         ensures after { self.new ≡ (effect_of P.the self.old call).after }
+        ensures within { (memory : ℕ) → IsInMemory P.the memory self.old → IsInMemory P.the memory self.new }
     {
         match self.check(call) {
             Err(refusal) => Reply::Refused(refusal),
-            Ok(service) => match call.op {
-                Op::Send { message, .. } => self.send(call.thread, service, message, true),
-                Op::NbSend { message, .. } => self.send(call.thread, service, message, false),
-                Op::Recv { .. } => self.recv(call.thread, service, true),
-                Op::NbRecv { .. } => self.recv(call.thread, service, false),
-            },
+            Ok(task) => self.take(call.thread, task),
         }
     }
 
-    /// The first check that fails, or the endpoint that the call may use.
-    fn check(&self, call: Call) -> Result<Service, Refusal>
-        ensures service { result ≡ checked P.the self.now call }
-        ensures live { IfOk result (λ (s : Service). IsLiveEndpoint self.now s.endpoint) }
-        ensures ready { IfOk result (λ (s : Service). IsReady self.now call.thread) }
+    /// Does what a call whose checks passed asks for.
+    fn take(&mut self, thread: u64, task: Task) -> Reply
+        requires ready { IsReady self.old thread }
+        requires task { IsTask P.the self.old task }
+        ensures reply { result ≡ (task_effect P.the self.old thread task).reply }
+        ensures after { self.new ≡ (task_effect P.the self.old thread task).after }
+        ensures within { (memory : ℕ) → IsInMemory P.the memory self.old → IsInMemory P.the memory self.new }
+    {
+        match task {
+            Task::Send {
+                service,
+                message,
+                block,
+            } => self.send(thread, service, message, block),
+            Task::Receive { service, block } => self.recv(thread, service, block),
+            Task::Retype(new) => self.retype(new),
+            Task::Derive(transfer) => self.derive(transfer),
+            Task::Move(transfer) => self.relocate(transfer),
+        }
+    }
+
+    /// The first check that fails, or what the call does.
+    fn check(&self, call: Call) -> Result<Task, Refusal>
+        ensures task { result ≡ checked P.the self.now call }
+        ensures lawful { IfOk result (IsTask P.the self.now) }
+        ensures ready { IfOk result (λ (t : Task). IsReady self.now call.thread) }
     {
         match self.thread_state(call.thread).ok_or(Refusal::NoThread)? {
-            ThreadState::Ready => service_for::<P, S>(&self.store, call),
+            ThreadState::Ready => task_for::<P, S>(&self.store, call.thread, call.op),
             _ => Err(Refusal::NotReady),
         }
+    }
+
+    /// Makes objects in an untyped region, and puts their capabilities.
+    fn retype(&mut self, new: NewObjects) -> Reply
+        requires { IsRetype P.the self.old.derivations new }
+        ensures reply { result ≡ Done }
+        ensures after { self.new ≡ objects_shown P.the self.old new }
+    {
+        self.store
+            .set_free(Slot::of_node::<P>(new.untyped, 0), new.placed.free);
+        put_objects::<P, S>(&mut self.store, new);
+        if new.shape.kind == Kind::Tcb {
+            add_threads::<P>(&mut self.threads, new.placed, new.count);
+        }
+        Reply::Done
+    }
+
+    /// Derives a capability from the one in a slot. An untyped region is used up where it is handed on.
+    fn derive(&mut self, transfer: Transfer) -> Reply
+        requires { IsDerivation P.the self.old.derivations transfer }
+        ensures reply { result ≡ Done }
+        ensures after { self.new ≡ rearranged self.old (with_derived P.the transfer self.old.derivations) }
+    {
+        let source = Slot::of_node::<P>(transfer.source, 0);
+        let slot = Slot::of_node::<P>(transfer.slot, 0);
+        self.store.derive(source, slot, transfer.cap);
+        if let Cap::Untyped { bits, .. } = transfer.cap {
+            self.store.set_free(source, 1 << bits);
+        }
+        Reply::Done
+    }
+
+    /// Moves a capability from one slot to another.
+    fn relocate(&mut self, transfer: Transfer) -> Reply
+        requires { IsMove P.the self.old.derivations transfer }
+        ensures reply { result ≡ Done }
+        ensures after { self.new ≡ rearranged self.old (with_moved transfer self.old.derivations) }
+    {
+        let source = Slot::of_node::<P>(transfer.source, 0);
+        let slot = Slot::of_node::<P>(transfer.slot, 0);
+        self.store.relocate(source, slot, transfer.cap);
+        Reply::Done
     }
 
     /// Sends, and where no receiver waits either waits, with `block`, or is dropped.
@@ -196,9 +278,10 @@ impl<P: Profile, S: CapStore<P> + Drop, W: Waiters<P> + Drop> Kernel<P, S, W> {
     }
 
     /// The capability that the slot at an address holds: `Null` where the slot is empty, and where no slot can stand at
-    /// the address. It takes no memory.
+    /// the address. Each full slot of a kernel stands at a multiple of a slot's size. It takes no memory.
     pub fn cap_at(&self, slot: u64) -> Cap
-        ensures { result ≡ cap_held self.now.derivations slot }
+        ensures cap { result ≡ cap_held self.now.derivations slot }
+        ensures aligned { All (IsAligned P.the) (slots self.now.derivations) }
     {
         match slot_within::<P>(self.memory_bits, slot) {
             Some(slot) => self.store.get(slot),

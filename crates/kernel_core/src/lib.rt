@@ -3,10 +3,12 @@
 
 mod boot;
 pub mod call;
+mod checks;
 pub mod kernel;
-mod lookup;
+mod objects;
 pub mod plan;
 mod rows;
+pub mod task;
 
 pub use call::{Call, Inbox, Op, Reply, ThreadState};
 pub use kernel::Kernel;

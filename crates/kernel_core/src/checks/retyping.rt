@@ -1,0 +1,115 @@
+//! The checks of a retype.
+ghost use Rattle.std.specs.Prelude.{◌≡◌, ◌≤◌, ◌⊎◌, ◌*◌, ◌+◌, ◌%◌, ◌^◌, IfOk};
+ghost use Rattle.cap_core.specs.Numbers.{slot_size, word_bits};
+ghost use Rattle.cspace_core.specs.Resolution.{slot_of};
+ghost use Rattle.cap_core.specs.Objects.{IsLawful, is_untyped};
+ghost use Rattle.cap_core.specs.declared.capability.Cap.TheVariants.{Null};
+ghost use Rattle.slot_core.specs.Entries.{cap_at};
+ghost use Rattle.slot_core.specs.Places.{address_of};
+ghost use Rattle.ipc_core.specs.Waits.{IsThreadAddress};
+ghost use Rattle.kernel_core.specs.Lookups.{where_kind};
+ghost use Rattle.kernel_core.specs.Retyping.{retype_checked, node_cap, first_slot as first_slot_of, placed_in, are_slots, some_full};
+
+use crate::checks::lookup::extra_capability;
+use crate::task::{NewObjects, RetypeArguments};
+use cap_core::limits::{MAX_MEMORY_BITS, MAX_RETYPE_COUNT};
+use cap_core::{Cap, LookupFault, Profile, Refusal};
+use cspace_core::target;
+use mem_core::{Shape, plan, shape};
+use slot_core::{CapStore, Slot};
+
+/// The objects that a retype makes, or the first check that fails: the invoked capability is an untyped one, the extra word
+/// leads to a slot, the objects have a shape, the CNode is found, the slots are within it and empty, and the untyped has
+/// room.
+pub fn new_objects<P: Profile, S: CapStore<P>>(
+    store: &S,
+    thread: u64,
+    slot: Slot,
+    asked: RetypeArguments,
+) -> Result<NewObjects, Refusal>
+    requires memory { S.memory_bits store.now ≤ MAX_MEMORY_BITS }
+    requires thread { IsThreadAddress P.the (S.memory_bits store.now) thread }
+    ensures { result ≡ retype_checked P.the (S.forest store.now) thread (address_of P.the slot) (cap_at (S.forest store.now) (address_of P.the slot)) asked }
+{
+    let untyped = untyped_in(store.get(slot))?;
+    let root = extra_capability::<P, S>(store, thread, asked.root)?;
+    let shape = shape::<P>(asked.kind, asked.size_bits)?;
+    let node = node_for::<P, S>(store, root, asked.index, asked.depth)?;
+    let first_slot = first_slot::<P, S>(store, node, asked.offset, asked.count)?;
+    let has_children = store.first_child(slot).is_some();
+    let placed = plan(untyped, has_children, shape, asked.count)?;
+    Ok(NewObjects {
+        untyped: slot.address::<P>(),
+        shape,
+        placed,
+        first_slot,
+        count: asked.count,
+    })
+}
+
+/// The invoked capability, where it is an untyped one.
+fn untyped_in(invoked: Cap) -> Result<Cap, Refusal>
+    ensures { result ≡ where_kind is_untyped invoked }
+{
+    match invoked {
+        Cap::Null => Err(Refusal::InvalidCapability),
+        Cap::Untyped { .. } => Ok(invoked),
+        _ => Err(Refusal::IllegalOperation),
+    }
+}
+
+/// The capability of the CNode whose slots are filled.
+fn node_for<P: Profile, S: CapStore<P>>(
+    store: &S,
+    root: Cap,
+    index: u64,
+    depth: u64,
+) -> Result<Cap, Refusal>
+    requires lawful { (root ≡ Null) ⊎ IsLawful P.the (S.memory_bits store.now) root }
+    ensures cap { result ≡ node_cap P.the (S.forest store.now) root index depth }
+    ensures lawful { IfOk result (λ cap. (cap ≡ Null) ⊎ IsLawful P.the (S.memory_bits store.now) cap) }
+{
+    if depth == 0 {
+        return Ok(root);
+    }
+    let slot = target::<P, S>(store, root, index, depth)?;
+    Ok(store.get(slot))
+}
+
+/// The address of the first slot that is filled, where all of them are slots of the CNode, and empty.
+fn first_slot<P: Profile, S: CapStore<P>>(
+    store: &S,
+    node: Cap,
+    offset: u64,
+    count: u64,
+) -> Result<u64, Refusal>
+    requires memory { S.memory_bits store.now ≤ MAX_MEMORY_BITS }
+    requires lawful { (node ≡ Null) ⊎ IsLawful P.the (S.memory_bits store.now) node }
+    ensures { result ≡ first_slot_of P.the (S.forest store.now) offset count node }
+{
+    let Cap::CNode { base, radix, .. } = node else {
+        return Err(Refusal::FailedLookup(LookupFault::MissingCapability));
+    };
+    let slots = 1u64 << radix;
+    if offset >= slots || count == 0 || count > MAX_RETYPE_COUNT || count > slots - offset {
+        return Err(Refusal::RangeError);
+    }
+    if is_some_full::<P, S>(store, base, offset, count) {
+        return Err(Refusal::DeleteFirst);
+    }
+    Ok(Slot::of_node::<P>(base, offset).address::<P>())
+}
+
+/// Whether one of the slots that are to be filled is full.
+fn is_some_full<P: Profile, S: CapStore<P>>(store: &S, base: u64, offset: u64, count: u64) -> bool
+    requires aligned { base % slot_size P.the ≡ 0 }
+    requires end { base + (offset + count) * slot_size P.the ≤ 2 ^ word_bits P.the }
+    ensures { result ≡ some_full P.the (S.forest store.now) (slot_of P.the base offset) count }
+{
+    for i in 0..count {
+        if store.get(Slot::of_node::<P>(base, offset + i)) != Cap::Null {
+            return true;
+        }
+    }
+    false
+}
