@@ -10,7 +10,7 @@ use Rattle.kernel_core.specs.declared.call.Op.{Op}
 use Rattle.kernel_core.specs.declared.call.Op.TheVariants.{Send, NbSend, Recv, NbRecv}
 use Rattle.kernel_core.specs.declared.call.Reply.{Reply}
 use Rattle.kernel_core.specs.declared.call.Reply.TheVariants.{Dropped, Empty}
-use Rattle.kernel_core.specs.declared.call.Service.{Service}
+use Rattle.kernel_core.specs.declared.task.Service.{Service}
 use Rattle.kernel_core.specs.Plan.{Plan, IsPlan}
 use Rattle.kernel_core.specs.Boot.{boot}
 use Rattle.kernel_core.specs.Rows.{IsSlotAddress}
