@@ -24,3 +24,5 @@ pub mod Clear
 pub mod BootPlaces
 pub mod BootThreads
 pub mod Booted
+pub mod Descendants
+pub mod Regions
