@@ -26,3 +26,4 @@ pub mod BootThreads
 pub mod Booted
 pub mod Descendants
 pub mod Regions
+pub mod LiveRetyped
