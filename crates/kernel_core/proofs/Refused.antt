@@ -7,13 +7,13 @@ use Rattle.ipc_core.specs.declared.waiter.Waiter.{Waiter}
 use Rattle.ipc_core.specs.declared.waiter.Offer.{Offer}
 use Rattle.ipc_core.specs.Waits.{first_receiver, first_sender}
 use Rattle.kernel_core.specs.declared.call.Call.{Call}
-use Rattle.kernel_core.specs.declared.call.Op.{Op}
-use Rattle.kernel_core.specs.declared.call.Op.TheVariants.{Send, NbSend, Recv, NbRecv}
 use Rattle.kernel_core.specs.declared.call.Reply.TheVariants.{Refused}
 use Rattle.kernel_core.specs.declared.task.Service.{Service}
+use Rattle.kernel_core.specs.declared.task.Task.{Task}
+use Rattle.kernel_core.specs.declared.task.Task.TheVariants.{Send, Receive, Retype, Derive, Move}
 use Rattle.kernel_core.specs.Shown.{Shown, waiting_at}
 use Rattle.kernel_core.specs.Checks.{checked}
-use Rattle.kernel_core.specs.Effects.{send_meets, receive_meets, op_effect, effect_of}
+use Rattle.kernel_core.specs.Effects.{send_meets, receive_meets, effect_found, effect_of}
 
 send_unrefused : (v : Shown) (t : ℕ) (service : Service) (message : Message) (list : List Waiter) (block : Bool) (o : Option ℕ) (refusal : Refusal) → (send_meets v t service message list block o).reply ≡ Refused refusal → ⊥
 send_unrefused v t service message list true None refusal h = cc
@@ -25,12 +25,13 @@ receive_unrefused v t service list true None refusal h = cc
 receive_unrefused v t service list false None refusal h = cc
 receive_unrefused v t service list block (Some offer) refusal h = cc
 
-op_refused : (v : Shown) (t : ℕ) (op : Op) (r : Result Service Refusal) (refusal : Refusal) → (op_effect v t op r).reply ≡ Refused refusal → (op_effect v t op r).after ≡ v
-op_refused v t op (Err other) refusal h = refl
-op_refused v t (Send address message) (Ok service) refusal h = absurd (send_unrefused v t service message (waiting_at v service.endpoint) true (first_receiver (waiting_at v service.endpoint)) refusal h)
-op_refused v t (NbSend address message) (Ok service) refusal h = absurd (send_unrefused v t service message (waiting_at v service.endpoint) false (first_receiver (waiting_at v service.endpoint)) refusal h)
-op_refused v t (Recv address) (Ok service) refusal h = absurd (receive_unrefused v t service (waiting_at v service.endpoint) true (first_sender (waiting_at v service.endpoint)) refusal h)
-op_refused v t (NbRecv address) (Ok service) refusal h = absurd (receive_unrefused v t service (waiting_at v service.endpoint) false (first_sender (waiting_at v service.endpoint)) refusal h)
+task_refused : (p : ProfileName) (v : Shown) (t : ℕ) (r : Result Task Refusal) (refusal : Refusal) → (effect_found p v t r).reply ≡ Refused refusal → (effect_found p v t r).after ≡ v
+task_refused p v t (Err other) refusal h = refl
+task_refused p v t (Ok (Send service message block)) refusal h = absurd (send_unrefused v t service message (waiting_at v service.endpoint) block (first_receiver (waiting_at v service.endpoint)) refusal h)
+task_refused p v t (Ok (Receive service block)) refusal h = absurd (receive_unrefused v t service (waiting_at v service.endpoint) block (first_sender (waiting_at v service.endpoint)) refusal h)
+task_refused p v t (Ok (Retype new)) refusal h = cc
+task_refused p v t (Ok (Derive transfer)) refusal h = cc
+task_refused p v t (Ok (Move transfer)) refusal h = cc
 
 pub refused_keeps : (p : ProfileName) (v : Shown) (call : Call) (refusal : Refusal) → (effect_of p v call).reply ≡ Refused refusal → (effect_of p v call).after ≡ v
-refused_keeps p v call refusal h = op_refused v call.thread call.op (checked p v call) refusal h
+refused_keeps p v call refusal h = task_refused p v call.thread (checked p v call) refusal h

@@ -1,5 +1,5 @@
 -- What a kernel shows after a send and after a receive.
-use Rattle.std.proofs.Common.{◌≡◌, ◌≢◌, ℕ, Bool, true, false, cond, ◌==◌, List, [], ◌∷◌, ◌++◌, drop, Option, None, Some, Result, Ok, Err, IfOk, IsSome, IsSomeAnd, option_map, option_and_then, refl, sym, ap, subst, ◌∙◌, eq-eqb}
+use Rattle.std.proofs.Common.{◌≡◌, ◌≢◌, ℕ, Bool, true, false, cond, ◌==◌, List, [], ◌∷◌, ◌++◌, drop, Option, None, Some, IsSome, IsSomeAnd, option_map, option_and_then, refl, sym, ap, subst, ◌∙◌, eq-eqb}
 use Rattle.std.proofs.lemmas.Bool.{ne_eqb, false≢true}
 use Rattle.std.specs.List.{list_any}
 use Rattle.std.specs.Ordering.{nat_cmp}
@@ -7,10 +7,9 @@ use Rattle.std.specs.FinMap.{FinMap, get, insert}
 use Rattle.cap_core.specs.declared.profile.ProfileName.{ProfileName}
 use Rattle.cap_core.specs.declared.capability.Badge.{Badge}
 use Rattle.cap_core.specs.declared.message.Message.{Message}
-use Rattle.cap_core.specs.declared.refusal.Refusal.{Refusal}
 use Rattle.cap_core.specs.Numbers.{tcb_size}
 use Rattle.slot_core.specs.Forest.{Forest}
-use Rattle.slot_core.specs.Entries.{Entry, cap_at}
+use Rattle.slot_core.specs.Entries.{Entry}
 use Rattle.ipc_core.specs.declared.waiter.Waiter.{Waiter}
 use Rattle.ipc_core.specs.declared.waiter.Role.{Role}
 use Rattle.ipc_core.specs.declared.waiter.Sent.TheVariants as S
@@ -18,9 +17,6 @@ use Rattle.ipc_core.specs.declared.waiter.Received.TheVariants as D
 use Rattle.ipc_core.specs.declared.waiter.Offer.{Offer}
 use Rattle.ipc_core.specs.Waits.{Waits, first_receiver, first_sender, served, queued, sent_to, received_from}
 use Rattle.kernel_core.specs.declared.call.Inbox.{Inbox}
-use Rattle.kernel_core.specs.declared.call.Op.{Op}
-use Rattle.kernel_core.specs.Checks.{service_found, cap_named, slot_named}
-use Rattle.kernel_core.proofs.Live.{found_live}
 use Rattle.kernel_core.specs.declared.task.Service.{Service}
 use Rattle.kernel_core.specs.declared.call.ThreadState.{ThreadState}
 use Rattle.kernel_core.specs.declared.call.ThreadState.TheVariants.{Ready}
@@ -209,10 +205,9 @@ mapped_some h (Some x) y e = refl
 pub stated_row : (p : ProfileName) (f : Forest Entry) (rows : List (Option ThreadRow)) (w : Waits) (v : Shown) (t : ℕ) (s : ThreadState) → kernel_shown p f rows w ≡ v → state_at v t ≡ Some s → IsSome (get (rows_map (tcb_size p) rows) t)
 stated_row p f rows w v t s view is = mapped_some (λ (row : ThreadRow). state_with (w.role t) row.inactive) _ s (state_seen p f rows w v t _ view refl ∙ is)
 
--- the endpoint of a service is live
-pub live_service : (p : ProfileName) (f : Forest Entry) (rows : List (Option ThreadRow)) (w : Waits) (v : Shown) (op : Op) (t word : ℕ) (r : Result Service Refusal) →
-    kernel_shown p f rows w ≡ v → r ≡ service_found op (cap_named p f t word) → IfOk r (λ (s : Service). IsLiveEndpoint v s.endpoint)
-live_service p f rows w v op t word (Err refusal) view h = tt
-live_service p f rows w v op t word (Ok service) view h =
-    subst (λ (u : Shown). IsLiveEndpoint u service.endpoint) view
-    (subst IsSome (sym (get_table (endpoints_of f) w.queue service.endpoint ∙ ap (λ (b : Bool). cond b (Some (w.queue service.endpoint)) None) (found_live f op service (slot_named p f (cap_at f t) word) (sym h)))) refl)
+-- an endpoint that a slot names is live in what is shown
+pub live_endpoint : (p : ProfileName) (f : Forest Entry) (rows : List (Option ThreadRow)) (w : Waits) (v : Shown) (e : ℕ) →
+    kernel_shown p f rows w ≡ v → list_any (λ k. e == k) (endpoints_of f) ≡ true → IsLiveEndpoint v e
+live_endpoint p f rows w v e view live =
+    subst (λ (u : Shown). IsLiveEndpoint u e) view
+    (subst IsSome (sym (get_table (endpoints_of f) w.queue e ∙ ap (λ (b : Bool). cond b (Some (w.queue e)) None) live)) refl)

@@ -111,6 +111,14 @@ impl<P: Profile, S: CapStore<P> + Drop, W: Waiters<P> + Drop> Kernel<P, S, W> {
             let reply = self.step(*call);
             push_reply(replies, reply);
         }
+        self.keeps_apart();
+    }
+
+    /// Nothing is done: a caller learns what each kernel keeps of its objects.
+    fn keeps_apart(&self)
+        ensures { AreObjectsApart P.the self.now.derivations }
+    {
+        let _ = &self.memory_bits;
     }
 
     fn perform(&mut self, call: Call) -> Reply

@@ -15,6 +15,7 @@ loop-call-preserved g c =
       room = omega arith;
       so_far = λ A r s. (run_more p A calls i _ _ _ _ _ _ c.loop-call-test.true (c.step-reply.ensures.stands (state_after p A (take i calls)) (reached_after p A (take i calls) r) (c.loop-call.invariant.stands A r s)) (c.loop-call.invariant.so_far A r s) c.push_reply.ensures.replies).0;
       stands = λ A r s. (run_more p A calls i _ _ _ _ _ _ c.loop-call-test.true (c.step-reply.ensures.stands (state_after p A (take i calls)) (reached_after p A (take i calls) r) (c.loop-call.invariant.stands A r s)) (c.loop-call.invariant.so_far A r s) c.push_reply.ensures.replies).1;
+      within = λ memory h. c.step-reply.ensures.within memory (c.loop-call.invariant.within memory h);
     }
 
 pub returns-clause-in_order : goal.returns-clause-in_order

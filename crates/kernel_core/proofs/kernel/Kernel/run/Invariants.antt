@@ -1,7 +1,8 @@
-use Rattle.std.proofs.Common.{◌≡◌, ◌+◌, ◌≤◌, ◌-◌, ◌++◌, length, take, vec_len, vec_capacity}
+use Rattle.std.proofs.Common.{◌≡◌, ℕ, ◌+◌, ◌≤◌, ◌-◌, ◌++◌, length, take, vec_len, vec_capacity}
 use Rattle.kernel_core.specs.State.{State, shown}
 use Rattle.kernel_core.specs.Step.{replies_of, state_after}
 use Rattle.kernel_core.specs.Reached.{IsReached}
+use Rattle.kernel_core.specs.Rows.{IsInMemory}
 use Rattle.kernel_core.proofs.kernel.Kernel.run.Given as goal
 
 abbrev pub invariant-loop-call : goal.invariant-loop-call
@@ -10,4 +11,5 @@ invariant-loop-call g l =
       room : vec_len l.replies + (length l.calls - l.call-index) ≤ vec_capacity l.replies;
       so_far : (A : State) → IsReached g.P.Profile.the A → l.fn.self ≡ shown A → l.replies.items ≡ l.fn.replies.items ++ replies_of g.P.Profile.the A (take l.call-index l.calls);
       stands : (A : State) → IsReached g.P.Profile.the A → l.fn.self ≡ shown A → l.self ≡ shown (state_after g.P.Profile.the A (take l.call-index l.calls));
+      within : (memory : ℕ) → IsInMemory g.P.Profile.the memory l.fn.self → IsInMemory g.P.Profile.the memory l.self;
     }

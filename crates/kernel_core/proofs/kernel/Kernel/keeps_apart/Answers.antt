@@ -1,0 +1,9 @@
+use Rattle.std.proofs.Common.{ap, subst, sym}
+use Rattle.kernel_core.specs.Shown.{Shown}
+use Rattle.kernel_core.specs.Regions.{AreObjectsApart}
+use Rattle.kernel_core.proofs.kernel.Kernel.keeps_apart.Goals as goal
+
+pub returns : goal.returns
+returns g c =
+    subst (λ (v : Shown). AreObjectsApart g.P.Profile.the v.derivations) c.self.view_is
+    (record { disjoint = c.self.invariant.disjoint; used = c.self.invariant.regions.used })
