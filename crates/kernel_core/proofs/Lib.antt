@@ -27,3 +27,4 @@ pub mod Booted
 pub mod Descendants
 pub mod Regions
 pub mod LiveRetyped
+pub mod LiveAfter
