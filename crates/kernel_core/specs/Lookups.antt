@@ -9,7 +9,7 @@ use Rattle.cap_core.specs.declared.refusal.Refusal.TheVariants.{InvalidCapabilit
 use Rattle.cap_core.specs.Numbers.{word_bits}
 use Rattle.cap_core.specs.Objects.{is_null}
 use Rattle.slot_core.specs.Forest.{Forest}
-use Rattle.slot_core.specs.Entries.{Entry, cap_at, is_full}
+use Rattle.slot_core.specs.Entries.{Entry, cap_at}
 use Rattle.cspace_core.specs.Bits.{low_bits}
 use Rattle.cspace_core.specs.Resolution.{Found, resolution}
 use Rattle.cspace_core.specs.Target.{target_slot}
@@ -50,11 +50,11 @@ where_kind is cap = cond (is_null cap) (Err InvalidCapability) (cond (is cap) (O
 
 -- a slot that was found, where it is empty, and where it is full
 abbrev pub where_empty : Forest Entry → Result ℕ Refusal → Result ℕ Refusal
-where_empty f (Ok slot) = cond (is_full slot f) (Err DeleteFirst) (Ok slot)
+where_empty f (Ok slot) = cond (is_null (cap_at f slot)) (Ok slot) (Err DeleteFirst)
 where_empty f (Err refusal) = Err refusal
 
 abbrev pub where_full : Forest Entry → Result ℕ Refusal → Result ℕ Refusal
-where_full f (Ok slot) = cond (is_full slot f) (Ok slot) (Err (FailedLookup MissingCapability))
+where_full f (Ok slot) = cond (is_null (cap_at f slot)) (Err (FailedLookup MissingCapability)) (Ok slot)
 where_full f (Err refusal) = Err refusal
 
 -- the empty slot that is named by an index and a depth from a CNode, and the full one

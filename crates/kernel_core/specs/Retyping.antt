@@ -9,14 +9,14 @@ use Rattle.cap_core.specs.declared.refusal.LookupFault.TheVariants.{MissingCapab
 use Rattle.cap_core.specs.declared.refusal.Refusal.{Refusal}
 use Rattle.cap_core.specs.declared.refusal.Refusal.TheVariants.{RangeError, FailedLookup, DeleteFirst, NotEnoughMemory}
 use Rattle.cap_core.specs.Numbers.{slot_size}
-use Rattle.cap_core.specs.Objects.{is_untyped}
+use Rattle.cap_core.specs.Objects.{is_null, is_untyped}
 use Rattle.cap_core.specs.Kinds.{new_cap}
 use Rattle.mem_core.specs.declared.objects.Shape.{Shape}
 use Rattle.mem_core.specs.declared.objects.Placed.{Placed}
 use Rattle.mem_core.specs.Shapes.{shape_of}
 use Rattle.mem_core.specs.Plans.{start_of, room_of, object_at}
 use Rattle.slot_core.specs.Forest.{Forest}
-use Rattle.slot_core.specs.Entries.{Entry, cap_at, is_full}
+use Rattle.slot_core.specs.Entries.{Entry, cap_at}
 use Rattle.slot_core.specs.Derivation.{retyped, freed}
 use Rattle.cspace_core.specs.Resolution.{slot_of}
 use Rattle.cspace_core.specs.Target.{target_slot}
@@ -37,7 +37,7 @@ are_slots radix offset count =
 
 -- a slot among those from the first one on is full
 abbrev pub some_full : ProfileName → Forest Entry → ℕ → ℕ → Bool
-some_full p f first count = list_any (λ i. is_full (slot_of p first i) f) (range_with_len 0 count)
+some_full p f first count = list_any (λ i. not (is_null (cap_at f (slot_of p first i)))) (range_with_len 0 count)
 
 -- the first of the slots that are filled, where all of them are empty
 abbrev pub where_all_empty : ProfileName → Forest Entry → ℕ → ℕ → Result ℕ Refusal

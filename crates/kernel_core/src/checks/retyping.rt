@@ -106,10 +106,5 @@ fn is_some_full<P: Profile, S: CapStore<P>>(store: &S, base: u64, offset: u64, c
     requires end { base + (offset + count) * slot_size P.the ≤ 2 ^ word_bits P.the }
     ensures { result ≡ some_full P.the (S.forest store.now) (slot_of P.the base offset) count }
 {
-    for i in 0..count {
-        if store.get(Slot::of_node::<P>(base, offset + i)) != Cap::Null {
-            return true;
-        }
-    }
-    false
+    (0..count).any(|i| store.get(Slot::of_node::<P>(base, offset + i)) != Cap::Null)
 }
