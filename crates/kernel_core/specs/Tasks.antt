@@ -14,6 +14,7 @@ use Rattle.kernel_core.specs.declared.task.NewObjects.{NewObjects}
 use Rattle.kernel_core.specs.declared.task.Transfer.{Transfer}
 use Rattle.kernel_core.specs.declared.task.Task.{Task}
 use Rattle.kernel_core.specs.declared.task.Task.TheVariants.{Send, Receive, Retype, Derive, Move}
+use Rattle.kernel_core.specs.Regions.{free_of}
 use Rattle.kernel_core.specs.Rows.{IsSlotAddress}
 use Rattle.kernel_core.specs.Shown.{Shown, has_child}
 use Rattle.kernel_core.specs.Effects.{IsLiveEndpoint}
@@ -32,9 +33,11 @@ pub record IsDerivation (p : ProfileName) (f : Forest Entry) (transfer : Transfe
   pub badge : (badge_of transfer.cap ≡ badge_of (cap_at f transfer.source)) ⊎ (badge_of (cap_at f transfer.source) ≡ 0)
   pub childless : is_untyped transfer.cap ≡ true → first_child transfer.source f ≡ None
 
+-- neither the badge nor what is used of an untyped region is changed
 pub record IsMove (p : ProfileName) (f : Forest Entry) (transfer : Transfer) : Type 0 where
   pub ends : IsTransfer p f transfer
   pub badge : badge_of transfer.cap ≡ badge_of (cap_at f transfer.source)
+  pub free : free_of transfer.cap ≡ free_of (cap_at f transfer.source)
 
 -- an untyped has room for objects of a lawful shape, and each gets an empty slot
 pub record IsRetype (p : ProfileName) (f : Forest Entry) (new : NewObjects) : Type 0 where
