@@ -19,6 +19,8 @@ pub mod Refused
 pub mod Runs
 pub mod Pairs
 pub mod Puts
+pub mod LiveRetyped
+pub mod RetypeRegions
 pub mod Spaces
 pub mod Clear
 pub mod BootPlaces
@@ -26,5 +28,4 @@ pub mod BootThreads
 pub mod Booted
 pub mod Descendants
 pub mod Regions
-pub mod LiveRetyped
 pub mod LiveAfter
