@@ -29,3 +29,4 @@ pub mod Booted
 pub mod Descendants
 pub mod Regions
 pub mod LiveAfter
+pub mod RegionsDerived
