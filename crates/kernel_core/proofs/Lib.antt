@@ -30,3 +30,4 @@ pub mod Descendants
 pub mod Regions
 pub mod LiveAfter
 pub mod RegionsDerived
+pub mod RegionsMoved
