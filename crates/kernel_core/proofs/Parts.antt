@@ -1,5 +1,5 @@
 -- The parts of a kernel, as a send and a receive change them.
-use Rattle.std.proofs.Common.{◌≡◌, ℕ, ◌*◌, Bool, true, false, cond, ◌==◌, List, [], ◌∷◌, ◌++◌, drop, length, get_or, Option, None, Some, IsSomeAnd, All, unwrap_or, refl, sym, ap, subst, ◌∙◌, arith, inl, inr}
+use Rattle.std.proofs.Common.{◌≡◌, ℕ, ◌*◌, Bool, true, false, cond, ◌==◌, List, [], ◌∷◌, ◌++◌, drop, length, get_or, Option, None, Some, IsSome, is_some, IsSomeAnd, All, unwrap_or, refl, sym, ap, subst, ◌∙◌, arith, inl, inr}
 use Rattle.std.proofs.lemmas.Bool.{false≢true}
 use Rattle.std.proofs.lemmas.Bool.Decides.{eqb_tells}
 use Rattle.std.proofs.lemmas.List.Elements.{All-push, All-drop}
@@ -39,11 +39,11 @@ no_row_before true row o h = cc
 no_row_before false row o h = h
 
 module _ (p : ProfileName) (memory store waiters : ℕ) (f : Forest Entry) (rows : List (Option ThreadRow)) (w : Waits) (kernel : IsKernel p memory store waiters f rows w) where
-  -- one thread is served, and a row is written that is not inactive
-  pub served_kernel : (rows' : List (Option ThreadRow)) (e from t : ℕ) (row : ThreadRow) → row.inactive ≡ false →
+  -- one thread is served, and a row that was there is written, and is not inactive
+  pub served_kernel : (rows' : List (Option ThreadRow)) (e from t : ℕ) (row : ThreadRow) → IsSome (get (rows_map (tcb_size p) rows) t) → row.inactive ≡ false →
       rows_map (tcb_size p) rows' ≡ insert (rows_map (tcb_size p) rows) t row → length rows' ≡ length rows →
       IsKernel p memory store waiters f rows' (served e from w)
-  served_kernel rows' e from t row active mapped long = record {
+  served_kernel rows' e from t row there active mapped long = record {
     store_memory_is = kernel.store_memory_is;
     waiters_memory_is = kernel.waiters_memory_is;
     memory_least = kernel.memory_least;
@@ -53,6 +53,8 @@ module _ (p : ProfileName) (memory store waiters : ℕ) (f : Forest Entry) (rows
     slots_placed = kernel.slots_placed;
     lawful = kernel.lawful;
     disjoint = kernel.disjoint;
+    regions = kernel.regions;
+    live_rows = λ q. same_row q ∙ kernel.live_rows q;
     waiting_active = λ x. kept x (w.queue x) (x == e) (λ i d lt. still (get_or (w.queue x) i d) (kernel.waiting_active x i d lt)) (λ i d lt. still (get_or (w.queue e) i d) (kernel.waiting_active e i d lt));
     dead_queue = λ x dead. elim (eqb_tells x e) [
       | inl u ↦ ap (λ (b : Bool). cond b (drop 1 (w.queue e)) (w.queue x)) u.0 ∙ ap (drop 1) (ap w.queue (sym u.1) ∙ kernel.dead_queue x dead)
@@ -62,6 +64,14 @@ module _ (p : ProfileName) (memory store waiters : ℕ) (f : Forest Entry) (rows
         (kernel.rowless_role q (no_row_before (q == t) row _ (sym (ap (λ (m : FinMap nat_cmp ThreadRow). get m q) mapped ∙ get_after (rows_map (tcb_size p) rows) t row q) ∙ none)));
   }
     where
+      same_row : (q : ℕ) → is_some (get (rows_map (tcb_size p) rows') q) ≡ is_some (get (rows_map (tcb_size p) rows) q)
+      same_row q =
+          ap (λ (m : FinMap nat_cmp ThreadRow). is_some (get m q)) mapped ∙ ap is_some (get_after (rows_map (tcb_size p) rows) t row q)
+          ∙ elim (eqb_tells q t) [
+            | inl u ↦ ap (λ (b : Bool). is_some (cond b (Some row) (get (rows_map (tcb_size p) rows) q))) u.0 ∙ sym (ap (λ (n : ℕ). is_some (get (rows_map (tcb_size p) rows) n)) u.1 ∙ there)
+            | inr u ↦ ap (λ (b : Bool). is_some (cond b (Some row) (get (rows_map (tcb_size p) rows) q))) u.0
+          ]
+
       still : (a : Waiter) → IsActive (tcb_size p) rows (thread_of a) → IsActive (tcb_size p) rows' (thread_of a)
       still a h = still_active (tcb_size p) rows rows' t (thread_of a) row active mapped h
 
@@ -86,6 +96,8 @@ module _ (p : ProfileName) (memory store waiters : ℕ) (f : Forest Entry) (rows
     slots_placed = kernel.slots_placed;
     lawful = kernel.lawful;
     disjoint = kernel.disjoint;
+    regions = kernel.regions;
+    live_rows = kernel.live_rows;
     waiting_active = λ x. kept (w.queue x) (x == e) (kernel.waiting_active x);
     dead_queue = λ x dead. elim (eqb_tells x e) [
       | inl u ↦ absurd (false≢true (sym dead ∙ (ap (λ (n : ℕ). list_any (λ k. n == k) (endpoints_of f)) u.1 ∙ live)))

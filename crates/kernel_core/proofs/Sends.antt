@@ -80,7 +80,7 @@ module _ (p : ProfileName) (memory store waiters : ℕ) (f : Forest Entry) (rows
 
         module _ (rows' : List (Option ThreadRow)) (mapped : rows_map (tcb_size p) rows' ≡ insert (rows_map (tcb_size p) rows) to (delivered_row service.badge message)) where
           pub delivers_kernel : length rows' ≡ length rows → IsKernel p memory store waiters' f rows' w'
-          delivers_kernel long = moved rows' _ (sent_waits (Some to) first_is) (served_kernel p memory store waiters f rows w kernel rows' service.endpoint to to (delivered_row service.badge message) refl mapped long)
+          delivers_kernel long = moved rows' _ (sent_waits (Some to) first_is) (served_kernel p memory store waiters f rows w kernel rows' service.endpoint to to (delivered_row service.badge message) receiver_there refl mapped long)
 
           pub delivers_shown : kernel_shown p f rows' w' ≡ (send_effect v t service message block (waiting_at v service.endpoint)).after
           delivers_shown =
@@ -141,7 +141,7 @@ module _ (p : ProfileName) (memory store waiters : ℕ) (f : Forest Entry) (rows
 
         module _ (rows' : List (Option ThreadRow)) (mapped : rows_map (tcb_size p) rows' ≡ insert (rows_map (tcb_size p) rows) t (delivered_row badge message)) where
           pub receives_kernel : length rows' ≡ length rows → IsKernel p memory store waiters' f rows' w'
-          receives_kernel long = moved rows' _ (received_waits (Some _) offered) (served_kernel p memory store waiters f rows w kernel rows' service.endpoint from t (delivered_row badge message) refl mapped long)
+          receives_kernel long = moved rows' _ (received_waits (Some _) offered) (served_kernel p memory store waiters f rows w kernel rows' service.endpoint from t (delivered_row badge message) thread_there refl mapped long)
 
           pub receives_shown : kernel_shown p f rows' w' ≡ (receive_effect v t service block (waiting_at v service.endpoint)).after
           receives_shown =
