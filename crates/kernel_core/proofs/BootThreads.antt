@@ -1,7 +1,8 @@
 -- The threads of a booted kernel.
-use Rattle.std.proofs.Common.{◌≡◌, ℕ, zero, suc, ◌+◌, ◌-◌, ◌*◌, ◌/◌, ◌^◌, ◌<◌, ◌≤◌, true, false, ◌&&◌, ◌==◌, nat_lt, nat_le, List, [], ◌∷◌, ◌++◌, map, None, find, append_assoc, refl, sym, ◌∙◌, ap, arith}
-use Rattle.std.specs.List.{filter_map, range_with_len}
-use Rattle.std.specs.FinMap.{from_entries}
+use Rattle.std.proofs.Common.{◌≡◌, ℕ, zero, suc, ◌+◌, ◌-◌, ◌*◌, ◌/◌, ◌^◌, ◌<◌, ◌≤◌, true, false, cond, ◌&&◌, ◌||◌, ◌==◌, nat_lt, nat_le, List, [], ◌∷◌, ◌++◌, map, None, Some, is_some, find, append_assoc, refl, sym, ◌∙◌, ap, arith}
+use Rattle.std.specs.List.{filter_map, list_any, range_with_len}
+use Rattle.std.specs.Ordering.{nat_cmp}
+use Rattle.std.specs.FinMap.{get, from_entries}
 use Rattle.std.proofs.lemmas.Bool.Decides.{nat_tests}
 use Rattle.std.proofs.lemmas.List.Elements.{filter_map-append}
 use Rattle.std.proofs.lemmas.List.{append-nil, map-append}
@@ -20,9 +21,10 @@ use Rattle.kernel_core.specs.declared.rows.ThreadRow.{ThreadRow}
 use Rattle.kernel_core.specs.Plan.{Plan, first_tcb, tcb_place, endpoint_place, least_multiple}
 use Rattle.kernel_core.specs.Shown.{ThreadView, tcb_base, threads_of, endpoints_of, table}
 use Rattle.kernel_core.specs.State.{shown, thread_view}
-use Rattle.kernel_core.specs.Rows.{keyed, view_of, threads_shown, kernel_shown}
+use Rattle.kernel_core.specs.Rows.{keyed, rows_map, view_of, threads_shown, kernel_shown}
 use Rattle.kernel_core.specs.BootRows.{ready_row, boot_row, boot_rows}
 use Rattle.kernel_core.specs.Boot.{root_cap, tcb_caps, endpoint_caps, untyped_caps, boot_caps, boot_tcbs, boot_forest, boot, with_roots, with_spaces, whole_endpoint}
+use Rattle.kernel_core.proofs.Keyed.{at, get_at}
 
 -- the forest: the root CNode's slot in front, with no other tree before it
 
@@ -174,6 +176,34 @@ first_place Narrow n = omega arith
 pub places : (p : ProfileName) (plan : Plan) (i : ℕ) → tcb_size p * (first_tcb p plan / tcb_size p + i) ≡ tcb_place p plan i
 places p plan i = let e = first_place p (2 ^ (slot_bits p + plan.root_radix)) in omega arith
 
+-- each boot thread has its row
+rows_at_boot : (p : ProfileName) (plan : Plan) (count : ℕ) → first_tcb p plan / tcb_size p + plan.threads ≤ count
+    → keyed (tcb_size p) 0 (boot_rows (first_tcb p plan / tcb_size p) plan.threads count) ≡ map (row_at (tcb_place p plan)) (range_with_len 0 plan.threads)
+rows_at_boot p plan count h =
+    ap (λ n. keyed (tcb_size p) 0 (map (boot_row first plan.threads) (range_with_len 0 n))) (let e : count ≡ first + (plan.threads + (count - (first + plan.threads))) = omega arith in e)
+    ∙ keyed_before (tcb_size p) first plan.threads 0 first (count - (first + plan.threads)) (omega arith)
+    ∙ ap (λ (f : ℕ → ℕ). map (row_at f) (range_with_len 0 plan.threads)) (λ j i. places p plan i j)
+  where
+    first : ℕ
+    first = first_tcb p plan / tcb_size p
+
+-- and so the live threads have rows, and no others
+pub live_at_boot : (p : ProfileName) (plan : Plan) (count : ℕ) → first_tcb p plan / tcb_size p + plan.threads ≤ count
+    → (t : ℕ) → is_some (get (rows_map (tcb_size p) (boot_rows (first_tcb p plan / tcb_size p) plan.threads count)) t) ≡ list_any (λ k. t == k) (threads_of (boot_forest p plan))
+live_at_boot p plan count h t =
+    ap (λ (es : List (ℕ × ThreadRow)). is_some (get (from_entries {R = nat_cmp} es) t)) (rows_at_boot p plan count h)
+    ∙ ap is_some (get_at (map (row_at (tcb_place p plan)) (range_with_len 0 plan.threads)) t)
+    ∙ among (range_with_len 0 plan.threads)
+    ∙ ap (list_any (λ k. t == k)) (sym (threads_at_boot p plan))
+  where
+    among : (l : List ℕ) → is_some (at t (map (row_at (tcb_place p plan)) l)) ≡ list_any (λ k. t == k) (map (tcb_place p plan) l)
+    among [] = refl
+    among (i ∷ l) =
+        elim (t == tcb_place p plan i) as (λ b. is_some (cond b (Some ready_row) (at t (map (row_at (tcb_place p plan)) l))) ≡ (b || list_any (λ k. t == k) (map (tcb_place p plan) l))) [
+          | true ↦ refl
+          | false ↦ among l
+        ]
+
 pub shows_boot : (p : ProfileName) (plan : Plan) (count : ℕ) → first_tcb p plan / tcb_size p + plan.threads ≤ count
     → kernel_shown p (boot_forest p plan) (boot_rows (first_tcb p plan / tcb_size p) plan.threads count) no_waits ≡ shown (boot p plan)
 shows_boot p plan count h = λ i. record { derivations = boot_forest p plan; threads = threads i; endpoints = table (endpoints_of (boot_forest p plan)) (λ e. []) }
@@ -181,15 +211,9 @@ shows_boot p plan count h = λ i. record { derivations = boot_forest p plan; thr
     first : ℕ
     first = first_tcb p plan / tcb_size p
 
-    rows : keyed (tcb_size p) 0 (boot_rows first plan.threads count) ≡ map (row_at (tcb_place p plan)) (range_with_len 0 plan.threads)
-    rows =
-        ap (λ n. keyed (tcb_size p) 0 (map (boot_row first plan.threads) (range_with_len 0 n))) (let e : count ≡ first + (plan.threads + (count - (first + plan.threads))) = omega arith in e)
-        ∙ keyed_before (tcb_size p) first plan.threads 0 first (count - (first + plan.threads)) (omega arith)
-        ∙ ap (λ (f : ℕ → ℕ). map (row_at f) (range_with_len 0 plan.threads)) (λ j i. places p plan i j)
-
     threads : threads_shown (tcb_size p) (boot_rows first plan.threads count) no_waits ≡ table (threads_of (boot_forest p plan)) (thread_view (boot p plan))
     threads =
-        ap (λ l. from_entries (map seen l)) rows
+        ap (λ l. from_entries (map seen l)) (rows_at_boot p plan count h)
         ∙ ap from_entries (viewed (tcb_place p plan) 0 plan.threads)
         ∙ ap (λ (f : ℕ → ThreadView). from_entries (map (seen_in f) (boot_tcbs p plan))) (λ j k. sym (ready p plan k) j)
         ∙ ap (λ l. table l (thread_view (boot p plan))) (sym (threads_at_boot p plan))

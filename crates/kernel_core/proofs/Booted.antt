@@ -23,13 +23,16 @@ use Rattle.ipc_core.specs.Waits.{Waits, no_waits}
 use Rattle.kernel_core.specs.declared.rows.ThreadRow.{ThreadRow}
 use Rattle.kernel_core.specs.Plan.{Plan, IsPlan, first_tcb, tcb_place, least_multiple}
 use Rattle.kernel_core.specs.Rows.{IsKernel, IsSlotAddress}
+use Rattle.kernel_core.specs.Regions.{AreRegions}
 use Rattle.kernel_core.specs.BootRows.{boot_row, boot_rows}
 use Rattle.kernel_core.specs.Boot.{root_cap, boot_caps, boot_tcbs, boot_forest, with_roots, with_spaces}
 use Rattle.kernel_core.proofs.Puts.{CanPut, first_put, other_puts, each-with_roots}
 use Rattle.kernel_core.proofs.Spaces.{CanDerive, first_derive, other_derives}
 use Rattle.kernel_core.proofs.Clear.{objects_within}
 use Rattle.kernel_core.proofs.BootPlaces.{can_put, can_derive, slots_fit, node_fits, tcb_fits, lawful_caps, each-range}
-use Rattle.kernel_core.proofs.BootThreads.{places}
+use Rattle.kernel_core.proofs.BootThreads.{places, live_at_boot}
+use Rattle.kernel_core.proofs.RegionsDerived.{regions-derived}
+use Rattle.kernel_core.proofs.RegionsMoved.{regions-none, regions-rooted}
 
 distinct-none : IsDistinct eqb (slots none)
 unfolding IsDistinct
@@ -41,17 +44,26 @@ distinct-with_roots p memory i (cap ∷ l) f h d =
     distinct-with_roots p memory (i + 1) l (rooted (i * slot_size p) cap f) (other_puts p memory i cap l f h)
     (distinct-rooted (i * slot_size p) cap f d (first_put p memory i cap l f h).empty)
 
+regions-with_roots : (p : ProfileName) (memory i : ℕ) (l : List Cap) (f : Forest Entry) → CanPut p memory i l f → AreRegions p f → AreRegions p (with_roots p i l f)
+regions-with_roots p memory i [] f h r = r
+regions-with_roots p memory i (cap ∷ l) f h r =
+    regions-with_roots p memory (i + 1) l (rooted (i * slot_size p) cap f) (other_puts p memory i cap l f h)
+    (regions-rooted p (i * slot_size p) cap f r (first_put p memory i cap l f h).empty)
+
 -- what holds when the last space is derived
 record Derived (p : ProfileName) (f : Forest Entry) : Type 0 where
   distinct : IsDistinct eqb (slots f)
   disjoint : IsDisjoint p f
+  regions : AreRegions p f
 
 with_spaces-keeps : (p : ProfileName) (memory base radix : ℕ) (guard : Guard) (tcbs : List ℕ) (f : Forest Entry) → CanDerive p memory (slot_size p) base radix guard tcbs f
-    → IsDistinct eqb (slots f) → Derived p (with_spaces p (CNode base radix guard) tcbs f)
-with_spaces-keeps p memory base radix guard [] f h d = record { distinct = d; disjoint = h.disjoint }
-with_spaces-keeps p memory base radix guard (t ∷ ts) f h d =
+    → IsDistinct eqb (slots f) → AreRegions p f → Derived p (with_spaces p (CNode base radix guard) tcbs f)
+with_spaces-keeps p memory base radix guard [] f h d r = record { distinct = d; disjoint = h.disjoint; regions = r }
+with_spaces-keeps p memory base radix guard (t ∷ ts) f h d r =
+    let first = first_derive p memory (slot_size p) base radix guard t ts f h in
     with_spaces-keeps p memory base radix guard ts (derived (slot_size p) t (CNode base radix guard) f) (other_derives p memory (slot_size p) base radix guard t ts f h)
-    (distinct-derived (slot_size p) t (CNode base radix guard) f d h.full (first_derive p memory (slot_size p) base radix guard t ts f h).empty)
+    (distinct-derived (slot_size p) t (CNode base radix guard) f d h.full first.empty)
+    (regions-derived p (slot_size p) t (CNode base radix guard) f r d first.empty first.same)
 
 each-with_spaces : (P : Entry → Type 0) (p : ProfileName) (cap : Cap) (tcbs : List ℕ) (f : Forest Entry) → Each P (preorder f)
     → Each (λ (t : ℕ). (original : Bool) → P (entry t cap original)) tcbs → Each P (preorder (with_spaces p cap tcbs f))
@@ -138,6 +150,8 @@ kernel_at_boot p plan h =
           (all_from (λ (e : Entry). IsLawful p plan.memory_bits e.cap) (preorder (boot_forest p plan))
           (each-weaker (IsFull p plan.memory_bits) (λ (e : Entry). IsLawful p plan.memory_bits e.cap) (λ e f. f.lawful) (preorder (boot_forest p plan)) (full_slots p plan h)));
       disjoint = kept.disjoint;
+      regions = kept.regions;
+      live_rows = live_at_boot p plan (2 ^ (plan.memory_bits - tcb_bits p)) (threads_fit p plan h);
       waiting_active = λ e k d b. absurd (omega arith);
       dead_queue = λ e d. refl;
       rowless_role = λ t d. refl;
@@ -146,6 +160,7 @@ kernel_at_boot p plan h =
     kept : Derived p (boot_forest p plan)
     kept = with_spaces-keeps p plan.memory_bits 0 plan.root_radix (record { value = 0; size = word_bits p - plan.root_radix }) (boot_tcbs p plan) (with_roots p 1 (boot_caps p plan) none)
         (can_derive p plan h) (distinct-with_roots p plan.memory_bits 1 (boot_caps p plan) none (can_put p plan h) distinct-none)
+        (regions-with_roots p plan.memory_bits 1 (boot_caps p plan) none (can_put p plan h) (regions-none p))
 
 -- the parts that a boot makes are those of a kernel
 pub is_kernel : (p : ProfileName) (plan : Plan) (memory store_memory waiters_memory : ℕ) (f : Forest Entry) (rows : List (Option ThreadRow)) (w : Waits) → IsPlan p plan
