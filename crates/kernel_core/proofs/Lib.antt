@@ -14,6 +14,10 @@ pub mod Rising
 pub mod Delivering
 pub mod Serving
 pub mod Once
+pub mod ReachedStates
+pub mod Searches
+pub mod RecordsAdded
+pub mod Rearranged
 pub mod Simulation
 pub mod Refused
 pub mod Runs

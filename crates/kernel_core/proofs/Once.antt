@@ -16,7 +16,7 @@ use Rattle.kernel_core.specs.State.{State, asks_of, endpoint_at, is_receiving, i
 use Rattle.kernel_core.specs.Shown.{endpoints_of}
 
 -- what a search does not find fails
-find_fails : (p : ℕ → Bool) (keys : List ℕ) (e : ℕ) → find p keys ≡ None → list_any (λ k. e == k) keys ≡ true → p e ≡ false
+pub find_fails : (p : ℕ → Bool) (keys : List ℕ) (e : ℕ) → find p keys ≡ None → list_any (λ k. e == k) keys ≡ true → p e ≡ false
 find_fails p [] e none there = absurd (false≢true there)
 find_fails p (k ∷ ks) e none there = elim (p k) as (λ b. p k ≡ b → cond b (Some k) (find p ks) ≡ None → p e ≡ false) [
   | true ↦ λ _ n. cc

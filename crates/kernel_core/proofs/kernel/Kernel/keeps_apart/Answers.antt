@@ -1,4 +1,4 @@
-use Rattle.std.proofs.Common.{ap, subst, sym}
+use Rattle.std.proofs.Common.{subst}
 use Rattle.kernel_core.specs.Shown.{Shown}
 use Rattle.kernel_core.specs.Regions.{AreObjectsApart}
 use Rattle.kernel_core.proofs.kernel.Kernel.keeps_apart.Goals as goal
