@@ -19,6 +19,9 @@ pub mod Searches
 pub mod RecordsAdded
 pub mod Rearranged
 pub mod Simulation
+pub mod Placing
+pub mod Filled
+pub mod Checking
 pub mod Refused
 pub mod Runs
 pub mod Pairs

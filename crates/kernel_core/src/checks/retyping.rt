@@ -1,5 +1,5 @@
 //! The checks of a retype.
-ghost use Rattle.std.specs.Prelude.{◌≡◌, ◌≤◌, ◌⊎◌, ◌*◌, ◌+◌, ◌%◌, ◌^◌, IfOk};
+ghost use Rattle.std.specs.Prelude.{◌≡◌, ◌≤◌, ◌<◌, ◌⊎◌, ◌*◌, ◌+◌, ◌%◌, ◌^◌, IfOk};
 ghost use Rattle.cap_core.specs.Numbers.{slot_size, word_bits};
 ghost use Rattle.cspace_core.specs.Resolution.{slot_of};
 ghost use Rattle.cap_core.specs.Objects.{IsLawful, is_untyped};
@@ -7,7 +7,11 @@ ghost use Rattle.cap_core.specs.declared.capability.Cap.TheVariants.{Null};
 ghost use Rattle.slot_core.specs.Entries.{cap_at};
 ghost use Rattle.slot_core.specs.Places.{address_of};
 ghost use Rattle.ipc_core.specs.Waits.{IsThreadAddress};
+ghost use Rattle.cap_core.specs.declared.limits.TheConstants.{MAX_RETYPE_COUNT};
+ghost use Rattle.mem_core.specs.Shapes.{IsShape};
+ghost use Rattle.mem_core.specs.Plans.{IsRetypable};
 ghost use Rattle.kernel_core.specs.Lookups.{where_kind};
+ghost use Rattle.kernel_core.specs.Shown.{has_child};
 ghost use Rattle.kernel_core.specs.Retyping.{retype_checked, node_cap, first_slot as first_slot_of, placed_in, are_slots, some_full};
 
 use crate::checks::lookup::extra_capability;
@@ -15,7 +19,7 @@ use crate::task::{NewObjects, RetypeArguments};
 use cap_core::limits::{MAX_MEMORY_BITS, MAX_RETYPE_COUNT};
 use cap_core::{Cap, LookupFault, Profile, Refusal};
 use cspace_core::target;
-use mem_core::{Shape, plan, shape};
+use mem_core::{Placed, Shape, plan, shape};
 use slot_core::{CapStore, Slot};
 
 /// The objects that a retype makes, or the first check that fails: the invoked capability is an untyped one, the extra word
@@ -36,8 +40,7 @@ pub fn new_objects<P: Profile, S: CapStore<P>>(
     let shape = shape::<P>(asked.kind, asked.size_bits)?;
     let node = node_for::<P, S>(store, root, asked.index, asked.depth)?;
     let first_slot = first_slot::<P, S>(store, node, asked.offset, asked.count)?;
-    let has_children = store.first_child(slot).is_some();
-    let placed = plan(untyped, has_children, shape, asked.count)?;
+    let placed = place::<P, S>(store, slot, untyped, shape, asked.count)?;
     Ok(NewObjects {
         untyped: slot.address::<P>(),
         shape,
@@ -76,6 +79,24 @@ fn node_for<P: Profile, S: CapStore<P>>(
     Ok(store.get(slot))
 }
 
+/// Where the objects are placed in the untyped region that the capability in a slot names.
+fn place<P: Profile, S: CapStore<P>>(
+    store: &S,
+    slot: Slot,
+    untyped: Cap,
+    shape: Shape,
+    count: u64,
+) -> Result<Placed, Refusal>
+    requires untyped { IsRetypable untyped }
+    requires shape { IsShape shape }
+    requires some { 1 ≤ count }
+    requires most { count ≤ MAX_RETYPE_COUNT }
+    ensures { result ≡ placed_in (has_child (address_of P.the slot) (S.forest store.now)) shape.bits count untyped }
+{
+    let has_children = store.first_child(slot).is_some();
+    plan(untyped, has_children, shape, count)
+}
+
 /// The address of the first slot that is filled, where all of them are slots of the CNode, and empty.
 fn first_slot<P: Profile, S: CapStore<P>>(
     store: &S,
@@ -83,28 +104,36 @@ fn first_slot<P: Profile, S: CapStore<P>>(
     offset: u64,
     count: u64,
 ) -> Result<u64, Refusal>
-    requires memory { S.memory_bits store.now ≤ MAX_MEMORY_BITS }
     requires lawful { (node ≡ Null) ⊎ IsLawful P.the (S.memory_bits store.now) node }
     ensures { result ≡ first_slot_of P.the (S.forest store.now) offset count node }
 {
     let Cap::CNode { base, radix, .. } = node else {
         return Err(Refusal::FailedLookup(LookupFault::MissingCapability));
     };
-    let slots = 1u64 << radix;
-    if offset >= slots || count == 0 || count > MAX_RETYPE_COUNT || count > slots - offset {
+    if !has_slots(radix, offset, count) {
         return Err(Refusal::RangeError);
     }
-    if is_some_full::<P, S>(store, base, offset, count) {
+    let first = Slot::of_node::<P>(base, offset).address::<P>();
+    if is_some_full::<P, S>(store, first, count) {
         return Err(Refusal::DeleteFirst);
     }
-    Ok(Slot::of_node::<P>(base, offset).address::<P>())
+    Ok(first)
 }
 
-/// Whether one of the slots that are to be filled is full.
-fn is_some_full<P: Profile, S: CapStore<P>>(store: &S, base: u64, offset: u64, count: u64) -> bool
-    requires aligned { base % slot_size P.the ≡ 0 }
-    requires end { base + (offset + count) * slot_size P.the ≤ 2 ^ word_bits P.the }
-    ensures { result ≡ some_full P.the (S.forest store.now) (slot_of P.the base offset) count }
+/// Whether a CNode of 2^`radix` slots has `count` slots from `offset` on, and one retype may fill so many.
+fn has_slots(radix: u32, offset: u64, count: u64) -> bool
+    requires { radix < 64 }
+    ensures { result ≡ are_slots radix offset count }
 {
-    (0..count).any(|i| store.get(Slot::of_node::<P>(base, offset + i)) != Cap::Null)
+    let slots = 1u64 << radix;
+    offset < slots && 1 <= count && count <= MAX_RETYPE_COUNT && count <= slots - offset
+}
+
+/// Whether one of the slots that are to be filled is full: `count` slots from the address `first` on.
+fn is_some_full<P: Profile, S: CapStore<P>>(store: &S, first: u64, count: u64) -> bool
+    requires aligned { first % slot_size P.the ≡ 0 }
+    requires end { first + count * slot_size P.the ≤ 2 ^ word_bits P.the }
+    ensures { result ≡ some_full P.the (S.forest store.now) first count }
+{
+    (0..count).any(|i| store.get(Slot::of_node::<P>(first, i)) != Cap::Null)
 }
