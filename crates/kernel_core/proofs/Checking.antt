@@ -1,5 +1,5 @@
 -- What checks that passed say of the slots and the capabilities that they found.
-use Rattle.std.proofs.Common.{◌≡◌, ℕ, suc, ◌+◌, ◌*◌, ◌%◌, ◌^◌, ◌<◌, ◌≤◌, ◌⊎◌, inl, inr, Bool, true, false, cond, not, nat_le, ◌==◌, ◌&&◌, ◌||◌, List, [], ◌∷◌, map, Option, Some, None, Result, Ok, Err, All, refl, sym, ap, subst, ◌∙◌, arith}
+use Rattle.std.proofs.Common.{◌≡◌, ℕ, zero, suc, ◌+◌, ◌*◌, ◌%◌, ◌^◌, ◌<◌, ◌≤◌, ◌⊎◌, inl, inr, Bool, true, false, cond, not, nat_le, ◌==◌, ◌&&◌, ◌||◌, List, [], ◌∷◌, map, Option, Some, None, Result, Ok, Err, All, refl, sym, ap, subst, ◌∙◌, arith}
 use Rattle.std.specs.List.{list_any, range_with_len}
 use Rattle.std.proofs.lemmas.Bool.{false≢true, or_parts}
 use Rattle.cap_core.specs.declared.profile.ProfileName.{ProfileName}
@@ -118,8 +118,8 @@ target_passed p memory f root index depth slot all rooted h =
 
 -- none of a range passes a test
 any_range : (test : ℕ → Bool) (start n i : ℕ) → list_any test (range_with_len start n) ≡ false → i < n → test (start + i) ≡ false
-any_range test start 0 i h lt = absurd (omega arith)
-any_range test start (suc n) 0 h lt =
+any_range test start zero i h lt = absurd (omega arith)
+any_range test start (suc n) zero h lt =
     let e : start ≡ start + 0 = omega arith in
     subst (λ k. test k ≡ false) e (or_parts (test start) _ h).0
 any_range test start (suc n) (suc i) h lt =
@@ -127,7 +127,9 @@ any_range test start (suc n) (suc i) h lt =
     subst (λ k. test k ≡ false) e (any_range test (start + 1) n i (or_parts (test start) _ h).1 (omega arith))
 
 pub none_of_range : (test : ℕ → Bool) (n i : ℕ) → list_any test (range_with_len 0 n) ≡ false → i < n → test i ≡ false
-none_of_range test n i h lt = any_range test 0 n i h lt
+none_of_range test n i h lt =
+    let e : 0 + i ≡ i = omega arith in
+    subst (λ k. test k ≡ false) e (any_range test 0 n i h lt)
 
 pub not_false : (b : Bool) → not b ≡ false → b ≡ true
 not_false true h = refl

@@ -36,5 +36,13 @@ pub mod Booted
 pub mod Descendants
 pub mod Regions
 pub mod LiveAfter
+<<<<<<< HEAD
 pub mod RegionsDerived
 pub mod RegionsMoved
+=======
+pub mod Placing
+pub mod Filled
+pub mod Checking
+pub mod Transferring
+pub mod Tasked
+>>>>>>> fa490a2 (kernel_core: what the checks show of a task)

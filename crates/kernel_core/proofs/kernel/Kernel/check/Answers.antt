@@ -1,18 +1,18 @@
 use Rattle.std.proofs.Common.{◌≡◌, Some, sym, subst, ◌∙◌, rules}
 use Rattle.kernel_core.specs.declared.call.ThreadState.TheVariants.{Ready}
 use Rattle.ipc_core.specs.Waits.{IsThreadAddress}
-use Rattle.kernel_core.specs.Checks.{service_word}
 use Rattle.kernel_core.proofs.Addresses.{row_address}
-use Rattle.kernel_core.proofs.Showing.{stated_row, live_service}
+use Rattle.kernel_core.proofs.Showing.{stated_row}
+use Rattle.kernel_core.proofs.Tasked.{tasked}
 use Rattle.kernel_core.proofs.kernel.Kernel.check.Goals as goal
 
-pub service_for-requires-clause-thread : goal.service_for-requires-clause-thread
-service_for-requires-clause-thread g c =
+pub task_for-requires-clause-thread : goal.task_for-requires-clause-thread
+task_for-requires-clause-thread g c =
     let ready : c.thread_state.result ≡ Some Ready = search rules in
     let there = stated_row g.P.Profile.the (g.S.CapStore.forest c.self.inside.store) c.self.inside.threads.items (g.W.Waiters.waits c.self.inside.waiters) c.args.self.now c.args.call.thread Ready c.self.view_is (sym c.thread_state.ensures ∙ ready) in
     subst (λ m. IsThreadAddress g.P.Profile.the m c.args.call.thread) (sym c.self.invariant.store_memory_is)
     (row_address g.P.Profile.the c.self.inside.memory_bits c.self.inside.threads.items c.args.call.thread c.self.invariant.rows_fill there)
 
-pub returns-in-Ready-clause-live : goal.returns-in-Ready-clause-live
-returns-in-Ready-clause-live g c =
-    live_service g.P.Profile.the (g.S.CapStore.forest c.self.inside.store) c.self.inside.threads.items (g.W.Waiters.waits c.self.inside.waiters) c.args.self.now c.args.call.op c.args.call.thread (service_word c.args.call.op) c.service_for.result c.self.view_is c.service_for.ensures
+pub returns-in-Ready-clause-lawful : goal.returns-in-Ready-clause-lawful
+returns-in-Ready-clause-lawful g c =
+    tasked g.P.Profile.the c.self.inside.memory_bits (g.S.CapStore.forest c.self.inside.store) c.self.inside.threads.items (g.W.Waiters.waits c.self.inside.waiters) c.args.self.now c.args.call.thread c.args.call.op c.task_for.result c.self.invariant.lawful c.self.view_is c.task_for.ensures
