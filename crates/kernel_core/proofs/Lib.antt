@@ -28,6 +28,7 @@ pub mod Pairs
 pub mod Puts
 pub mod LiveRetyped
 pub mod RetypeRegions
+pub mod NewObjects
 pub mod Spaces
 pub mod Clear
 pub mod BootPlaces
