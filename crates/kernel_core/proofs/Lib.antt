@@ -29,6 +29,7 @@ pub mod Puts
 pub mod LiveRetyped
 pub mod RetypeRegions
 pub mod NewObjects
+pub mod RetypedObjects
 pub mod Spaces
 pub mod Clear
 pub mod BootPlaces
