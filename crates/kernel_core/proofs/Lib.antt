@@ -22,6 +22,8 @@ pub mod Simulation
 pub mod Placing
 pub mod Filled
 pub mod Checking
+pub mod Transferring
+pub mod Tasked
 pub mod Refused
 pub mod Runs
 pub mod Pairs
@@ -38,13 +40,5 @@ pub mod Booted
 pub mod Descendants
 pub mod Regions
 pub mod LiveAfter
-<<<<<<< HEAD
 pub mod RegionsDerived
 pub mod RegionsMoved
-=======
-pub mod Placing
-pub mod Filled
-pub mod Checking
-pub mod Transferring
-pub mod Tasked
->>>>>>> fa490a2 (kernel_core: what the checks show of a task)
