@@ -18,6 +18,7 @@ pub mod ReachedStates
 pub mod Searches
 pub mod RecordsAdded
 pub mod Rearranged
+pub mod ObjectsMade
 pub mod Simulation
 pub mod Placing
 pub mod Filled
