@@ -43,3 +43,5 @@ pub mod Regions
 pub mod LiveAfter
 pub mod RegionsDerived
 pub mod RegionsMoved
+pub mod KernelStore
+pub mod Rearranged

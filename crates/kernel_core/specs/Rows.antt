@@ -85,6 +85,15 @@ pub record IsKernel (p : ProfileName) (memory store_memory waiters_memory : ℕ)
   pub dead_queue : (e : ℕ) → list_any (λ k. e == k) (endpoints_of f) ≡ false → w.queue e ≡ []
   pub rowless_role : (t : ℕ) → get (rows_map (tcb_size p) rows) t ≡ None → w.role t ≡ None
 
+-- what holds of the store of every kernel, by itself
+pub record IsKernelStore (p : ProfileName) (memory : ℕ) (f : Forest Entry) : Type 0 where
+  pub memory_most : memory ≤ MAX_MEMORY_BITS
+  pub slots_distinct : IsDistinct (λ (a b : ℕ). a == b) (slots f)
+  pub slots_placed : All (IsSlotAddress p memory) (slots f)
+  pub lawful : All (IsLawful p memory) (caps f)
+  pub disjoint : IsDisjoint p f
+  pub regions : AreRegions p f
+
 -- what a kernel shows lies in a memory of 2^memory bytes: its slots, and the objects that they name
 pub record IsInMemory (p : ProfileName) (memory : ℕ) (v : Shown) : Type 0 where
   pub slots_placed : All (IsSlotAddress p memory) (slots v.derivations)
