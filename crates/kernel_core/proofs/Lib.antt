@@ -19,6 +19,7 @@ pub mod Searches
 pub mod RecordsAdded
 pub mod Rearranged
 pub mod ObjectsMade
+pub mod NewlyLive
 pub mod Simulation
 pub mod Placing
 pub mod Filled
