@@ -26,6 +26,7 @@ pub mod Filled
 pub mod Checking
 pub mod Transferring
 pub mod Tasked
+pub mod InMemory
 pub mod Refused
 pub mod Runs
 pub mod Pairs

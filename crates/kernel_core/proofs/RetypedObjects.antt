@@ -91,7 +91,7 @@ free_set free (Endpoint base badge rights) h = absurd (let n : false ≡ true = 
 free_set free (CNode base radix guard) h = absurd (let n : false ≡ true = h in cc)
 free_set free (Tcb base) h = absurd (let n : false ≡ true = h in cc)
 
-lawful_free : (p : ProfileName) (memory free : ℕ) (cap : Cap) → free ≤ 2 ^ bits_of p cap → IsLawful p memory cap → IsLawful p memory (with_free free cap)
+pub lawful_free : (p : ProfileName) (memory free : ℕ) (cap : Cap) → free ≤ 2 ^ bits_of p cap → IsLawful p memory cap → IsLawful p memory (with_free free cap)
 lawful_free p memory free (Untyped base bits former) h l =
     record { full = l.full; placed = record { aligned = l.placed.aligned; within = l.placed.within; addressed = l.placed.addressed }; holds = record { least = l.holds.least; most = l.holds.most; free_within = h } }
 lawful_free p memory free Null h l = l

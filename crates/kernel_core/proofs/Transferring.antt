@@ -20,6 +20,7 @@ use Rattle.kernel_core.specs.declared.task.Change.{Change}
 use Rattle.kernel_core.specs.declared.task.Change.TheVariants.{Copy, Mint, Move, Mutate}
 use Rattle.kernel_core.specs.declared.task.Transfer.{Transfer}
 use Rattle.kernel_core.specs.declared.task.TransferArguments.{TransferArguments}
+use Rattle.kernel_core.specs.Regions.{free_of}
 use Rattle.kernel_core.specs.Rows.{IsSlotAddress}
 use Rattle.kernel_core.specs.Shown.{has_child}
 use Rattle.kernel_core.specs.Lookups.{and_then, extra_cap, where_kind, empty_slot, full_slot}
@@ -107,19 +108,27 @@ minted p word rights (Endpoint base badge had) made full h =
 minted p word rights (CNode base radix guard) made full h = (guarded_remade p base radix word guard made h, inr refl)
 minted p word rights (Tcb base) made full h = (subst (IsRemade p (Tcb base)) (some_same _ made h) (itself_remade p (Tcb base) refl), inr refl)
 
+-- a move keeps the badge, and how much of an untyped region is used
+record IsKept (cap made : Cap) : Type 0 where
+  badge : badge_of made ≡ badge_of cap
+  free : free_of made ≡ free_of cap
+
+kept_same : (cap made : Cap) → cap ≡ made → IsKept cap made
+kept_same cap made same = record { badge = sym (ap badge_of same); free = sym (ap free_of same) }
+
 mutated : (p : ProfileName) (word : ℕ) (cap made : Cap) → is_null cap ≡ false → with_data p true word cap ≡ Some made →
-    IsRemade p cap made × (badge_of made ≡ badge_of cap)
+    IsRemade p cap made × IsKept cap made
 mutated p word Null made full h = absurd (false≢true (sym full))
 mutated p word (Untyped base bits free) made full h =
     let same = some_same (Untyped base bits free) made h in
-    (subst (IsRemade p (Untyped base bits free)) same (itself_remade p (Untyped base bits free) refl), sym (ap badge_of same))
+    (subst (IsRemade p (Untyped base bits free)) same (itself_remade p (Untyped base bits free) refl), kept_same (Untyped base bits free) made same)
 mutated p word (Endpoint base badge had) made full h = cc
 mutated p word (CNode base radix guard) made full h =
     let set = where_some (nat_le ((guard_held p word).size + radix) (word_bits p)) (CNode base radix (guard_held p word)) made h in
-    (guarded_remade p base radix word guard made h, sym (ap badge_of set.1))
+    (guarded_remade p base radix word guard made h, record { badge = sym (ap badge_of set.1); free = sym (ap free_of set.1) })
 mutated p word (Tcb base) made full h =
     let same = some_same (Tcb base) made h in
-    (subst (IsRemade p (Tcb base)) same (itself_remade p (Tcb base) refl), sym (ap badge_of same))
+    (subst (IsRemade p (Tcb base)) same (itself_remade p (Tcb base) refl), kept_same (Tcb base) made same)
 
 set_passed : (o : Option Cap) (cap : Cap) → where_set o ≡ Ok cap → o ≡ Some cap
 set_passed (Some made) cap h = ap Some (ok_same made cap h)
@@ -228,10 +237,11 @@ module _ (p : ProfileName) (memory : ℕ) (f : Forest Entry) (all : All (IsLawfu
       record {
         ends = transferred p memory f Move transfer all found (subst (IsRemade p (cap_at f transfer.source)) same (itself_remade p _ found.full));
         badge = sym (ap badge_of same);
+        free = sym (ap free_of same);
       }
 
   pub mutate_moves : (word : ℕ) → transfer_checked p f thread (cap_at f slot) asked (Mutate word) ≡ Ok transfer → IsMove p f transfer
   mutate_moves word h =
       let found = transfer_found p f thread slot asked (Mutate word) transfer h in
       let new = mutated p word (cap_at f transfer.source) transfer.cap found.full (set_passed _ transfer.cap found.changed) in
-      record { ends = transferred p memory f (Mutate word) transfer all found new.0; badge = new.1 }
+      record { ends = transferred p memory f (Mutate word) transfer all found new.0; badge = new.1.badge; free = new.1.free }

@@ -1,12 +1,12 @@
 -- What the derivation forest of a kernel keeps beside disjoint objects: what stands below a capability lies in its region.
-use Rattle.std.specs.Prelude.{◌≡◌, ℕ, ◌+◌, ◌≤◌, true}
-use Rattle.std.specs.List.{Contains}
+use Rattle.std.specs.Prelude.{◌≡◌, ℕ, ◌+◌, ◌≤◌, ◌==◌, true}
+use Rattle.std.specs.List.{Contains, IsDistinct}
 use Rattle.cap_core.specs.declared.profile.ProfileName.{ProfileName}
 use Rattle.cap_core.specs.declared.capability.Cap.{Cap}
 use Rattle.cap_core.specs.declared.capability.Cap.TheVariants.{Null, Untyped, Endpoint, CNode, Tcb}
 use Rattle.cap_core.specs.Objects.{is_untyped, in_region, base_of, end_of}
 use Rattle.slot_core.specs.Forest.{Forest, preorder, descendants}
-use Rattle.slot_core.specs.Entries.{Entry, is_at}
+use Rattle.slot_core.specs.Entries.{Entry, is_at, slots}
 use Rattle.slot_core.specs.Disjoint.{IsDisjoint}
 
 -- how many bytes of an untyped region are used
@@ -26,6 +26,13 @@ pub record AreRegions (p : ProfileName) (f : Forest Entry) : Type 0 where
   pub original : (u : Entry) → Contains (preorder f) u → is_untyped u.cap ≡ true → u.original ≡ true
   pub below : (a d : Entry) → Contains (preorder f) a → Contains (descendants (is_at a.slot) f) d → in_region p a.cap d.cap ≡ true
   pub used : IsUsedUp p f
+
+-- what the derivation forest of every kernel is: each slot stands once, live objects are disjoint, and regions hold what stands
+-- below them
+pub record IsForest (p : ProfileName) (f : Forest Entry) : Type 0 where
+  pub distinct : IsDistinct (λ (a b : ℕ). a == b) (slots f)
+  pub disjoint : IsDisjoint p f
+  pub regions : AreRegions p f
 
 -- live objects are disjoint, or one is an untyped region around the other; a capability stands in one line with each untyped
 -- one around its object; and where an untyped has children, what stands below it ends within what is used

@@ -8,7 +8,7 @@ ghost use Rattle.kernel_core.specs.Checks.{checked};
 ghost use Rattle.kernel_core.specs.Effects.{send_effect, receive_effect, effect_of, task_effect, rearranged, objects_shown, IsReady, IsLiveEndpoint};
 ghost use Rattle.kernel_core.specs.Transfers.{with_derived, with_moved};
 ghost use Rattle.kernel_core.specs.Rows.{IsInMemory, IsAligned};
-ghost use Rattle.kernel_core.specs.Regions.{AreObjectsApart};
+ghost use Rattle.kernel_core.specs.Regions.{AreObjectsApart, IsForest};
 ghost use Rattle.kernel_core.specs.Tasks.{IsTask, IsRetype, IsDerivation, IsMove};
 ghost use Rattle.cap_core.specs.declared.refusal.Refusal.{Refusal};
 ghost use Rattle.ipc_core.specs.Records.{Instance};
@@ -136,6 +136,7 @@ impl<P: Profile, S: CapStore<P> + Drop, W: Waiters<P> + Drop> Kernel<P, S, W> {
     fn take(&mut self, thread: u64, task: Task) -> Reply
         requires ready { IsReady self.old thread }
         requires task { IsTask P.the self.old task }
+        requires forest { IsForest P.the self.old.derivations }
         ensures reply { result ≡ (task_effect P.the self.old thread task).reply }
         ensures after { self.new ≡ (task_effect P.the self.old thread task).after }
         ensures within { (memory : ℕ) → IsInMemory P.the memory self.old → IsInMemory P.the memory self.new }
@@ -158,6 +159,7 @@ impl<P: Profile, S: CapStore<P> + Drop, W: Waiters<P> + Drop> Kernel<P, S, W> {
         ensures task { result ≡ checked P.the self.now call }
         ensures lawful { IfOk result (IsTask P.the self.now) }
         ensures ready { IfOk result (λ (t : Task). IsReady self.now call.thread) }
+        ensures forest { IfOk result (λ (t : Task). IsForest P.the self.now.derivations) }
     {
         match self.thread_state(call.thread).ok_or(Refusal::NoThread)? {
             ThreadState::Ready => task_for::<P, S>(&self.store, call.thread, call.op),

@@ -4,6 +4,7 @@ use Rattle.ipc_core.specs.Waits.{IsThreadAddress}
 use Rattle.kernel_core.proofs.Addresses.{row_address}
 use Rattle.kernel_core.proofs.Showing.{stated_row}
 use Rattle.kernel_core.proofs.Tasked.{tasked}
+use Rattle.kernel_core.proofs.InMemory.{kernel_forest}
 use Rattle.kernel_core.proofs.kernel.Kernel.check.Goals as goal
 
 pub task_for-requires-clause-thread : goal.task_for-requires-clause-thread
@@ -16,3 +17,7 @@ task_for-requires-clause-thread g c =
 pub returns-in-Ready-clause-lawful : goal.returns-in-Ready-clause-lawful
 returns-in-Ready-clause-lawful g c =
     tasked g.P.Profile.the c.self.inside.memory_bits (g.S.CapStore.forest c.self.inside.store) c.self.inside.threads.items (g.W.Waiters.waits c.self.inside.waiters) c.args.self.now c.args.call.thread c.args.call.op c.task_for.result c.self.invariant.lawful c.self.view_is c.task_for.ensures
+
+pub returns-in-Ready-clause-forest : goal.returns-in-Ready-clause-forest
+returns-in-Ready-clause-forest g c =
+    kernel_forest g.P.Profile.the c.self.inside.memory_bits (g.S.CapStore.memory_bits c.self.inside.store) (g.W.Waiters.memory_bits c.self.inside.waiters) (g.S.CapStore.forest c.self.inside.store) c.self.inside.threads.items (g.W.Waiters.waits c.self.inside.waiters) c.args.self.now c.self.invariant c.self.view_is
