@@ -1,5 +1,5 @@
 -- What checks that passed say of the slots and the capabilities that they found.
-use Rattle.std.proofs.Common.{◌≡◌, ℕ, zero, suc, ◌+◌, ◌*◌, ◌%◌, ◌^◌, ◌<◌, ◌≤◌, ◌⊎◌, inl, inr, Bool, true, false, cond, not, nat_le, ◌==◌, ◌&&◌, ◌||◌, List, [], ◌∷◌, map, Option, Some, None, Result, Ok, Err, All, refl, sym, ap, subst, ◌∙◌, arith}
+use Rattle.std.proofs.Common.{◌≡◌, ℕ, zero, suc, ◌+◌, ◌*◌, ◌%◌, ◌^◌, ◌<◌, ◌≤◌, ◌⊎◌, inl, inr, Bool, true, false, cond, not, nat_le, ◌==◌, ◌&&◌, ◌||◌, List, [], ◌∷◌, map, Option, Some, None, Result, Ok, Err, IfOk, All, refl, sym, ap, subst, ◌∙◌, arith}
 use Rattle.std.specs.List.{list_any, range_with_len}
 use Rattle.std.proofs.lemmas.Bool.{false≢true, or_parts}
 use Rattle.cap_core.specs.declared.profile.ProfileName.{ProfileName}
@@ -35,6 +35,11 @@ cond_failed false r refusal x h = (refl, h)
 
 pub ok_same : {X : Type 0} (x y : X) → ◌≡◌ {A = Result X Refusal} (Ok x) (Ok y) → x ≡ y
 ok_same x y h = cc
+
+-- what holds anyway
+pub whatever : {X Y : Type 0} (H : Type 0) (r : Result X Y) → H → IfOk r (λ x. H)
+whatever H (Ok x) h = h
+whatever H (Err y) h = tt
 
 -- the invoked capability is of the kind that is asked for
 pub kind_passed : (is : Cap → Bool) (cap found : Cap) → where_kind is cap ≡ Ok found → (is cap ≡ true) × (cap ≡ found)

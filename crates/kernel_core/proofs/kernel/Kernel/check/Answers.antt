@@ -3,6 +3,8 @@ use Rattle.kernel_core.specs.declared.call.ThreadState.TheVariants.{Ready}
 use Rattle.ipc_core.specs.Waits.{IsThreadAddress}
 use Rattle.kernel_core.proofs.Addresses.{row_address}
 use Rattle.kernel_core.proofs.Showing.{stated_row}
+use Rattle.kernel_core.specs.Regions.{IsForest}
+use Rattle.kernel_core.proofs.Checking.{whatever}
 use Rattle.kernel_core.proofs.Tasked.{tasked}
 use Rattle.kernel_core.proofs.InMemory.{kernel_forest}
 use Rattle.kernel_core.proofs.kernel.Kernel.check.Goals as goal
@@ -20,4 +22,5 @@ returns-in-Ready-clause-lawful g c =
 
 pub returns-in-Ready-clause-forest : goal.returns-in-Ready-clause-forest
 returns-in-Ready-clause-forest g c =
-    kernel_forest g.P.Profile.the c.self.inside.memory_bits (g.S.CapStore.memory_bits c.self.inside.store) (g.W.Waiters.memory_bits c.self.inside.waiters) (g.S.CapStore.forest c.self.inside.store) c.self.inside.threads.items (g.W.Waiters.waits c.self.inside.waiters) c.args.self.now c.self.invariant c.self.view_is
+    whatever (IsForest g.P.Profile.the c.args.self.now.derivations) c.task_for.result
+    (kernel_forest g.P.Profile.the c.self.inside.memory_bits (g.S.CapStore.memory_bits c.self.inside.store) (g.W.Waiters.memory_bits c.self.inside.waiters) (g.S.CapStore.forest c.self.inside.store) c.self.inside.threads.items (g.W.Waiters.waits c.self.inside.waiters) c.args.self.now c.self.invariant c.self.view_is)
