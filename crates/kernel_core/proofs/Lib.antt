@@ -35,6 +35,8 @@ pub mod LiveRetyped
 pub mod RetypeRegions
 pub mod NewObjects
 pub mod RetypedObjects
+pub mod NewThreads
+pub mod PutObjects
 pub mod Spaces
 pub mod Clear
 pub mod BootPlaces
@@ -46,4 +48,3 @@ pub mod LiveAfter
 pub mod RegionsDerived
 pub mod RegionsMoved
 pub mod KernelStore
-pub mod Rearranged

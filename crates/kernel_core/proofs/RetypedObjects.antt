@@ -135,7 +135,7 @@ module _ (p : ProfileName) (f : Forest Entry) (new : NewObjects) (is : IsRetype 
             subst B s.3 (r.used s.0 d s.1 (ap is_untyped s.3 ∙ is.untyped) (subst D (sym s.2) m))
       ]) refl
 
-  module _ (memory : ℕ) (regions : AreRegions p f) (disjoint : IsDisjoint p f) (distinct : IsDistinct eqb (slots f)) (lawful : All (IsLawful p memory) (caps f)) where
+  module _ (memory : ℕ) (lawful : All (IsLawful p memory) (caps f)) where
     pub untyped_lawful : IsLawful p memory (cap_at f new.untyped)
     untyped_lawful =
         let s : (s : Entry) × Contains (preorder f) s × (s.slot ≡ new.untyped) × (s.cap ≡ cap_at f new.untyped) = entry_at new.untyped f (untyped_full new.untyped f is.untyped) in
@@ -164,6 +164,7 @@ module _ (p : ProfileName) (f : Forest Entry) (new : NewObjects) (is : IsRetype 
           holds = is.shape.holds (object_at new.placed i);
         }
 
+  module _ (memory : ℕ) (regions : AreRegions p f) (disjoint : IsDisjoint p f) (distinct : IsDistinct eqb (slots f)) (lawful : All (IsLawful p memory) (caps f)) where
     alike : IsAlike p (cap_at f new.untyped) (with_free new.placed.free (cap_at f new.untyped))
     alike = alike_freed p new.placed.free (cap_at f new.untyped)
 
@@ -185,7 +186,7 @@ module _ (p : ProfileName) (f : Forest Entry) (new : NewObjects) (is : IsRetype 
         (record {
           placed = is.slots memory lawful i lt;
           empty = full-freed (slot_of p new.first_slot i) new.untyped new.placed.free f ∙ is.empty i lt;
-          lawful = new_lawful i lt;
+          lawful = new_lawful memory lawful i lt;
           within = sym (contains-alike_first p (cap_at f new.untyped) (with_free new.placed.free (cap_at f new.untyped)) (new_cap new.shape.kind (object_at new.placed i) new.shape.size_bits) alike) ∙ new_within i lt;
           used = (let e = new_end i in let u = lies.used i lt in let b = alike.base in let z = free_set new.placed.free (cap_at f new.untyped) is.untyped in omega arith);
         })
@@ -247,11 +248,11 @@ module _ (p : ProfileName) (f : Forest Entry) (new : NewObjects) (is : IsRetype 
         all_caps (IsLawful p memory) (with_objects p new f)
         (each-with_new (λ (e : Entry). IsLawful p memory e.cap) new.untyped (new_caps p new) (freed new.untyped new.placed.free f)
         (each-freed (λ (e : Entry). IsLawful p memory e.cap) new.untyped new.placed.free f (each_cap (IsLawful p memory) f lawful) at)
-        (each-range (λ (put : ℕ × Cap). IsLawful p memory put.1) (λ i. (slot_of p new.first_slot i, new_cap new.shape.kind (object_at new.placed i) new.shape.size_bits)) 0 new.count (λ k low high. new_lawful k (omega arith))))
+        (each-range (λ (put : ℕ × Cap). IsLawful p memory put.1) (λ i. (slot_of p new.first_slot i, new_cap new.shape.kind (object_at new.placed i) new.shape.size_bits)) 0 new.count (λ k low high. new_lawful memory lawful k (omega arith))))
       where
         at : (e : Entry) → Contains (preorder f) e → e.slot ≡ new.untyped → IsLawful p memory (with_free new.placed.free e.cap)
         at e m s = let held : cap_at f new.untyped ≡ e.cap = ap (cap_at f) (sym s) ∙ cap-entry f e distinct m in
-            let Q : Cap → Type 0 = λ c. IsLawful p memory (with_free new.placed.free c) in subst Q held freed_lawful
+            let Q : Cap → Type 0 = λ c. IsLawful p memory (with_free new.placed.free c) in subst Q held (freed_lawful memory lawful)
 
     pub made_placed : All (IsSlotAddress p memory) (slots f) → All (IsSlotAddress p memory) (slots (with_objects p new f))
     made_placed h =

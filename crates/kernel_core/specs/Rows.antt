@@ -1,8 +1,8 @@
 -- What the rows of a kernel stand for.
-use Rattle.std.specs.Prelude.{◌≡◌, ℕ, ◌+◌, ◌*◌, ◌%◌, ◌^◌, ◌≤◌, ◌<◌, ◌==◌, Bool, cond, List, [], ◌∷◌, map, length, Option, None, Some, IsSomeAnd, is_some, All, false}
+use Rattle.std.specs.Prelude.{◌≡◌, ℕ, ◌+◌, ◌*◌, ◌%◌, ◌^◌, ◌≤◌, ◌<◌, ◌==◌, Bool, cond, List, [], ◌∷◌, map, length, Option, None, Some, IsSomeAnd, is_some, All, true, false}
 use Rattle.std.specs.List.{list_any, IsDistinct}
 use Rattle.std.specs.Ordering.{nat_cmp}
-use Rattle.std.specs.FinMap.{FinMap, from_entries, get}
+use Rattle.std.specs.FinMap.{FinMap, from_entries, get, insert}
 use Rattle.cap_core.specs.declared.limits.TheConstants.{MIN_MEMORY_BITS, MAX_MEMORY_BITS}
 use Rattle.cap_core.specs.declared.profile.ProfileName.{ProfileName}
 use Rattle.cap_core.specs.Numbers.{slot_size, tcb_size}
@@ -27,6 +27,15 @@ keyed size i (Some x ∷ rows) = (size * i, x) ∷ keyed size (i + 1) rows
 
 abbrev pub rows_map : {X : Type 0} → ℕ → List (Option X) → FinMap nat_cmp X
 rows_map size rows = from_entries (keyed size 0 rows)
+
+-- the row of a thread that was just made: it is inactive and got no message
+abbrev pub new_row : ThreadRow
+new_row = record { inactive = true; inbox = None }
+
+-- new threads get their rows
+abbrev pub with_rows : List ℕ → FinMap nat_cmp ThreadRow → FinMap nat_cmp ThreadRow
+with_rows [] rows = rows
+with_rows (base ∷ bases) rows = with_rows bases (insert rows base new_row)
 
 -- a thread that waits is Sending or Receiving; else it is what its row says
 abbrev pub state_with : Option Role → Bool → ThreadState

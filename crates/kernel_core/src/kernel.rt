@@ -21,7 +21,7 @@ ghost use Rattle.kernel_core.specs.Reached.{IsReached, StepsTo};
 use crate::call::{Call, Inbox, Reply, ThreadState};
 use crate::checks::lookup::{is_endpoint_address, slot_within};
 use crate::checks::task_for;
-use crate::objects::{add_threads, put_objects};
+use crate::objects::{add_threads, make_objects};
 use crate::rows::{ThreadRow, row_at, set_row};
 use crate::task::{NewObjects, Service, Task, Transfer};
 use cap_core::{Cap, Kind, Message, Profile, Refusal};
@@ -173,11 +173,10 @@ impl<P: Profile, S: CapStore<P> + Drop, W: Waiters<P> + Drop> Kernel<P, S, W> {
         ensures reply { result ≡ Done }
         ensures after { self.new ≡ objects_shown P.the self.old new }
     {
-        self.store
-            .set_free(Slot::of_node::<P>(new.untyped, 0), new.placed.free);
-        put_objects::<P, S>(&mut self.store, new);
-        if new.shape.kind == Kind::Tcb {
-            add_threads::<P>(&mut self.threads, new.placed, new.count);
+        make_objects::<P, S>(&mut self.store, new);
+        match new.shape.kind {
+            Kind::Tcb => add_threads::<P>(&mut self.threads, new.placed, new.count),
+            Kind::Untyped | Kind::Endpoint | Kind::CNode => {}
         }
         Reply::Done
     }

@@ -1,8 +1,17 @@
 //! The capabilities and the threads of new objects.
-ghost use Rattle.std.specs.Prelude.{◌≡◌, ◌*◌, ◌+◌, ◌%◌, ◌^◌, ◌≤◌, length};
+ghost use Rattle.std.specs.Prelude.{◌≡◌, ℕ, ◌*◌, ◌/◌, ◌%◌, ◌^◌, ◌≤◌, ◌<◌, ◌==◌, length, map, All};
+ghost use Rattle.std.specs.List.{IsDistinct, range_with_len};
+ghost use Rattle.std.specs.FinMap.{insert};
+ghost use Rattle.cap_core.specs.declared.limits.TheConstants.{MIN_MEMORY_BITS, MAX_MEMORY_BITS};
 ghost use Rattle.cap_core.specs.Numbers.{tcb_size};
-ghost use Rattle.kernel_core.specs.Retyping.{new_caps, with_new};
-ghost use Rattle.kernel_core.specs.Rows.{rows_map};
+ghost use Rattle.cap_core.specs.Objects.{IsLawful};
+ghost use Rattle.mem_core.specs.Plans.{object_at};
+ghost use Rattle.slot_core.specs.Entries.{slots, caps};
+ghost use Rattle.slot_core.specs.Disjoint.{IsDisjoint};
+ghost use Rattle.kernel_core.specs.Regions.{AreRegions};
+ghost use Rattle.kernel_core.specs.Retyping.{with_objects};
+ghost use Rattle.kernel_core.specs.Tasks.{IsRetype};
+ghost use Rattle.kernel_core.specs.Rows.{IsSlotAddress, rows_map, new_row, with_rows};
 
 use crate::rows::ThreadRow;
 use crate::task::NewObjects;
@@ -10,12 +19,22 @@ use cap_core::{Cap, Profile, fresh};
 use mem_core::Placed;
 use slot_core::{CapStore, Slot};
 
-/// Puts the capabilities of new objects into their slots, each the first child of their untyped.
-pub fn put_objects<P: Profile, S: CapStore<P>>(store: &mut S, new: NewObjects)
-    ensures forest { S.forest store.new ≡ with_new new.untyped (new_caps P.the new) (S.forest store.old) }
+/// Makes objects in an untyped region: it is used up to the end of the last one, and their capabilities are put into their
+/// slots, each the first child of the untyped.
+pub fn make_objects<P: Profile, S: CapStore<P>>(store: &mut S, new: NewObjects)
+    requires least { MIN_MEMORY_BITS ≤ S.memory_bits store.old }
+    requires most { S.memory_bits store.old ≤ MAX_MEMORY_BITS }
+    requires task { IsRetype P.the (S.forest store.old) new }
+    requires regions { AreRegions P.the (S.forest store.old) }
+    requires disjoint { IsDisjoint P.the (S.forest store.old) }
+    requires distinct { IsDistinct (λ (a b : ℕ). a == b) (slots (S.forest store.old)) }
+    requires placed { All (IsSlotAddress P.the (S.memory_bits store.old)) (slots (S.forest store.old)) }
+    requires lawful { All (IsLawful P.the (S.memory_bits store.old)) (caps (S.forest store.old)) }
+    ensures forest { S.forest store.new ≡ with_objects P.the new (S.forest store.old) }
     ensures memory { S.memory_bits store.new ≡ S.memory_bits store.old }
 {
     let untyped = Slot::of_node::<P>(new.untyped, 0);
+    store.set_free(untyped, new.placed.free);
     for i in 0..new.count {
         let cap = fresh(
             new.shape.kind,
@@ -28,13 +47,27 @@ pub fn put_objects<P: Profile, S: CapStore<P>>(store: &mut S, new: NewObjects)
 
 /// Writes the rows of new threads, which are inactive and got no message.
 pub fn add_threads<P: Profile>(rows: &mut Vec<Option<ThreadRow>>, placed: Placed, count: u64)
+    requires aligned { (i : ℕ) → i < count → object_at placed i % tcb_size P.the ≡ 0 }
+    requires within { (i : ℕ) → i < count → object_at placed i < length rows.old.items * tcb_size P.the }
+    requires addressed { (i : ℕ) → i < count → object_at placed i < 2 ^ 64 }
+    ensures map { rows_map (tcb_size P.the) rows.new.items ≡ with_rows (map (object_at placed) (range_with_len 0 count)) (rows_map (tcb_size P.the) rows.old.items) }
     ensures length { length rows.new.items ≡ length rows.old.items }
 {
     for i in 0..count {
-        let place = ((placed.first + i * placed.step) >> P::TCB_BITS) as usize;
-        rows[place] = Some(ThreadRow {
-            inactive: true,
-            inbox: None,
-        });
+        add_thread::<P>(rows, placed.first + i * placed.step);
     }
+}
+
+/// Writes the row of a new thread.
+fn add_thread<P: Profile>(rows: &mut Vec<Option<ThreadRow>>, thread: u64)
+    requires aligned { thread % tcb_size P.the ≡ 0 }
+    requires within { thread / tcb_size P.the < length rows.old.items }
+    ensures map { rows_map (tcb_size P.the) rows.new.items ≡ insert (rows_map (tcb_size P.the) rows.old.items) thread new_row }
+    ensures length { length rows.new.items ≡ length rows.old.items }
+{
+    let place = (thread >> P::TCB_BITS) as usize;
+    rows[place] = Some(ThreadRow {
+        inactive: true,
+        inbox: None,
+    });
 }

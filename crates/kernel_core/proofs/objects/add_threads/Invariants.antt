@@ -1,0 +1,15 @@
+use Rattle.std.proofs.Common.{◌≡◌, length, map}
+use Rattle.std.specs.List.{range_with_len}
+use Rattle.cap_core.specs.Numbers.{tcb_size}
+use Rattle.mem_core.specs.Plans.{object_at}
+use Rattle.kernel_core.specs.Rows.{rows_map, with_rows}
+use Rattle.kernel_core.proofs.NewThreads.{rows-added}
+use Rattle.kernel_core.proofs.objects.add_threads.Given as goal
+
+-- the rows of the first i threads are written
+abbrev pub invariant-loop-i : goal.invariant-loop-i
+invariant-loop-i g l =
+    record {
+      length : length l.rows.items ≡ length l.fn.rows.items;
+      map : rows_map (tcb_size g.P.Profile.the) l.rows.items ≡ with_rows (map (object_at l.placed) (range_with_len 0 l.i)) (rows_map (tcb_size g.P.Profile.the) l.fn.rows.items);
+    }
