@@ -18,8 +18,10 @@ pub mod ReachedStates
 pub mod Searches
 pub mod RecordsAdded
 pub mod Rearranged
+pub mod CapabilitiesRearranged
 pub mod ObjectsMade
 pub mod NewlyLive
+pub mod ReachedStores
 pub mod Simulation
 pub mod Placing
 pub mod Filled

@@ -22,7 +22,7 @@ use Rattle.kernel_core.proofs.Rising.{tally, find_nothing}
 use Rattle.kernel_core.proofs.Lists.{all_kept}
 use Rattle.kernel_core.proofs.Keyed.{get_table, get_after, same_nat_map}
 use Rattle.kernel_core.proofs.Searches.{find_agrees, table_agrees}
-use Rattle.kernel_core.proofs.Rearranged.{sends_once, asks_once}
+use Rattle.kernel_core.proofs.CapabilitiesRearranged.{sends_once, asks_once}
 use Rattle.kernel_core.proofs.LiveRetyped.{live-objects, endpoint_base-freed, tcb_base-freed}
 use Rattle.kernel_core.proofs.ReachedStates.{Invariant, IsShown, list_shown, asks_later, sends_later, asks_born_later, sends_born_later}
 

@@ -9,14 +9,15 @@ use Rattle.cap_core.specs.declared.message.Message.{Message}
 use Rattle.cap_core.specs.declared.refusal.Refusal.{Refusal}
 use Rattle.ipc_core.specs.Records.{Instance, SendRecord, AskRecord, same_instance}
 use Rattle.kernel_core.specs.declared.call.Call.{Call}
-use Rattle.kernel_core.specs.declared.call.Op.{Op}
-use Rattle.kernel_core.specs.declared.call.Op.TheVariants.{Send, NbSend, Recv, NbRecv}
+use Rattle.kernel_core.specs.declared.task.Task.{Task}
+use Rattle.kernel_core.specs.declared.task.Task.TheVariants.{Send, Receive, Retype, Derive, Move}
+use Rattle.kernel_core.specs.Transfers.{with_derived, with_moved}
 use Rattle.kernel_core.specs.declared.call.Reply.{Reply}
 use Rattle.kernel_core.specs.declared.task.Service.{Service}
 use Rattle.kernel_core.specs.Shown.{endpoints_of}
 use Rattle.kernel_core.specs.State.{State, shown, pairs, endpoint_at, sends_to, asks_of}
 use Rattle.kernel_core.specs.Checks.{checked}
-use Rattle.kernel_core.specs.Step.{Outcome, counted, is_send_awaited, is_receive_awaited, send_accepted, receive_accepted, where_awaited, step, outcome, performed, send_record, ask_record, reply_to_send, reply_to_receive, replies_of, state_after}
+use Rattle.kernel_core.specs.Step.{Outcome, counted, is_send_awaited, is_receive_awaited, send_accepted, receive_accepted, where_awaited, objects_made, rearranged, step, outcome, performed, send_record, ask_record, reply_to_send, reply_to_receive, replies_of, state_after}
 use Rattle.kernel_core.specs.Reached.{IsReached}
 use Rattle.kernel_core.specs.Deliveries.{is_live, is_delivery, delivery, delivered}
 use Rattle.kernel_core.proofs.Lists.{zip_more_some, zip_some_right, all_get}
@@ -24,7 +25,8 @@ use Rattle.kernel_core.specs.declared.call.Reply.TheVariants.{Delivered, Dropped
 use Rattle.std.proofs.lemmas.Bool.{false≢true}
 use Rattle.kernel_core.proofs.Sending.{same_tells, sends_here, sends_elsewhere, pairs_stay}
 use Rattle.kernel_core.proofs.Receiving.{asks_here, asks_elsewhere, pairs_kept}
-use Rattle.kernel_core.proofs.Simulation.{Invariant, Passes, passes, reached_inv}
+use Rattle.kernel_core.proofs.ReachedStates.{Invariant, Passes, passes}
+use Rattle.kernel_core.proofs.Simulation.{reached_inv}
 use Rattle.kernel_core.proofs.Runs.{reached_after}
 
 -- what a step with this outcome delivers by an endpoint
@@ -70,13 +72,13 @@ here_told A base reply live is =
     ap (λ (b : Bool). cond (b && is_delivery base reply) (reply ∷ []) []) (here_live A base live)
     ∙ ap (λ (b : Bool). cond b (reply ∷ []) []) (is ∙ eq-eqb base base refl)
 
-send_grows : (A : State) (t : ℕ) (service : Service) (message : Message) → Invariant A → list_any (λ k. service.endpoint == k) (endpoints_of A.derivations) ≡ true → (address : ℕ) →
-    (o : Option AskRecord) → slice_get (asks_of A (endpoint_at A service.endpoint)) (length (sends_to A (endpoint_at A service.endpoint))) ≡ o → (e : Instance) → Grows A e (performed A t service (Send address message))
-send_grows A t service message inv live address None alone e =
-    same_pairs A e (performed A t service (Send address message)) (pairs_stay A t service message (inv.fresh (A.count + 1) (omega arith)) alone e)
+send_grows : (A : State) (t : ℕ) (service : Service) (message : Message) → Invariant A → list_any (λ k. service.endpoint == k) (endpoints_of A.derivations) ≡ true →
+    (o : Option AskRecord) → slice_get (asks_of A (endpoint_at A service.endpoint)) (length (sends_to A (endpoint_at A service.endpoint))) ≡ o → (e : Instance) → Grows A e (send_accepted A t service message)
+send_grows A t service message inv live None alone e =
+    same_pairs A e (send_accepted A t service message) (pairs_stay A t service message (inv.fresh (A.count + 1) (omega arith)) alone e)
     (ap (λ (o : Option AskRecord). is_delivery e.base (reply_to_send (send_record A t service message) o)) alone)
-send_grows A t service message inv live address (Some a) met e = elim (same_tells (endpoint_at A service.endpoint) e) [
-  | inl w ↦ subst (λ (m : Instance). Grows A m (performed A t service (Send address message))) w
+send_grows A t service message inv live (Some a) met e = elim (same_tells (endpoint_at A service.endpoint) e) [
+  | inl w ↦ subst (λ (m : Instance). Grows A m (send_accepted A t service message)) w
       (ap (map delivery) (ap (λ (ss : List SendRecord). zip ss (asks_of A (endpoint_at A service.endpoint))) (sends_here A t service message fresh)
       ∙ zip_more_some (sends_to A (endpoint_at A service.endpoint)) (asks_of A (endpoint_at A service.endpoint)) s a met)
       ∙ map-append delivery (pairs A (endpoint_at A service.endpoint)) ((s, a) ∷ [])
@@ -96,14 +98,14 @@ send_grows A t service message inv live address (Some a) met e = elim (same_tell
     reply : reply_to_send (send_record A t service message) (slice_get (asks_of A (endpoint_at A service.endpoint)) (length (sends_to A (endpoint_at A service.endpoint)))) ≡ delivery (s, a)
     reply = ap (reply_to_send (send_record A t service message)) met
 
-receive_grows : (A : State) (t : ℕ) (service : Service) → Invariant A → list_any (λ k. service.endpoint == k) (endpoints_of A.derivations) ≡ true → (address : ℕ) →
+receive_grows : (A : State) (t : ℕ) (service : Service) → Invariant A → list_any (λ k. service.endpoint == k) (endpoints_of A.derivations) ≡ true →
     (o : Option SendRecord) → slice_get (sends_to A (endpoint_at A service.endpoint)) (length (asks_of A (endpoint_at A service.endpoint))) ≡ o →
-    ((s : SendRecord) → o ≡ Some s → s.endpoint.base ≡ service.endpoint) → (e : Instance) → Grows A e (performed A t service (Recv address))
-receive_grows A t service inv live address None alone of e =
-    same_pairs A e (performed A t service (Recv address)) (pairs_kept A t service (inv.fresh (A.count + 1) (omega arith)) inv.numbered alone e)
+    ((s : SendRecord) → o ≡ Some s → s.endpoint.base ≡ service.endpoint) → (e : Instance) → Grows A e (receive_accepted A t service)
+receive_grows A t service inv live None alone of e =
+    same_pairs A e (receive_accepted A t service) (pairs_kept A t service (inv.fresh (A.count + 1) (omega arith)) inv.numbered alone e)
     (ap (λ (o : Option SendRecord). is_delivery e.base (reply_to_receive (ask_record A t service) o)) alone)
-receive_grows A t service inv live address (Some s) met of e = elim (same_tells (endpoint_at A service.endpoint) e) [
-  | inl w ↦ subst (λ (m : Instance). Grows A m (performed A t service (Recv address))) w
+receive_grows A t service inv live (Some s) met of e = elim (same_tells (endpoint_at A service.endpoint) e) [
+  | inl w ↦ subst (λ (m : Instance). Grows A m (receive_accepted A t service)) w
       (ap (map delivery) (ap (λ (qs : List AskRecord). zip (sends_to A (endpoint_at A service.endpoint)) qs) (asks_here A t service fresh inv.numbered)
       ∙ zip_some_right (sends_to A (endpoint_at A service.endpoint)) (asks_of A (endpoint_at A service.endpoint)) s a met)
       ∙ map-append delivery (pairs A (endpoint_at A service.endpoint)) ((s, a) ∷ [])
@@ -144,20 +146,29 @@ awaited_grows : (A : State) (e : Instance) (b : Bool) (accepted : Outcome) (repl
 awaited_grows A e true accepted reply silent grows = grows
 awaited_grows A e false accepted reply silent grows = same_pairs A e (record { reply = reply; state = counted A }) refl silent
 
-performed_grows : (A : State) (call : Call) (op : Op) (service : Service) → Invariant A → Passes A call service → (e : Instance) → Grows A e (performed A call.thread service op)
-performed_grows A call (Send address message) service inv pass e = send_grows A call.thread service message inv pass.endpoint_live address _ refl e
-performed_grows A call (NbSend address message) service inv pass e =
-    awaited_grows A e (is_send_awaited A (endpoint_at A service.endpoint)) (send_accepted A call.thread service message) Dropped refl
-    (send_grows A call.thread service message inv pass.endpoint_live address _ refl e)
-performed_grows A call (Recv address) service inv pass e =
-    receive_grows A call.thread service inv pass.endpoint_live address _ refl (λ s is. own_record A (endpoint_at A service.endpoint) A.sends (length (asks_of A (endpoint_at A service.endpoint))) s is) e
-performed_grows A call (NbRecv address) service inv pass e =
-    awaited_grows A e (is_receive_awaited A (endpoint_at A service.endpoint)) (receive_accepted A call.thread service) Empty refl
-    (receive_grows A call.thread service inv pass.endpoint_live address _ refl (λ s is. own_record A (endpoint_at A service.endpoint) A.sends (length (asks_of A (endpoint_at A service.endpoint))) s is) e)
+sends_grow : (p : ProfileName) (A : State) (t : ℕ) (service : Service) (message : Message) (block : Bool) → Invariant A → Passes A t (Send service message block) → (e : Instance) → Grows A e (performed p A t (Send service message block))
+sends_grow p A t service message true inv pass e = send_grows A t service message inv pass.endpoint_live _ refl e
+sends_grow p A t service message false inv pass e =
+    awaited_grows A e (is_send_awaited A (endpoint_at A service.endpoint)) (send_accepted A t service message) Dropped refl
+    (send_grows A t service message inv pass.endpoint_live _ refl e)
 
-outcome_grows : (p : ProfileName) (A : State) (call : Call) → Invariant A → (r : Result Service Refusal) → checked p (shown A) call ≡ r → (e : Instance) → Grows A e (outcome A call r)
-outcome_grows p A call inv (Err refusal) h e = same_pairs A e (outcome A call (Err refusal)) refl refl
-outcome_grows p A call inv (Ok service) h e = performed_grows A call call.op service inv (passes p A call service h) e
+receives_grow : (p : ProfileName) (A : State) (t : ℕ) (service : Service) (block : Bool) → Invariant A → Passes A t (Receive service block) → (e : Instance) → Grows A e (performed p A t (Receive service block))
+receives_grow p A t service true inv pass e =
+    receive_grows A t service inv pass.endpoint_live _ refl (λ s is. own_record A (endpoint_at A service.endpoint) A.sends (length (asks_of A (endpoint_at A service.endpoint))) s is) e
+receives_grow p A t service false inv pass e =
+    awaited_grows A e (is_receive_awaited A (endpoint_at A service.endpoint)) (receive_accepted A t service) Empty refl
+    (receive_grows A t service inv pass.endpoint_live _ refl (λ s is. own_record A (endpoint_at A service.endpoint) A.sends (length (asks_of A (endpoint_at A service.endpoint))) s is) e)
+
+performed_grows : (p : ProfileName) (A : State) (t : ℕ) (task : Task) → Invariant A → Passes A t task → (e : Instance) → Grows A e (performed p A t task)
+performed_grows p A t (Send service message block) inv pass e = sends_grow p A t service message block inv pass e
+performed_grows p A t (Receive service block) inv pass e = receives_grow p A t service block inv pass e
+performed_grows p A t (Retype new) inv pass e = same_pairs A e (objects_made p A new) refl refl
+performed_grows p A t (Derive transfer) inv pass e = same_pairs A e (rearranged A (with_derived p transfer A.derivations)) refl refl
+performed_grows p A t (Move transfer) inv pass e = same_pairs A e (rearranged A (with_moved transfer A.derivations)) refl refl
+
+outcome_grows : (p : ProfileName) (A : State) (call : Call) → Invariant A → (r : Result Task Refusal) → checked p (shown A) call ≡ r → (e : Instance) → Grows A e (outcome p A call.thread r)
+outcome_grows p A call inv (Err refusal) h e = same_pairs A e (outcome p A call.thread (Err refusal)) refl refl
+outcome_grows p A call inv (Ok task) h e = performed_grows p A call.thread task inv (passes p A call task h) e
 
 step_grows : (p : ProfileName) (A : State) (call : Call) → Invariant A → (e : Instance) → Grows A e (step p A call)
 step_grows p A call inv e = outcome_grows p A call inv (checked p (shown A) call) refl e
