@@ -39,6 +39,7 @@ pub mod NewObjects
 pub mod RetypedObjects
 pub mod NewThreads
 pub mod PutObjects
+pub mod RetypedKernel
 pub mod Spaces
 pub mod Clear
 pub mod BootPlaces

@@ -2,7 +2,7 @@
 ghost use Rattle.std.specs.Prelude.{◌≡◌, ℕ, ◌*◌, ◌/◌, ◌%◌, ◌^◌, ◌≤◌, ◌<◌, ◌==◌, length, map, All};
 ghost use Rattle.std.specs.List.{IsDistinct, range_with_len};
 ghost use Rattle.std.specs.FinMap.{insert};
-ghost use Rattle.cap_core.specs.declared.limits.TheConstants.{MIN_MEMORY_BITS, MAX_MEMORY_BITS};
+ghost use Rattle.cap_core.specs.declared.limits.TheConstants.{MAX_MEMORY_BITS};
 ghost use Rattle.cap_core.specs.Numbers.{tcb_size};
 ghost use Rattle.cap_core.specs.Objects.{IsLawful};
 ghost use Rattle.mem_core.specs.Plans.{object_at};
@@ -22,7 +22,6 @@ use slot_core::{CapStore, Slot};
 /// Makes objects in an untyped region: it is used up to the end of the last one, and their capabilities are put into their
 /// slots, each the first child of the untyped.
 pub fn make_objects<P: Profile, S: CapStore<P>>(store: &mut S, new: NewObjects)
-    requires least { MIN_MEMORY_BITS ≤ S.memory_bits store.old }
     requires most { S.memory_bits store.old ≤ MAX_MEMORY_BITS }
     requires task { IsRetype P.the (S.forest store.old) new }
     requires regions { AreRegions P.the (S.forest store.old) }
