@@ -84,6 +84,12 @@ module _ (p : ProfileName) (memory : ℕ) (f : Forest Entry) (store : IsKernelSt
     pub cap_lawful : IsLawful p memory transfer.cap
     cap_lawful = ends.lawful memory store.lawful
 
+    pub source_lawful : IsLawful p memory (cap_at f transfer.source)
+    source_lawful =
+        let s : (e : Entry) × Contains (preorder f) e × (e.slot ≡ transfer.source) × (e.cap ≡ cap_at f transfer.source) = entry_at transfer.source f ends.full in
+        subst (IsLawful p memory) s.3
+        (each-contained (λ (e : Entry). IsLawful p memory e.cap) (preorder f) s.0 (each_of (IsLawful p memory) (λ (e : Entry). e.cap) (preorder f) store.lawful) s.1)
+
     pub slots_differ : transfer.source ≢ transfer.slot
     slots_differ e = let none : is_full transfer.slot f ≡ false = ends.empty in
         let some : is_full transfer.slot f ≡ true = (let Q : ℕ → Type 0 = λ n. is_full n f ≡ true in subst Q e ends.full) in cc

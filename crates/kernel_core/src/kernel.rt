@@ -24,6 +24,7 @@ use crate::checks::task_for;
 use crate::objects::{add_threads, make_objects};
 use crate::rows::{ThreadRow, row_at, set_row};
 use crate::task::{NewObjects, Service, Task, Transfer};
+use crate::transfers::{derive_in, move_in};
 use cap_core::{Cap, Kind, Message, Profile, Refusal};
 use ipc_core::{Received, Sent, Waiters};
 use slot_core::{CapStore, Slot};
@@ -187,12 +188,7 @@ impl<P: Profile, S: CapStore<P> + Drop, W: Waiters<P> + Drop> Kernel<P, S, W> {
         ensures reply { result ≡ Done }
         ensures after { self.new ≡ rearranged self.old (with_derived P.the transfer self.old.derivations) }
     {
-        let source = Slot::of_node::<P>(transfer.source, 0);
-        let slot = Slot::of_node::<P>(transfer.slot, 0);
-        self.store.derive(source, slot, transfer.cap);
-        if let Cap::Untyped { bits, .. } = transfer.cap {
-            self.store.set_free(source, 1 << bits);
-        }
+        derive_in::<P, S>(&mut self.store, transfer);
         Reply::Done
     }
 
@@ -202,9 +198,7 @@ impl<P: Profile, S: CapStore<P> + Drop, W: Waiters<P> + Drop> Kernel<P, S, W> {
         ensures reply { result ≡ Done }
         ensures after { self.new ≡ rearranged self.old (with_moved transfer self.old.derivations) }
     {
-        let source = Slot::of_node::<P>(transfer.source, 0);
-        let slot = Slot::of_node::<P>(transfer.slot, 0);
-        self.store.relocate(source, slot, transfer.cap);
+        move_in::<P, S>(&mut self.store, transfer);
         Reply::Done
     }
 

@@ -9,6 +9,7 @@ mod objects;
 pub mod plan;
 mod rows;
 pub mod task;
+mod transfers;
 
 pub use call::{Call, Inbox, Op, Reply, ThreadState};
 pub use kernel::Kernel;

@@ -1,0 +1,36 @@
+//! Capabilities that are derived and moved.
+ghost use Rattle.std.specs.Prelude.{◌≡◌};
+ghost use Rattle.kernel_core.specs.Rows.{IsKernelStore};
+ghost use Rattle.kernel_core.specs.Tasks.{IsDerivation, IsMove};
+ghost use Rattle.kernel_core.specs.Transfers.{with_derived, with_moved};
+
+use crate::task::Transfer;
+use cap_core::{Cap, Profile};
+use slot_core::{CapStore, Slot};
+
+/// Derives a capability from the one in a slot. An untyped region is used up where it is handed on.
+pub fn derive_in<P: Profile, S: CapStore<P>>(store: &mut S, transfer: Transfer)
+    requires store { IsKernelStore P.the (S.memory_bits store.old) (S.forest store.old) }
+    requires derivation { IsDerivation P.the (S.forest store.old) transfer }
+    ensures forest { S.forest store.new ≡ with_derived P.the transfer (S.forest store.old) }
+    ensures memory { S.memory_bits store.new ≡ S.memory_bits store.old }
+{
+    let source = Slot::of_node::<P>(transfer.source, 0);
+    let slot = Slot::of_node::<P>(transfer.slot, 0);
+    store.derive(source, slot, transfer.cap);
+    if let Cap::Untyped { bits, .. } = transfer.cap {
+        store.set_free(source, 1 << bits);
+    }
+}
+
+/// Moves a capability from one slot to another.
+pub fn move_in<P: Profile, S: CapStore<P>>(store: &mut S, transfer: Transfer)
+    requires store { IsKernelStore P.the (S.memory_bits store.old) (S.forest store.old) }
+    requires moved { IsMove P.the (S.forest store.old) transfer }
+    ensures forest { S.forest store.new ≡ with_moved transfer (S.forest store.old) }
+    ensures memory { S.memory_bits store.new ≡ S.memory_bits store.old }
+{
+    let source = Slot::of_node::<P>(transfer.source, 0);
+    let slot = Slot::of_node::<P>(transfer.slot, 0);
+    store.relocate(source, slot, transfer.cap);
+}
