@@ -51,5 +51,4 @@ pub mod LiveAfter
 pub mod RegionsDerived
 pub mod RegionsMoved
 pub mod KernelStore
-pub mod Rearranged
 pub mod TransferSteps
