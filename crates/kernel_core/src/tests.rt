@@ -1,1 +1,2 @@
+mod capabilities;
 mod steps;
