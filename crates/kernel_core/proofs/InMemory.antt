@@ -74,12 +74,12 @@ module _ (p : ProfileName) (memory : ℕ) (f : Forest Entry) (all : LiesIn p mem
       let put : Forest Entry = derived transfer.source transfer.slot transfer.cap f in
       let lies = derived_lies transfer is in (
         all_slots (IsSlotAddress p memory) _
-        (each-freed (λ (e : Entry). IsSlotAddress p memory e.slot) transfer.source (2 ^ bits_of p transfer.cap) put (each_slot (IsSlotAddress p memory) put lies.0)
-        (λ e m s. subst (IsSlotAddress p memory) s (each-contained (λ (e : Entry). IsSlotAddress p memory e.slot) (preorder put) e (each_slot (IsSlotAddress p memory) put lies.0) m))),
+            (each-freed (λ (e : Entry). IsSlotAddress p memory e.slot) transfer.source (2 ^ bits_of p transfer.cap) put (each_slot (IsSlotAddress p memory) put lies.0)
+            (λ e m s. subst (IsSlotAddress p memory) s (each-contained (λ (e : Entry). IsSlotAddress p memory e.slot) (preorder put) e (each_slot (IsSlotAddress p memory) put lies.0) m))),
         all_caps (IsLawful p memory) _
-        (each-freed (λ (e : Entry). IsLawful p memory e.cap) transfer.source (2 ^ bits_of p transfer.cap) put (each_cap (IsLawful p memory) put lies.1)
-        (λ e m s. lawful_free p memory (2 ^ bits_of p transfer.cap) e.cap (room e s (contains-derived transfer.source transfer.slot transfer.cap f e m))
-        (each-contained (λ (e : Entry). IsLawful p memory e.cap) (preorder put) e (each_cap (IsLawful p memory) put lies.1) m))),
+            (each-freed (λ (e : Entry). IsLawful p memory e.cap) transfer.source (2 ^ bits_of p transfer.cap) put (each_cap (IsLawful p memory) put lies.1)
+            (λ e m s. lawful_free p memory (2 ^ bits_of p transfer.cap) e.cap (room e s (contains-derived transfer.source transfer.slot transfer.cap f e m))
+            (each-contained (λ (e : Entry). IsLawful p memory e.cap) (preorder put) e (each_cap (IsLawful p memory) put lies.1) m))),
       )
     where
       room : (e : Entry) → e.slot ≡ transfer.source → Contains (preorder f) e ⊎ (derived_entry transfer.source transfer.slot transfer.cap f ≡ e) → 2 ^ bits_of p transfer.cap ≤ 2 ^ bits_of p e.cap
@@ -92,7 +92,7 @@ module _ (p : ProfileName) (memory : ℕ) (f : Forest Entry) (all : LiesIn p mem
   with_derived_lies : (transfer : Transfer) → IsTransfer p f transfer → IsDistinct eqb (slots f) → LiesIn p memory (with_derived p transfer f)
   with_derived_lies transfer is distinct =
       (elim (is_untyped transfer.cap) as (λ b. is_untyped transfer.cap ≡ b →
-          LiesIn p memory (cond b (freed transfer.source (2 ^ bits_of p transfer.cap) (derived transfer.source transfer.slot transfer.cap f)) (derived transfer.source transfer.slot transfer.cap f))) [
+      LiesIn p memory (cond b (freed transfer.source (2 ^ bits_of p transfer.cap) (derived transfer.source transfer.slot transfer.cap f)) (derived transfer.source transfer.slot transfer.cap f))) [
         | true ↦ λ u. used_up_lies transfer is distinct u
         | false ↦ λ u. derived_lies transfer is
       ]) refl
