@@ -1,20 +1,17 @@
 -- Capabilities are rearranged, and the same objects are live: what is shown after.
-use Rattle.std.proofs.Common.{◌≡◌, ℕ, ◌+◌, ◌≤◌, Bool, true, false, cond, ◌==◌, List, [], ◌∷◌, find, Option, None, Some, refl, sym, ap, subst, ◌∙◌, arith, inl, inr, unwrap_or}
+use Rattle.std.proofs.Common.{◌≡◌, ℕ, ◌≤◌, true, cond, ◌==◌, List, [], ◌∷◌, find, refl, sym, ◌∙◌, arith, inl, inr}
 use Rattle.std.specs.List.{list_any, AllByRecursion}
 use Rattle.std.proofs.lemmas.Bool.Decides.{eqb_tells}
 use Rattle.slot_core.specs.Forest.{Forest}
 use Rattle.slot_core.specs.Entries.{Entry}
 use Rattle.ipc_core.specs.Records.{Instance, SendRecord, AskRecord, same_instance}
-use Rattle.ipc_core.specs.declared.waiter.Waiter.{Waiter}
-use Rattle.kernel_core.specs.declared.call.ThreadState.{ThreadState}
 use Rattle.kernel_core.specs.declared.call.ThreadState.TheVariants.{Ready, Inactive}
-use Rattle.kernel_core.specs.Shown.{Shown, ThreadView, threads_of, endpoints_of, waiting_at, table}
-use Rattle.kernel_core.specs.State.{State, endpoint_at, thread_at, first_of, is_sending, is_receiving, state_of, inbox_of, thread_view, shown, waiters, waiting_sends, waiting_asks}
+use Rattle.kernel_core.specs.Shown.{threads_of, endpoints_of, waiting_at}
+use Rattle.kernel_core.specs.State.{State, endpoint_at, thread_at, first_of, is_sending, is_receiving, inbox_of, thread_view, shown, waiters, waiting_sends, waiting_asks}
 use Rattle.kernel_core.specs.Step.{counted}
 use Rattle.kernel_core.specs.Step as spec
 use Rattle.kernel_core.specs.Effects.{done, rearranged}
 use Rattle.kernel_core.proofs.Delivering.{pending}
-use Rattle.kernel_core.proofs.Rising.{tally}
 use Rattle.kernel_core.proofs.Searches.{find_agrees, table_agrees, some_tally}
 use Rattle.kernel_core.proofs.ReachedStates.{Invariant, IsShown, list_shown, asks_later, sends_later, asks_born_later, sends_born_later}
 

@@ -1,5 +1,5 @@
 -- The objects that a retype makes were not live.
-use Rattle.std.proofs.Common.{◌≡◌, ℕ, ◌≤◌, Bool, true, false, cond, ◌==◌, ◌||◌, eqb, List, [], ◌∷◌, map, Option, None, Some, All, refl, sym, ap, subst, ◌∙◌, inl, inr, eq-eqb}
+use Rattle.std.proofs.Common.{◌≡◌, ℕ, ◌≤◌, Bool, true, false, ◌==◌, ◌||◌, eqb, List, [], ◌∷◌, map, Option, None, Some, All, refl, sym, ap, ◌∙◌, inl, inr, eq-eqb}
 use Rattle.std.specs.List.{AllByRecursion, Contains, IsDistinct, list_any, filter_map, cons_option}
 use Rattle.std.proofs.lemmas.Bool.{false≢true, or_parts}
 use Rattle.std.proofs.lemmas.Bool.Decides.{eqb_tells}

@@ -1,21 +1,19 @@
 -- Objects are made where none was live: what is shown after.
-use Rattle.std.proofs.Common.{◌≡◌, ◌≢◌, ℕ, ◌+◌, ◌<◌, ◌≤◌, Bool, true, false, not, cond, ◌==◌, ◌&&◌, ◌||◌, List, [], ◌∷◌, filter, find, drop, length, zero, suc, Option, None, Some, refl, sym, ap, subst, ◌∙◌, arith, inl, inr, unwrap_or, eq-eqb}
+use Rattle.std.proofs.Common.{◌≡◌, ◌≢◌, ℕ, ◌+◌, ◌≤◌, Bool, true, false, not, cond, ◌==◌, ◌&&◌, ◌||◌, List, [], ◌∷◌, filter, find, drop, length, zero, suc, Option, None, Some, refl, sym, ap, ◌∙◌, arith, unwrap_or, eq-eqb}
 use Rattle.std.specs.List.{list_any, filter_map, AllByRecursion}
 use Rattle.std.specs.FinMap.{FinMap, get, insert}
 use Rattle.std.specs.Ordering.{nat_cmp}
 use Rattle.std.proofs.lemmas.Bool.{false≢true, ne_eqb}
 use Rattle.cap_core.specs.declared.profile.ProfileName.{ProfileName}
-use Rattle.slot_core.specs.Forest.{Forest}
-use Rattle.slot_core.specs.Entries.{Entry, is_full}
+use Rattle.slot_core.specs.Entries.{is_full}
 use Rattle.ipc_core.specs.Records.{Instance, SendRecord, AskRecord, same_instance, waiting_list}
 use Rattle.ipc_core.specs.declared.waiter.Waiter.{Waiter}
-use Rattle.kernel_core.specs.declared.call.ThreadState.{ThreadState}
 use Rattle.kernel_core.specs.declared.call.ThreadState.TheVariants.{Ready, Inactive}
 use Rattle.kernel_core.specs.declared.task.NewObjects.{NewObjects}
-use Rattle.kernel_core.specs.Shown.{Shown, ThreadView, threads_of, endpoints_of, endpoint_base, tcb_base, waiting_at, table}
+use Rattle.kernel_core.specs.Shown.{ThreadView, threads_of, endpoints_of, endpoint_base, tcb_base, waiting_at, table}
 use Rattle.kernel_core.specs.State.{State, endpoint_at, thread_at, sends_to, asks_of, first_of, is_sending, is_receiving, state_of, inbox_of, inbox_with, pair_of, last_completed, thread_view, shown, waiters, waiting_sends, waiting_asks}
 use Rattle.kernel_core.specs.Retyping.{with_objects, new_bases}
-use Rattle.kernel_core.specs.Step.{counted, objects_made, born_at, is_made}
+use Rattle.kernel_core.specs.Step.{objects_made, born_at}
 use Rattle.kernel_core.specs.Effects.{done, objects_shown, new_thread, with_threads}
 use Rattle.kernel_core.proofs.Delivering.{pending}
 use Rattle.kernel_core.proofs.Rising.{tally, find_nothing}

@@ -1,5 +1,5 @@
 -- What holds of the capabilities of each state that runs reach.
-use Rattle.std.proofs.Common.{◌≡◌, ℕ, Bool, true, false, List, [], ◌∷◌, Option, None, Some, Result, Ok, Err, refl, sym, subst, ◌∙◌}
+use Rattle.std.proofs.Common.{◌≡◌, ℕ, Bool, true, false, Option, None, Some, Result, Ok, Err, refl}
 use Rattle.cap_core.specs.declared.profile.ProfileName.{ProfileName}
 use Rattle.cap_core.specs.declared.refusal.Refusal.{Refusal}
 use Rattle.slot_core.specs.Forest.{Forest}
@@ -15,10 +15,10 @@ use Rattle.kernel_core.specs.Boot.{boot, boot_forest}
 use Rattle.kernel_core.specs.Checks.{checked, invoked, where_live, where_ready}
 use Rattle.kernel_core.specs.Plan.{Plan, IsPlan}
 use Rattle.kernel_core.specs.Retyping.{with_objects}
-use Rattle.kernel_core.specs.Rows.{IsKernel, IsKernelStore}
+use Rattle.kernel_core.specs.Rows.{IsKernelStore}
 use Rattle.kernel_core.specs.Shown.{ThreadView}
 use Rattle.kernel_core.specs.State.{State, shown, endpoint_at}
-use Rattle.kernel_core.specs.Step.{Outcome, outcome, performed, step, where_awaited, is_send_awaited, is_receive_awaited, send_accepted, receive_accepted}
+use Rattle.kernel_core.specs.Step.{Outcome, outcome, performed, where_awaited, is_send_awaited, is_receive_awaited, send_accepted, receive_accepted}
 use Rattle.kernel_core.specs.Tasks.{IsRetype}
 use Rattle.kernel_core.proofs.Booted.{is_kernel}
 use Rattle.kernel_core.proofs.KernelStore.{store-derived, store-moved}

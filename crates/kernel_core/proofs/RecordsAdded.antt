@@ -1,46 +1,33 @@
 -- A send and a receive add a record: what is shown after.
-use Rattle.std.proofs.Common.{◌≡◌, ◌≢◌, ℕ, zero, suc, nat_lt, ◌+◌, ◌<◌, ◌≤◌, Bool, true, false, cond, ◌==◌, List, [], ◌∷◌, ◌++◌, Option, None, Some, Result, Ok, Err, slice_get, length, refl, sym, ap, subst, ◌∙◌, arith, unwrap_or, option_and_then, drop}
-use Rattle.std.specs.List.{list_any, AllByRecursion}
+use Rattle.std.proofs.Common.{◌≡◌, ℕ, zero, suc, nat_lt, ◌+◌, Bool, true, false, cond, ◌==◌, List, [], ◌∷◌, ◌++◌, Option, None, Some, slice_get, length, refl, sym, ap, ◌∙◌, arith, drop}
+use Rattle.std.specs.List.{list_any}
 use Rattle.std.specs.FinMap.{insert}
-use Rattle.kernel_core.proofs.Receiving.{AsksUpTo, after_ask, shown_asks, no_sender}
+use Rattle.kernel_core.proofs.Receiving.{after_ask, shown_asks, no_sender}
 use Rattle.kernel_core.specs.Step as spec
-use Rattle.kernel_core.proofs.Live.{HasLiveEndpoint, found_live}
-use Rattle.kernel_core.proofs.Keyed.{get_table}
 use Rattle.kernel_core.proofs.Sending.{after_send, shown_waits, no_receiver, a_receiver}
-use Rattle.kernel_core.proofs.Delivering.{SendsUpTo, pending, shown_delivers}
+use Rattle.kernel_core.proofs.Delivering.{pending, shown_delivers}
 use Rattle.kernel_core.proofs.Serving.{shown_serves, list_left}
 use Rattle.kernel_core.proofs.Lists.{all_get, all_kept, get_within}
 use Rattle.kernel_core.proofs.Once.{pending_elsewhere, pending_here, pending_elsewhere', pending_here', once_kept, alone_kept, small_or_ready}
-use Rattle.kernel_core.proofs.Rising.{Rising, member_get, member_filter, all_at}
-use Rattle.kernel_core.specs.declared.call.Call.{Call}
-use Rattle.kernel_core.specs.declared.task.Task.{Task}
-use Rattle.kernel_core.specs.declared.task.Task.TheVariants.{Send, Receive, Retype, Derive, Move}
+use Rattle.kernel_core.proofs.Rising.{member_get, member_filter, all_at}
+use Rattle.kernel_core.specs.declared.task.Task.TheVariants.{Send, Receive}
 use Rattle.kernel_core.specs.declared.task.Service.{Service}
 use Rattle.kernel_core.specs.declared.call.ThreadState.TheVariants.{Ready, Inactive, Sending, Receiving}
 use Rattle.kernel_core.specs.declared.call.Reply.{Reply}
 use Rattle.kernel_core.specs.declared.call.Reply.TheVariants.{Dropped, Empty}
 use Rattle.std.proofs.lemmas.Bool.Decides.{nat_tests}
 use Rattle.kernel_core.specs.declared.call.Inbox.{Inbox}
-use Rattle.kernel_core.specs.declared.call.ThreadState.{ThreadState}
 use Rattle.ipc_core.specs.Records.{AskRecord, Instance, SendRecord}
 use Rattle.cap_core.specs.declared.profile.ProfileName.{ProfileName}
-use Rattle.kernel_core.specs.Effects.{Effect, untaken, changed, effect_of, effect_found, task_effect, receive_effect, receive_meets, receive_waits, receives, send_effect, send_meets, send_waits}
-use Rattle.kernel_core.specs.Reached.{IsReached, StepsTo}
+use Rattle.kernel_core.specs.Effects.{Effect, untaken, changed, task_effect, receive_effect, receive_meets, receives, send_effect, send_meets}
 use Rattle.cap_core.specs.declared.message.Message.{Message}
 use Rattle.ipc_core.specs.declared.waiter.Offer.{Offer}
 use Rattle.ipc_core.specs.Waits.{first_sender}
-use Rattle.kernel_core.specs.Plan.{Plan}
 use Rattle.ipc_core.specs.declared.waiter.Waiter.TheVariants.{Receiver, Sender}
-use Rattle.cap_core.specs.declared.refusal.Refusal.{Refusal}
-use Rattle.kernel_core.specs.Shown.{Shown, ThreadView, endpoints_of, inbox_at, threads_of, waiting_at}
-use Rattle.kernel_core.specs.State.{State, asks_of, endpoint_at, inbox_of, sends_to, shown, first_of, state_of, thread_at, thread_view, waiters}
-use Rattle.ipc_core.specs.declared.waiter.Waiter.{Waiter}
-use Rattle.kernel_core.specs.Step.{Outcome, ask_record, counted, is_receive_awaited, is_send_awaited, outcome, performed, receive_accepted, send_accepted, send_record, state_after, step, where_awaited}
-use Rattle.kernel_core.specs.Boot.{boot}
-use Rattle.kernel_core.specs.Words.{service_word}
-use Rattle.kernel_core.specs.Lookups.{invoked_slot}
-use Rattle.kernel_core.specs.Checks.{checked, invoked, where_live, where_ready}
-use Rattle.kernel_core.proofs.ReachedStates.{Invariant, Passes, passes, list_shown, inbox_shown, IsShown, inv_boot, asks_later, sends_later, all_push, rising_push, asks_born_later, sends_born_later, inv_refused}
+use Rattle.kernel_core.specs.Shown.{Shown, endpoints_of, inbox_at, threads_of, waiting_at}
+use Rattle.kernel_core.specs.State.{State, asks_of, endpoint_at, inbox_of, sends_to, shown, first_of, state_of, thread_at, waiters}
+use Rattle.kernel_core.specs.Step.{Outcome, ask_record, is_receive_awaited, is_send_awaited, performed, receive_accepted, send_accepted, send_record, where_awaited}
+use Rattle.kernel_core.proofs.ReachedStates.{Invariant, Passes, list_shown, inbox_shown, IsShown, asks_later, sends_later, all_push, rising_push, asks_born_later, sends_born_later, inv_refused}
 
 -- an operation that is not awaited leaves no trace
 unawaited : (A : State) (x : Effect) (b : Bool) (accepted : Outcome) (reply : Reply) → b ≡ false → x ≡ untaken (shown A) reply → IsShown x (where_awaited A b accepted reply)
