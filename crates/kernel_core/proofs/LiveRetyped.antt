@@ -1,5 +1,5 @@
 -- Which objects are live after a retype: those that were, and the new ones.
-use Rattle.std.proofs.Common.{◌≡◌, ℕ, Bool, true, false, cond, ◌||◌, ◌==◌, List, [], ◌∷◌, map, Option, None, Some, refl, sym, ◌∙◌, ap}
+use Rattle.std.proofs.Common.{◌≡◌, ℕ, Bool, true, false, ◌||◌, ◌==◌, List, [], ◌∷◌, map, Option, None, Some, refl, sym, ◌∙◌, ap}
 use Rattle.std.specs.List.{list_any, filter_map, cons_option}
 use Rattle.cap_core.specs.declared.profile.ProfileName.{ProfileName}
 use Rattle.cap_core.specs.declared.capability.Cap.{Cap}
@@ -90,9 +90,9 @@ live-objects base_of same p new f h e =
     ∙ any_map test (λ (x : Entry). x.cap) (preorder (with_objects p new f))
     ∙ any-with_new (λ (x : Entry). test x.cap) new.untyped (new_caps p new) (freed new.untyped new.placed.free f) (full-freed new.untyped new.untyped new.placed.free f ∙ h)
     ∙ ap (λ b. list_any (λ (put : ℕ × Cap). test put.1) (new_caps p new) || b)
-        (any-freed (λ (x : Entry). test x.cap) new.untyped new.placed.free f (λ x. ap (names_base e) (same new.placed.free x.cap)) ∙ sym (any_map test (λ (x : Entry). x.cap) (preorder f)) ∙ sym (any_bases base_of e (caps f)))
+    (any-freed (λ (x : Entry). test x.cap) new.untyped new.placed.free f (λ x. ap (names_base e) (same new.placed.free x.cap)) ∙ sym (any_map test (λ (x : Entry). x.cap) (preorder f)) ∙ sym (any_bases base_of e (caps f)))
     ∙ ap (λ b. b || list_any (λ k. e == k) (filter_map base_of (caps f)))
-        (sym (any_map test (λ (put : ℕ × Cap). put.1) (new_caps p new)) ∙ sym (any_bases base_of e (map (λ (put : ℕ × Cap). put.1) (new_caps p new))))
+    (sym (any_map test (λ (put : ℕ × Cap). put.1) (new_caps p new)) ∙ sym (any_bases base_of e (map (λ (put : ℕ × Cap). put.1) (new_caps p new))))
   where
     test : Cap → Bool
     test c = names_base e (base_of c)

@@ -5,11 +5,11 @@ use Rattle.std.proofs.Math.Nat.{one-le-pow}
 use Rattle.std.proofs.lemmas.Bool.Decides.{nat_tests}
 use Rattle.cap_core.specs.declared.profile.ProfileName.{ProfileName}
 use Rattle.cap_core.specs.declared.capability.Cap.{Cap}
-use Rattle.cap_core.specs.Objects.{is_null, is_untyped, base_of, bits_of, end_of, same_object, contains, in_region, IsLawful}
+use Rattle.cap_core.specs.Objects.{is_untyped, base_of, bits_of, end_of, same_object, contains, in_region, IsLawful}
 use Rattle.slot_core.specs.Forest.{Forest, none, tree, preorder, has, below_those, descendants, ancestors}
 use Rattle.slot_core.specs.Entries.{Entry, entry, is_at, is_full, cap_at, slots}
 use Rattle.slot_core.specs.Derivation.{retyped, is_named}
-use Rattle.slot_core.specs.Disjoint.{AreInLine, IsDisjoint}
+use Rattle.slot_core.specs.Disjoint.{IsDisjoint}
 use Rattle.slot_core.proofs.Forests.{each-left_part, each-right_part, each-weaker, each-contained, each-contains, each-from_contained}
 use Rattle.slot_core.proofs.Edits.{entry_at}
 use Rattle.slot_core.proofs.Lines.{ancestors-descend}
@@ -17,13 +17,11 @@ use Rattle.slot_core.proofs.Distinct.{once_at}
 use Rattle.slot_core.proofs.Holding.{cap-entry}
 use Rattle.slot_core.proofs.Disjointness.{AreSame, are_same}
 use Rattle.slot_core.proofs.DisjointRetyped.{disjoint-retyped}
-use Rattle.slot_core.proofs.DisjointDerived.{any_contained}
 use Rattle.slot_core.proofs.Retyped.{full-retyped, cap-retyped_other, distinct-retyped, each-retyped}
 use Rattle.kernel_core.specs.Regions.{free_of, AreRegions}
 use Rattle.kernel_core.specs.Rows.{IsSlotAddress}
 use Rattle.kernel_core.specs.Retyping.{with_new}
 use Rattle.kernel_core.proofs.Descendants.{contains-below_those}
-use Rattle.kernel_core.proofs.Regions.{region_is}
 use Rattle.kernel_core.proofs.LiveRetyped.{untyped_full}
 use Rattle.kernel_core.proofs.RetypeRegions.{descendants-retyped, regions-retyped, region_around}
 
@@ -71,13 +69,13 @@ number : (i : ℕ) → (i == i) ≡ true
 number i = grind (arith, nat_tests)
 
 -- what stands above an untyped one is an untyped one around it
-pub above_untyped : (p : ProfileName) (slot : ℕ) (f : Forest Entry) → AreRegions p f → IsDistinct eqb (slots f) → is_untyped (cap_at f slot) ≡ true
+above_untyped : (p : ProfileName) (slot : ℕ) (f : Forest Entry) → AreRegions p f → IsDistinct eqb (slots f) → is_untyped (cap_at f slot) ≡ true
     → (a : Entry) → Contains (ancestors (is_at slot) f) a → (is_untyped a.cap ≡ true) × (contains p a.cap (cap_at f slot) ≡ true)
 above_untyped p slot f r distinct untyped a m =
     let there : Contains (preorder f) a = each-contained (Contains (preorder f)) (ancestors (is_at slot) f) a (each-ancestors (Contains (preorder f)) (is_at slot) f (each-contains (preorder f))) m in
     let i : list_any (is_at slot) (descendants (is_at a.slot) f) ≡ true =
     each-contained (λ (y : Entry). is_at a.slot y ≡ true → list_any (is_at slot) (descendants (is_at a.slot) f) ≡ true) (ancestors (is_at slot) f) a
-      (ancestors-descend (is_at slot) (is_at a.slot) f (once_at a.slot (preorder f) distinct)) m (number a.slot) in
+    (ancestors-descend (is_at slot) (is_at a.slot) f (once_at a.slot (preorder f) distinct)) m (number a.slot) in
     let e : (e : Entry) × Contains (descendants (is_at a.slot) f) e × (e.slot ≡ slot) × (e.cap ≡ cap_at (below_those (is_at a.slot) f) slot) = entry_at slot (below_those (is_at a.slot) f) i in
     let c : cap_at f slot ≡ e.0.cap = ap (cap_at f) (sym e.2) ∙ cap-entry f e.0 distinct (contains-below_those (is_at a.slot) f e.0 e.1) in
     region_around p a.cap (cap_at f slot) (ap (in_region p a.cap) c ∙ r.below a e.0 there e.1) untyped
@@ -100,18 +98,18 @@ unnamed_new p untyped cap f r d distinct is_region within ends = none_such (λ (
 
     differs : (e : Entry) → Contains (preorder f) e → same_object e.cap cap ≡ true → ⊥
     differs e m t = elim (d.lines s.0 e s.1 m (ap is_untyped s.3 ∙ is_region) around) [
-        | inl i ↦ (let c : cap_at f untyped ≡ e.cap = ap (cap_at f) (sym (i ∙ s.2)) ∙ cap-entry f e distinct m in
+      | inl i ↦ (let c : cap_at f untyped ≡ e.cap = ap (cap_at f) (sym (i ∙ s.2)) ∙ cap-entry f e distinct m in
           let u : is_untyped e.cap ≡ true = ap is_untyped (sym c) ∙ is_region in
           let n : is_untyped e.cap ≡ false = same.first in cc)
-        | inr (inl n) ↦ (let R : ℕ → Type 0 = λ i. Contains (descendants (is_at i) f) e in
+      | inr (inl n) ↦ (let R : ℕ → Type 0 = λ i. Contains (descendants (is_at i) f) e in
           let last : end_of p e.cap ≤ base_of cap = ends e (subst R s.2 n) in
           let base : base_of e.cap ≡ base_of cap = same.base in
           let pos : 1 ≤ 2 ^ bits_of p e.cap = one-le-pow (bits_of p e.cap) 2 (omega arith) in
           omega arith)
-        | inr (inr n) ↦ (let R : ℕ → Type 0 = λ i. Contains (ancestors (is_at i) f) e in
+      | inr (inr n) ↦ (let R : ℕ → Type 0 = λ i. Contains (ancestors (is_at i) f) e in
           let u : is_untyped e.cap ≡ true = (above_untyped p untyped f r distinct is_region e (subst R s.2 n)).0 in
           let n : is_untyped e.cap ≡ false = same.first in cc)
-      ]
+    ]
       where
         same : AreSame p e.cap cap
         same = are_same p e.cap cap t
@@ -135,7 +133,7 @@ first_new p memory untyped put puts f h =
       lawful = h.new.0.lawful;
       unnamed = unnamed_new p untyped put.1 f h.regions h.disjoint h.distinct h.untyped_is h.new.0.within (λ c m. (h.ends c m).0);
       disjoint = disjoint-retyped p untyped put.0 put.1 f h.disjoint h.distinct (untyped_full untyped f h.untyped_is) h.new.0.empty h.untyped_is h.new.0.within h.new.0.lawful.full (λ c m. (h.ends c m).0)
-        (above_untyped p untyped f h.regions h.distinct h.untyped_is);
+          (above_untyped p untyped f h.regions h.distinct h.untyped_is);
     }
 
 full_differs : (a b : ℕ) (f : Forest Entry) → is_full a f ≡ true → is_full b f ≡ false → a ≢ b

@@ -1,5 +1,5 @@
 -- The rows of new threads, and what is shown of them.
-use Rattle.std.proofs.Common.{◌≡◌, ℕ, zero, suc, ◌+◌, ◌*◌, ◌/◌, ◌<◌, List, [], ◌∷◌, ◌++◌, map, refl, sym, ◌∙◌, ap, subst, arith}
+use Rattle.std.proofs.Common.{◌≡◌, ℕ, ◌+◌, ◌*◌, ◌/◌, ◌<◌, List, [], ◌∷◌, ◌++◌, map, refl, ◌∙◌, ap, arith}
 use Rattle.std.specs.List.{range_with_len}
 use Rattle.std.specs.Ordering.{nat_cmp}
 use Rattle.std.specs.FinMap.{FinMap, insert}
@@ -19,6 +19,3 @@ pub rows-added : (placed : Placed) (i : ℕ) (rows : FinMap nat_cmp ThreadRow) �
 rows-added placed i rows =
     ap (λ (l : List ℕ). with_rows l rows) (map-range_with_len_more (object_at placed) 0 i i (omega arith))
     ∙ rows-more (map (object_at placed) (range_with_len 0 i)) (object_at placed i) rows
-
-pub place_below : (size n t : ℕ) → 0 < size → t < n * size → t / size < n
-place_below size n t pos h = div_below t size n pos h

@@ -1,6 +1,6 @@
 -- The loop that puts the capabilities of new objects.
-use Rattle.std.proofs.Common.{◌≡◌, ℕ, suc, ◌+◌, ◌-◌, ◌*◌, ◌%◌, ◌^◌, ◌≤◌, ◌<◌, List, [], ◌∷◌, map, All, refl, sym, ◌∙◌, ap, subst, arith, eqb}
-use Rattle.std.specs.List.{Contains, range_with_len, IsDistinct}
+use Rattle.std.proofs.Common.{◌≡◌, ℕ, suc, ◌+◌, ◌-◌, ◌*◌, ◌%◌, ◌^◌, ◌≤◌, ◌<◌, List, [], ◌∷◌, map, All, sym, ◌∙◌, ap, subst, arith}
+use Rattle.std.specs.List.{Contains, range_with_len}
 use Rattle.std.proofs.Math.Nat.{pow-le-pow_right}
 use Rattle.std.proofs.lemmas.Nat.{pow_pos}
 use Rattle.cap_core.specs.declared.limits.TheConstants.{MAX_MEMORY_BITS}
@@ -74,6 +74,10 @@ module _ (p : ProfileName) (memory : ℕ) (f : Forest Entry) (new : NewObjects) 
       let b = object_below lawful i lt in
       omega arith
 
+-- slot 0 stands at the base
+pub first_slot_at : (n base size : ℕ) → n ≡ base + 0 * size → n ≡ base
+first_slot_at n base size h = omega arith
+
 -- the capabilities from object i on
 abbrev pub puts_from : ProfileName → NewObjects → ℕ → List (ℕ × Cap)
 puts_from p new i = map (λ k. (slot_of p new.first_slot k, new_cap new.shape.kind (object_at new.placed k) new.shape.size_bits)) (range_with_len i (new.count - i))
@@ -81,14 +85,11 @@ puts_from p new i = map (λ k. (slot_of p new.first_slot k, new_cap new.shape.ki
 pub puts_start : (p : ProfileName) (new : NewObjects) → puts_from p new 0 ≡ new_caps p new
 puts_start p new = ap (λ n. map (λ k. (slot_of p new.first_slot k, new_cap new.shape.kind (object_at new.placed k) new.shape.size_bits)) (range_with_len 0 n)) (let e : new.count - 0 ≡ new.count = omega arith in e)
 
-pub puts_end : (p : ProfileName) (new : NewObjects) → puts_from p new new.count ≡ []
-puts_end p new = ap (λ n. map (λ k. (slot_of p new.first_slot k, new_cap new.shape.kind (object_at new.placed k) new.shape.size_bits)) (range_with_len new.count n)) (let e : new.count - new.count ≡ 0 = omega arith in e)
-
 -- one step of the loop
 pub put_new_next : (p : ProfileName) (memory parent slot i : ℕ) (cap : Cap) (new : NewObjects) (f : Forest Entry) → i < new.count → parent ≡ new.untyped → slot ≡ slot_of p new.first_slot i
     → cap ≡ new_cap new.shape.kind (object_at new.placed i) new.shape.size_bits → CanMake p memory new.untyped (puts_from p new i) f
     → IsPutNew p memory parent slot cap f × CanMake p memory new.untyped (puts_from p new (i + 1)) (retyped parent slot cap f)
-        × (with_new new.untyped (puts_from p new (i + 1)) (retyped parent slot cap f) ≡ with_new new.untyped (puts_from p new i) f)
+    × (with_new new.untyped (puts_from p new (i + 1)) (retyped parent slot cap f) ≡ with_new new.untyped (puts_from p new i) f)
 put_new_next p memory parent slot i cap new f lt parent_is slot_is cap_is can = (first, others, gives)
   where
     put_of : ℕ → ℕ × Cap

@@ -1,5 +1,5 @@
 -- The capability of a new object stands in the region of each that it is put below.
-use Rattle.std.proofs.Common.{◌≡◌, ◌≢◌, ℕ, ◌+◌, ◌≤◌, Bool, true, false, cond, ◌&&◌, ◌==◌, eqb, nat_le, not, inl, inr, refl, sym, ◌∙◌, ap, subst, arith}
+use Rattle.std.proofs.Common.{◌≡◌, ℕ, ◌+◌, ◌≤◌, Bool, true, false, cond, ◌&&◌, ◌==◌, eqb, nat_le, not, inl, inr, refl, sym, ◌∙◌, ap, subst, arith}
 use Rattle.std.specs.List.{AllByRecursion as Each, Contains, IsDistinct}
 use Rattle.std.proofs.lemmas.Bool.{and_parts}
 use Rattle.std.proofs.lemmas.Bool.Decides.{nat_tests}
@@ -45,12 +45,12 @@ each-descendants_put {A} P is q x (tree a k r) e h g i =
       ]) refl h
       | false ↦ λ t. (elim (q a) as (λ d. Each P (preorder (cond d k (join (below_those q k) (below_those q r)))) → Each (λ b. is b ≡ true → P x) (preorder (cond d k (join (below_those q k) (below_those q r))))
           → Each P (preorder (cond d (below is x k) (join (below_those q (below is x k)) (below_those q (below is x r)))))) [
-        | true ↦ λ m n. each-below_where P is x k m n
-        | false ↦ λ m n.
-            let b : Each P (preorder (below_those q k)) × Each P (preorder (below_those q r)) = each-join_parts P (below_those q k) (below_those q r) m in
-            let c : Each (λ b. is b ≡ true → P x) (preorder (below_those q k)) × Each (λ b. is b ≡ true → P x) (preorder (below_those q r)) = each-join_parts (λ b. is b ≡ true → P x) (below_those q k) (below_those q r) n in
-            each-join P (below_those q (below is x k)) (below_those q (below is x r)) (each-descendants_put P is q x k e b.0 gk c.0) (each-descendants_put P is q x r e b.1 gr c.1)
-      ]) h i
+            | true ↦ λ m n. each-below_where P is x k m n
+            | false ↦ λ m n.
+                let b : Each P (preorder (below_those q k)) × Each P (preorder (below_those q r)) = each-join_parts P (below_those q k) (below_those q r) m in
+                let c : Each (λ b. is b ≡ true → P x) (preorder (below_those q k)) × Each (λ b. is b ≡ true → P x) (preorder (below_those q r)) = each-join_parts (λ b. is b ≡ true → P x) (below_those q k) (below_those q r) n in
+                each-join P (below_those q (below is x k)) (below_those q (below is x r)) (each-descendants_put P is q x k e b.0 gk c.0) (each-descendants_put P is q x r e b.1 gr c.1)
+          ]) h i
     ]) refl
 
 -- nothing stands below a new one
@@ -90,7 +90,7 @@ module _ (parent slot : ℕ) (cap : Cap) (f : Forest Entry) (distinct : IsDistin
       (λ e k t. under e k (held e (contains-below_those (is_at a.slot) f e k) t)))) m
 
   -- and nothing stands below the new one
-  pub bare-retyped : (d : Entry) → Contains (descendants (is_at slot) (retyped parent slot cap f)) d → ⊥
+  bare-retyped : (d : Entry) → Contains (descendants (is_at slot) (retyped parent slot cap f)) d → ⊥
   bare-retyped d m =
       let none_there : below_those (is_at slot) (below (is_at parent) (entry slot cap true) f) ≡ none = below_those-new (is_at parent) (is_at slot) (entry slot cap true) f (number slot) (none_stands slot (preorder f) empty) in
       let Q : Forest Entry → Type 0 = λ g. Contains (preorder g) d in
@@ -119,7 +119,7 @@ region_around p a b h untyped =
       | false ↦ λ e k. absurd (let s : AreSame p a b = are_same p a b k in let n : is_untyped b ≡ false = s.second in cc)
     ]) refl (sym (region_is p a b) ∙ h)
 
-pub contains-through : (p : ProfileName) (a b c : Cap) → contains p a b ≡ true → contains p b c ≡ true → contains p a c ≡ true
+contains-through : (p : ProfileName) (a b c : Cap) → contains p a b ≡ true → contains p b c ≡ true → contains p a c ≡ true
 contains-through p a b c g h = inner (base_of a) (base_of b) (base_of c) (end_of p a) (end_of p b) (end_of p c) g h
   where
     inner : (i j k l m n : ℕ) → (nat_le i j && nat_le m l) ≡ true → (nat_le j k && nat_le n m) ≡ true → (nat_le i k && nat_le n l) ≡ true
@@ -161,8 +161,8 @@ regions-retyped p parent slot cap f r distinct empty untyped within some ends = 
           | inl k ↦ descendants-retyped parent slot cap f distinct empty (λ (e : Entry). end_of p e.cap ≤ base_of u.cap + free_of u.cap) u k (λ c i. r.used u c k t i)
               (λ e. let B : Cap → Type 0 = λ c. end_of p cap ≤ base_of c + free_of c in subst B e ends)
               (λ e i c. let last : end_of p e.cap ≤ base_of u.cap + free_of u.cap = r.used u e k t i in
-                let w : contains p e.cap cap ≡ true = ap (λ b. contains p b cap) (sym c) ∙ within in
-                let inner : end_of p cap ≤ end_of p e.cap = end_within p e.cap cap w in
-                omega arith) d n
+              let w : contains p e.cap cap ≡ true = ap (λ b. contains p b cap) (sym c) ∙ within in
+              let inner : end_of p cap ≤ end_of p e.cap = end_within p e.cap cap w in
+              omega arith) d n
           | inr e ↦ absurd (let Q : Entry → Type 0 = λ y. Contains (descendants (is_at y.slot) (retyped parent slot cap f)) d in bare-retyped parent slot cap f distinct empty d (subst Q (sym e) n))
         ]

@@ -1,5 +1,5 @@
 -- A kernel after a retype: what holds of its parts, and what it shows.
-use Rattle.std.proofs.Common.{◌≡◌, ℕ, ◌+◌, ◌*◌, ◌%◌, ◌^◌, ◌<◌, Bool, true, false, cond, ◌||◌, ◌==◌, List, [], ◌∷◌, map, length, get_or, Option, None, Some, is_some, option_map, IsSomeAnd, All, ◌⊎◌, inl, inr, refl, sym, ap, subst, ◌∙◌, arith}
+use Rattle.std.proofs.Common.{◌≡◌, ℕ, ◌*◌, ◌%◌, ◌^◌, ◌<◌, Bool, true, false, cond, ◌||◌, ◌==◌, List, [], ◌∷◌, map, length, get_or, Option, None, Some, is_some, option_map, IsSomeAnd, ◌⊎◌, inl, inr, refl, sym, ap, subst, ◌∙◌}
 use Rattle.std.proofs.lemmas.Bool.{false≢true}
 use Rattle.std.specs.List.{list_any, range_with_len, filter_map}
 use Rattle.std.specs.Ordering.{nat_cmp}
@@ -15,12 +15,11 @@ use Rattle.mem_core.specs.Plans.{object_at}
 use Rattle.slot_core.specs.Forest.{Forest}
 use Rattle.slot_core.specs.Entries.{Entry, is_full}
 use Rattle.cspace_core.specs.Resolution.{slot_of}
-use Rattle.ipc_core.specs.declared.waiter.Waiter.{Waiter}
 use Rattle.ipc_core.specs.declared.waiter.Role.{Role}
 use Rattle.ipc_core.specs.Waits.{Waits, thread_of}
 use Rattle.kernel_core.specs.declared.rows.ThreadRow.{ThreadRow}
 use Rattle.kernel_core.specs.declared.task.NewObjects.{NewObjects}
-use Rattle.kernel_core.specs.Shown.{Shown, ThreadView, endpoints_of, threads_of, endpoint_base, tcb_base, table, waiting_at}
+use Rattle.kernel_core.specs.Shown.{Shown, ThreadView, endpoints_of, endpoint_base, tcb_base, table, waiting_at}
 use Rattle.kernel_core.specs.Rows.{rows_map, new_row, with_rows, view_of, threads_shown, kernel_shown, IsActive, IsKernel}
 use Rattle.kernel_core.specs.Retyping.{with_objects, new_bases}
 use Rattle.kernel_core.specs.Effects.{objects_shown, new_thread, with_threads}

@@ -1,6 +1,6 @@
 -- The objects of a retype whose checks passed can be made, and what holds after.
-use Rattle.std.proofs.Common.{◌≡◌, ℕ, zero, suc, ◌+◌, ◌*◌, ◌%◌, ◌^◌, ◌≤◌, ◌<◌, Bool, true, false, ◌||◌, ◌&&◌, ◌==◌, eqb, nat_le, List, [], ◌∷◌, map, Option, Some, None, is_some, All, refl, sym, ◌∙◌, ap, subst, arith}
-use Rattle.std.specs.List.{AllByRecursion as Each, Contains, list_any, IsDistinct, range_with_len}
+use Rattle.std.proofs.Common.{◌≡◌, ℕ, zero, suc, ◌+◌, ◌%◌, ◌^◌, ◌≤◌, ◌<◌, Bool, true, false, ◌&&◌, ◌==◌, eqb, nat_le, [], map, Some, None, is_some, All, refl, sym, ◌∙◌, ap, subst, arith}
+use Rattle.std.specs.List.{AllByRecursion as Each, Contains, IsDistinct, range_with_len}
 use Rattle.std.proofs.lemmas.Bool.Decides.{nat_tests}
 use Rattle.std.proofs.lemmas.List.Elements.{recursion_from_All, All-from_recursion}
 use Rattle.cap_core.specs.declared.profile.ProfileName.{ProfileName}
@@ -9,13 +9,12 @@ use Rattle.cap_core.specs.declared.capability.Kind.{Kind}
 use Rattle.cap_core.specs.declared.capability.Kind.TheVariants as Kinds
 use Rattle.cap_core.specs.declared.capability.Cap.{Cap}
 use Rattle.cap_core.specs.declared.capability.Cap.TheVariants.{Null, Untyped, Endpoint, CNode, Tcb}
-use Rattle.cap_core.specs.Numbers.{slot_size, word_bits}
 use Rattle.cap_core.specs.Kinds.{new_cap, size_of}
 use Rattle.cap_core.specs.Objects.{is_null, is_untyped, base_of, bits_of, end_of, contains, IsLawful}
 use Rattle.mem_core.specs.declared.objects.Placed.{Placed}
 use Rattle.mem_core.specs.Plans.{start_of, object_at, LieInRegion, LieInUntyped}
 use Rattle.slot_core.specs.Forest.{Forest, preorder, descendants}
-use Rattle.slot_core.specs.Entries.{Entry, entry, is_at, is_full, cap_at, caps, slots, first_child}
+use Rattle.slot_core.specs.Entries.{Entry, is_at, cap_at, caps, slots, first_child}
 use Rattle.slot_core.specs.Derivation.{freed, with_free}
 use Rattle.slot_core.specs.Disjoint.{IsDisjoint}
 use Rattle.slot_core.proofs.Forests.{each-contained}
@@ -31,7 +30,7 @@ use Rattle.kernel_core.specs.declared.task.NewObjects.{NewObjects}
 use Rattle.kernel_core.specs.Regions.{free_of, AreRegions}
 use Rattle.kernel_core.specs.Rows.{IsSlotAddress}
 use Rattle.kernel_core.specs.Shown.{has_child}
-use Rattle.kernel_core.specs.Retyping.{new_caps, with_new, with_objects}
+use Rattle.kernel_core.specs.Retyping.{new_caps, with_objects}
 use Rattle.kernel_core.specs.Tasks.{IsRetype}
 use Rattle.kernel_core.proofs.Descendants.{contains-below_those}
 use Rattle.kernel_core.proofs.Regions.{end-alike, keeps-freed, descendants-renamed, regions-freed}
@@ -46,9 +45,10 @@ each-range P g i (suc n) h = (h i (omega arith) (omega arith), each-range P g (i
 
 order-range : (p : ProfileName) (g : ℕ → ℕ × Cap) (i n : ℕ) → ((j k : ℕ) → i ≤ j → j < k → k < i + n → (end_of p (g j).1 ≤ base_of (g k).1) × (((g j).0 == (g k).0) ≡ false)) → AreInOrder p (map g (range_with_len i n))
 order-range p g i zero h = tt
-order-range p g i (suc n) h =
-    (each-range (λ (next : ℕ × Cap). (end_of p (g i).1 ≤ base_of next.1) × (((g i).0 == next.0) ≡ false)) g (i + 1) n (λ k low high. h i k (omega arith) (omega arith) (omega arith)),
-    order-range p g (i + 1) n (λ j k low less high. h j k (omega arith) less (omega arith)))
+order-range p g i (suc n) h = (
+  each-range (λ (next : ℕ × Cap). (end_of p (g i).1 ≤ base_of next.1) × (((g i).0 == next.0) ≡ false)) g (i + 1) n (λ k low high. h i k (omega arith) (omega arith) (omega arith)),
+  order-range p g (i + 1) n (λ j k low less high. h j k (omega arith) less (omega arith)),
+)
 
 pub each_cap : (P : Cap → Type 0) (f : Forest Entry) → All P (caps f) → Each (λ (e : Entry). P e.cap) (preorder f)
 each_cap P f h = each-map_old P (λ (e : Entry). e.cap) (preorder f) (recursion_from_All P (caps f) h)
@@ -76,7 +76,7 @@ new_bits p Kinds.Tcb base size_bits = refl
 new_bits p Kinds.Endpoint base size_bits = refl
 new_bits p Kinds.CNode base size_bits = refl
 
-pub new_some : (kind : Kind) (base size_bits : ℕ) → is_null (new_cap kind base size_bits) ≡ false
+new_some : (kind : Kind) (base size_bits : ℕ) → is_null (new_cap kind base size_bits) ≡ false
 new_some Kinds.Untyped base size_bits = refl
 new_some Kinds.Tcb base size_bits = refl
 new_some Kinds.Endpoint base size_bits = refl

@@ -1,15 +1,14 @@
-use Rattle.std.proofs.Common.{ℕ, ◌≡◌, ◌≤◌, ◌<◌, ◌+◌, ◌*◌, ◌^◌, List, sym, ap, subst, ◌∙◌, arith, Fits, w64}
+use Rattle.std.proofs.Common.{ℕ, ◌≡◌, ◌<◌, ◌+◌, ◌*◌, ◌^◌, List, sym, ap, subst, ◌∙◌, arith}
 use Rattle.cap_core.specs.declared.capability.Cap.{Cap}
 use Rattle.cap_core.specs.Numbers.{slot_size}
 use Rattle.cap_core.specs.Objects.{IsLawful}
-use Rattle.mem_core.specs.Plans.{object_at}
 use Rattle.slot_core.specs.Forest.{Forest}
 use Rattle.slot_core.specs.Entries.{Entry, cap_at}
 use Rattle.slot_core.specs.Derivation.{freed, with_free}
 use Rattle.kernel_core.specs.Retyping.{with_new}
 use Rattle.kernel_core.proofs.NewObjects.{CanMake}
 use Rattle.kernel_core.proofs.RetypedObjects.{freed_lawful, can_make}
-use Rattle.kernel_core.proofs.PutObjects.{untyped_placed, untyped_end, first_aligned, slot_within_word, object_word, puts_from, puts_start, puts_end, put_new_next}
+use Rattle.kernel_core.proofs.PutObjects.{untyped_placed, untyped_end, first_aligned, slot_within_word, object_word, first_slot_at, puts_from, puts_start, put_new_next}
 use Rattle.kernel_core.proofs.objects.make_objects.Goals as goal
 
 pub of_node-untyped-requires-clause-aligned : goal.of_node-untyped-requires-clause-aligned
@@ -22,7 +21,7 @@ of_node-untyped-requires-clause-end g c =
 
 pub set_free-requires-clause-lawful : goal.set_free-requires-clause-lawful
 set_free-requires-clause-lawful g c =
-    let at : c.of_node-untyped.result.place * slot_size g.P.Profile.the ≡ c.args.new.untyped = c.of_node-untyped.ensures ∙ omega arith in
+    let at : c.of_node-untyped.result.place * slot_size g.P.Profile.the ≡ c.args.new.untyped = first_slot_at (c.of_node-untyped.result.place * slot_size g.P.Profile.the) c.args.new.untyped (slot_size g.P.Profile.the) c.of_node-untyped.ensures in
     subst (λ (n : ℕ). IsLawful g.P.Profile.the (g.S.CapStore.memory_bits c.args.store.now) (with_free c.args.new.placed.free (cap_at (g.S.CapStore.forest c.args.store.now) n))) (sym at)
     (freed_lawful g.P.Profile.the (g.S.CapStore.forest c.args.store.now) c.args.new c.requires.task (g.S.CapStore.memory_bits c.args.store.now) c.requires.lawful)
 
@@ -32,7 +31,7 @@ loop-i-init g c =
     let f : Forest Entry = g.S.CapStore.forest c.args.store.now in
     let new = c.args.new in
     let memory : ℕ = g.S.CapStore.memory_bits c.args.store.now in
-    let at : c.of_node-untyped.result.place * slot_size p ≡ new.untyped = c.of_node-untyped.ensures ∙ omega arith in
+    let at : c.of_node-untyped.result.place * slot_size p ≡ new.untyped = first_slot_at (c.of_node-untyped.result.place * slot_size g.P.Profile.the) c.args.new.untyped (slot_size g.P.Profile.the) c.of_node-untyped.ensures in
     let set : g.S.CapStore.forest c.set_free.new.self ≡ freed new.untyped new.placed.free f = c.set_free.ensures.forest ∙ ap (λ (n : ℕ). freed n new.placed.free f) at in
     record {
       memory = c.set_free.ensures.memory;
