@@ -51,7 +51,7 @@ pub each-descendants_below : {A : Type 0} (P : A → Type 0) (is q : A → Bool)
 each-descendants_below P is q x none n s h e = tt
 each-descendants_below {A} P is q x (tree a k r) n s h e =
     (elim (q a) as (λ d. q a ≡ d → Each P (preorder (cond d k (join (below_those q k) (below_those q r)))) → Each (λ b. is b ≡ true → P x) (preorder (cond d k (join (below_those q k) (below_those q r))))
-        → Each P (preorder (below_those q (cond (is a) (tree a (tree x none k) r) (tree a (below is x k) (below is x r)))))) [
+    → Each P (preorder (below_those q (cond (is a) (tree a (tree x none k) r) (tree a (below is x k) (below is x r)))))) [
       | true ↦ λ u g i.
           (elim (is a) as (λ c. is a ≡ c → Each P (preorder (below_those q (cond c (tree a (tree x none k) r) (tree a (below is x k) (below is x r)))))) [
             | true ↦ λ t. rw u (s.0 t u, g)
@@ -76,7 +76,7 @@ pub each-descendants_after : {A : Type 0} (P : A → Type 0) (is q : A → Bool)
 each-descendants_after P is q x none n h e = tt
 each-descendants_after {A} P is q x (tree a k r) n h e =
     (elim (q a) as (λ d. q a ≡ d → Each P (preorder (cond d k (join (below_those q k) (below_those q r)))) → Each (λ b. is b ≡ true → P x) (preorder (cond d k (join (below_those q k) (below_those q r))))
-        → Each P (preorder (below_those q (cond (is a) (tree a k (tree x none r)) (tree a (after is x k) (after is x r)))))) [
+    → Each P (preorder (below_those q (cond (is a) (tree a k (tree x none r)) (tree a (after is x k) (after is x r)))))) [
       | true ↦ λ u g i.
           elim (is a) as (λ c. Each P (preorder (below_those q (cond c (tree a k (tree x none r)) (tree a (after is x k) (after is x r)))))) [
             | true ↦ rw u g

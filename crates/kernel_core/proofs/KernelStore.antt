@@ -1,6 +1,6 @@
 -- A derivation and a move keep what holds of the store of every kernel.
-use Rattle.std.proofs.Common.{◌≡◌, ◌≢◌, ◌≤◌, ◌<◌, ◌+◌, ◌*◌, ◌^◌, ◌%◌, ℕ, Bool, true, false, cond, not, ◌&&◌, ◌||◌, ◌==◌, eqb, List, map, All, None, inl, inr, refl, sym, ◌∙◌, ap, subst, arith}
-use Rattle.std.specs.List.{AllByRecursion as Each, Contains, list_any, IsDistinct}
+use Rattle.std.proofs.Common.{◌≡◌, ◌≢◌, ◌≤◌, ◌<◌, ◌+◌, ◌*◌, ◌^◌, ℕ, Bool, true, false, cond, not, ◌&&◌, ◌||◌, ◌==◌, eqb, List, map, All, refl, sym, ◌∙◌, ap, subst, arith}
+use Rattle.std.specs.List.{AllByRecursion as Each, Contains, IsDistinct}
 use Rattle.std.proofs.lemmas.List.Elements.{recursion_from_All, All-from_recursion}
 use Rattle.std.proofs.lemmas.Bool.Decides.{nat_tests}
 use Rattle.std.proofs.Math.Nat.{pow-le-pow_right}
@@ -12,12 +12,12 @@ use Rattle.cap_core.specs.declared.capability.Cap.TheVariants.{Null, Untyped, En
 use Rattle.cap_core.specs.Numbers.{slot_size, word_bits}
 use Rattle.cap_core.specs.Objects.{is_null, is_untyped, bits_of, contains, in_region, same_object, IsLawful}
 use Rattle.slot_core.specs.Forest.{Forest, preorder, descendants}
-use Rattle.slot_core.specs.Entries.{Entry, entry, is_at, is_full, is_original, cap_at, slots, caps}
-use Rattle.slot_core.specs.Derivation.{derived, derived_entry, freed, moved, with_free}
+use Rattle.slot_core.specs.Entries.{Entry, is_at, is_full, is_original, cap_at, slots}
+use Rattle.slot_core.specs.Derivation.{derived, freed, moved, with_free}
 use Rattle.slot_core.specs.Disjoint.{IsDisjoint}
 use Rattle.slot_core.proofs.Forests.{each-from_contained, each-contained}
-use Rattle.slot_core.proofs.Edits.{each-derived, entry_at, contains-derived, cap-derived_other}
-use Rattle.slot_core.proofs.Disjointness.{AreSame, are_same}
+use Rattle.slot_core.proofs.Edits.{each-derived, entry_at, cap-derived_other}
+use Rattle.slot_core.proofs.Disjointness.{are_same}
 use Rattle.slot_core.proofs.Distinct.{distinct-derived}
 use Rattle.slot_core.proofs.Alike.{IsAlike, alike_named}
 use Rattle.slot_core.proofs.DisjointDerived.{disjoint-derived_named}
@@ -31,7 +31,6 @@ use Rattle.kernel_core.specs.declared.task.Transfer.{Transfer}
 use Rattle.kernel_core.specs.Rows.{IsKernelStore, IsSlotAddress}
 use Rattle.kernel_core.specs.Tasks.{IsTransfer, IsDerivation, IsMove}
 use Rattle.kernel_core.specs.Transfers.{with_derived, with_moved}
-use Rattle.kernel_core.proofs.Descendants.{contains-below_those}
 use Rattle.kernel_core.proofs.Regions.{region_is}
 use Rattle.kernel_core.proofs.RegionsDerived.{regions-with_derived}
 use Rattle.kernel_core.proofs.RegionsMoved.{regions-with_moved}

@@ -1,5 +1,5 @@
 -- A derived capability and a moved one name no other object than before: the same objects are live.
-use Rattle.std.proofs.Common.{◌≡◌, ℕ, Bool, true, false, cond, ◌==◌, ◌||◌, ◌^◌, eqb, List, [], ◌∷◌, map, Option, None, Some, refl, sym, ◌∙◌, ap, subst, arith}
+use Rattle.std.proofs.Common.{◌≡◌, ℕ, Bool, true, false, cond, ◌==◌, ◌||◌, ◌^◌, eqb, List, [], ◌∷◌, map, Option, None, Some, refl, sym, ◌∙◌, ap, arith}
 use Rattle.std.specs.List.{list_any, filter_map, cons_option, Contains, AllByRecursion as Each, IsDistinct}
 use Rattle.std.proofs.lemmas.Bool.Decides.{nat_tests}
 use Rattle.std.proofs.lemmas.Bool.{eqb-true}
@@ -8,8 +8,8 @@ use Rattle.cap_core.specs.declared.capability.Cap.{Cap}
 use Rattle.cap_core.specs.declared.capability.Cap.TheVariants.{Null, Untyped, Endpoint, CNode, Tcb}
 use Rattle.cap_core.specs.Objects.{is_untyped, bits_of}
 use Rattle.slot_core.specs.Forest.{Forest, preorder}
-use Rattle.slot_core.specs.Entries.{Entry, entry, is_at, is_full, cap_at, caps, slots}
-use Rattle.slot_core.specs.Derivation.{names_same, with_free, derived, derived_entry, freed, moved}
+use Rattle.slot_core.specs.Entries.{Entry, entry, is_full, cap_at, caps, slots}
+use Rattle.slot_core.specs.Derivation.{names_same, with_free, derived, freed}
 use Rattle.slot_core.proofs.Forests.{each-contains}
 use Rattle.slot_core.proofs.Edits.{any-derived, entry_at}
 use Rattle.slot_core.proofs.Freed.{any-freed}
@@ -17,7 +17,7 @@ use Rattle.slot_core.proofs.Moved.{moved_entry, preorder-moved}
 use Rattle.slot_core.proofs.Holding.{cap-entry}
 use Rattle.slot_core.proofs.DisjointDerived.{any_contained}
 use Rattle.kernel_core.specs.declared.task.Transfer.{Transfer}
-use Rattle.kernel_core.specs.Shown.{tcb_base, endpoint_base, threads_of, endpoints_of}
+use Rattle.kernel_core.specs.Shown.{tcb_base, endpoint_base}
 use Rattle.kernel_core.specs.Transfers.{with_derived, with_moved}
 
 -- the address of the object of one kind: it is the same of two capabilities of one object, and the free index is no part of it

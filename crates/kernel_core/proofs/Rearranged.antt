@@ -1,5 +1,5 @@
 -- A kernel whose capabilities change, and none of its rows and waiting threads.
-use Rattle.std.proofs.Common.{◌≡◌, ℕ, ◌==◌, List, Option, false, sym, subst, ◌∙◌}
+use Rattle.std.proofs.Common.{◌≡◌, ℕ, ◌==◌, List, Option, sym, subst, ◌∙◌}
 use Rattle.std.specs.List.{list_any}
 use Rattle.cap_core.specs.declared.profile.ProfileName.{ProfileName}
 use Rattle.cap_core.specs.Numbers.{tcb_size}

@@ -1,5 +1,5 @@
 -- Under new names and with another free index, what stands below a capability stays in its region.
-use Rattle.std.proofs.Common.{◌≡◌, ◌≤◌, ◌+◌, ℕ, Bool, true, false, not, ◌&&◌, cond, ◌==◌, eqb, List, [], ◌∷◌, map, refl, sym, ◌∙◌, ap, subst, arith}
+use Rattle.std.proofs.Common.{◌≡◌, ◌≤◌, ◌+◌, ℕ, true, false, not, ◌&&◌, cond, ◌==◌, eqb, List, [], ◌∷◌, refl, sym, ◌∙◌, ap, subst, arith}
 use Rattle.std.specs.List.{AllByRecursion as Each, Contains, IsDistinct}
 use Rattle.std.proofs.lemmas.Bool.Decides.{nat_tests}
 use Rattle.cap_core.specs.declared.profile.ProfileName.{ProfileName}
@@ -47,7 +47,7 @@ pub descendants-renamed : (w : Entry → Entry) (f : Forest Entry) (u d : Entry)
     → (c : Entry) × Contains (descendants (is_at u.slot) f) c × (d ≡ w c)
 descendants-renamed w f u d k m =
     let e : below_those (is_at (w u).slot) (renamed w f) ≡ renamed w (below_those (is_at u.slot) f) =
-      renamed-below_those w (is_at (w u).slot) f ∙ ap (renamed w) (below_those-agree (is_at u.slot) (λ e. is_at (w u).slot (w e)) f k) in
+    renamed-below_those w (is_at (w u).slot) f ∙ ap (renamed w) (below_those-agree (is_at u.slot) (λ e. is_at (w u).slot (w e)) f k) in
     let Q : Forest Entry → Type 0 = λ g. Contains (preorder g) d in
     contains-renamed w (below_those (is_at u.slot) f) d (subst Q e m)
 

@@ -1,5 +1,5 @@
 -- A derived capability stands in the regions of those that it stands below.
-use Rattle.std.proofs.Common.{◌≡◌, ◌≤◌, ◌+◌, ◌^◌, ℕ, Bool, true, false, not, ◌&&◌, ◌||◌, cond, ◌==◌, nat_le, eqb, List, ◌⊎◌, inl, inr, refl, sym, ◌∙◌, ap, subst, arith}
+use Rattle.std.proofs.Common.{◌≡◌, ◌≤◌, ◌+◌, ◌^◌, ℕ, Bool, true, false, not, ◌&&◌, cond, ◌==◌, nat_le, eqb, ◌⊎◌, inl, inr, refl, sym, ◌∙◌, ap, subst, arith}
 use Rattle.std.specs.List.{AllByRecursion as Each, Contains, IsDistinct}
 use Rattle.std.proofs.lemmas.Bool.{and_parts, and_from}
 use Rattle.std.proofs.lemmas.Bool.Decides.{nat_tests}
@@ -10,7 +10,7 @@ use Rattle.cap_core.specs.Objects.{is_null, is_untyped, contains, in_region, bas
 use Rattle.slot_core.specs.Forest.{Forest, none, preorder, below_those, descendants, below, after}
 use Rattle.slot_core.specs.Entries.{Entry, entry, is_at, is_full, is_original, cap_at, slots}
 use Rattle.slot_core.specs.Derivation.{derived, derived_entry, names_same, freed, with_free}
-use Rattle.slot_core.proofs.Forests.{each-contained, each-contains, each-weaker, each-from_contained}
+use Rattle.slot_core.proofs.Forests.{each-contained, each-from_contained}
 use Rattle.slot_core.proofs.Built.{Absent}
 use Rattle.slot_core.proofs.Edits.{contains-derived}
 use Rattle.slot_core.proofs.Disjointness.{slot_differs}
@@ -190,10 +190,10 @@ module _ (p : ProfileName) (source slot : ℕ) (cap : Cap) (f : Forest Entry) (r
   regions-derived =
       (elim (is_untyped cap) as (λ c. is_untyped cap ≡ c → AreRegions p (cond c (freed source (2 ^ bits_of p cap) put) put)) [
         | true ↦ λ t. record {
-            original = original-renamed p (freed_entry source (2 ^ bits_of p cap)) put (keeps-freed p source (2 ^ bits_of p cap) put) original-derived;
-            below = below-renamed p (freed_entry source (2 ^ bits_of p cap)) put (keeps-freed p source (2 ^ bits_of p cap) put) below-derived;
-            used = used-renamed p (freed_entry source (2 ^ bits_of p cap)) put (keeps-freed p source (2 ^ bits_of p cap) put) (used-handed_on t);
-          }
+          original = original-renamed p (freed_entry source (2 ^ bits_of p cap)) put (keeps-freed p source (2 ^ bits_of p cap) put) original-derived;
+          below = below-renamed p (freed_entry source (2 ^ bits_of p cap)) put (keeps-freed p source (2 ^ bits_of p cap) put) below-derived;
+          used = used-renamed p (freed_entry source (2 ^ bits_of p cap)) put (keeps-freed p source (2 ^ bits_of p cap) put) (used-handed_on t);
+        }
         | false ↦ λ t. record { original = original-derived; below = below-derived; used = λ u d m v n. used-derived u d m v n (λ e. t) }
       ]) refl
 
