@@ -43,6 +43,7 @@ mod LinkedReads
 mod LinkedRows
 mod LinkedMade
 mod Standing
+mod OneObject
 mod LinkedLaw
 mod OneEndpoint
 mod LinkedCalls
