@@ -44,6 +44,8 @@ mod LinkedRows
 mod LinkedMade
 mod Standing
 mod OneObject
+mod Below
+mod Sequences
 mod LinkedLaw
 mod OneEndpoint
 mod LinkedCalls
