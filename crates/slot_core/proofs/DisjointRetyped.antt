@@ -25,7 +25,7 @@ use Rattle.slot_core.proofs.DisjointDerived.{disjoint-put, any_contained}
 inner : (i j k l m n : ℕ) → (nat_le i j && nat_le m l) ≡ true → (nat_le j k && nat_le n m) ≡ true → (nat_le i k && nat_le n l) ≡ true
 inner i j k l m n g h = grind (arith, nat_tests)
 
-contains-through : (p : ProfileName) (a b c : Cap) → contains p a b ≡ true → contains p b c ≡ true → contains p a c ≡ true
+pub contains-through : (p : ProfileName) (a b c : Cap) → contains p a b ≡ true → contains p b c ≡ true → contains p a c ≡ true
 contains-through p a b c g h = inner (base_of a) (base_of b) (base_of c) (end_of p a) (end_of p b) (end_of p c) g h
 
 apart_within : (p : ProfileName) (a b c : Cap) → contains p b c ≡ true → are_apart p a b ≡ true → are_apart p a c ≡ true

@@ -43,6 +43,9 @@ mod LinkedReads
 mod LinkedRows
 mod LinkedMade
 mod Standing
+mod OneObject
+mod Below
+mod Sequences
 mod LinkedLaw
 mod OneEndpoint
 mod LinkedCalls

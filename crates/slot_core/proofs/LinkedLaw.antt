@@ -5,7 +5,7 @@ use Rattle.cap_core.specs.Numbers.{slot_size}
 use Rattle.slot_core.specs.declared.linked.table.Link.{Link}
 use Rattle.slot_core.specs.Forest.{Forest, preorder, descendants, build}
 use Rattle.slot_core.specs.Entries.{Entry, is_at}
-use Rattle.slot_core.specs.Marked.{Marked, is_parent, entry_of, forest_of, stands_at, StandsForEntries, run_of}
+use Rattle.slot_core.specs.Marked.{Marked, is_parent, entry_of, forest_of, stands_at, IsGathered, IsNamedFirst, StandsForEntries, HasOthersBelow, run_of}
 use Rattle.slot_core.specs.Links.{order_of, rows_of, IsLinkedStore}
 use Rattle.slot_core.proofs.Built.{preorder-renamed, build-below_those, renamed-below_those}
 use Rattle.slot_core.proofs.Parents.{parent-transitive}
@@ -13,6 +13,7 @@ use Rattle.slot_core.proofs.Standing.{one_fits, stands-build, counted-renamed, t
 use Rattle.slot_core.proofs.MarkedSteps.{StandsIn}
 use Rattle.slot_core.proofs.MarkedEdits.{AreApart, stands_in}
 use Rattle.slot_core.proofs.LinkedSteps.{apart_rows}
+use Rattle.slot_core.proofs.OneObject.{below_open}
 
 pub stands_for : (p : ProfileName) (l : List Marked) → StandsForEntries p l (forest_of p l)
 stands_for p l = counted-renamed (entry_of p) (build (is_parent p) l) ∙ ap (map (λ (r : Marked × ℕ). (entry_of p r.0, r.1))) (stands-build (is_parent p) (parent-transitive p) l)
@@ -35,3 +36,10 @@ run_in_store p links first last value v inv pre s post e =
     let A : List Marked → Type 0 = AreApart p in
     let a : AreApart p (pre ++ s ∷ post) = subst A (v ∙ e) (apart_rows p links (order_of links first) inv.linked.apart) in
     ap (λ (l : List Marked). descendants (is_at (s.place * slot_size p)) (forest_of p l)) e ∙ run_below p pre s post (stands_in p pre s post a)
+
+pub below_in_store : (p : ProfileName) (links : List Link) (first last : Option ℕ) (value : List Marked) → rows_of links first ≡ value → IsLinkedStore p links first last
+    → HasOthersBelow (forest_of p value)
+below_in_store p links first last value v inv =
+    let G : List Marked → Type 0 = IsGathered p in
+    let N : List Marked → Type 0 = IsNamedFirst in
+    below_open p value (subst G v inv.kept.gathered) (subst N v inv.kept.named_first) (run_in_store p links first last value v inv)

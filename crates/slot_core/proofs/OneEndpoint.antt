@@ -1,17 +1,16 @@
 -- The derivation forests of tests, all of whose capabilities name one endpoint.
-use Rattle.std.proofs.Common.{◌≡◌, ℕ, Bool, true, false, cond, ◌||◌, ◌==◌, eq-eqb, List, [], ◌∷◌, map, refl, sym, ◌∙◌, ap, subst, IsTrue}
+use Rattle.std.proofs.Common.{◌≡◌, ℕ, true, false, cond, ◌||◌, ◌==◌, List, [], ◌∷◌, refl, sym, ◌∙◌, ap, IsTrue}
 use Rattle.std.specs.List.{AllByRecursion as Each, Contains, list_any}
 use Rattle.cap_core.specs.declared.profile.ProfileName.{ProfileName}
 use Rattle.cap_core.specs.declared.capability.Cap.{Cap}
 use Rattle.cap_core.specs.declared.capability.Cap.TheVariants.{Null, Untyped, Endpoint, CNode, Tcb}
 use Rattle.cap_core.specs.Objects.{is_null, is_untyped, same_object}
 use Rattle.slot_core.specs.Forest.{Forest, preorder}
-use Rattle.slot_core.specs.Entries.{Entry, entry, is_at, is_full, cap_at, cap_in}
-use Rattle.slot_core.specs.Derivation.{derived, emptied, moved, names_same}
+use Rattle.slot_core.specs.Entries.{Entry, is_at, is_full, cap_at, cap_in}
+use Rattle.slot_core.specs.Derivation.{derived, emptied, names_same}
 use Rattle.slot_core.specs.Disjoint.{are_disjoint, IsDisjoint}
 use Rattle.slot_core.proofs.Forests.{each-contained}
 use Rattle.slot_core.proofs.Edits.{each-derived, entry_at}
-use Rattle.slot_core.proofs.Built.{preorder-renamed}
 use Rattle.slot_core.proofs.Disjointness.{same_object-swap, are_disjoint-self, disjoint-same}
 use Rattle.slot_core.proofs.DisjointEdits.{each-out}
 use Rattle.slot_core.proofs.InRegion.{same-through, named_typed}
@@ -79,20 +78,3 @@ names_derived a s b f h = each-derived (λ (e : Entry). same_object e.cap whole 
 
 pub names_emptied : (a : ℕ) (f : Forest Entry) → AllName f → AllName (emptied a f)
 names_emptied a f h = each-out (λ (e : Entry). same_object e.cap whole ≡ true) (is_at a) f h
-
-pub names_moved : (a s : ℕ) (c : Cap) (f : Forest Entry) → same_object c whole ≡ true → AllName f → AllName (moved a s c f)
-names_moved a s c f e h =
-    let g : Entry → Entry = λ (x : Entry). cond (is_at a x) (entry s c x.original) x in
-    let Q : List Entry → Type 0 = Each (λ (x : Entry). same_object x.cap whole ≡ true) in
-    subst Q (sym (preorder-renamed g f)) (go (preorder f) h)
-  where
-    go : (l : List Entry) → Each (λ (x : Entry). same_object x.cap whole ≡ true) l → Each (λ (x : Entry). same_object x.cap whole ≡ true) (map (λ (x : Entry). cond (is_at a x) (entry s c x.original) x) l)
-    go [] k = tt
-    go (x ∷ l) k = (elim (is_at a x) as (λ (b : Bool). same_object (cond b (entry s c x.original) x).cap whole ≡ true) [ true ↦ e | false ↦ k.0 ], go l k.1)
-
-pub names_self : (c : Cap) → same_object c whole ≡ true → names_same c c ≡ true
-names_self (Endpoint i badge rights) e = eq-eqb i i refl
-names_self Null e = absurd (let n : false ≡ true = e in cc)
-names_self (Untyped i bits free) e = absurd (let n : false ≡ true = e in cc)
-names_self (CNode i radix guard) e = absurd (let n : false ≡ true = e in cc)
-names_self (Tcb i) e = absurd (let n : false ≡ true = e in cc)

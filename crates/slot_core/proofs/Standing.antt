@@ -86,7 +86,7 @@ counted-renamed {A} {B} w (tree a k r) =
 
 -- what is taken is the longest run that passes
 
-take-one : {X : Type 0} (m : ℕ) (x : X) (l : List X) → take (1 + m) (x ∷ l) ≡ x ∷ take m l
+pub take-one : {X : Type 0} (m : ℕ) (x : X) (l : List X) → take (1 + m) (x ∷ l) ≡ x ∷ take m l
 take-one m x l = let e : 1 + m ≡ suc m = omega arith in ap (λ n. take n (x ∷ l)) e
 
 take-part : {X : Type 0} (xs ys : List X) (n : ℕ) → take (length xs + n) (xs ++ ys) ≡ xs ++ take n ys

@@ -7,3 +7,4 @@ pub mod Places
 pub mod Rows
 pub mod Marked
 pub mod Links
+pub mod Sequences

@@ -1,12 +1,12 @@
 -- The marked list: slots with their capabilities and two marks, and the forest that they stand for.
-use Rattle.std.specs.Prelude.{◌≡◌, ◌≢◌, ℕ, ◌*◌, Bool, true, false, cond, not, ◌==◌, ◌&&◌, ◌||◌, List, [], ◌∷◌, map, take, Option, Some, None, ⊤}
-use Rattle.std.specs.List.{AllByRecursion as Each, prefix_len}
+use Rattle.std.specs.Prelude.{◌≡◌, ◌≢◌, ℕ, ◌*◌, Bool, true, false, cond, not, ◌==◌, ◌&&◌, ◌||◌, List, [], ◌∷◌, map, take, Option, Some, None, ⊤, ◌⊎◌}
+use Rattle.std.specs.List.{AllByRecursion as Each, Contains, prefix_len}
 use Rattle.cap_core.specs.declared.profile.ProfileName.{ProfileName}
 use Rattle.cap_core.specs.declared.capability.Cap.{Cap}
 use Rattle.cap_core.specs.declared.capability.Cap.TheVariants.{Null}
 use Rattle.cap_core.specs.Numbers.{slot_size}
 use Rattle.cap_core.specs.Objects.{is_untyped, badge_of, same_object, in_region, IsLawful}
-use Rattle.slot_core.specs.Forest.{Forest, counted, runs, renamed, build}
+use Rattle.slot_core.specs.Forest.{Forest, preorder, descendants, counted, runs, renamed, build}
 use Rattle.slot_core.specs.Entries.{Entry, entry, is_at}
 use Rattle.slot_core.specs.Disjoint.{IsDisjoint}
 
@@ -114,6 +114,12 @@ next_in place (r ∷ l) = cond (r.place == place) (first_place l) (next_in place
 -- each are the longest run of followers that it is parent of
 abbrev pub StandsForEntries : ProfileName → List Marked → Forest Entry → Type 0
 StandsForEntries p l f = counted f ≡ map (λ (r : Marked × ℕ). (entry_of p r.0, r.1)) (runs (is_parent p) l)
+
+-- of the capabilities that name one object, an original one with no badge has all others below it
+abbrev pub HasOthersBelow : Forest Entry → Type 0
+HasOthersBelow f =
+    (a b : Entry) → Contains (preorder f) a → Contains (preorder f) b → same_object a.cap b.cap ≡ true → a.original ≡ true →
+    badge_of a.cap ≡ 0 → (b.slot ≡ a.slot) ⊎ Contains (descendants (is_at a.slot) f) b
 
 -- the longest run of followers that a slot is parent of
 abbrev pub run_of : ProfileName → Marked → List Marked → List Marked

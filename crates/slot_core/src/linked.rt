@@ -140,7 +140,7 @@ impl<P: Profile> LinkedStore<P> {
     ghost use Rattle.std.specs.Prelude.{◌≡◌, ◌*◌, ◌<◌, ◌^◌, None, List, ◌∷◌, ◌++◌, map};
     ghost use Rattle.slot_core.specs.Places.{address_of};
     ghost use Rattle.slot_core.specs.Links.{place_in};
-    ghost use Rattle.slot_core.specs.Marked.{Marked, row_in, previous_in, next_in, entry_of, forest_of, run_of, StandsForEntries};
+    ghost use Rattle.slot_core.specs.Marked.{Marked, row_in, previous_in, next_in, entry_of, forest_of, run_of, StandsForEntries, HasOthersBelow};
     ghost use Rattle.slot_core.specs.Forest.{Forest, descendants};
     ghost use Rattle.slot_core.specs.Entries.{Entry, is_at};
     ghost use Rattle.cap_core.specs.Numbers.{slot_size};
@@ -159,11 +159,12 @@ impl<P: Profile> LinkedStore<P> {
 
     /// Derivation without a tree. Whatever calls a store has had, the rows that `link` answers stand for its forest, where
     /// revocable is originality, and for no other. The descendants of a slot are the longest run of the slots behind it that
-    /// it is parent of.
+    /// it is parent of. An original capability with no badge has all other capabilities of its object below it.
     pub fn stands_for_its_forest(&self)
         ensures stands { StandsForEntries P.the self.now.0 (forest_of P.the self.now.0) }
         ensures alone { (f : Forest Entry) → StandsForEntries P.the self.now.0 f → f ≡ forest_of P.the self.now.0 }
         ensures descendants { (pre : List Marked) (s : Marked) (post : List Marked) → self.now.0 ≡ pre ++ s ∷ post → descendants (is_at (s.place * slot_size P.the)) (forest_of P.the self.now.0) ≡ map (entry_of P.the) (run_of P.the s post) }
+        ensures below { HasOthersBelow (forest_of P.the self.now.0) }
     {
         // The type's promise is known once a field is read.
         let _first = self.first;

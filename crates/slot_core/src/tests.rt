@@ -2,6 +2,8 @@ ghost use Rattle.std.specs.Prelude.{◌≡◌, ℕ, ◌*◌, ◌<◌};
 ghost use Rattle.cap_core.specs.Numbers.{slot_size};
 ghost use Rattle.slot_core.specs.Places.{address_of};
 
+mod calls;
+
 use super::*;
 use cap_core::{Badge, Cap, Narrow, Profile, Rights, Wide};
 use std::alloc::{AllocError, Global};

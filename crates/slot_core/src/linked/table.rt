@@ -42,7 +42,13 @@ fn put(links: &mut [Link], slot: Slot, link: Link)
     ensures row { row_of links.new slot.place ≡ marked slot.place link.cap link.revocable link.first_badged }
     ensures size { length links.new ≡ length links.old }
 {
-    links[slot.index()] = link;
+    // One field after the other, for a copy of a whole row takes the bytes between its fields along.
+    let row = &mut links[slot.index()];
+    row.cap = link.cap;
+    row.previous = link.previous;
+    row.next = link.next;
+    row.revocable = link.revocable;
+    row.first_badged = link.first_badged;
 }
 
 /// Lets the list go on from `before` to `next`, where `before` is no slot from its start.

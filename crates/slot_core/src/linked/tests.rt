@@ -7,9 +7,8 @@ ghost use Rattle.slot_core.specs.Entries.{Entry};
 ghost use Rattle.slot_core.specs.Places.{address_of};
 
 use super::*;
-use crate::RowStore;
 use crate::derivation::badge_of;
-use cap_core::{Badge, Narrow, Rights, Wide};
+use cap_core::{Badge, Rights, Wide};
 use std::process::Abort;
 use std::test::Fail;
 
@@ -130,65 +129,5 @@ fn the_next_slot_is_first_badged_after_a_removal(rt: HostRuntime) -> Result<(), 
     assert!(rt; link.next.is_none());
     assert!(rt; !link.revocable);
     assert!(rt; link.first_badged);
-    Ok(())
-}
-
-// Moves a capability, if the source is full and the slot is empty.
-fn relocate<P: Profile, S: CapStore<P>>(store: &mut S, source: Slot, slot: Slot)
-    requires within { address_of P.the slot < 2 ^ 12 }
-    requires memory { S.memory_bits store.old ≡ 12 }
-    requires names { Each (λ (e : Entry). same_object e.cap (Endpoint 512 (record { 0 = 0 }) (record { 0 = 3 })) ≡ true) (preorder (S.forest store.old)) }
-    ensures memory { S.memory_bits store.new ≡ 12 }
-    ensures names { Each (λ (e : Entry). same_object e.cap (Endpoint 512 (record { 0 = 0 }) (record { 0 = 3 })) ≡ true) (preorder (S.forest store.new)) }
-{
-    let cap = store.get(source);
-    if is_null(cap) || !is_null(store.get(slot)) {
-        return;
-    }
-    store.relocate(source, slot, cap);
-}
-
-// A call that a number chooses: two of sixteen slots, what is done with them, and a badge. Slot 4 stays as it is.
-fn call<P: Profile, S: CapStore<P>>(store: &mut S, choice: u64)
-    requires memory { S.memory_bits store.old ≡ 12 }
-    requires names { Each (λ (e : Entry). same_object e.cap (Endpoint 512 (record { 0 = 0 }) (record { 0 = 3 })) ≡ true) (preorder (S.forest store.old)) }
-    ensures memory { S.memory_bits store.new ≡ 12 }
-    ensures names { Each (λ (e : Entry). same_object e.cap (Endpoint 512 (record { 0 = 0 }) (record { 0 = 3 })) ≡ true) (preorder (S.forest store.new)) }
-{
-    let source = slot::<P>(choice % 16);
-    let target = slot::<P>(choice / 16 % 16);
-    let what = choice / 256 % 8;
-    if what < 4 {
-        derive(store, source, target, choice / 2048 % 3);
-    } else if choice % 16 != 4 && what < 6 {
-        relocate(store, source, target);
-    } else if choice % 16 != 4 {
-        remove(store, source);
-    }
-}
-
-// Whether both stores answer the same of sixteen slots.
-fn agree<P: Profile>(rows: &RowStore<P>, links: &LinkedStore<P>) -> bool {
-    for i in 0..16 {
-        let slot = slot::<P>(i);
-        if rows.get(slot) != links.get(slot) || rows.first_child(slot) != links.first_child(slot) {
-            return false;
-        }
-    }
-    true
-}
-
-#[test]
-fn rows_and_links_agree_after_each_call(rt: HostRuntime) -> Result<(), Fail> {
-    let mut rows: RowStore<Wide> = of_endpoint(rt.alloc())?;
-    let mut links: LinkedStore<Wide> = of_endpoint(rt.alloc())?;
-    let mut seed: u64 = 1;
-    for _ in 0..3000 {
-        seed = seed % 2147483648 * 1103515245 + 12345;
-        call(&mut rows, seed / 65536);
-        call(&mut links, seed / 65536);
-        assert!(rt; agree(&rows, &links));
-    }
-    assert!(rt; links.first_child(slot::<Wide>(4)).is_some());
     Ok(())
 }

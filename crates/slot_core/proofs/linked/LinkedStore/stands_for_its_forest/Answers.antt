@@ -1,7 +1,7 @@
 use Rattle.std.proofs.Common.{ℕ, List, ap}
 use Rattle.slot_core.specs.Marked.{Marked}
 use Rattle.slot_core.specs.Links.{place_in}
-use Rattle.slot_core.proofs.LinkedLaw.{stands_for, no_other, run_in_store}
+use Rattle.slot_core.proofs.LinkedLaw.{stands_for, no_other, run_in_store, below_in_store}
 use Rattle.slot_core.proofs.linked.LinkedStore.stands_for_its_forest.Goals as goal
 
 pub returns-clause-stands : goal.returns-clause-stands
@@ -14,3 +14,8 @@ pub returns-clause-descendants : goal.returns-clause-descendants
 returns-clause-descendants g c pre s post e =
     run_in_store g.P.Profile.the c.self.inside.links.items (place_in c.self.inside.first) (place_in c.self.inside.last) c.args.self.now.0
     (ap (λ (v : List Marked × ℕ). v.0) c.self.view_is) c.self.invariant pre s post e
+
+pub returns-clause-below : goal.returns-clause-below
+returns-clause-below g c a b m k n r z =
+    below_in_store g.P.Profile.the c.self.inside.links.items (place_in c.self.inside.first) (place_in c.self.inside.last) c.args.self.now.0
+    (ap (λ (v : List Marked × ℕ). v.0) c.self.view_is) c.self.invariant a b m k n r z
