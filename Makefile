@@ -1,6 +1,6 @@
 # make run: the proved program on the stored set-up; make test: the gate; make try: the stored set-up before any proof;
-# make rows: each worked set-up through the built program, and each of its requests for memory refused in turn; make bench:
-# the linked forms beside plain Rust.
+# make rows: each worked set-up and each example through the built program, and each of its requests for memory refused in turn;
+# make bench: the linked forms beside plain Rust.
 .PHONY: run test try rows bench
 
 program = crates/sel4sim/out/sel4sim
@@ -16,6 +16,7 @@ try:
 
 rows: run
 	python3 rows/run.py $(program)
+	examples/run.sh $(program)
 	python3 rows/refuse_memory.py $(program) rows/send_then_receive.toml
 
 bench:

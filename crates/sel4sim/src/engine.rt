@@ -6,16 +6,17 @@ ghost use Rattle.cap_core.specs.declared.profile.ProfileName.TheVariants as Prof
 ghost use Rattle.kernel_core.specs.Plan.{IsPlan};
 ghost use Rattle.setup_read.specs.Refusal.{setup_fault_text};
 ghost use Rattle.sel4sim.specs.Program.{program, outcome_of, replies_to, end_of, verdict_on as verdict_of_counts};
+ghost use Rattle.kernel_core.specs.Rows.{IsInMemory};
 ghost use Rattle.kernel_core.specs.State.{shown};
 
 use crate::fault::{RunFault, Verdict};
 use crate::sink::Sink;
 use crate::source::Source;
 use cap_core::Wide;
-use ipc_core::LinkedWaiters;
+use ipc_core::{LinkedWaiters, MakeWaiters};
 use kernel_core::{Kernel, Reply};
 use setup_read::{ExpectationCount, Setup, SetupFault, expectations, read_setup, report};
-use slot_core::LinkedStore;
+use slot_core::{LinkedStore, MakeStore};
 use std::alloc::{AllocError, Global};
 
 /// The number of bytes that an input has to stay below.
@@ -84,17 +85,18 @@ pub(crate) fn write_all<K: Sink>(sink: &mut K, text: &[u8]) -> Result<(), RunFau
     Ok(())
 }
 
-/// The kernel that `check` runs: with words of 64 bits, over the plain forms of both stores.
-type CheckedKernel = Kernel<Wide, LinkedStore<Wide>, LinkedWaiters<Wide>>;
-
 /// Boots a kernel from the set-up's plan and makes its calls: the kernel then, and the replies.
 #[tactic(auto, unfolding(crate::specs::Program::replies_to, crate::specs::Program::end_of))]
-fn run_calls(alloc: Global, setup: &Setup) -> Result<(CheckedKernel, Vec<Reply>), AllocError>
+fn run_calls<S: MakeStore<Wide>, W: MakeWaiters<Wide>>(
+    alloc: Global,
+    setup: &Setup,
+) -> Result<(Kernel<Wide, S, W>, Vec<Reply>), AllocError>
     requires { IsPlan Profiles.Wide setup.now.plan }
     ensures kernel { IfOk result (λ r. r.0 ≡ shown (end_of Profiles.Wide setup.now)) }
     ensures replies { IfOk result (λ r. r.1.items ≡ replies_to Profiles.Wide setup.now) }
+    ensures within { IfOk result (λ r. IsInMemory Profiles.Wide setup.now.plan.memory_bits r.0) }
 {
-    let mut kernel = CheckedKernel::boot(alloc, setup.plan())?;
+    let mut kernel = Kernel::<Wide, S, W>::boot(alloc, setup.plan())?;
     let calls = setup.calls();
     let mut replies = Vec::with_capacity(alloc, calls.len())?;
     kernel.run(calls, &mut replies);
@@ -103,11 +105,14 @@ fn run_calls(alloc: Global, setup: &Setup) -> Result<(CheckedKernel, Vec<Reply>)
 
 /// Runs the set-up, and reports on it.
 #[tactic(auto, unfolding(crate::specs::Program::outcome_of), using(crate::proofs::Runs::length_replies_to))]
-fn run_setup(alloc: Global, setup: &Setup) -> Result<(Vec<u8>, Verdict), AllocError>
+fn run_setup<S: MakeStore<Wide>, W: MakeWaiters<Wide>>(
+    alloc: Global,
+    setup: &Setup,
+) -> Result<(Vec<u8>, Verdict), AllocError>
     requires { IsPlan Profiles.Wide setup.now.plan }
     ensures { IfOk result (λ made. (made.0.items, made.1) ≡ outcome_of Profiles.Wide setup.now) }
 {
-    let (kernel, replies) = run_calls(alloc, setup)?;
+    let (kernel, replies) = run_calls::<S, W>(alloc, setup)?;
     let text = report(alloc, setup, replies.as_slice(), &kernel)?;
     let count = expectations(alloc, setup, replies.as_slice())?;
     Ok((text, verdict_on(count)))
@@ -132,13 +137,17 @@ fn refusal(alloc: Global, fault: &SetupFault) -> Result<Vec<u8>, AllocError>
     Ok(text.into_bytes())
 }
 
-/// The text that the program writes for the bytes of its input, and the verdict.
+/// The text that the program writes for the bytes of its input, and the verdict. The kernel has words of 64 bits, and the
+/// text is the same whatever stores it is made of.
 #[tactic(auto, unfolding(crate::specs::Program::program))]
-fn text_of(alloc: Global, bytes: &[u8]) -> Result<(Vec<u8>, Verdict), AllocError>
+pub(crate) fn text_of<S: MakeStore<Wide>, W: MakeWaiters<Wide>>(
+    alloc: Global,
+    bytes: &[u8],
+) -> Result<(Vec<u8>, Verdict), AllocError>
     ensures { IfOk result (λ made. (made.0.items, made.1) ≡ program bytes.now) }
 {
     match read_setup(alloc, bytes) {
-        Ok(setup) => run_setup(alloc, &setup),
+        Ok(setup) => run_setup::<S, W>(alloc, &setup),
         Err(SetupFault::Memory) => Err(AllocError),
         Err(fault) => Ok((refusal(alloc, &fault)?, Verdict::Refused)),
     }
@@ -171,7 +180,8 @@ pub fn check<S: Source, K: Sink>(
     ensures memory_keeps { result ≡ Err RunFault.Memory → sink.new ≡ sink.old }
 {
     let bytes = read_below(alloc, source, INPUT_LIMIT)?;
-    let Ok((text, verdict)) = text_of(alloc, bytes.as_slice()) else {
+    let made = text_of::<LinkedStore<Wide>, LinkedWaiters<Wide>>(alloc, bytes.as_slice());
+    let Ok((text, verdict)) = made else {
         return Err(RunFault::Memory);
     };
     write_all(sink, text.as_slice())?;

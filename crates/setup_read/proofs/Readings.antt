@@ -8,7 +8,8 @@ use Rattle.toml.specs.Data.{Data, Members, Items, as_array, get_member}
 use Rattle.cap_core.specs.declared.profile.ProfileName.{ProfileName}
 use Rattle.cap_core.specs.declared.profile.ProfileName.TheVariants.{Wide}
 use Rattle.cap_core.specs.declared.limits.TheConstants.{MAX_MESSAGE_WORDS}
-use Rattle.cap_core.specs.Numbers.{label_bits, min_untyped_bits, max_object_bits}
+use Rattle.cap_core.specs.Numbers.{word_bits, label_bits, min_untyped_bits, max_object_bits}
+use Rattle.cap_core.specs.Rights.{all_rights}
 use Rattle.kernel_core.specs.declared.plan.PlanDefect.{PlanDefect}
 use Rattle.kernel_core.specs.Plan.{Plan, first_defect}
 use Rattle.setup_read.specs.declared.fault.Wrong.{Wrong}
@@ -23,10 +24,10 @@ use Rattle.setup_read.specs.declared.setup.Words.{Words}
 use Rattle.setup_read.specs.Names.{Names}
 use Rattle.setup_read.specs.Views.{SetupView}
 use Rattle.setup_read.specs.Faults.{Fault, text, at, layout, Gives}
-use Rattle.setup_read.specs.Kinds.{◌>>=◌, below, number, word, label, each, array_in, item_list, words, filled}
+use Rattle.setup_read.specs.Kinds.{◌>>=◌, below, number, word, rights, label, each, array_in, item_list, words, filled}
 use Rattle.setup_read.specs.Tables.{at_key, needed, given_or, required, optional, known_only, least_unknown, no_unknown}
 use Rattle.setup_read.specs.Messages.{IsMessage, SendsMessage, HasMessage}
-use Rattle.setup_read.specs.Operations.{message_at, send_at, nb_send_at, recv_at, nb_recv_at, operation_at}
+use Rattle.setup_read.specs.Operations.{retype_at, slot_words_at, copy_at, mint_at, move_at, mutate_at, message_at, send_at, nb_send_at, recv_at, nb_recv_at, operation_at}
 use Rattle.setup_read.specs.Setups.{top_keys, untyped_keys, untyped_at, call_at, sizes_of, planned_with, laid_out, laid_out_unless, setup_at, setup_of}
 
 -- a fact holds of what is read, and there is no fault of the text
@@ -155,7 +156,59 @@ unfolding nb_recv_at
 reads_nb_recv p names place table =
     then_reads Anything (SendsMessage p) (required place table (codes "cap") (word p names)) _ (reads_required place table (codes "cap") (word p names)) (λ cap _. tt)
 
+-- operations that send nothing
+reads_retype : (p : ProfileName) (names : Names) (place : Place) (table : Members) → Reads (SendsMessage p) (retype_at p names place table)
+unfolding retype_at
+reads_retype p names place table =
+    then_reads Anything (SendsMessage p) _ _ (reads_required place table (codes "cap") (word p names))
+    (λ cap _. then_reads Anything (SendsMessage p) _ _ (reads_required place table (codes "kind") (word p names))
+    (λ kind _. then_reads Anything (SendsMessage p) _ _ (reads_any place table (codes "size_bits") 0 (word p names))
+    (λ size_bits _. then_reads Anything (SendsMessage p) _ _ (reads_required place table (codes "root") (word p names))
+    (λ root _. then_reads Anything (SendsMessage p) _ _ (reads_any place table (codes "index") 0 (word p names))
+    (λ index _. then_reads Anything (SendsMessage p) _ _ (reads_any place table (codes "depth") 0 (word p names))
+    (λ depth _. then_reads Anything (SendsMessage p) _ _ (reads_required place table (codes "offset") (word p names))
+    (λ offset _. then_reads Anything (SendsMessage p) _ _ (reads_required place table (codes "count") (word p names)) (λ count _. tt))))))))
+
+reads_slot_words : (p : ProfileName) (names : Names) (place : Place) (table : Members) → Reads Anything (slot_words_at p names place table)
+unfolding slot_words_at
+reads_slot_words p names place table =
+    then_reads Anything Anything _ _ (reads_required place table (codes "cap") (word p names))
+    (λ cap _. then_reads Anything Anything _ _ (reads_required place table (codes "index") (word p names))
+    (λ index _. then_reads Anything Anything _ _ (reads_any place table (codes "depth") (word_bits p) (word p names))
+    (λ depth _. then_reads Anything Anything _ _ (reads_any place table (codes "src_root") cap (word p names))
+    (λ src_root _. then_reads Anything Anything _ _ (reads_required place table (codes "src_index") (word p names))
+    (λ src_index _. then_reads Anything Anything _ _ (reads_any place table (codes "src_depth") (word_bits p) (word p names)) (λ src_depth _. tt))))))
+
+reads_copy : (p : ProfileName) (names : Names) (place : Place) (table : Members) → Reads (SendsMessage p) (copy_at p names place table)
+unfolding copy_at
+reads_copy p names place table =
+    then_reads Anything (SendsMessage p) _ _ (reads_slot_words p names place table)
+    (λ w _. then_reads Anything (SendsMessage p) _ _ (reads_any place table (codes "rights") all_rights rights) (λ given _. tt))
+
+reads_mint : (p : ProfileName) (names : Names) (place : Place) (table : Members) → Reads (SendsMessage p) (mint_at p names place table)
+unfolding mint_at
+reads_mint p names place table =
+    then_reads Anything (SendsMessage p) _ _ (reads_slot_words p names place table)
+    (λ w _. then_reads Anything (SendsMessage p) _ _ (reads_any place table (codes "rights") all_rights rights)
+    (λ given _. then_reads Anything (SendsMessage p) _ _ (reads_required place table (codes "word") (word p names)) (λ value _. tt)))
+
+reads_move : (p : ProfileName) (names : Names) (place : Place) (table : Members) → Reads (SendsMessage p) (move_at p names place table)
+unfolding move_at
+reads_move p names place table =
+    then_reads Anything (SendsMessage p) _ _ (reads_slot_words p names place table) (λ w _. tt)
+
+reads_mutate : (p : ProfileName) (names : Names) (place : Place) (table : Members) → Reads (SendsMessage p) (mutate_at p names place table)
+unfolding mutate_at
+reads_mutate p names place table =
+    then_reads Anything (SendsMessage p) _ _ (reads_slot_words p names place table)
+    (λ w _. then_reads Anything (SendsMessage p) _ _ (reads_required place table (codes "word") (word p names)) (λ value _. tt))
+
 reads_operation : (p : ProfileName) (op : OpName) (names : Names) (place : Place) (table : Members) → Reads (SendsMessage p) (operation_at p op names place table)
+reads_operation p names.Retype names place table = reads_retype p names place table
+reads_operation p names.CapCopy names place table = reads_copy p names place table
+reads_operation p names.CapMint names place table = reads_mint p names place table
+reads_operation p names.CapMove names place table = reads_move p names place table
+reads_operation p names.CapMutate names place table = reads_mutate p names place table
 reads_operation p names.Send names place table = reads_send p names place table
 reads_operation p names.NbSend names place table = reads_nb_send p names place table
 reads_operation p names.Recv names place table = reads_recv p names place table

@@ -16,7 +16,7 @@ use Rattle.cap_core.specs.Numbers.{slot_bits, slot_size}
 use Rattle.cap_core.specs.Objects.{is_null}
 use Rattle.slot_core.specs.Entries.{Entry, slots, cap_at, cap_in}
 use Rattle.slot_core.specs.Forest.{preorder}
-use Rattle.kernel_core.specs.Rows.{IsSlotAddress}
+use Rattle.kernel_core.specs.Rows.{IsSlotAddress, IsAligned}
 use Rattle.kernel_core.specs.Shown.{Shown}
 use Rattle.kernel_core.proofs.Addresses.{no_cap}
 use Rattle.setup_read.specs.Report.{is_in, rising, is_full, full_slots}
@@ -75,6 +75,21 @@ slot_among Narrow memory q least h =
     let within : q < 2 ^ memory = h.within in
     let same : q / 2 ^ 4 * 2 ^ 4 ≡ q = omega arith in
     subst (λ n. is_in n (multiples (2 ^ 4) (2 ^ memory / 2 ^ 4)) ≡ true) same (in_multiples (2 ^ 4) (q / 2 ^ 4) (2 ^ memory / 2 ^ 4) (omega arith))
+
+-- a memory has room for a slot
+pub some_place : (p : ProfileName) (memory : ℕ) → 12 ≤ memory → 0 < 2 ^ memory / slot_size p
+some_place Wide memory least =
+    let whole : 2 ^ memory ≡ 2 ^ (memory - 5) * 2 ^ 5 = ap (λ n. 2 ^ n) (omega arith) ∙ pow-add 2 (memory - 5) 5 in
+    let some : 0 < 2 ^ (memory - 5) = pow_pos (memory - 5) in
+    omega arith
+some_place Narrow memory least =
+    let whole : 2 ^ memory ≡ 2 ^ (memory - 4) * 2 ^ 4 = ap (λ n. 2 ^ n) (omega arith) ∙ pow-add 2 (memory - 4) 4 in
+    let some : 0 < 2 ^ (memory - 4) = pow_pos (memory - 4) in
+    omega arith
+
+-- a multiple of a slot's size below the memory's is a slot's address
+pub placed : (p : ProfileName) (memory : ℕ) (addresses : List ℕ) → All (IsAligned p) addresses → All (λ a. a < 2 ^ memory) addresses → All (IsSlotAddress p memory) addresses
+placed p memory addresses aligned within = λ i d lt. record { aligned = aligned i d lt; within = within i d lt }
 
 -- ---- the full slots
 

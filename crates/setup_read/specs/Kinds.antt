@@ -5,10 +5,12 @@ use Rattle.std.specs.List.{list_all}
 use Rattle.toml.specs.Data.{Data, as_integer, as_str, as_array, as_table, Items, no_items, item, Members}
 use Rattle.cap_core.specs.declared.profile.ProfileName.{ProfileName}
 use Rattle.cap_core.specs.declared.limits.TheConstants.{MAX_MESSAGE_WORDS}
+use Rattle.cap_core.specs.declared.rights.Rights.{Rights}
 use Rattle.cap_core.specs.Numbers.{word_bits, label_bits}
+use Rattle.cap_core.specs.Rights.{all_rights}
 use Rattle.setup_read.specs.declared.limits.TheConstants.{MAX_EXPECT_BYTES}
 use Rattle.setup_read.specs.declared.setup.OpName.{OpName}
-use Rattle.setup_read.specs.declared.setup.OpName.TheVariants.{Send, NbSend, Recv, NbRecv}
+use Rattle.setup_read.specs.declared.setup.OpName.TheVariants.{Retype, CapCopy, CapMint, CapMove, CapMutate, Send, NbSend, Recv, NbRecv}
 use Rattle.setup_read.specs.declared.setup.Words.{Words}
 use Rattle.setup_read.specs.declared.fault.Wrong.{Wrong}
 use Rattle.setup_read.specs.declared.fault.Wrong.TheVariants.{OtherType, OtherValue}
@@ -88,6 +90,11 @@ word p names d = natural names d >>= below (2 ^ word_bits p)
 abbrev pub label : ProfileName → Data → Result ℕ Wrong
 label p d = word p [] d >>= below (2 ^ label_bits p)
 
+-- ---- rights: a number whose bits are rights
+
+abbrev pub rights : Data → Result Rights Wrong
+rights d = number 0 all_rights.0 d >>= λ n. Ok (record { 0 = n })
+
 -- ---- arrays: each element in turn, with its place, which counts from the first number on
 
 unfoldable pub each : {A B E : Type 0} → (ℕ → A → Result B E) → ℕ → List A → Result (List B) E
@@ -129,7 +136,12 @@ expect d = expect_in (as_str d)
 abbrev pub op_in : Option (List ℕ) → Result OpName Wrong
 op_in None = Err OtherType
 op_in (Some t) =
-    if bytes_eq t (codes "send") then Ok Send
+    if bytes_eq t (codes "retype") then Ok Retype
+    else if bytes_eq t (codes "copy") then Ok CapCopy
+    else if bytes_eq t (codes "mint") then Ok CapMint
+    else if bytes_eq t (codes "move") then Ok CapMove
+    else if bytes_eq t (codes "mutate") then Ok CapMutate
+    else if bytes_eq t (codes "send") then Ok Send
     else if bytes_eq t (codes "nbsend") then Ok NbSend
     else if bytes_eq t (codes "recv") then Ok Recv
     else if bytes_eq t (codes "nbrecv") then Ok NbRecv

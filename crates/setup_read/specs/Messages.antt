@@ -5,7 +5,7 @@ use Rattle.cap_core.specs.declared.limits.TheConstants.{MAX_MESSAGE_WORDS}
 use Rattle.cap_core.specs.declared.message.Message.{Message}
 use Rattle.cap_core.specs.Numbers.{label_bits}
 use Rattle.kernel_core.specs.declared.call.Op.{Op}
-use Rattle.kernel_core.specs.declared.call.Op.TheVariants.{Send, NbSend, Recv, NbRecv}
+use Rattle.kernel_core.specs.declared.call.Op.TheVariants.{Retype, CapCopy, CapMint, CapMove, CapMutate, Send, NbSend, Recv, NbRecv}
 use Rattle.setup_read.specs.Views.{CallView}
 
 -- a label of the profile, no more words than a message has, and zeros past them
@@ -15,6 +15,11 @@ pub record IsMessage (p : ProfileName) (m : Message) : Type 0 where
   pub zeros : drop m.count m.words ≡ replicate (MAX_MESSAGE_WORDS - m.count) 0
 
 abbrev pub SendsMessage : ProfileName → Op → Type 0
+SendsMessage p (Retype cap kind size_bits root index depth offset count) = Unit {0}
+SendsMessage p (CapCopy cap index depth src_root src_index src_depth rights) = Unit {0}
+SendsMessage p (CapMint cap index depth src_root src_index src_depth rights word) = Unit {0}
+SendsMessage p (CapMove cap index depth src_root src_index src_depth) = Unit {0}
+SendsMessage p (CapMutate cap index depth src_root src_index src_depth word) = Unit {0}
 SendsMessage p (Send cap message) = IsMessage p message
 SendsMessage p (NbSend cap message) = IsMessage p message
 SendsMessage p (Recv cap) = Unit {0}

@@ -3,13 +3,16 @@ use Rattle.std.specs.Prelude.{codes, ℕ, List, [], ◌∷◌, ◌++◌, Result,
 use Rattle.toml.specs.Data.{Members}
 use Rattle.cap_core.specs.declared.profile.ProfileName.{ProfileName}
 use Rattle.cap_core.specs.declared.message.Message.{Message}
+use Rattle.cap_core.specs.Numbers.{word_bits}
+use Rattle.cap_core.specs.Rights.{all_rights}
 use Rattle.kernel_core.specs.declared.call.Op.{Op}
 use Rattle.kernel_core.specs.declared.call.Op.TheVariants as ops
 use Rattle.setup_read.specs.declared.fault.Place.{Place}
+use Rattle.setup_read.specs.declared.setup.SlotWords.{SlotWords}
 use Rattle.setup_read.specs.declared.setup.OpName.{OpName}
-use Rattle.setup_read.specs.declared.setup.OpName.TheVariants.{Send, NbSend, Recv, NbRecv}
+use Rattle.setup_read.specs.declared.setup.OpName.TheVariants.{Retype, CapCopy, CapMint, CapMove, CapMutate, Send, NbSend, Recv, NbRecv}
 use Rattle.setup_read.specs.Names.{Names}
-use Rattle.setup_read.specs.Kinds.{◌>>=◌, word, label, words, filled}
+use Rattle.setup_read.specs.Kinds.{◌>>=◌, word, rights, label, words, filled}
 use Rattle.setup_read.specs.Faults.{Fault}
 use Rattle.setup_read.specs.Tables.{required, optional}
 
@@ -17,11 +20,72 @@ use Rattle.setup_read.specs.Tables.{required, optional}
 abbrev pub common_keys : List (List ℕ)
 common_keys = codes "thread" ∷ codes "op" ∷ codes "client" ∷ codes "expect" ∷ []
 
+-- the keys by which a copy or a move names its slots
+abbrev pub slot_keys : List (List ℕ)
+slot_keys =
+    codes "cap" ∷ codes "index" ∷ codes "depth" ∷ codes "src_root" ∷ codes "src_index" ∷ codes "src_depth" ∷ []
+
+abbrev pub retype_keys : List (List ℕ)
+retype_keys =
+    codes "cap" ∷ codes "kind" ∷ codes "size_bits" ∷ codes "root" ∷ codes "index" ∷ codes "depth" ∷ codes "offset" ∷ codes "count" ∷ []
+
 abbrev pub call_keys : OpName → List (List ℕ)
+call_keys Retype = common_keys ++ retype_keys
+call_keys CapCopy = common_keys ++ (slot_keys ++ codes "rights" ∷ [])
+call_keys CapMint = common_keys ++ (slot_keys ++ codes "rights" ∷ codes "word" ∷ [])
+call_keys CapMove = common_keys ++ slot_keys
+call_keys CapMutate = common_keys ++ (slot_keys ++ codes "word" ∷ [])
 call_keys Send = common_keys ++ codes "cap" ∷ codes "label" ∷ codes "words" ∷ []
 call_keys NbSend = common_keys ++ codes "cap" ∷ codes "label" ∷ codes "words" ∷ []
 call_keys Recv = common_keys ++ codes "cap" ∷ []
 call_keys NbRecv = common_keys ++ codes "cap" ∷ []
+
+unfoldable pub retype_at : ProfileName → Names → Place → Members → Result Op Fault
+retype_at p names place table = do
+  cap ← required place table (codes "cap") (word p names)
+  kind ← required place table (codes "kind") (word p names)
+  size_bits ← optional place table (codes "size_bits") 0 (word p names)
+  root ← required place table (codes "root") (word p names)
+  index ← optional place table (codes "index") 0 (word p names)
+  depth ← optional place table (codes "depth") 0 (word p names)
+  offset ← required place table (codes "offset") (word p names)
+  count ← required place table (codes "count") (word p names)
+  Ok (ops.Retype cap kind size_bits root index depth offset count)
+
+-- where no depth is given, all the bits of a word are; where no CNode of the source is given, it is the one that is invoked
+unfoldable pub slot_words_at : ProfileName → Names → Place → Members → Result SlotWords Fault
+slot_words_at p names place table = do
+  cap ← required place table (codes "cap") (word p names)
+  index ← required place table (codes "index") (word p names)
+  depth ← optional place table (codes "depth") (word_bits p) (word p names)
+  src_root ← optional place table (codes "src_root") cap (word p names)
+  src_index ← required place table (codes "src_index") (word p names)
+  src_depth ← optional place table (codes "src_depth") (word_bits p) (word p names)
+  Ok (record { cap = cap; index = index; depth = depth; src_root = src_root; src_index = src_index; src_depth = src_depth })
+
+unfoldable pub copy_at : ProfileName → Names → Place → Members → Result Op Fault
+copy_at p names place table = do
+  w ← slot_words_at p names place table
+  rights ← optional place table (codes "rights") all_rights rights
+  Ok (ops.CapCopy w.cap w.index w.depth w.src_root w.src_index w.src_depth rights)
+
+unfoldable pub mint_at : ProfileName → Names → Place → Members → Result Op Fault
+mint_at p names place table = do
+  w ← slot_words_at p names place table
+  rights ← optional place table (codes "rights") all_rights rights
+  value ← required place table (codes "word") (word p names)
+  Ok (ops.CapMint w.cap w.index w.depth w.src_root w.src_index w.src_depth rights value)
+
+unfoldable pub move_at : ProfileName → Names → Place → Members → Result Op Fault
+move_at p names place table = do
+  w ← slot_words_at p names place table
+  Ok (ops.CapMove w.cap w.index w.depth w.src_root w.src_index w.src_depth)
+
+unfoldable pub mutate_at : ProfileName → Names → Place → Members → Result Op Fault
+mutate_at p names place table = do
+  w ← slot_words_at p names place table
+  value ← required place table (codes "word") (word p names)
+  Ok (ops.CapMutate w.cap w.index w.depth w.src_root w.src_index w.src_depth value)
 
 unfoldable pub message_at : ProfileName → Names → Place → Members → Result Message Fault
 message_at p names place table = do
@@ -52,6 +116,11 @@ nb_recv_at p names place table = do
   Ok (ops.NbRecv cap)
 
 abbrev pub operation_at : ProfileName → OpName → Names → Place → Members → Result Op Fault
+operation_at p Retype names place table = retype_at p names place table
+operation_at p CapCopy names place table = copy_at p names place table
+operation_at p CapMint names place table = mint_at p names place table
+operation_at p CapMove names place table = move_at p names place table
+operation_at p CapMutate names place table = mutate_at p names place table
 operation_at p Send names place table = send_at p names place table
 operation_at p NbSend names place table = nb_send_at p names place table
 operation_at p Recv names place table = recv_at p names place table

@@ -10,7 +10,7 @@ use Rattle.cap_core.specs.declared.capability.Cap.TheVariants.{Null, Untyped, En
 use Rattle.cap_core.specs.declared.refusal.Refusal.{Refusal}
 use Rattle.cap_core.specs.Refusals.{refusal_code, refusal_kind}
 use Rattle.kernel_core.specs.declared.call.Op.{Op}
-use Rattle.kernel_core.specs.declared.call.Op.TheVariants.{Send, NbSend, Recv, NbRecv}
+use Rattle.kernel_core.specs.declared.call.Op.TheVariants.{Retype, CapCopy, CapMint, CapMove, CapMutate, Send, NbSend, Recv, NbRecv}
 use Rattle.kernel_core.specs.declared.call.Reply.{Reply}
 use Rattle.kernel_core.specs.declared.call.Reply.TheVariants.{Done, Delivered, Waiting, Dropped, Empty, Refused}
 use Rattle.kernel_core.specs.declared.call.ThreadState.{ThreadState}
@@ -47,6 +47,11 @@ cap_text (Tcb base) = codes "tcb " ++ decimal base
 -- ---- calls and replies
 
 abbrev pub op_text : Op → List ℕ
+op_text (Retype cap kind size_bits root index depth offset count) = codes "retype"
+op_text (CapCopy cap index depth src_root src_index src_depth rights) = codes "copy"
+op_text (CapMint cap index depth src_root src_index src_depth rights word) = codes "mint"
+op_text (CapMove cap index depth src_root src_index src_depth) = codes "move"
+op_text (CapMutate cap index depth src_root src_index src_depth word) = codes "mutate"
 op_text (Send cap message) = codes "send"
 op_text (NbSend cap message) = codes "nbsend"
 op_text (Recv cap) = codes "recv"

@@ -11,8 +11,8 @@ use crate::fault::Wrong;
 use crate::limits::MAX_EXPECT_BYTES;
 use crate::names::{Name, word_of};
 use crate::setup::{OpName, Words};
-use cap_core::Profile;
 use cap_core::limits::MAX_MESSAGE_WORDS;
+use cap_core::{Profile, Rights};
 use toml::Value;
 
 /// An integer from `low` to `high`.
@@ -125,6 +125,14 @@ pub fn label<P: Profile>(value: &Value) -> Result<u64, Wrong>
     }
 }
 
+/// The rights that a number from 0 to that of all rights stands for.
+pub fn rights(value: &Value) -> Result<Rights, Wrong>
+    ensures { result ≡ kind.rights (view value.now) }
+{
+    let number = number(value, 0, u32::from(Rights::ALL.0))?;
+    Ok(Rights(number as u8))
+}
+
 /// The elements of an array of `low` to `high` elements.
 #[tactic(auto, using(crate::proofs::Loops::array_short, crate::proofs::Loops::array_long, crate::proofs::Loops::array_fits))]
 pub fn array(value: &Value, low: usize, high: usize) -> Result<&[Value], Wrong>
@@ -185,7 +193,17 @@ pub fn op(value: &Value) -> Result<OpName, Wrong>
     let Some(text) = value.as_str() else {
         return Err(Wrong::OtherType);
     };
-    if text == "send" {
+    if text == "retype" {
+        Ok(OpName::Retype)
+    } else if text == "copy" {
+        Ok(OpName::CapCopy)
+    } else if text == "mint" {
+        Ok(OpName::CapMint)
+    } else if text == "move" {
+        Ok(OpName::CapMove)
+    } else if text == "mutate" {
+        Ok(OpName::CapMutate)
+    } else if text == "send" {
         Ok(OpName::Send)
     } else if text == "nbsend" {
         Ok(OpName::NbSend)

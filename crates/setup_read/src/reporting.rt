@@ -1,7 +1,6 @@
 //! The report of a run: each call with its reply, what the kernel shows at the end, and how many expectations are met.
-ghost use Rattle.std.specs.Prelude.{◌≡◌, All, length, IfOk};
+ghost use Rattle.std.specs.Prelude.{◌≡◌, ◌<◌, ◌^◌, All, length, IfOk};
 ghost use Rattle.slot_core.specs.Entries.{slots as slots_of};
-ghost use Rattle.kernel_core.specs.Rows.{IsSlotAddress};
 ghost use Rattle.setup_read.specs.Report.{report_of};
 
 mod calls;
@@ -25,8 +24,7 @@ use std::fmt::Write;
 /// line for each live thread, each live endpoint, each full slot and each CNode that only slots of its own name, each by
 /// rising address; and how many of the expectations are met.
 ///
-/// `replies` has the reply to each call, in order, and the full slots of `kernel` lie in the set-up's memory, at multiples of a
-/// slot's size. The lines, and what is read of a kernel, are this project's profile.
+/// `replies` has the reply to each call, in order, and the full slots of `kernel` lie in the set-up's memory. The lines, and what is read of a kernel, are this project's profile.
 ///
 /// # Errors
 ///
@@ -39,7 +37,7 @@ pub fn report<P: Profile, S: CapStore<P> + Drop, W: Waiters<P> + Drop>(
     kernel: &Kernel<P, S, W>,
 ) -> Result<Vec<u8>, AllocError>
     requires replies { length replies.now ≡ length setup.now.calls }
-    requires slots { All (IsSlotAddress P.the setup.now.plan.memory_bits) (slots_of kernel.now.derivations) }
+    requires slots { All (λ a. a < 2 ^ setup.now.plan.memory_bits) (slots_of kernel.now.derivations) }
     ensures { IfOk result (λ v. v.items ≡ report_of P.the setup.now.calls replies.now kernel.now) }
 {
     let mut out = String::new(alloc);

@@ -9,6 +9,11 @@ use std::marker::Model;
 /// The name of an operation.
 #[derive(Clone, Copy, Debug, PartialEq, Eq)]
 pub enum OpName {
+    Retype,
+    CapCopy,
+    CapMint,
+    CapMove,
+    CapMutate,
     Send,
     NbSend,
     Recv,
@@ -20,6 +25,18 @@ pub enum OpName {
 pub struct Words {
     pub words: [u64; MAX_MESSAGE_WORDS],
     pub count: u32,
+}
+
+/// The words by which a copy or a move names its slots: `index` and `depth` the one that is filled, from the CNode that `cap`
+/// names, and the others the source.
+#[derive(Clone, Copy, Debug, PartialEq, Eq)]
+pub struct SlotWords {
+    pub cap: u64,
+    pub index: u64,
+    pub depth: u64,
+    pub src_root: u64,
+    pub src_index: u64,
+    pub src_depth: u64,
 }
 
 /// The sizes of a boot plan.

@@ -5,17 +5,18 @@ ghost use Rattle.std.specs.List.Sorted.{IsStrictlySortedBy};
 ghost use Rattle.std.specs.String.{string_cmp};
 ghost use Rattle.toml.specs.View.{view, table_view};
 ghost use Rattle.toml.specs.Data.{get_member, as_table};
+ghost use Rattle.cap_core.specs.Rights.{all_rights};
 ghost use Rattle.setup_read.specs.Names.{names_view};
 ghost use Rattle.setup_read.specs.Kinds as kind;
 ghost use Rattle.setup_read.specs.Faults.{Gives};
 ghost use Rattle.setup_read.specs.Tables as spec;
 
 use crate::fault::{Key, Place, SetupFault, Wrong};
-use crate::kinds::{array, expect, label, number, op, word, words};
+use crate::kinds::{array, expect, label, number, op, rights, word, words};
 use crate::names::Name;
 use crate::setup::{OpName, Words};
-use cap_core::Profile;
 use cap_core::limits::MAX_MESSAGE_WORDS;
+use cap_core::{Profile, Rights};
 use std::alloc::Global;
 use toml::{Table, Value};
 
@@ -89,6 +90,32 @@ pub fn word_at<P: Profile>(
     match find(table, key) {
         None => at_key(place, key, Err(Wrong::Missing)),
         Some(value) => at_key(place, key, word::<P>(names, value)),
+    }
+}
+
+/// A word at a key with a default.
+pub fn word_or<P: Profile>(
+    names: &[Name],
+    table: &Table,
+    place: Place,
+    key: &'static str,
+    default: u64,
+) -> Result<u64, SetupFault>
+    ensures { Gives (λ n. n) result (spec.optional place (table_view table.now) key.now default (kind.word P.the (names_view names.now))) }
+{
+    match find(table, key) {
+        None => Ok(default),
+        Some(value) => at_key(place, key, word::<P>(names, value)),
+    }
+}
+
+/// Rights; all of them where the key is not there.
+pub fn rights_or_all(table: &Table, place: Place, key: &'static str) -> Result<Rights, SetupFault>
+    ensures { Gives (λ r. r) result (spec.optional place (table_view table.now) key.now all_rights kind.rights) }
+{
+    match find(table, key) {
+        None => Ok(Rights::ALL),
+        Some(value) => at_key(place, key, rights(value)),
     }
 }
 

@@ -1,5 +1,6 @@
 //! Whole set-ups: what is accepted, and the line by which each other is refused.
 use super::*;
+use cap_core::Rights;
 use kernel_core::Op;
 use std::alloc::Global;
 use std::test::Fail;
@@ -306,6 +307,205 @@ fn edges_of_the_keys_of_a_call(rt: HostRuntime) -> Result<(), Fail> {
         let got = below_sizes(rt.alloc(), lines.as_str())?;
         assert_eq!(rt; got.as_str(), want, "of {call}");
     }
+    Ok(())
+}
+
+#[test]
+fn edges_of_the_keys_of_a_retype_and_a_copy(rt: HostRuntime) -> Result<(), Fail> {
+    for (call, want) in [
+        (
+            "op = \"retype\", thread = 2048",
+            "202: set-up refused 202 at call 1 key cap",
+        ),
+        (
+            "op = \"retype\", thread = 2048, cap = 5, rights = 1",
+            "201: set-up refused 201 at call 1 key rights",
+        ),
+        (
+            "op = \"retype\", thread = 2048, cap = 5, root = 1, offset = 8, count = 1",
+            "202: set-up refused 202 at call 1 key kind",
+        ),
+        (
+            "op = \"retype\", thread = 2048, cap = 5, kind = 2, size_bits = -1, root = true",
+            "204: set-up refused 204 at call 1 key size_bits",
+        ),
+        (
+            "op = \"retype\", thread = 2048, cap = 5, kind = 2, root = 1, depth = 1.0, offset = -1",
+            "203: set-up refused 203 at call 1 key depth",
+        ),
+        (
+            "op = \"retype\", thread = 2048, cap = 5, kind = 2, root = 1, offset = 8",
+            "202: set-up refused 202 at call 1 key count",
+        ),
+        (
+            "op = \"copy\", thread = 2048, cap = 1, src_index = 4",
+            "202: set-up refused 202 at call 1 key index",
+        ),
+        (
+            "op = \"copy\", thread = 2048, cap = 1, index = 8, depth = true",
+            "203: set-up refused 203 at call 1 key depth",
+        ),
+        (
+            "op = \"copy\", thread = 2048, cap = 1, index = 8, src_root = \"0x\"",
+            "204: set-up refused 204 at call 1 key src_root",
+        ),
+        (
+            "op = \"copy\", thread = 2048, cap = 1, index = 8, src_depth = -1",
+            "202: set-up refused 202 at call 1 key src_index",
+        ),
+        (
+            "op = \"copy\", thread = 2048, cap = 1, index = 8, src_index = 4, word = 5",
+            "201: set-up refused 201 at call 1 key word",
+        ),
+        (
+            "op = \"copy\", thread = 2048, cap = 1, index = 8, src_index = 4, rights = 16",
+            "204: set-up refused 204 at call 1 key rights",
+        ),
+        (
+            "op = \"copy\", thread = 2048, cap = 1, index = 8, src_index = 4, rights = \"0x1\"",
+            "203: set-up refused 203 at call 1 key rights",
+        ),
+        (
+            "op = \"mint\", thread = 2048, cap = 1, index = 8, src_index = 4, rights = -1",
+            "204: set-up refused 204 at call 1 key rights",
+        ),
+        (
+            "op = \"mint\", thread = 2048, cap = 1, index = 8, src_index = 4",
+            "202: set-up refused 202 at call 1 key word",
+        ),
+        (
+            "op = \"move\", thread = 2048, cap = 1, index = 8, src_index = 4, rights = 15",
+            "201: set-up refused 201 at call 1 key rights",
+        ),
+        (
+            "op = \"move\", thread = 2048, cap = 1, index = 8",
+            "202: set-up refused 202 at call 1 key src_index",
+        ),
+        (
+            "op = \"mutate\", thread = 2048, cap = 1, index = 8, src_index = 4, rights = 15",
+            "201: set-up refused 201 at call 1 key rights",
+        ),
+        (
+            "op = \"mutate\", thread = 2048, cap = 1, index = 8, src_index = 4",
+            "202: set-up refused 202 at call 1 key word",
+        ),
+    ] {
+        let lines = format!(in rt.alloc(); "call = [{{{call}}}]")?;
+        let got = below_sizes(rt.alloc(), lines.as_str())?;
+        assert_eq!(rt; got.as_str(), want, "of {call}");
+    }
+    Ok(())
+}
+
+/// The operation of the one call with these keys, beside its thread.
+fn operation(alloc: Global, keys: &str) -> Result<Op, Fail> {
+    let text = format!(in alloc; "{SIZES}call = [{{ thread = 2048, {keys} }}]")?;
+    let setup = read_setup(alloc, text.as_bytes())?;
+    match setup.calls() {
+        [call] => Ok(call.op),
+        _ => Err("one call was wanted")?,
+    }
+}
+
+#[test]
+fn what_a_retype_is_read_as(rt: HostRuntime) -> Result<(), Fail> {
+    let short = operation(
+        rt.alloc(),
+        "op = \"retype\", cap = 5, kind = 2, root = 1, offset = 8, count = 3",
+    )?;
+    let retype = Op::Retype {
+        cap: 5,
+        kind: 2,
+        size_bits: 0,
+        root: 1,
+        index: 0,
+        depth: 0,
+        offset: 8,
+        count: 3,
+    };
+    assert_eq!(rt; short, retype);
+    let whole = operation(
+        rt.alloc(),
+        "op = \"retype\", cap = 1, kind = 2, size_bits = 3, root = 4, index = 5, depth = 6, offset = 7, count = 8",
+    )?;
+    let retype = Op::Retype {
+        cap: 1,
+        kind: 2,
+        size_bits: 3,
+        root: 4,
+        index: 5,
+        depth: 6,
+        offset: 7,
+        count: 8,
+    };
+    assert_eq!(rt; whole, retype);
+    Ok(())
+}
+
+/// Without their keys the depths are 64, the source's CNode is the one that is invoked, and all rights are kept.
+#[test]
+fn what_a_copy_and_a_mint_are_read_as(rt: HostRuntime) -> Result<(), Fail> {
+    let copied = operation(
+        rt.alloc(),
+        "op = \"copy\", cap = 1, index = 8, src_index = 4",
+    )?;
+    let copy = Op::CapCopy {
+        cap: 1,
+        index: 8,
+        depth: 64,
+        src_root: 1,
+        src_index: 4,
+        src_depth: 64,
+        rights: Rights::ALL,
+    };
+    assert_eq!(rt; copied, copy);
+    let minted = operation(
+        rt.alloc(),
+        "op = \"mint\", cap = 1, index = 2, depth = 3, src_root = 4, src_index = 5, src_depth = 6, rights = 2, word = 7",
+    )?;
+    let mint = Op::CapMint {
+        cap: 1,
+        index: 2,
+        depth: 3,
+        src_root: 4,
+        src_index: 5,
+        src_depth: 6,
+        rights: Rights::READ,
+        word: 7,
+    };
+    assert_eq!(rt; minted, mint);
+    Ok(())
+}
+
+#[test]
+fn what_a_move_and_a_mutate_are_read_as(rt: HostRuntime) -> Result<(), Fail> {
+    let moved = operation(
+        rt.alloc(),
+        "op = \"move\", cap = 1, index = 2, depth = 3, src_root = 4, src_index = 5, src_depth = 6",
+    )?;
+    let relocation = Op::CapMove {
+        cap: 1,
+        index: 2,
+        depth: 3,
+        src_root: 4,
+        src_index: 5,
+        src_depth: 6,
+    };
+    assert_eq!(rt; moved, relocation);
+    let mutated = operation(
+        rt.alloc(),
+        "op = \"mutate\", cap = \"0x9\", index = 8, src_index = 4, word = 323",
+    )?;
+    let mutate = Op::CapMutate {
+        cap: 9,
+        index: 8,
+        depth: 64,
+        src_root: 9,
+        src_index: 4,
+        src_depth: 64,
+        word: 323,
+    };
+    assert_eq!(rt; mutated, mutate);
     Ok(())
 }
 

@@ -1,9 +1,8 @@
 //! What a kernel shows of its memory, a line for each thing that is there.
-ghost use Rattle.std.specs.Prelude.{◌≡◌, ◌++◌, ◌≤◌, All, OnOk, IfOk, flat_map, string_bytes};
+ghost use Rattle.std.specs.Prelude.{◌≡◌, ◌++◌, ◌≤◌, ◌<◌, ◌^◌, All, OnOk, IfOk, flat_map, string_bytes};
 ghost use Rattle.std.specs.BTreeSet.{difference};
 ghost use Rattle.std.specs.Ordering.{nat_cmp};
 ghost use Rattle.slot_core.specs.Entries.{slots as slots_of};
-ghost use Rattle.kernel_core.specs.Rows.{IsSlotAddress};
 ghost use Rattle.setup_read.specs.Report as spec;
 
 use super::lines::{EndpointLine, SlotLine, ThreadLine};
@@ -17,7 +16,11 @@ use std::alloc::{AllocError, Global};
 use std::collections::BTreeSet;
 use std::fmt::Write;
 
-fn add_thread<K: Readable>(out: &mut String, address: u64, kernel: &K) -> Result<(), AllocError>
+fn add_thread<P: Profile, K: Readable<P>>(
+    out: &mut String,
+    address: u64,
+    kernel: &K,
+) -> Result<(), AllocError>
     ensures { OnOk result (string_bytes out.new ≡ string_bytes out.old ++ spec.thread_line (K.shown kernel.now) address) }
 {
     match kernel.thread_state(address) {
@@ -34,7 +37,7 @@ fn add_thread<K: Readable>(out: &mut String, address: u64, kernel: &K) -> Result
 }
 
 /// Adds a line for each of some threads.
-fn add_threads<K: Readable>(
+fn add_threads<P: Profile, K: Readable<P>>(
     out: &mut String,
     threads: &BTreeSet<u64>,
     kernel: &K,
@@ -42,12 +45,16 @@ fn add_threads<K: Readable>(
     ensures { OnOk result (string_bytes out.new ≡ string_bytes out.old ++ flat_map (spec.thread_line (K.shown kernel.now)) threads.now.keys) }
 {
     for thread in threads {
-        add_thread(out, *thread, kernel)?;
+        add_thread::<P, K>(out, *thread, kernel)?;
     }
     Ok(())
 }
 
-fn add_slot<K: Readable>(out: &mut String, address: u64, kernel: &K) -> Result<(), AllocError>
+fn add_slot<P: Profile, K: Readable<P>>(
+    out: &mut String,
+    address: u64,
+    kernel: &K,
+) -> Result<(), AllocError>
     ensures { OnOk result (string_bytes out.new ≡ string_bytes out.old ++ spec.slot_line (K.shown kernel.now) address) }
 {
     let line = SlotLine {
@@ -59,7 +66,7 @@ fn add_slot<K: Readable>(out: &mut String, address: u64, kernel: &K) -> Result<(
 }
 
 /// Adds a line for each of some slots.
-fn add_slots<K: Readable>(
+fn add_slots<P: Profile, K: Readable<P>>(
     out: &mut String,
     slots: &BTreeSet<u64>,
     kernel: &K,
@@ -67,13 +74,13 @@ fn add_slots<K: Readable>(
     ensures { OnOk result (string_bytes out.new ≡ string_bytes out.old ++ flat_map (spec.slot_line (K.shown kernel.now)) slots.now.keys) }
 {
     for slot in slots {
-        add_slot(out, *slot, kernel)?;
+        add_slot::<P, K>(out, *slot, kernel)?;
     }
     Ok(())
 }
 
 /// The threads that wait on an endpoint, the first to be served first.
-fn waiting_threads<K: Readable>(
+fn waiting_threads<P: Profile, K: Readable<P>>(
     alloc: Global,
     endpoint: u64,
     kernel: &K,
@@ -87,7 +94,7 @@ fn waiting_threads<K: Readable>(
     Ok(threads)
 }
 
-fn first_sends<K: Readable>(threads: &[u64], kernel: &K) -> bool
+fn first_sends<P: Profile, K: Readable<P>>(threads: &[u64], kernel: &K) -> bool
     ensures { result ≡ spec.first_sends (K.shown kernel.now) threads.now }
 {
     match threads {
@@ -96,7 +103,7 @@ fn first_sends<K: Readable>(threads: &[u64], kernel: &K) -> bool
     }
 }
 
-fn add_endpoint<K: Readable>(
+fn add_endpoint<P: Profile, K: Readable<P>>(
     alloc: Global,
     out: &mut String,
     address: u64,
@@ -104,17 +111,17 @@ fn add_endpoint<K: Readable>(
 ) -> Result<(), AllocError>
     ensures { OnOk result (string_bytes out.new ≡ string_bytes out.old ++ spec.endpoint_line (K.shown kernel.now) address) }
 {
-    let threads = waiting_threads(alloc, address, kernel)?;
+    let threads = waiting_threads::<P, K>(alloc, address, kernel)?;
     let line = EndpointLine {
         address,
-        sending: first_sends(threads.as_slice(), kernel),
+        sending: first_sends::<P, K>(threads.as_slice(), kernel),
         threads: threads.as_slice(),
     };
     writeln!(out, "{line}")
 }
 
 /// Adds a line for each of some endpoints.
-fn add_endpoints<K: Readable>(
+fn add_endpoints<P: Profile, K: Readable<P>>(
     alloc: Global,
     out: &mut String,
     endpoints: &BTreeSet<u64>,
@@ -123,7 +130,7 @@ fn add_endpoints<K: Readable>(
     ensures { OnOk result (string_bytes out.new ≡ string_bytes out.old ++ flat_map (spec.endpoint_line (K.shown kernel.now)) endpoints.now.keys) }
 {
     for endpoint in endpoints {
-        add_endpoint(alloc, out, *endpoint, kernel)?;
+        add_endpoint::<P, K>(alloc, out, *endpoint, kernel)?;
     }
     Ok(())
 }
@@ -143,7 +150,7 @@ fn add_selfheld(
 }
 
 /// Adds what a kernel shows of its memory, in which all its full slots lie.
-pub fn add_state<P: Profile, K: Readable>(
+pub fn add_state<P: Profile, K: Readable<P>>(
     alloc: Global,
     out: &mut String,
     memory_bits: u32,
@@ -151,7 +158,7 @@ pub fn add_state<P: Profile, K: Readable>(
 ) -> Result<(), AllocError>
     requires least { MIN_MEMORY_BITS ≤ memory_bits }
     requires most { memory_bits ≤ MAX_MEMORY_BITS }
-    requires slots { All (IsSlotAddress P.the memory_bits) (slots_of (K.shown kernel.now).derivations) }
+    requires slots { All (λ a. a < 2 ^ memory_bits) (slots_of (K.shown kernel.now).derivations) }
     ensures { OnOk result (string_bytes out.new ≡ string_bytes out.old ++ spec.state_lines P.the (K.shown kernel.now)) }
 {
     let slots = full_slots::<P, K>(alloc, memory_bits, kernel)?;
@@ -159,9 +166,9 @@ pub fn add_state<P: Profile, K: Readable>(
     let endpoints = bases_named::<P, K>(alloc, Naming::Endpoint, &slots, kernel)?;
     let own = bases_named::<P, K>(alloc, Naming::OwnNode, &slots, kernel)?;
     let others = bases_named::<P, K>(alloc, Naming::OtherNode, &slots, kernel)?;
-    add_threads(out, &threads, kernel)?;
-    add_endpoints(alloc, out, &endpoints, kernel)?;
-    add_slots(out, &slots, kernel)?;
+    add_threads::<P, K>(out, &threads, kernel)?;
+    add_endpoints::<P, K>(alloc, out, &endpoints, kernel)?;
+    add_slots::<P, K>(out, &slots, kernel)?;
     add_selfheld(out, &own, &others)?;
     Ok(())
 }

@@ -61,7 +61,7 @@ fn base_named<P: Profile>(naming: Naming, slot: u64, cap: Cap) -> Option<u64>
 }
 
 /// The bases of the objects that slots name.
-pub fn bases_named<P: Profile, K: Readable>(
+pub fn bases_named<P: Profile, K: Readable<P>>(
     alloc: Global,
     naming: Naming,
     slots: &BTreeSet<u64>,

@@ -1,7 +1,8 @@
 //! What a report reads of a kernel.
-ghost use Rattle.std.specs.Prelude.{◌≡◌, option_map, slice_get};
-ghost use Rattle.slot_core.specs.Entries.{cap_at};
+ghost use Rattle.std.specs.Prelude.{◌≡◌, All, option_map, slice_get};
+ghost use Rattle.slot_core.specs.Entries.{cap_at, slots};
 ghost use Rattle.ipc_core.specs.Waits.{thread_of};
+ghost use Rattle.kernel_core.specs.Rows.{IsAligned};
 ghost use Rattle.kernel_core.specs.Shown.{Shown, state_at, inbox_at, waiting_at, has_child};
 
 use cap_core::{Cap, Profile};
@@ -10,7 +11,7 @@ use kernel_core::{Inbox, Kernel, ThreadState};
 use slot_core::CapStore;
 
 /// The calls by which a kernel's state is read, whatever stores it has.
-pub trait Readable {
+pub trait Readable<P: Profile> {
     ghost shown: { Self → Shown };
 
     /// What a live thread does.
@@ -21,9 +22,10 @@ pub trait Readable {
     fn inbox(&self, tcb: u64) -> Option<Inbox>
         ensures { result ≡ inbox_at (shown self.now) tcb };
 
-    /// The capability that a slot holds, and `Null` in an empty one.
+    /// The capability that a slot holds, and `Null` in an empty one. Each full slot stands at a multiple of a slot's size.
     fn cap_at(&self, slot: u64) -> Cap
-        ensures { result ≡ cap_at (shown self.now).derivations slot };
+        ensures cap { result ≡ cap_at (shown self.now).derivations slot }
+        ensures aligned { All (IsAligned P.the) (slots (shown self.now).derivations) };
 
     /// Whether a slot's capability has children.
     fn has_children(&self, slot: u64) -> bool
@@ -34,7 +36,7 @@ pub trait Readable {
         ensures { result ≡ option_map thread_of (slice_get (waiting_at (shown self.now) endpoint) place) };
 }
 
-impl<P: Profile, S: CapStore<P> + Drop, W: Waiters<P> + Drop> Readable for Kernel<P, S, W> {
+impl<P: Profile, S: CapStore<P> + Drop, W: Waiters<P> + Drop> Readable<P> for Kernel<P, S, W> {
     ghost shown = { λ kernel. kernel };
 
     fn thread_state(&self, tcb: u64) -> Option<ThreadState> {

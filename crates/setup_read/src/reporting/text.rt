@@ -108,6 +108,11 @@ pub fn op_text(op: &Op) -> &'static str
     ensures { result.now ≡ text.op_text op.now }
 {
     match op {
+        Op::Retype { .. } => "retype",
+        Op::CapCopy { .. } => "copy",
+        Op::CapMint { .. } => "mint",
+        Op::CapMove { .. } => "move",
+        Op::CapMutate { .. } => "mutate",
         Op::Send { .. } => "send",
         Op::NbSend { .. } => "nbsend",
         Op::Recv { .. } => "recv",

@@ -4,12 +4,12 @@ use Rattle.kernel_core.specs.Boot.{boot}
 use Rattle.kernel_core.specs.State.{shown}
 use Rattle.kernel_core.specs.Step.{replies_of, state_after}
 use Rattle.sel4sim.specs.Program.{calls_of, replies_to, end_of}
-use Rattle.sel4sim.proofs.Runs.{boot_reached}
+use Rattle.sel4sim.proofs.Runs.{boot_reached, booted_in_memory}
 use Rattle.sel4sim.proofs.engine.run_calls.Goals as goal
 
 pub returns-clause-kernel : goal.returns-clause-kernel
 unfolding end_of
-returns-clause-kernel c =
+returns-clause-kernel g c =
     let setup = c.args.setup.now in
     let plan : c.plan.result.now ≡ setup.plan = c.plan.ensures.plan in
     let calls : c.calls-calls.result.now ≡ calls_of setup = c.calls-calls.ensures in
@@ -20,7 +20,7 @@ returns-clause-kernel c =
 
 pub returns-clause-replies : goal.returns-clause-replies
 unfolding replies_to
-returns-clause-replies c =
+returns-clause-replies g c =
     let setup = c.args.setup.now in
     let plan : c.plan.result.now ≡ setup.plan = c.plan.ensures.plan in
     let calls : c.calls-calls.result.now ≡ calls_of setup = c.calls-calls.ensures in
@@ -30,3 +30,10 @@ returns-clause-replies c =
     c.run.ensures.replies (boot Wide setup.plan) (boot_reached Wide setup.plan c.requires) shows
     ∙ ap (λ l. l ++ replies_of Wide (boot Wide setup.plan) c.calls-calls.result.now) none
     ∙ ap (λ l. replies_of Wide (boot Wide setup.plan) l) calls
+
+pub returns-clause-within : goal.returns-clause-within
+returns-clause-within g c =
+    let setup = c.args.setup.now in
+    let shows : c.in_ok-kernel.kernel ≡ shown (boot Wide setup.plan) =
+    c.in_ok-kernel.ensures ∙ ap (λ q. shown (boot Wide q)) c.plan.ensures.plan in
+    c.run.ensures.within setup.plan.memory_bits (booted_in_memory Wide setup.plan c.in_ok-kernel.kernel c.requires shows)
