@@ -19,6 +19,8 @@ rows: run
 	examples/run.sh $(program)
 	python3 rows/refuse_memory.py $(program) rows/send_then_receive.toml
 
-bench:
+bench: run
 	bench/run.sh store_cycle
 	bench/run.sh ping_pong
+	bench/run.sh kernel_cycle
+	python3 bench/check.py $(program)

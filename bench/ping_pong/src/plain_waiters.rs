@@ -1,4 +1,5 @@
 //! The same queues inside tables, in plain Rust.
+#![allow(dead_code)]
 
 #[derive(Clone, Copy, PartialEq, Eq)]
 pub struct Message {
@@ -145,5 +146,9 @@ impl Waiters {
         let role = Some(Role::Receiving(endpoint));
         self.wait_last(endpoint, thread, ThreadRow { role, ..FREE });
         Received::Waiting
+    }
+
+    pub fn role(&self, thread: u64) -> Option<Role> {
+        self.threads[(thread >> TCB_BITS) as usize].role
     }
 }

@@ -1,4 +1,5 @@
 //! The same linked list of slots with two marks, in plain Rust.
+#![allow(dead_code)]
 
 #[derive(Clone, Copy, PartialEq, Eq)]
 pub struct Guard {
@@ -151,5 +152,49 @@ impl Store {
         let link = &self.links[slot as usize];
         let next = link.next?;
         is_parent(link, &self.links[next as usize]).then_some(next)
+    }
+
+    pub fn get(&self, slot: u64) -> Cap {
+        match self.links.get(slot as usize) {
+            Some(link) => link.cap,
+            None => Cap::Null,
+        }
+    }
+
+    /// Puts the capability of a new object behind its untyped.
+    pub fn put_new(&mut self, parent: u64, slot: u64, cap: Cap) {
+        let next = self.links[parent as usize].next;
+        self.links[slot as usize] = Link {
+            cap,
+            previous: Some(parent),
+            next,
+            revocable: true,
+            first_badged: true,
+        };
+        self.links[parent as usize].next = Some(slot);
+        match next {
+            Some(next) => self.links[next as usize].previous = Some(slot),
+            None => self.last = Some(slot),
+        }
+    }
+
+    pub fn relocate(&mut self, source: u64, slot: u64, cap: Cap) {
+        let link = self.links[source as usize];
+        self.links[slot as usize] = Link { cap, ..link };
+        match link.previous {
+            Some(previous) => self.links[previous as usize].next = Some(slot),
+            None => self.first = Some(slot),
+        }
+        match link.next {
+            Some(next) => self.links[next as usize].previous = Some(slot),
+            None => self.last = Some(slot),
+        }
+        self.links[source as usize] = EMPTY;
+    }
+
+    pub fn set_free(&mut self, slot: u64, index: u64) {
+        if let Cap::Untyped { free, .. } = &mut self.links[slot as usize].cap {
+            *free = index;
+        }
     }
 }
