@@ -1,6 +1,6 @@
 # make run: the proved program on the stored set-up; make test: the gate; make try: the stored set-up before any proof;
 # make rows: each worked set-up and each example through the built program, and each of its requests for memory refused in turn;
-# make bench: the linked forms beside plain Rust.
+# make bench: the linked forms and the kernel beside plain Rust, and the time of long set-ups.
 .PHONY: run test try rows bench
 
 program = crates/sel4sim/out/sel4sim
