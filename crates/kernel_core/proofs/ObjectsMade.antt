@@ -236,7 +236,7 @@ module _ (p : ProfileName) (A : State) (new : NewObjects) (inv : Invariant A) (f
       get_table (threads_of (with_objects p new A.derivations)) (thread_view after_made) q
       ∙ ap (λ (b : Bool). cond b (Some (thread_view after_made q)) None) (threads_live q)
       ∙ (elim (list_any (λ k. q == k) (new_bases tcb_base p new)) as (λ c. list_any (λ k. q == k) (new_bases tcb_base p new) ≡ c →
-          cond (c || list_any (λ k. q == k) (threads_of A.derivations)) (Some (thread_view after_made q)) None ≡ cond c (Some new_thread) (get (table (threads_of A.derivations) (thread_view A)) q)) [
+      cond (c || list_any (λ k. q == k) (threads_of A.derivations)) (Some (thread_view after_made q)) None ≡ cond c (Some new_thread) (get (table (threads_of A.derivations) (thread_view A)) q)) [
         | true ↦ λ made. ap Some (view_made q made)
         | false ↦ λ none. ap (λ (v : ThreadView). cond (list_any (λ k. q == k) (threads_of A.derivations)) (Some v) None) (view_kept q none) ∙ sym (get_table (threads_of A.derivations) (thread_view A) q)
       ]) refl

@@ -138,4 +138,3 @@ inv_refused A inv = record {
   once = inv.once;
   alone = inv.alone;
 }
-

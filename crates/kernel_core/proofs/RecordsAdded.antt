@@ -232,4 +232,3 @@ inv_sends p A t service message false inv pass = inv_awaited A (is_send_awaited 
 pub inv_receives : (p : ProfileName) (A : State) (t : ℕ) (service : Service) (block : Bool) → Invariant A → Passes A t (Receive service block) → Invariant (performed p A t (Receive service block)).state
 inv_receives p A t service true inv pass = inv_asked A t service inv pass.ready pass.thread_live
 inv_receives p A t service false inv pass = inv_awaited A (is_receive_awaited A (endpoint_at A service.endpoint)) (receive_accepted A t service) Empty inv (inv_asked A t service inv pass.ready pass.thread_live)
-

@@ -4,6 +4,7 @@ use crate::fault::{RunFault, Verdict};
 use crate::sink::WriterSink;
 use crate::source::ReaderSource;
 use crate::tests::fakes::{reader, writer};
+use crate::tests::stores::report_of;
 use std::alloc::Global;
 use std::process::Abort;
 use std::test::Fail;
@@ -28,7 +29,8 @@ fn written(alloc: Global, text: &[u8]) -> Result<(Vec<u8>, Verdict), RunFault> {
     Ok((out.taken, verdict))
 }
 
-/// The text of the base set-up, with more in its top table and with calls, gives exactly this.
+/// The text of the base set-up, with more in its top table and with calls, gives exactly this, by the program and over each
+/// pair of stores.
 fn gives(
     rt: &(impl Abort + AllocGlobal),
     more: &str,
@@ -38,6 +40,7 @@ fn gives(
     let text = format!(in rt.alloc(); "{HEAD}{more}{UNTYPED}{calls}")?;
     let (bytes, _) = written(rt.alloc(), text.as_bytes())?;
     assert!(rt; bytes.as_slice() == wanted.as_bytes(), "{text}");
+    assert_eq!(rt; report_of(rt, text.as_str())?.as_str(), wanted);
     Ok(())
 }
 
@@ -103,10 +106,12 @@ fn expectation_not_met(rt: HostRuntime) -> Result<(), Fail> {
     let text = format!(in rt.alloc(); "{HEAD}{UNTYPED}{calls}")?;
     let (bytes, verdict) = written(rt.alloc(), text.as_bytes())?;
     assert_eq!(rt; verdict, Verdict::NotMet);
+    let report = report_of(&rt, text.as_str())?;
     let wanted = format!(in rt.alloc();
         "1 2048 send: waiting [not met: delivered]\nthread 2048 sending 6144\nthread 4096 ready\nendpoint 6144 sending 2048\n{SLOTS}expected 0 of 1\n"
     )?;
     assert!(rt; bytes.as_slice() == wanted.as_bytes());
+    assert_eq!(rt; report.as_str(), wanted.as_str());
     Ok(())
 }
 
@@ -114,10 +119,10 @@ fn expectation_not_met(rt: HostRuntime) -> Result<(), Fail> {
 fn senders_served_in_order(rt: HostRuntime) -> Result<(), Fail> {
     let text =
         "format = 1\nmemory_bits = 16\nroot_radix = 4\nthreads = 3\nendpoints = 1\n[[call]]\nthread = 2048\nop = \"send\"\ncap = 5\nlabel = 1\n[[call]]\nthread = 4096\nop = \"send\"\ncap = 5\nlabel = 2\n[[call]]\nthread = 6144\nop = \"recv\"\ncap = 5\n[[call]]\nthread = 6144\nop = \"recv\"\ncap = 5\n";
-    let (bytes, _) = written(rt.alloc(), text.as_bytes())?;
+    let report = report_of(&rt, text)?;
     let wanted =
         "1 2048 send: waiting\n2 4096 send: waiting\n3 6144 recv: delivered 8192 from 2048 to 6144 badge 0 label 1 words\n4 6144 recv: delivered 8192 from 4096 to 6144 badge 0 label 2 words\n";
-    assert!(rt; bytes.starts_with(wanted.as_bytes()));
+    assert!(rt; report.as_str().starts_with(wanted));
     Ok(())
 }
 
