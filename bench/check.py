@@ -1,5 +1,5 @@
 """check.py PROGRAM: the time of `sel4sim check` for set-ups with 65,536 calls, one with inline tables and one with headers, and
-how many instructions (counted by valgrind) go into reading the set-up, running its calls and writing the report."""
+how many instructions (counted by valgrind) go into reading the set-up, booting, running its calls and writing the report."""
 
 import pathlib
 import re
@@ -61,11 +61,12 @@ def instructions(program, path, folder):
     ).stdout
 
     def of(name):
-        found = re.search(rf"^\s*([\d,]+) .*:{re.escape(name)} \[", text, re.M)
+        found = re.search(rf"^\s*([\d,]+) .*:{re.escape(name)}(?:::<\S+>)? \[", text, re.M)
         return int(found.group(1).replace(",", "")) if found else 0
 
     whole, setup, calls = (of(f"sel4sim::engine::{name}") for name in ("text_of", "run_setup", "run_calls"))
-    return {"reading": whole - setup, "running": calls, "reporting": setup - calls}
+    boot = of("kernel_core::kernel::Kernel::boot")
+    return {"reading": whole - setup, "booting": boot, "running": calls - boot, "reporting": setup - calls}
 
 
 def main():
