@@ -82,6 +82,40 @@ fn slots_behind_a_guard(rt: HostRuntime) -> Result<(), Fail> {
 }
 
 #[test]
+fn guard_of_a_minted_cnode(rt: HostRuntime) -> Result<(), Fail> {
+    let _ = gives(
+        &rt,
+        &[
+            (
+                "retype",
+                "cap = 5, kind = 4, size_bits = 2, root = 1, offset = 8, count = 1",
+                "done",
+            ),
+            (
+                "mint",
+                "cap = 1, index = 9, src_index = 8, word = 323",
+                "done",
+            ),
+            (
+                "copy",
+                "cap = 9, index = 23, depth = 5, src_root = 1, src_index = 4",
+                "done",
+            ),
+            (
+                "mint",
+                "cap = 1, index = 10, src_index = 8, word = 63",
+                "refused 3",
+            ),
+        ],
+        &[
+            "slot 288 cnode 16384 radix 2 guard 5 size 3",
+            "slot 16480 endpoint 6144 badge 0 rights wrgp",
+        ],
+    )?;
+    Ok(())
+}
+
+#[test]
 fn untyped_is_handed_on_and_used_up(rt: HostRuntime) -> Result<(), Fail> {
     let report = gives(
         &rt,
