@@ -1,5 +1,5 @@
 //! Retype, copy, mint, move and mutate, over each pair of a capability store and a store of waiting threads.
-use crate::{BootPlan, Call, Kernel, Op, Reply, ThreadState};
+use crate::{BootPlan, Call, Kernel, Op, Reply};
 use cap_core::{Badge, Cap, Guard, Narrow, Profile, Rights, Wide};
 use ipc_core::{LinkedWaiters, MakeWaiters, RowWaiters};
 use slot_core::{LinkedStore, MakeStore, RowStore};
@@ -35,28 +35,15 @@ fn stepped<P: Profile, S: MakeStore<P>, W: MakeWaiters<P>>(
     Ok(kernel)
 }
 
-/// A retype that names its CNode by the word `root` alone.
+/// A retype into the root CNode, which the word 1 names.
 fn retype(cap: u64, kind: u64, size_bits: u64, offset: u64, count: u64) -> Op {
-    retype_at(cap, kind, size_bits, (1, 0, 0), offset, count)
-}
-
-/// A retype with the root, the index and the depth of its CNode.
-fn retype_at(
-    cap: u64,
-    kind: u64,
-    size_bits: u64,
-    node: (u64, u64, u64),
-    offset: u64,
-    count: u64,
-) -> Op {
-    let (root, index, depth) = node;
     Op::Retype {
         cap,
         kind,
         size_bits,
-        root,
-        index,
-        depth,
+        root: 1,
+        index: 0,
+        depth: 0,
         offset,
         count,
     }
@@ -72,32 +59,6 @@ fn copy(index: u64, src_index: u64, rights: Rights) -> Op {
         src_index,
         src_depth: 64,
         rights,
-    }
-}
-
-/// A copy from slot 4 of the root CNode to the slot that an index and a depth name from the capability in slot 9.
-fn copy_below(index: u64, depth: u64) -> Op {
-    Op::CapCopy {
-        cap: 9,
-        index,
-        depth,
-        src_root: 1,
-        src_index: 4,
-        src_depth: 64,
-        rights: Rights::ALL,
-    }
-}
-
-fn mint(index: u64, src_index: u64, word: u64) -> Op {
-    Op::CapMint {
-        cap: 1,
-        index,
-        depth: 64,
-        src_root: 1,
-        src_index,
-        src_depth: 64,
-        rights: Rights::ALL,
-        word,
     }
 }
 
@@ -124,10 +85,10 @@ fn mutate(index: u64, src_index: u64, word: u64) -> Op {
     }
 }
 
-fn endpoint(base: u64, badge: u64, rights: Rights) -> Cap {
+fn endpoint(base: u64, rights: Rights) -> Cap {
     Cap::Endpoint {
         base,
-        badge: Badge(badge),
+        badge: Badge(0),
         rights,
     }
 }
@@ -148,59 +109,11 @@ fn node(base: u64, radix: u32, value: u64, size: u32) -> Cap {
     }
 }
 
-fn rounds<S: MakeStore<Wide>, W: MakeWaiters<Wide>>(
-    rt: &impl Abort,
-    alloc: Global,
-) -> Result<(), Fail> {
-    let steps = [
-        (retype(5, 2, 0, 8, 2), DONE),
-        (retype(5, 1, 0, 10, 1), DONE),
-        (retype(5, 1, 0, 11, 1), (10, 0)),
-    ];
-    let kernel = stepped::<Wide, S, W>(rt, alloc, 2048, &steps)?;
-    assert_eq!(rt; kernel.cap_at(256), endpoint(16384, 0, Rights::ALL));
-    assert_eq!(rt; kernel.cap_at(288), endpoint(16400, 0, Rights::ALL));
-    assert_eq!(rt; kernel.cap_at(320), Cap::Tcb { base: 18432 });
-    assert_eq!(rt; kernel.cap_at(352), Cap::Null);
-    assert_eq!(rt; kernel.cap_at(160), untyped(4096));
-    assert!(rt; kernel.has_children(160));
-    assert_eq!(rt; kernel.thread_state(18432), Some(ThreadState::Inactive));
-    let steps = [
-        (retype(5, 2, 0, 8, 1), DONE),
-        (retype(5, 1, 0, 9, 2), (10, 0)),
-    ];
-    stepped::<Wide, S, W>(rt, alloc, 2048, &steps)?;
-    Ok(())
-}
-
-#[test]
-fn objects_stand_at_multiples_of_their_size(rt: HostRuntime) -> Result<(), Fail> {
-    rounds::<RowStore<Wide>, RowWaiters<Wide>>(&rt, rt.alloc())?;
-    rounds::<RowStore<Wide>, LinkedWaiters<Wide>>(&rt, rt.alloc())?;
-    rounds::<LinkedStore<Wide>, RowWaiters<Wide>>(&rt, rt.alloc())?;
-    rounds::<LinkedStore<Wide>, LinkedWaiters<Wide>>(&rt, rt.alloc())
-}
-
-fn refuses_retypes<S: MakeStore<Wide>, W: MakeWaiters<Wide>>(
+fn refuses_other_capabilities<S: MakeStore<Wide>, W: MakeWaiters<Wide>>(
     rt: &impl Abort,
     alloc: Global,
 ) -> Result<(), Fail> {
     for step in [
-        (retype(5, 2, 0, 8, 1), DONE),
-        (retype(5, 2, 0, 15, 2), (4, 0)),
-        (retype(5, 2, 0, 8, 257), (4, 0)),
-        (retype(5, 2, 0, 8, 0), (4, 0)),
-        (retype(5, 2, 0, 16, 1), (4, 0)),
-        (retype(5, 2, 64, 8, 1), (4, 0)),
-        (retype(5, 4, 43, 8, 1), (4, 0)),
-        (retype(5, 3, 0, 8, 1), (1, 0)),
-        (retype(5, 4, 0, 8, 1), (1, 0)),
-        (retype(5, 0, 3, 8, 1), (1, 0)),
-        (retype(5, 2, 0, 4, 1), (8, 0)),
-        (retype(5, 0, 13, 8, 1), (10, 0)),
-        (retype(5, 0, 12, 8, 1), DONE),
-        (retype_at(5, 2, 0, (4, 0, 0), 8, 1), (6, 2)),
-        (retype_at(5, 2, 0, (4, 0, 64), 8, 1), (6, 1)),
         (retype(4, 2, 0, 8, 1), (3, 0)),
         (retype(15, 2, 0, 8, 1), (2, 0)),
     ] {
@@ -210,127 +123,11 @@ fn refuses_retypes<S: MakeStore<Wide>, W: MakeWaiters<Wide>>(
 }
 
 #[test]
-fn a_retype_is_refused_by_its_first_failing_check(rt: HostRuntime) -> Result<(), Fail> {
-    refuses_retypes::<RowStore<Wide>, RowWaiters<Wide>>(&rt, rt.alloc())?;
-    refuses_retypes::<RowStore<Wide>, LinkedWaiters<Wide>>(&rt, rt.alloc())?;
-    refuses_retypes::<LinkedStore<Wide>, RowWaiters<Wide>>(&rt, rt.alloc())?;
-    refuses_retypes::<LinkedStore<Wide>, LinkedWaiters<Wide>>(&rt, rt.alloc())
-}
-
-fn retypes_into_cnodes<S: MakeStore<Wide>, W: MakeWaiters<Wide>>(
-    rt: &impl Abort,
-    alloc: Global,
-) -> Result<(), Fail> {
-    let steps = [
-        (retype(5, 4, 2, 8, 1), DONE),
-        (retype_at(5, 4, 1, (8, 0, 0), 3, 1), DONE),
-        (retype_at(5, 2, 0, (8, 3, 2), 1, 1), DONE),
-        (retype_at(5, 2, 0, (8, 3, 2), 2, 1), (4, 0)),
-        (retype_at(5, 2, 0, (8, 7, 3), 0, 1), (6, 2)),
-        (retype_at(5, 2, 0, (8, 12, 4), 0, 1), (6, 3)),
-        (retype_at(5, 2, 0, (8, 0, 1), 0, 1), (6, 3)),
-        (retype_at(5, 2, 0, (8, 0, 65), 0, 1), (4, 0)),
-    ];
-    let kernel = stepped::<Wide, S, W>(rt, alloc, 2048, &steps)?;
-    assert_eq!(rt; kernel.cap_at(160), untyped(208));
-    assert!(rt; kernel.has_children(160));
-    assert_eq!(rt; kernel.cap_at(256), node(16384, 2, 0, 0));
-    assert_eq!(rt; kernel.cap_at(16480), node(16512, 1, 0, 0));
-    assert_eq!(rt; kernel.cap_at(16544), endpoint(16576, 0, Rights::ALL));
-    Ok(())
-}
-
-#[test]
-fn a_retype_fills_a_cnode_that_is_named_through_others(rt: HostRuntime) -> Result<(), Fail> {
-    retypes_into_cnodes::<RowStore<Wide>, RowWaiters<Wide>>(&rt, rt.alloc())?;
-    retypes_into_cnodes::<RowStore<Wide>, LinkedWaiters<Wide>>(&rt, rt.alloc())?;
-    retypes_into_cnodes::<LinkedStore<Wide>, RowWaiters<Wide>>(&rt, rt.alloc())?;
-    retypes_into_cnodes::<LinkedStore<Wide>, LinkedWaiters<Wide>>(&rt, rt.alloc())
-}
-
-fn badges_once<S: MakeStore<Wide>, W: MakeWaiters<Wide>>(
-    rt: &impl Abort,
-    alloc: Global,
-) -> Result<(), Fail> {
-    let steps = [
-        (mint(8, 4, 5), DONE),
-        (mint(9, 8, 6), (3, 0)),
-        (copy(9, 8, Rights::ALL), DONE),
-        (mutate(10, 8, 6), (3, 0)),
-        (copy(9, 8, Rights::ALL), (8, 0)),
-        (copy(10, 11, Rights::ALL), (6, 2)),
-    ];
-    let kernel = stepped::<Wide, S, W>(rt, alloc, 2048, &steps)?;
-    assert!(rt; kernel.has_children(128));
-    assert!(rt; kernel.has_children(256));
-    assert_eq!(rt; kernel.cap_at(256), endpoint(6144, 5, Rights::ALL));
-    assert_eq!(rt; kernel.cap_at(288), endpoint(6144, 5, Rights::ALL));
-    assert!(rt; !kernel.has_children(288));
-    Ok(())
-}
-
-#[test]
-fn a_badge_is_set_once(rt: HostRuntime) -> Result<(), Fail> {
-    badges_once::<RowStore<Wide>, RowWaiters<Wide>>(&rt, rt.alloc())?;
-    badges_once::<RowStore<Wide>, LinkedWaiters<Wide>>(&rt, rt.alloc())?;
-    badges_once::<LinkedStore<Wide>, RowWaiters<Wide>>(&rt, rt.alloc())?;
-    badges_once::<LinkedStore<Wide>, LinkedWaiters<Wide>>(&rt, rt.alloc())
-}
-
-fn guards<S: MakeStore<Wide>, W: MakeWaiters<Wide>>(
-    rt: &impl Abort,
-    alloc: Global,
-) -> Result<(), Fail> {
-    let steps = [
-        (retype(5, 4, 2, 8, 1), DONE),
-        (mint(9, 8, 323), DONE),
-        (copy_below(7, 5), (6, 4)),
-        (copy_below(10, 4), (6, 3)),
-        (copy_below(23, 5), DONE),
-        (copy_below(46, 6), (6, 3)),
-        (mint(10, 8, 63), (3, 0)),
-    ];
-    let kernel = stepped::<Wide, S, W>(rt, alloc, 2048, &steps)?;
-    assert_eq!(rt; kernel.cap_at(288), node(16384, 2, 5, 3));
-    assert_eq!(rt; kernel.cap_at(16480), endpoint(6144, 0, Rights::ALL));
-    Ok(())
-}
-
-#[test]
-fn a_guard_is_set_by_a_word(rt: HostRuntime) -> Result<(), Fail> {
-    guards::<RowStore<Wide>, RowWaiters<Wide>>(&rt, rt.alloc())?;
-    guards::<RowStore<Wide>, LinkedWaiters<Wide>>(&rt, rt.alloc())?;
-    guards::<LinkedStore<Wide>, RowWaiters<Wide>>(&rt, rt.alloc())?;
-    guards::<LinkedStore<Wide>, LinkedWaiters<Wide>>(&rt, rt.alloc())
-}
-
-fn hands_untyped_on<S: MakeStore<Wide>, W: MakeWaiters<Wide>>(
-    rt: &impl Abort,
-    alloc: Global,
-) -> Result<(), Fail> {
-    let steps = [
-        (copy(9, 5, Rights::ALL), DONE),
-        (retype(5, 2, 0, 8, 1), (10, 0)),
-        (retype(9, 2, 0, 8, 1), DONE),
-        (copy(10, 5, Rights::ALL), (9, 0)),
-        (relocate(10, 9), DONE),
-    ];
-    let kernel = stepped::<Wide, S, W>(rt, alloc, 2048, &steps)?;
-    assert_eq!(rt; kernel.cap_at(160), untyped(4096));
-    assert!(rt; kernel.has_children(160));
-    assert_eq!(rt; kernel.cap_at(256), endpoint(16384, 0, Rights::ALL));
-    assert_eq!(rt; kernel.cap_at(288), Cap::Null);
-    assert_eq!(rt; kernel.cap_at(320), untyped(16));
-    assert!(rt; kernel.has_children(320));
-    Ok(())
-}
-
-#[test]
-fn a_copied_untyped_region_is_used_up(rt: HostRuntime) -> Result<(), Fail> {
-    hands_untyped_on::<RowStore<Wide>, RowWaiters<Wide>>(&rt, rt.alloc())?;
-    hands_untyped_on::<RowStore<Wide>, LinkedWaiters<Wide>>(&rt, rt.alloc())?;
-    hands_untyped_on::<LinkedStore<Wide>, RowWaiters<Wide>>(&rt, rt.alloc())?;
-    hands_untyped_on::<LinkedStore<Wide>, LinkedWaiters<Wide>>(&rt, rt.alloc())
+fn a_retype_wants_an_untyped_capability(rt: HostRuntime) -> Result<(), Fail> {
+    refuses_other_capabilities::<RowStore<Wide>, RowWaiters<Wide>>(&rt, rt.alloc())?;
+    refuses_other_capabilities::<RowStore<Wide>, LinkedWaiters<Wide>>(&rt, rt.alloc())?;
+    refuses_other_capabilities::<LinkedStore<Wide>, RowWaiters<Wide>>(&rt, rt.alloc())?;
+    refuses_other_capabilities::<LinkedStore<Wide>, LinkedWaiters<Wide>>(&rt, rt.alloc())
 }
 
 fn transfers<S: MakeStore<Wide>, W: MakeWaiters<Wide>>(
@@ -347,10 +144,10 @@ fn transfers<S: MakeStore<Wide>, W: MakeWaiters<Wide>>(
         (mutate(13, 12, 323), DONE),
     ];
     let kernel = stepped::<Wide, S, W>(rt, alloc, 2048, &steps)?;
-    assert_eq!(rt; kernel.cap_at(256), endpoint(6144, 0, Rights(3)));
-    assert_eq!(rt; kernel.cap_at(288), endpoint(6144, 0, Rights(1)));
+    assert_eq!(rt; kernel.cap_at(256), endpoint(6144, Rights(3)));
+    assert_eq!(rt; kernel.cap_at(288), endpoint(6144, Rights(1)));
     assert_eq!(rt; kernel.cap_at(128), Cap::Null);
-    assert_eq!(rt; kernel.cap_at(320), endpoint(6144, 0, Rights::ALL));
+    assert_eq!(rt; kernel.cap_at(320), endpoint(6144, Rights::ALL));
     assert!(rt; kernel.has_children(320));
     assert_eq!(rt; kernel.cap_at(384), Cap::Null);
     assert_eq!(rt; kernel.cap_at(416), node(16384, 2, 5, 3));
@@ -376,8 +173,8 @@ fn narrow_numbers<S: MakeStore<Narrow>, W: MakeWaiters<Narrow>>(
     let kernel = stepped::<Narrow, S, W>(rt, alloc, 1024, &steps)?;
     assert_eq!(rt; kernel.cap_at(80), untyped(2048));
     assert!(rt; kernel.has_children(80));
-    assert_eq!(rt; kernel.cap_at(128), endpoint(16384, 0, Rights::ALL));
-    assert_eq!(rt; kernel.cap_at(144), endpoint(16400, 0, Rights::ALL));
+    assert_eq!(rt; kernel.cap_at(128), endpoint(16384, Rights::ALL));
+    assert_eq!(rt; kernel.cap_at(144), endpoint(16400, Rights::ALL));
     assert_eq!(rt; kernel.cap_at(160), Cap::Tcb { base: 17408 });
     Ok(())
 }
