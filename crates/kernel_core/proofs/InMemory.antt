@@ -1,16 +1,15 @@
 -- What is shown stays in its memory, whatever a task does.
-use Rattle.std.proofs.Common.{◌≡◌, ℕ, ◌+◌, ◌%◌, ◌^◌, ◌≤◌, ◌<◌, ◌⊎◌, inl, inr, Bool, true, false, cond, ◌==◌, ◌&&◌, List, Option, Some, None, Result, Ok, Err, All, eqb, refl, sym, ap, subst, ◌∙◌, arith}
-use Rattle.std.specs.List.{AllByRecursion as Each, Contains, IsDistinct}
-use Rattle.std.proofs.lemmas.Bool.{false≢true, and_parts, eqb-true, cases_Bool}
+use Rattle.std.proofs.Common.{◌≡◌, ℕ, ◌^◌, ◌≤◌, ◌⊎◌, inl, inr, Bool, true, false, cond, ◌==◌, List, Option, Some, None, All, eqb, refl, sym, ap, subst, ◌∙◌, arith}
+use Rattle.std.specs.List.{Contains, IsDistinct}
+use Rattle.std.proofs.lemmas.Bool.{false≢true, and_parts, eqb-true}
 use Rattle.cap_core.specs.declared.profile.ProfileName.{ProfileName}
 use Rattle.cap_core.specs.declared.message.Message.{Message}
 use Rattle.cap_core.specs.declared.capability.Cap.{Cap}
 use Rattle.cap_core.specs.declared.capability.Cap.TheVariants.{Null, Untyped, Endpoint, CNode, Tcb}
-use Rattle.cap_core.specs.declared.refusal.Refusal.{Refusal}
 use Rattle.cap_core.specs.Objects.{is_untyped, bits_of, IsLawful}
 use Rattle.slot_core.specs.Forest.{Forest, preorder}
 use Rattle.slot_core.specs.Entries.{Entry, caps, slots, cap_at}
-use Rattle.slot_core.specs.Derivation.{derived, derived_entry, moved, freed, with_free, names_same}
+use Rattle.slot_core.specs.Derivation.{derived, derived_entry, freed, names_same}
 use Rattle.slot_core.proofs.Forests.{each-contained}
 use Rattle.slot_core.proofs.Edits.{each-derived, contains-derived}
 use Rattle.slot_core.proofs.Moved.{each-moved}
@@ -19,7 +18,6 @@ use Rattle.slot_core.proofs.Holding.{cap-entry}
 use Rattle.ipc_core.specs.declared.waiter.Waiter.{Waiter}
 use Rattle.ipc_core.specs.declared.waiter.Offer.{Offer}
 use Rattle.ipc_core.specs.Waits.{Waits, first_receiver, first_sender}
-use Rattle.kernel_core.specs.declared.call.Call.{Call}
 use Rattle.kernel_core.specs.declared.task.Service.{Service}
 use Rattle.kernel_core.specs.declared.task.Transfer.{Transfer}
 use Rattle.kernel_core.specs.declared.task.Task.{Task}
@@ -29,7 +27,7 @@ use Rattle.kernel_core.specs.Rows.{IsSlotAddress, IsAligned, IsInMemory, IsKerne
 use Rattle.kernel_core.specs.declared.rows.ThreadRow.{ThreadRow}
 use Rattle.kernel_core.specs.Regions.{IsForest}
 use Rattle.kernel_core.specs.Transfers.{with_derived, with_moved}
-use Rattle.kernel_core.specs.Effects.{send_meets, send_effect, receive_meets, receive_effect, task_effect}
+use Rattle.kernel_core.specs.Effects.{send_meets, receive_meets, task_effect}
 use Rattle.kernel_core.specs.Tasks.{IsTransfer, IsTask}
 use Rattle.kernel_core.proofs.RetypedObjects.{each_cap, all_caps, each_slot, all_slots, lawful_free, made_lawful, made_placed}
 

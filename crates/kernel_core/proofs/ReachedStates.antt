@@ -18,7 +18,7 @@ use Rattle.cap_core.specs.declared.refusal.Refusal.{Refusal}
 use Rattle.kernel_core.specs.Shown.{ThreadView, endpoints_of, inbox_at, threads_of, waiting_at}
 use Rattle.kernel_core.specs.State.{State, endpoint_at, inbox_of, shown, state_of, thread_at, thread_view, waiters}
 use Rattle.ipc_core.specs.declared.waiter.Waiter.{Waiter}
-use Rattle.kernel_core.specs.Step.{Outcome, counted, outcome}
+use Rattle.kernel_core.specs.Step.{Outcome, counted}
 use Rattle.kernel_core.specs.Boot.{boot}
 use Rattle.kernel_core.specs.Words.{service_word}
 use Rattle.kernel_core.specs.Lookups.{invoked_slot}

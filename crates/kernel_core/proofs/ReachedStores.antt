@@ -11,7 +11,7 @@ use Rattle.kernel_core.specs.declared.call.ThreadState.TheVariants.{Ready, Inact
 use Rattle.kernel_core.specs.declared.task.Task.{Task}
 use Rattle.kernel_core.specs.declared.task.Task.TheVariants.{Send, Receive, Retype, Derive, Move}
 use Rattle.kernel_core.specs.declared.task.NewObjects.{NewObjects}
-use Rattle.kernel_core.specs.Boot.{boot, boot_forest}
+use Rattle.kernel_core.specs.Boot.{boot_forest}
 use Rattle.kernel_core.specs.Checks.{checked, invoked, where_live, where_ready}
 use Rattle.kernel_core.specs.Plan.{Plan, IsPlan}
 use Rattle.kernel_core.specs.Retyping.{with_objects}

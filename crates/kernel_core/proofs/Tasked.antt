@@ -1,6 +1,6 @@
 -- What the checks show of a task.
-use Rattle.std.proofs.Common.{List, ◌≡◌, ℕ, ◌+◌, ◌*◌, ◌^◌, ◌<◌, ◌≤◌, ◌⊎◌, inl, inr, Bool, true, false, cond, ◌==◌, not, Option, None, Some, Result, Ok, Err, All, IfOk, IsSome, refl, sym, ap, subst, ◌∙◌, arith}
-use Rattle.std.specs.List.{list_any, range_with_len}
+use Rattle.std.proofs.Common.{List, ◌≡◌, ℕ, ◌<◌, ◌≤◌, ◌⊎◌, Bool, true, false, cond, ◌==◌, not, Option, None, Some, Result, Ok, Err, All, IfOk, IsSome, refl, sym, ap, subst, ◌∙◌}
+use Rattle.std.specs.List.{list_any}
 use Rattle.std.specs.FinMap.{get}
 use Rattle.cap_core.specs.declared.profile.ProfileName.{ProfileName}
 use Rattle.cap_core.specs.declared.capability.Cap.{Cap}
@@ -8,15 +8,14 @@ use Rattle.cap_core.specs.declared.capability.Cap.TheVariants.{Null, Untyped, En
 use Rattle.cap_core.specs.declared.refusal.Refusal.{Refusal}
 use Rattle.cap_core.specs.declared.refusal.Refusal.TheVariants.{RangeError, DeleteFirst}
 use Rattle.cap_core.specs.Objects.{is_null, is_untyped, IsLawful}
-use Rattle.mem_core.specs.Shapes.{shape_of, IsLawfulShape}
+use Rattle.mem_core.specs.Shapes.{shape_of}
 use Rattle.mem_core.specs.Plans.{LieInUntyped}
 use Rattle.mem_core.proofs.Lawful.{lawful_shape}
 use Rattle.slot_core.specs.Forest.{Forest}
-use Rattle.slot_core.specs.Entries.{Entry, caps, cap_at, is_full}
+use Rattle.slot_core.specs.Entries.{Entry, caps, cap_at}
 use Rattle.cspace_core.specs.Resolution.{slot_of}
 use Rattle.cspace_core.specs.Target.{target_slot}
 use Rattle.cspace_core.proofs.Nodes.{lawful_node}
-use Rattle.kernel_core.specs.declared.call.Call.{Call}
 use Rattle.kernel_core.specs.declared.call.Op.{Op}
 use Rattle.kernel_core.specs.declared.call.Op.TheVariants as op
 use Rattle.kernel_core.specs.declared.task.NewObjects.{NewObjects}
@@ -35,14 +34,13 @@ use Rattle.kernel_core.specs.Shown.{Shown, has_child, endpoints_of, table}
 use Rattle.kernel_core.specs.Words.{retype_words, transfer_words, service_word}
 use Rattle.kernel_core.specs.Lookups.{and_then, invoked_slot, extra_cap, held_in, where_kind}
 use Rattle.kernel_core.specs.Retyping.{node_cap, are_slots, some_full, where_all_empty, first_slot, placed_in, retype_checked}
-use Rattle.kernel_core.specs.Transfers.{transfer_checked}
 use Rattle.kernel_core.specs.Checks.{task_of, service_of, retypes, derives, moves, invoked}
 use Rattle.kernel_core.specs.Tasks.{IsRetype, IsDerivation, IsMove, IsTask}
 use Rattle.kernel_core.proofs.Live.{HasLiveEndpoint, found_live}
 use Rattle.kernel_core.proofs.Keyed.{get_table}
 use Rattle.kernel_core.proofs.Checking.{passed, cond_passed, cond_failed, ok_same, kind_passed, lawful_at, empty_at, held_passed, none_of_range, not_false}
 use Rattle.kernel_core.proofs.Placing.{placed_lie}
-use Rattle.kernel_core.proofs.Filled.{AreSlots, slots_there, slot_address}
+use Rattle.kernel_core.proofs.Filled.{slots_there, slot_address}
 use Rattle.kernel_core.proofs.Transferring.{copy_derives, mint_derives, move_moves, mutate_moves}
 
 -- the slots that are filled: as many as a retype fills, empty, and in the memory

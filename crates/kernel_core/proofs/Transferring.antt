@@ -1,5 +1,5 @@
 -- What a copy, a mint, a move and a mutate do that passed their checks.
-use Rattle.std.proofs.Common.{◌≡◌, ℕ, ◌+◌, ◌*◌, ◌%◌, ◌/◌, ◌^◌, ◌<◌, ◌≤◌, ◌⊎◌, inl, inr, Bool, true, false, cond, nat_le, ◌==◌, ◌&&◌, Option, Some, None, is_some, Result, Ok, Err, All, refl, sym, ap, subst, ◌∙◌, arith, eq-eqb}
+use Rattle.std.proofs.Common.{◌≡◌, ℕ, ◌+◌, ◌/◌, ◌^◌, ◌⊎◌, inl, inr, Bool, true, false, cond, nat_le, ◌==◌, ◌&&◌, Option, Some, None, is_some, Ok, All, refl, sym, ap, subst, ◌∙◌, eq-eqb}
 use Rattle.std.proofs.lemmas.Bool.{false≢true, and_from, leb-true, eqb-true}
 use Rattle.std.proofs.lemmas.Nat.{mod_below, pow_pos}
 use Rattle.cap_core.specs.declared.profile.ProfileName.{ProfileName}
@@ -7,9 +7,8 @@ use Rattle.cap_core.specs.declared.rights.Rights.{Rights}
 use Rattle.cap_core.specs.declared.capability.Guard.{Guard}
 use Rattle.cap_core.specs.declared.capability.Cap.{Cap}
 use Rattle.cap_core.specs.declared.capability.Cap.TheVariants.{Null, Untyped, Endpoint, CNode, Tcb}
-use Rattle.cap_core.specs.declared.refusal.Refusal.{Refusal}
-use Rattle.cap_core.specs.declared.refusal.Refusal.TheVariants.{IllegalOperation, RevokeFirst}
-use Rattle.cap_core.specs.Numbers.{word_bits, badge_bits, guard_size_bits}
+use Rattle.cap_core.specs.declared.refusal.Refusal.TheVariants.{RevokeFirst}
+use Rattle.cap_core.specs.Numbers.{word_bits, guard_size_bits}
 use Rattle.cap_core.specs.Objects.{is_null, is_untyped, badge_of, IsLawful}
 use Rattle.cap_core.specs.Minting.{masked, guard_held, guarded, with_data}
 use Rattle.slot_core.specs.Forest.{Forest}
@@ -23,7 +22,7 @@ use Rattle.kernel_core.specs.declared.task.TransferArguments.{TransferArguments}
 use Rattle.kernel_core.specs.Regions.{free_of}
 use Rattle.kernel_core.specs.Rows.{IsSlotAddress}
 use Rattle.kernel_core.specs.Shown.{has_child}
-use Rattle.kernel_core.specs.Lookups.{and_then, extra_cap, where_kind, empty_slot, full_slot}
+use Rattle.kernel_core.specs.Lookups.{extra_cap, where_kind, empty_slot, full_slot}
 use Rattle.kernel_core.specs.Transfers.{where_set, where_derivable, changed_cap, transfer_checked}
 use Rattle.kernel_core.specs.Tasks.{IsTransfer, IsDerivation, IsMove}
 use Rattle.kernel_core.proofs.Checking.{passed, cond_failed, ok_same, kind_passed, lawful_at, lawful_full, empty_at, full_at, empty_passed, full_passed, target_passed}

@@ -2,7 +2,6 @@
 use Rattle.std.specs.Prelude.{◌≡◌, ℕ, ◌≤◌, ◌<◌, ◌⊎◌, true, false, All, None}
 use Rattle.cap_core.specs.declared.limits.TheConstants.{MAX_RETYPE_COUNT}
 use Rattle.cap_core.specs.declared.profile.ProfileName.{ProfileName}
-use Rattle.cap_core.specs.declared.capability.Cap.{Cap}
 use Rattle.cap_core.specs.Objects.{is_untyped, badge_of, IsLawful}
 use Rattle.mem_core.specs.Shapes.{IsLawfulShape}
 use Rattle.mem_core.specs.Plans.{LieInUntyped}

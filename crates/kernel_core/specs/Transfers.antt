@@ -1,5 +1,5 @@
 -- What a copy, a mint, a move and a mutate check, and what they do to the capabilities (seL4 Reference Manual, on CNodes).
-use Rattle.std.specs.Prelude.{ℕ, ◌^◌, Bool, true, false, cond, ◌&&◌, Option, None, Some, Result, Ok, Err}
+use Rattle.std.specs.Prelude.{ℕ, ◌^◌, true, false, cond, ◌&&◌, Option, None, Some, Result, Ok, Err}
 use Rattle.cap_core.specs.declared.profile.ProfileName.{ProfileName}
 use Rattle.cap_core.specs.declared.capability.Cap.{Cap}
 use Rattle.cap_core.specs.declared.refusal.Refusal.{Refusal}

@@ -1,7 +1,5 @@
-use Rattle.std.proofs.Common.{◌≡◌, ◌⊎◌, ◌<◌, ◌≤◌, ◌+◌, ◌*◌, ◌%◌, ◌^◌, sym, ◌∙◌, arith}
-use Rattle.cap_core.specs.declared.capability.Cap.TheVariants.{CNode}
-use Rattle.cap_core.specs.Numbers.{word_bits, slot_size}
-use Rattle.cap_core.specs.Objects.{IsLawful}
+use Rattle.std.proofs.Common.{◌≡◌, sym, ◌∙◌, arith}
+use Rattle.cap_core.specs.Numbers.{word_bits}
 use Rattle.cspace_core.specs.Resolution.{slot_of}
 use Rattle.cspace_core.proofs.Nodes.{lawful_node, lawful_in_words, slot_aligned, slot_within}
 use Rattle.kernel_core.proofs.Filled.{AreSlots, radix_small, slots_there, first_aligned, slots_end}

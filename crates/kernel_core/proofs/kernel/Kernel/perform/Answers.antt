@@ -1,4 +1,4 @@
-use Rattle.std.proofs.Common.{◌≡◌, Result, sym, ap, subst, ◌∙◌}
+use Rattle.std.proofs.Common.{Result, sym, ap, ◌∙◌}
 use Rattle.cap_core.specs.declared.refusal.Refusal.{Refusal}
 use Rattle.kernel_core.specs.declared.task.Task.{Task}
 use Rattle.kernel_core.specs.Effects.{effect_found}
