@@ -3,14 +3,14 @@ ghost use Rattle.std.specs.Prelude.{◌≡◌, ◌≤◌, IfOk};
 ghost use Rattle.slot_core.specs.Entries.{cap_at};
 ghost use Rattle.slot_core.specs.Places.{address_of};
 ghost use Rattle.ipc_core.specs.Waits.{IsThreadAddress};
-ghost use Rattle.kernel_core.specs.Checks.{invoked, task_of, service_of, send_checked, receive_checked};
+ghost use Rattle.abstract_kernel.specs.Checks.{invoked, task_of, service_of, send_checked, receive_checked};
 
-use crate::call::Op;
 use crate::checks::lookup::named_slot;
 use crate::checks::retyping::new_objects;
 use crate::checks::transfers::transfer;
 use crate::checks::words::{change_in, retype_words, service_word, transfer_words};
-use crate::task::{Service, Task};
+use abstract_kernel::call::Op;
+use abstract_kernel::task::{Service, Task};
 use bitflags::Flags;
 use cap_core::limits::MAX_MEMORY_BITS;
 use cap_core::{Cap, Message, Profile, Refusal, Rights};

@@ -3,28 +3,28 @@ ghost use Rattle.std.specs.Prelude.{◌≡◌, ◌⊎◌, ℕ, Some, None, IfOk,
 ghost use Rattle.cap_core.specs.Numbers.{tcb_size};
 ghost use Rattle.slot_core.specs.Entries.{slots, cap_at as cap_held};
 ghost use Rattle.ipc_core.specs.Waits.{thread_of};
-ghost use Rattle.kernel_core.specs.Shown.{state_at, inbox_at, waiting_at, has_child};
-ghost use Rattle.kernel_core.specs.Checks.{checked};
-ghost use Rattle.kernel_core.specs.Effects.{send_effect, receive_effect, effect_of, task_effect, rearranged, objects_shown, IsReady, IsLiveEndpoint};
-ghost use Rattle.kernel_core.specs.Transfers.{with_derived, with_moved};
-ghost use Rattle.kernel_core.specs.Rows.{IsInMemory, IsAligned};
-ghost use Rattle.kernel_core.specs.Regions.{AreObjectsApart, IsForest};
-ghost use Rattle.kernel_core.specs.Tasks.{IsTask, IsRetype, IsDerivation, IsMove};
+ghost use Rattle.abstract_kernel.specs.Shown.{state_at, inbox_at, waiting_at, has_child};
+ghost use Rattle.abstract_kernel.specs.Checks.{checked};
+ghost use Rattle.abstract_kernel.specs.Private.Effects.{send_effect, receive_effect, effect_of, task_effect, rearranged, objects_shown, IsReady, IsLiveEndpoint};
+ghost use Rattle.abstract_kernel.specs.Transfers.{with_derived, with_moved};
+ghost use Rattle.abstract_kernel.specs.Memory.{IsInMemory, IsAligned};
+ghost use Rattle.abstract_kernel.specs.Regions.{AreObjectsApart, IsForest};
+ghost use Rattle.abstract_kernel.specs.Private.Tasks.{IsTask, IsRetype, IsDerivation, IsMove};
 ghost use Rattle.cap_core.specs.declared.refusal.Refusal.{Refusal};
 ghost use Rattle.ipc_core.specs.Records.{Instance};
-ghost use Rattle.kernel_core.specs.declared.call.Reply.TheVariants.{Done, Refused};
-ghost use Rattle.kernel_core.specs.State.{State, shown, pairs};
-ghost use Rattle.kernel_core.specs.Deliveries.{delivery, delivered};
-ghost use Rattle.kernel_core.specs.Step.{replies_of, state_after};
-ghost use Rattle.kernel_core.specs.Reached.{IsReached, StepsTo};
+ghost use Rattle.abstract_kernel.specs.declared.call.Reply.TheVariants.{Done, Refused};
+ghost use Rattle.abstract_kernel.specs.State.{State, shown, pairs};
+ghost use Rattle.abstract_kernel.specs.Deliveries.{delivery, delivered};
+ghost use Rattle.abstract_kernel.specs.Step.{replies_of, state_after};
+ghost use Rattle.abstract_kernel.specs.Reached.{IsReached, StepsTo};
 
-use crate::call::{Call, Inbox, Reply, ThreadState};
 use crate::checks::lookup::{is_endpoint_address, slot_within};
 use crate::checks::task_for;
 use crate::objects::{add_threads, make_objects};
 use crate::rows::{ThreadRow, row_at, set_row};
-use crate::task::{NewObjects, Service, Task, Transfer};
 use crate::transfers::{derive_in, move_in};
+use abstract_kernel::call::{Call, Inbox, Reply, ThreadState};
+use abstract_kernel::task::{NewObjects, Service, Task, Transfer};
 use cap_core::{Cap, Kind, Message, Profile, Refusal};
 use ipc_core::{Received, Sent, Waiters};
 use slot_core::{CapStore, Slot};
@@ -45,7 +45,7 @@ pub struct Kernel<P: Profile, S: CapStore<P> + Drop, W: Waiters<P> + Drop> {
 }
 
 impl<P: Profile, S: CapStore<P> + Drop, W: Waiters<P> + Drop> Model for Kernel<P, S, W> {
-    ghost use Rattle.kernel_core.specs.Shown.{Shown};
+    ghost use Rattle.abstract_kernel.specs.Shown.{Shown};
     ghost use Rattle.std.specs.Coded.{codes};
     ghost use Rattle.std.specs.FinMap.{code as coded_map};
     ghost use Rattle.slot_core.specs.Spelled.{coded_forest};

@@ -1,10 +1,10 @@
 //! Capabilities that are derived and moved.
 ghost use Rattle.std.specs.Prelude.{◌≡◌};
-ghost use Rattle.kernel_core.specs.Rows.{IsKernelStore};
-ghost use Rattle.kernel_core.specs.Tasks.{IsDerivation, IsMove};
-ghost use Rattle.kernel_core.specs.Transfers.{with_derived, with_moved};
+ghost use Rattle.abstract_kernel.specs.Private.Stores.{IsKernelStore};
+ghost use Rattle.abstract_kernel.specs.Private.Tasks.{IsDerivation, IsMove};
+ghost use Rattle.abstract_kernel.specs.Transfers.{with_derived, with_moved};
 
-use crate::task::Transfer;
+use abstract_kernel::task::Transfer;
 use cap_core::{Cap, Profile};
 use slot_core::{CapStore, Slot};
 

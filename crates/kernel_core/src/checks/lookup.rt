@@ -2,8 +2,8 @@
 ghost use Rattle.std.specs.Prelude.{◌≡◌, ◌≤◌, ◌<◌, ◌^◌, ℕ, true, IfSome, IfNone, IsTrue, ◌↔◌, ◌⊎◌, IfOk};
 ghost use Rattle.slot_core.specs.Places.{address_of};
 ghost use Rattle.ipc_core.specs.Waits.{IsEndpointAddress, IsThreadAddress};
-ghost use Rattle.kernel_core.specs.Rows.{IsSlotAddress};
-ghost use Rattle.kernel_core.specs.Lookups.{invoked_slot, extra_cap, where_kind, empty_slot as empty_slot_of, full_slot as full_slot_of};
+ghost use Rattle.abstract_kernel.specs.Memory.{IsSlotAddress};
+ghost use Rattle.abstract_kernel.specs.Lookups.{invoked_slot, extra_cap, where_kind, empty_slot as empty_slot_of, full_slot as full_slot_of};
 ghost use Rattle.cap_core.specs.Objects.{IsLawful};
 ghost use Rattle.cap_core.specs.declared.capability.Cap.TheVariants.{Null};
 ghost use Rattle.cspace_core.specs.Target.{target_seen};

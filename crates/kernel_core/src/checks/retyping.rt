@@ -10,12 +10,12 @@ ghost use Rattle.ipc_core.specs.Waits.{IsThreadAddress};
 ghost use Rattle.cap_core.specs.declared.limits.TheConstants.{MAX_RETYPE_COUNT};
 ghost use Rattle.mem_core.specs.Shapes.{IsShape};
 ghost use Rattle.mem_core.specs.Plans.{IsRetypable};
-ghost use Rattle.kernel_core.specs.Lookups.{where_kind};
-ghost use Rattle.kernel_core.specs.Shown.{has_child};
-ghost use Rattle.kernel_core.specs.Retyping.{retype_checked, node_cap, first_slot as first_slot_of, placed_in, are_slots, some_full};
+ghost use Rattle.abstract_kernel.specs.Lookups.{where_kind};
+ghost use Rattle.abstract_kernel.specs.Shown.{has_child};
+ghost use Rattle.abstract_kernel.specs.Retyping.{retype_checked, node_cap, first_slot as first_slot_of, placed_in, are_slots, some_full};
 
 use crate::checks::lookup::extra_capability;
-use crate::task::{NewObjects, RetypeArguments};
+use abstract_kernel::task::{NewObjects, RetypeArguments};
 use cap_core::limits::{MAX_MEMORY_BITS, MAX_RETYPE_COUNT};
 use cap_core::{Cap, LookupFault, Profile, Refusal};
 use cspace_core::target;

@@ -7,11 +7,11 @@ ghost use Rattle.slot_core.specs.Places.{address_of};
 ghost use Rattle.ipc_core.specs.Waits.{IsThreadAddress};
 ghost use Rattle.cap_core.specs.Minting.{with_data};
 ghost use Rattle.cspace_core.specs.Resolution.{is_cnode};
-ghost use Rattle.kernel_core.specs.Lookups.{where_kind};
-ghost use Rattle.kernel_core.specs.Transfers.{transfer_checked, changed_cap, where_derivable, where_set};
+ghost use Rattle.abstract_kernel.specs.Lookups.{where_kind};
+ghost use Rattle.abstract_kernel.specs.Transfers.{transfer_checked, changed_cap, where_derivable, where_set};
 
 use crate::checks::lookup::{empty_slot, extra_capability, full_slot};
-use crate::task::{Change, Transfer, TransferArguments};
+use abstract_kernel::task::{Change, Transfer, TransferArguments};
 use cap_core::limits::MAX_MEMORY_BITS;
 use cap_core::{Cap, Profile, Refusal, mask, set_data};
 use slot_core::{CapStore, Slot};

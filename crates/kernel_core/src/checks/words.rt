@@ -1,9 +1,9 @@
 //! The words of an operation, by what they are for.
 ghost use Rattle.std.specs.Prelude.{◌≡◌, true};
-ghost use Rattle.kernel_core.specs.Words.{service_word as service_word_of, retype_words as retype_words_of, transfer_words as transfer_words_of, change_of, is_retype, is_transfer};
+ghost use Rattle.abstract_kernel.specs.Words.{service_word as service_word_of, retype_words as retype_words_of, transfer_words as transfer_words_of, change_of, is_retype, is_transfer};
 
-use crate::call::Op;
-use crate::task::{Change, RetypeArguments, TransferArguments};
+use abstract_kernel::call::Op;
+use abstract_kernel::task::{Change, RetypeArguments, TransferArguments};
 
 /// The word by which an operation names the capability that it invokes.
 pub fn service_word(op: Op) -> u64

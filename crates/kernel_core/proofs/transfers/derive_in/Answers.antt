@@ -1,6 +1,6 @@
 use Rattle.std.proofs.Common.{◌*◌}
 use Rattle.cap_core.specs.Numbers.{slot_size}
-use Rattle.kernel_core.proofs.TransferSteps.{source_aligned, source_end, slot_aligned, slot_end, derive_disjoint, few_bits, free_untyped, free_lawful, used_up}
+use Rattle.kernel_core.proofs.Capabilities.TransferSteps.{source_aligned, source_end, slot_aligned, slot_end, derive_disjoint, few_bits, free_untyped, free_lawful, used_up}
 use Rattle.kernel_core.proofs.transfers.derive_in.Goals as goal
 
 pub of_node-source-requires-clause-aligned : goal.of_node-source-requires-clause-aligned

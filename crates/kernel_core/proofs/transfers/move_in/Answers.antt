@@ -1,6 +1,6 @@
 use Rattle.std.proofs.Common.{◌*◌}
 use Rattle.cap_core.specs.Numbers.{slot_size}
-use Rattle.kernel_core.proofs.TransferSteps.{source_aligned, source_end, slot_aligned, slot_end, move_disjoint}
+use Rattle.kernel_core.proofs.Capabilities.TransferSteps.{source_aligned, source_end, slot_aligned, slot_end, move_disjoint}
 use Rattle.kernel_core.proofs.transfers.move_in.Goals as goal
 
 pub of_node-source-requires-clause-aligned : goal.of_node-source-requires-clause-aligned

@@ -1,5 +1,5 @@
 use Rattle.cap_core.specs.declared.limits.TheConstants.{MAX_MEMORY_BITS}
-use Rattle.kernel_core.proofs.Addresses.{thread_slot}
+use Rattle.kernel_core.proofs.Threads.Addresses.{thread_slot}
 use Rattle.kernel_core.proofs.checks.lookup.named_slot.Goals as goal
 
 pub returns-in_default : goal.returns-in_default

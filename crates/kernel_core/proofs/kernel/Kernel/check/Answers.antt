@@ -1,12 +1,12 @@
 use Rattle.std.proofs.Common.{◌≡◌, Some, sym, subst, ◌∙◌, rules}
-use Rattle.kernel_core.specs.declared.call.ThreadState.TheVariants.{Ready}
+use Rattle.abstract_kernel.specs.declared.call.ThreadState.TheVariants.{Ready}
 use Rattle.ipc_core.specs.Waits.{IsThreadAddress}
-use Rattle.kernel_core.proofs.Addresses.{row_address}
-use Rattle.kernel_core.proofs.Showing.{stated_row}
-use Rattle.kernel_core.specs.Regions.{IsForest}
-use Rattle.kernel_core.proofs.Checking.{whatever}
-use Rattle.kernel_core.proofs.Tasked.{tasked}
-use Rattle.kernel_core.proofs.InMemory.{kernel_forest}
+use Rattle.kernel_core.proofs.Threads.Addresses.{row_address}
+use Rattle.kernel_core.proofs.Messages.ShownMessages.{stated_row}
+use Rattle.abstract_kernel.specs.Regions.{IsForest}
+use Rattle.abstract_kernel.proofs.Checks.FoundSlots.{whatever}
+use Rattle.kernel_core.proofs.Capabilities.ShownTasks.{tasked}
+use Rattle.kernel_core.proofs.Capabilities.ShownForest.{kernel_forest}
 use Rattle.kernel_core.proofs.kernel.Kernel.check.Goals as goal
 
 pub task_for-requires-clause-thread : goal.task_for-requires-clause-thread

@@ -1,4 +1,4 @@
-use Rattle.kernel_core.proofs.Rearranged.{derived_kernel, derived_shown}
+use Rattle.kernel_core.proofs.Capabilities.RearrangedKernel.{derived_kernel, derived_shown}
 use Rattle.kernel_core.proofs.kernel.Kernel.derive.Goals as goal
 
 pub invariant_of-self : goal.invariant_of-self

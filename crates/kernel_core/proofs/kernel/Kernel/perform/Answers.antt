@@ -1,7 +1,7 @@
 use Rattle.std.proofs.Common.{Result, sym, ap, ◌∙◌}
 use Rattle.cap_core.specs.declared.refusal.Refusal.{Refusal}
-use Rattle.kernel_core.specs.declared.task.Task.{Task}
-use Rattle.kernel_core.specs.Effects.{effect_found}
+use Rattle.abstract_kernel.specs.declared.task.Task.{Task}
+use Rattle.abstract_kernel.specs.Private.Effects.{effect_found}
 use Rattle.kernel_core.proofs.kernel.Kernel.perform.Goals as goal
 
 pub returns-in-Ok : goal.returns-in-Ok

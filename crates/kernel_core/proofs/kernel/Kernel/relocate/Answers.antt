@@ -1,4 +1,4 @@
-use Rattle.kernel_core.proofs.Rearranged.{moved_kernel, moved_shown}
+use Rattle.kernel_core.proofs.Capabilities.RearrangedKernel.{moved_kernel, moved_shown}
 use Rattle.kernel_core.proofs.kernel.Kernel.relocate.Goals as goal
 
 pub invariant_of-self : goal.invariant_of-self

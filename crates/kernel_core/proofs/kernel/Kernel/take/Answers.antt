@@ -1,8 +1,8 @@
 use Rattle.std.proofs.Common.{sym, ap, subst, ◌∙◌}
-use Rattle.kernel_core.specs.declared.task.Task.{Task}
-use Rattle.kernel_core.specs.Effects.{task_effect}
-use Rattle.kernel_core.specs.Tasks.{IsTask}
-use Rattle.kernel_core.proofs.InMemory.{task_within}
+use Rattle.abstract_kernel.specs.declared.task.Task.{Task}
+use Rattle.abstract_kernel.specs.Private.Effects.{task_effect}
+use Rattle.abstract_kernel.specs.Private.Tasks.{IsTask}
+use Rattle.abstract_kernel.proofs.Capabilities.StaysInMemory.{task_within}
 use Rattle.kernel_core.proofs.kernel.Kernel.take.Goals as goal
 
 pub send-requires : goal.send-requires
