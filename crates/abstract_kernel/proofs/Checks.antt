@@ -3,6 +3,6 @@ pub mod FoundSlots
 pub mod FilledSlots
 pub mod Placement
 pub mod LiveEndpoints
-pub mod PassedTransfers
-pub mod PassedTasks
+pub mod PassedCNodeChecks
+pub mod PassedInvocations
 pub mod Refusals

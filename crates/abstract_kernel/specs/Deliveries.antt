@@ -5,7 +5,7 @@ use Rattle.cap_core.specs.declared.profile.ProfileName.{ProfileName}
 use Rattle.ipc_core.specs.Records.{Instance, SendRecord, AskRecord}
 use Rattle.abstract_kernel.specs.declared.call.Call.{Call}
 use Rattle.abstract_kernel.specs.declared.call.Reply.{Reply}
-use Rattle.abstract_kernel.specs.declared.call.Reply.TheVariants.{Done, Delivered, Waiting, Dropped, Empty, Refused}
+use Rattle.abstract_kernel.specs.declared.call.Reply.TheVariants.{Delivered}
 use Rattle.abstract_kernel.specs.Shown.{endpoints_of}
 use Rattle.abstract_kernel.specs.State.{State}
 use Rattle.abstract_kernel.specs.Step.{step}
@@ -16,12 +16,8 @@ is_live A e = list_any (λ k. e.base == k) (endpoints_of A.derivations) && A.end
 
 -- a reply that tells of a delivery by the endpoint at an address
 abbrev pub is_delivery : ℕ → Reply → Bool
-is_delivery base Done = false
 is_delivery base (Delivered endpoint from to badge message) = endpoint == base
-is_delivery base Waiting = false
-is_delivery base Dropped = false
-is_delivery base Empty = false
-is_delivery base (Refused refusal) = false
+is_delivery base reply = false
 
 -- the reply that tells of the delivery of a pair, with the badge that the send kept
 abbrev pub delivery : SendRecord × AskRecord → Reply

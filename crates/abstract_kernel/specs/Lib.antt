@@ -1,11 +1,11 @@
 pub mod Plan
 pub mod Shown
 pub mod State
-pub mod Words
+pub mod Checks
 pub mod Lookups
 pub mod Retyping
-pub mod Transfers
-pub mod Checks
+pub mod CNodes
+pub mod Decode
 pub mod Step
 pub mod Boot
 pub mod Reached

@@ -14,11 +14,6 @@ use Rattle.cspace_core.specs.Bits.{low_bits}
 use Rattle.cspace_core.specs.Resolution.{Found, resolution}
 use Rattle.cspace_core.specs.Target.{target_slot}
 
--- the next check, where those before it passed
-abbrev pub and_then : {X Y : Type 0} → Result X Refusal → (X → Result Y Refusal) → Result Y Refusal
-and_then (Ok x) next = next x
-and_then (Err refusal) next = Err refusal
-
 abbrev pub looked_up : {X : Type 0} → Result X LookupFault → Result X Refusal
 looked_up (Ok x) = Ok x
 looked_up (Err fault) = Err (FailedLookup fault)
@@ -44,7 +39,7 @@ held_in f (Err refusal) = Err refusal
 abbrev pub extra_cap : ProfileName → Forest Entry → ℕ → ℕ → Result Cap Refusal
 extra_cap p f thread word = held_in f (invoked_slot p f thread word)
 
--- the invoked capability, where it is of the kind that the operation asks for
+-- the invoked capability, where it is of the kind that the operation receives for
 abbrev pub where_kind : (Cap → Bool) → Cap → Result Cap Refusal
 where_kind is cap = cond (is_null cap) (Err InvalidCapability) (cond (is cap) (Ok cap) (Err IllegalOperation))
 

@@ -3,7 +3,7 @@ use Rattle.std.specs.Prelude.{◌≡◌, ℕ, ◌+◌, ◌≤◌, ◌==◌, true
 use Rattle.std.specs.List.{Contains, IsDistinct}
 use Rattle.cap_core.specs.declared.profile.ProfileName.{ProfileName}
 use Rattle.cap_core.specs.declared.capability.Cap.{Cap}
-use Rattle.cap_core.specs.declared.capability.Cap.TheVariants.{Null, Untyped, Endpoint, CNode, Tcb}
+use Rattle.cap_core.specs.declared.capability.Cap.TheVariants.{Untyped}
 use Rattle.cap_core.specs.Objects.{is_untyped, in_region, base_of, end_of}
 use Rattle.slot_core.specs.Forest.{Forest, preorder, descendants}
 use Rattle.slot_core.specs.Entries.{Entry, is_at, slots}
@@ -11,11 +11,8 @@ use Rattle.slot_core.specs.Disjoint.{IsDisjoint}
 
 -- how many bytes of an untyped region are used
 abbrev pub free_of : Cap → ℕ
-free_of Null = 0
 free_of (Untyped base bits free) = free
-free_of (Endpoint base badge rights) = 0
-free_of (CNode base radix guard) = 0
-free_of (Tcb base) = 0
+free_of cap = 0
 
 -- every object of an untyped's descendants ends where the untyped is used up, or before
 abbrev pub IsUsedUp : ProfileName → Forest Entry → Type 0

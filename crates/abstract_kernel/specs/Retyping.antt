@@ -4,7 +4,7 @@ use Rattle.std.specs.List.{list_any, range_with_len, filter_map}
 use Rattle.cap_core.specs.declared.limits.TheConstants.{MAX_RETYPE_COUNT}
 use Rattle.cap_core.specs.declared.profile.ProfileName.{ProfileName}
 use Rattle.cap_core.specs.declared.capability.Cap.{Cap}
-use Rattle.cap_core.specs.declared.capability.Cap.TheVariants.{Null, Untyped, Endpoint, CNode, Tcb}
+use Rattle.cap_core.specs.declared.capability.Cap.TheVariants.{Untyped, CNode}
 use Rattle.cap_core.specs.declared.refusal.LookupFault.TheVariants.{MissingCapability}
 use Rattle.cap_core.specs.declared.refusal.Refusal.{Refusal}
 use Rattle.cap_core.specs.declared.refusal.Refusal.TheVariants.{RangeError, FailedLookup, DeleteFirst, NotEnoughMemory}
@@ -18,10 +18,11 @@ use Rattle.slot_core.specs.Entries.{Entry, cap_at}
 use Rattle.slot_core.specs.Derivation.{retyped, freed}
 use Rattle.cspace_core.specs.Resolution.{slot_of}
 use Rattle.cspace_core.specs.Target.{target_slot}
-use Rattle.abstract_kernel.specs.declared.task.NewObjects.{NewObjects}
-use Rattle.abstract_kernel.specs.declared.task.RetypeArguments.{RetypeArguments}
+use Rattle.abstract_kernel.specs.declared.invocation.NewObjects.{NewObjects}
+use Rattle.abstract_kernel.specs.declared.invocation.RetypeArguments.{RetypeArguments}
 use Rattle.abstract_kernel.specs.Plan.{least_multiple}
-use Rattle.abstract_kernel.specs.Lookups.{and_then, held_in, extra_cap, where_kind}
+use Rattle.abstract_kernel.specs.Checks.{◌>>=◌}
+use Rattle.abstract_kernel.specs.Lookups.{held_in, extra_cap, where_kind}
 use Rattle.abstract_kernel.specs.Shown.{has_child}
 
 -- the capability of the CNode whose slots are filled: the root itself at depth 0, else what the slot holds that is named
@@ -42,12 +43,9 @@ abbrev pub where_all_empty : ProfileName → Forest Entry → ℕ → ℕ → Re
 where_all_empty p f first count = cond (some_full p f first count) (Err DeleteFirst) (Ok first)
 
 abbrev pub first_slot : ProfileName → Forest Entry → ℕ → ℕ → Cap → Result ℕ Refusal
-first_slot p f offset count Null = Err (FailedLookup MissingCapability)
-first_slot p f offset count (Untyped base bits free) = Err (FailedLookup MissingCapability)
-first_slot p f offset count (Endpoint base badge rights) = Err (FailedLookup MissingCapability)
 first_slot p f offset count (CNode base radix guard) =
     cond (are_slots radix offset count) (where_all_empty p f (slot_of p base offset) count) (Err RangeError)
-first_slot p f offset count (Tcb base) = Err (FailedLookup MissingCapability)
+first_slot p f offset count cap = Err (FailedLookup MissingCapability)
 
 -- the objects stand one after another from the first multiple of their size, 2^b bytes, that is not used
 abbrev pub placed_from : ℕ → ℕ → ℕ → ℕ → ℕ → Result Placed Refusal
@@ -59,22 +57,19 @@ placed_from base bits start b count =
 
 -- the place of `count` objects of 2^b bytes in an untyped region. No other capability has room for one
 abbrev pub placed_in : Bool → ℕ → ℕ → Cap → Result Placed Refusal
-placed_in has_children b count Null = Err NotEnoughMemory
 placed_in has_children b count (Untyped base bits free) = placed_from base bits (start_of has_children free) b count
-placed_in has_children b count (Endpoint base badge rights) = Err NotEnoughMemory
-placed_in has_children b count (CNode base radix guard) = Err NotEnoughMemory
-placed_in has_children b count (Tcb base) = Err NotEnoughMemory
+placed_in has_children b count cap = Err NotEnoughMemory
 
 -- the checks in their order, of a retype by the untyped capability in a slot
-abbrev pub retype_checked : ProfileName → Forest Entry → ℕ → ℕ → Cap → RetypeArguments → Result NewObjects Refusal
-retype_checked p f thread slot invoked asked =
-    and_then (where_kind is_untyped invoked) (λ untyped.
-    and_then (extra_cap p f thread asked.root) (λ root.
-    and_then (shape_of p asked.kind asked.size_bits) (λ shape.
-    and_then (node_cap p f root asked.index asked.depth) (λ node.
-    and_then (first_slot p f asked.offset asked.count node) (λ first.
-    and_then (placed_in (has_child slot f) shape.bits asked.count untyped) (λ placed.
-    Ok (record { untyped = slot; shape = shape; placed = placed; first_slot = first; count = asked.count })))))))
+abbrev pub decoded_retype : ProfileName → Forest Entry → ℕ → ℕ → Cap → RetypeArguments → Result NewObjects Refusal
+decoded_retype p f thread slot invoked asked =
+    where_kind is_untyped invoked >>= λ untyped.
+    extra_cap p f thread asked.root >>= λ root.
+    shape_of p asked.kind asked.size_bits >>= λ shape.
+    node_cap p f root asked.index asked.depth >>= λ node.
+    first_slot p f asked.offset asked.count node >>= λ first.
+    placed_in (has_child slot f) shape.bits asked.count untyped >>= λ placed.
+    Ok (record { untyped = slot; shape = shape; placed = placed; first_slot = first; count = asked.count })
 
 -- the capabilities of the new objects, each with the slot that it goes into
 abbrev pub new_caps : ProfileName → NewObjects → List (ℕ × Cap)

@@ -4,7 +4,7 @@ use Rattle.std.specs.List.{filter_map}
 use Rattle.std.specs.Ordering.{nat_cmp}
 use Rattle.std.specs.FinMap.{FinMap, get, from_entries}
 use Rattle.cap_core.specs.declared.capability.Cap.{Cap}
-use Rattle.cap_core.specs.declared.capability.Cap.TheVariants.{Null, Untyped, Endpoint, CNode, Tcb}
+use Rattle.cap_core.specs.declared.capability.Cap.TheVariants.{Endpoint, Tcb}
 use Rattle.slot_core.specs.Forest.{Forest}
 use Rattle.slot_core.specs.Entries.{Entry, caps, first_child}
 use Rattle.ipc_core.specs.declared.waiter.Waiter.{Waiter}
@@ -27,18 +27,12 @@ abbrev pub table : {X : Type 0} → List ℕ → (ℕ → X) → FinMap nat_cmp 
 table keys f = from_entries (map (λ k. (k, f k)) keys)
 
 abbrev pub tcb_base : Cap → Option ℕ
-tcb_base Null = None
-tcb_base (Untyped base bits free) = None
-tcb_base (Endpoint base badge rights) = None
-tcb_base (CNode base radix guard) = None
 tcb_base (Tcb base) = Some base
+tcb_base cap = None
 
 abbrev pub endpoint_base : Cap → Option ℕ
-endpoint_base Null = None
-endpoint_base (Untyped base bits free) = None
 endpoint_base (Endpoint base badge rights) = Some base
-endpoint_base (CNode base radix guard) = None
-endpoint_base (Tcb base) = None
+endpoint_base cap = None
 
 -- an object is live while some slot holds a capability that names it: the live threads, and the live endpoints
 abbrev pub threads_of : Forest Entry → List ℕ

@@ -18,7 +18,7 @@ pub record State : Type 0 where
   pub thread_birth : ℕ → ℕ
   -- the accepted sends and the accepted receives, in order
   pub sends : List SendRecord
-  pub asks : List AskRecord
+  pub receives : List AskRecord
   -- whether the send or the receive of the call with a number was cancelled
   pub is_cancelled : ℕ → Bool
   -- whether a thread was made and not resumed, or was suspended
@@ -37,29 +37,29 @@ thread_at A base = record { base = base; birth = A.thread_birth base }
 abbrev pub sends_to : State → Instance → List SendRecord
 sends_to A e = filter (λ (s : SendRecord). same_instance s.endpoint e && not (A.is_cancelled s.number)) A.sends
 
-abbrev pub asks_of : State → Instance → List AskRecord
-asks_of A e = filter (λ (a : AskRecord). same_instance a.endpoint e && not (A.is_cancelled a.number)) A.asks
+abbrev pub receives_of : State → Instance → List AskRecord
+receives_of A e = filter (λ (a : AskRecord). same_instance a.endpoint e && not (A.is_cancelled a.number)) A.receives
 
 -- what an endpoint delivered: each send with the receive at its place
 abbrev pub pairs : State → Instance → List (SendRecord × AskRecord)
-pairs A e = paired (sends_to A e) (asks_of A e)
+pairs A e = paired (sends_to A e) (receives_of A e)
 
 -- the sends, or the receives, that wait: those past the length of the other list
 abbrev pub waiting_sends : State → Instance → List SendRecord
-waiting_sends A e = drop (length (asks_of A e)) (sends_to A e)
+waiting_sends A e = drop (length (receives_of A e)) (sends_to A e)
 
-abbrev pub waiting_asks : State → Instance → List AskRecord
-waiting_asks A e = drop (length (sends_to A e)) (asks_of A e)
+abbrev pub waiting_receives : State → Instance → List AskRecord
+waiting_receives A e = drop (length (sends_to A e)) (receives_of A e)
 
 abbrev pub waiters : State → Instance → List Waiter
-waiters A e = waiting_list (sends_to A e) (asks_of A e)
+waiters A e = waiting_list (sends_to A e) (receives_of A e)
 
 -- whether a thread waits to send, or to receive, on the endpoint at an address
 abbrev pub is_sending : State → Instance → ℕ → Bool
 is_sending A t base = list_any (λ (s : SendRecord). same_instance s.thread t) (waiting_sends A (endpoint_at A base))
 
 abbrev pub is_receiving : State → Instance → ℕ → Bool
-is_receiving A t base = list_any (λ (a : AskRecord). same_instance a.thread t) (waiting_asks A (endpoint_at A base))
+is_receiving A t base = list_any (λ (a : AskRecord). same_instance a.thread t) (waiting_receives A (endpoint_at A base))
 
 abbrev pub first_of : Option ℕ → Option ℕ → ThreadState → ThreadState
 first_of (Some e) _ other = Sending e
@@ -82,7 +82,7 @@ pair_of A a = find (λ (p : SendRecord × AskRecord). p.1.number == a.number) (p
 
 -- the pairs with a receive of a thread
 abbrev pub deliveries_to : State → Instance → List (SendRecord × AskRecord)
-deliveries_to A t = filter_map (pair_of A) (filter (λ (a : AskRecord). same_instance a.thread t) A.asks)
+deliveries_to A t = filter_map (pair_of A) (filter (λ (a : AskRecord). same_instance a.thread t) A.receives)
 
 abbrev pub later : SendRecord × AskRecord → Option (SendRecord × AskRecord) → Option (SendRecord × AskRecord)
 later p None = Some p

@@ -10,15 +10,15 @@ use Rattle.ipc_core.specs.Records.{Instance, SendRecord, AskRecord}
 use Rattle.abstract_kernel.specs.declared.call.Call.{Call}
 use Rattle.abstract_kernel.specs.declared.call.Reply.{Reply}
 use Rattle.abstract_kernel.specs.declared.call.Reply.TheVariants.{Done, Delivered, Waiting, Dropped, Empty, Refused}
-use Rattle.abstract_kernel.specs.declared.task.Service.{Service}
-use Rattle.abstract_kernel.specs.declared.task.NewObjects.{NewObjects}
-use Rattle.abstract_kernel.specs.declared.task.Task.{Task}
-use Rattle.abstract_kernel.specs.declared.task.Task.TheVariants.{Send, Receive, Retype, Derive, Move}
-use Rattle.abstract_kernel.specs.Checks.{checked}
+use Rattle.abstract_kernel.specs.declared.invocation.Service.{Service}
+use Rattle.abstract_kernel.specs.declared.invocation.NewObjects.{NewObjects}
+use Rattle.abstract_kernel.specs.declared.invocation.Invocation.{Invocation}
+use Rattle.abstract_kernel.specs.declared.invocation.Invocation.TheVariants.{Send, Receive, Retype, Derive, Move}
+use Rattle.abstract_kernel.specs.Decode.{decoded_call}
 use Rattle.abstract_kernel.specs.Shown.{tcb_base, endpoint_base}
 use Rattle.abstract_kernel.specs.Retyping.{with_objects, new_bases}
-use Rattle.abstract_kernel.specs.Transfers.{with_derived, with_moved}
-use Rattle.abstract_kernel.specs.State.{State, endpoint_at, thread_at, sends_to, asks_of, shown}
+use Rattle.abstract_kernel.specs.CNodes.{with_derived, with_moved}
+use Rattle.abstract_kernel.specs.State.{State, endpoint_at, thread_at, sends_to, receives_of, shown}
 
 pub record Outcome : Type 0 where
   pub reply : Reply
@@ -39,8 +39,8 @@ send_record A thread service message =
       message = message;
     }
 
-abbrev pub ask_record : State → ℕ → Service → AskRecord
-ask_record A thread service =
+abbrev pub receive_record : State → ℕ → Service → AskRecord
+receive_record A thread service =
     record { number = A.count + 1; endpoint = endpoint_at A service.endpoint; thread = thread_at A thread }
 
 -- the message is delivered where the record completes a pair: where there is a partner at its place
@@ -57,24 +57,24 @@ abbrev pub send_accepted : State → ℕ → Service → Message → Outcome
 send_accepted A thread service message =
     let s = send_record A thread service message in
     record {
-      reply = reply_to_send s (slice_get (asks_of A s.endpoint) (length (sends_to A s.endpoint)));
+      reply = reply_to_send s (slice_get (receives_of A s.endpoint) (length (sends_to A s.endpoint)));
       state = record (counted A) { sends = A.sends ++ s ∷ [] };
     }
 
 abbrev pub receive_accepted : State → ℕ → Service → Outcome
 receive_accepted A thread service =
-    let a = ask_record A thread service in
+    let a = receive_record A thread service in
     record {
-      reply = reply_to_receive a (slice_get (sends_to A a.endpoint) (length (asks_of A a.endpoint)));
-      state = record (counted A) { asks = A.asks ++ a ∷ [] };
+      reply = reply_to_receive a (slice_get (sends_to A a.endpoint) (length (receives_of A a.endpoint)));
+      state = record (counted A) { receives = A.receives ++ a ∷ [] };
     }
 
 -- whether a receive waits for the next send to an endpoint, and whether a send waits for the next receive
 abbrev pub is_send_awaited : State → Instance → Bool
-is_send_awaited A e = nat_lt (length (sends_to A e)) (length (asks_of A e))
+is_send_awaited A e = nat_lt (length (sends_to A e)) (length (receives_of A e))
 
 abbrev pub is_receive_awaited : State → Instance → Bool
-is_receive_awaited A e = nat_lt (length (asks_of A e)) (length (sends_to A e))
+is_receive_awaited A e = nat_lt (length (receives_of A e)) (length (sends_to A e))
 
 -- an operation that does not wait is accepted only where it is awaited; otherwise nothing but the count changes
 abbrev pub where_awaited : State → Bool → Outcome → Reply → Outcome
@@ -106,7 +106,7 @@ objects_made p A new =
     }
 
 -- what a call whose checks passed does
-abbrev pub performed : ProfileName → State → ℕ → Task → Outcome
+abbrev pub performed : ProfileName → State → ℕ → Invocation → Outcome
 performed p A thread (Send service message true) = send_accepted A thread service message
 performed p A thread (Send service message false) =
     where_awaited A (is_send_awaited A (endpoint_at A service.endpoint)) (send_accepted A thread service message) Dropped
@@ -114,16 +114,16 @@ performed p A thread (Receive service true) = receive_accepted A thread service
 performed p A thread (Receive service false) =
     where_awaited A (is_receive_awaited A (endpoint_at A service.endpoint)) (receive_accepted A thread service) Empty
 performed p A thread (Retype new) = objects_made p A new
-performed p A thread (Derive transfer) = rearranged A (with_derived p transfer A.derivations)
-performed p A thread (Move transfer) = rearranged A (with_moved transfer A.derivations)
+performed p A thread (Derive placement) = rearranged A (with_derived p placement A.derivations)
+performed p A thread (Move placement) = rearranged A (with_moved placement A.derivations)
 
-abbrev pub outcome : ProfileName → State → ℕ → Result Task Refusal → Outcome
+abbrev pub outcome : ProfileName → State → ℕ → Result Invocation Refusal → Outcome
 outcome p A thread (Err refusal) = record { reply = Refused refusal; state = counted A }
-outcome p A thread (Ok task) = performed p A thread task
+outcome p A thread (Ok invocation) = performed p A thread invocation
 
 -- one call: where a check fails it is refused, and nothing but the count changes
 abbrev pub step : ProfileName → State → Call → Outcome
-step p A call = outcome p A call.thread (checked p (shown A) call)
+step p A call = outcome p A call.thread (decoded_call p (shown A) call)
 
 -- the replies to a list of calls, and the state after them
 abbrev pub replies_of : ProfileName → State → List Call → List Reply

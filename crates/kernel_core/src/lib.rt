@@ -2,14 +2,14 @@
 #![tactic(auto)]
 
 mod boot;
-mod checks;
+mod decode;
 pub mod kernel;
 mod objects;
+mod placements;
 pub mod plan;
 mod rows;
-mod transfers;
 
-pub use abstract_kernel::{Call, Inbox, Op, Reply, ThreadState, call, task};
+pub use abstract_kernel::{Call, Inbox, Op, Reply, ThreadState, call, invocation};
 pub use kernel::Kernel;
 pub use plan::{BootPlan, PlanDefect};
 

@@ -33,7 +33,7 @@ pub record CanPut (p : ProfileName) (memory i : ℕ) (caps : List Cap) (f : Fore
   pub room : (i + length caps) * slot_size p ≤ 2 ^ memory
   pub disjoint : IsDisjoint p f
 
--- what `put_root` asks
+-- what `put_root` receives
 pub record IsPut (p : ProfileName) (memory slot : ℕ) (cap : Cap) (f : Forest Entry) : Type 0 where
   pub within : slot < 2 ^ memory
   pub empty : is_full slot f ≡ false

@@ -34,7 +34,7 @@ pub record CanDerive (p : ProfileName) (memory source base radix : ℕ) (guard :
   pub within : Each (λ (slot : ℕ). slot < 2 ^ memory) slots
   pub disjoint : IsDisjoint p f
 
--- what `derive` asks
+-- what `derive` receives
 pub record IsDerive (p : ProfileName) (memory source slot : ℕ) (cap : Cap) (f : Forest Entry) : Type 0 where
   pub full : is_full source f ≡ true
   pub within : slot < 2 ^ memory

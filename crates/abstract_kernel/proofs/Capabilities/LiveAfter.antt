@@ -16,9 +16,9 @@ use Rattle.slot_core.proofs.Freed.{any-freed}
 use Rattle.slot_core.proofs.Moved.{moved_entry, preorder-moved}
 use Rattle.slot_core.proofs.Holding.{cap-entry}
 use Rattle.slot_core.proofs.DisjointDerived.{any_contained}
-use Rattle.abstract_kernel.specs.declared.task.Transfer.{Transfer}
+use Rattle.abstract_kernel.specs.declared.invocation.CapPlacement.{CapPlacement}
 use Rattle.abstract_kernel.specs.Shown.{tcb_base, endpoint_base}
-use Rattle.abstract_kernel.specs.Transfers.{with_derived, with_moved}
+use Rattle.abstract_kernel.specs.CNodes.{with_derived, with_moved}
 
 -- the address of the object of one kind: it is the same of two capabilities of one object, and the free index is no part of it
 pub record IsBase (base_of : Cap → Option ℕ) : Type 0 where
@@ -96,42 +96,42 @@ module _ (base_of : Cap → Option ℕ) (is : IsBase base_of) where
       → list_any (λ k. e == k) (filter_map base_of (caps (freed slot free f))) ≡ list_any (λ k. e == k) (filter_map base_of (caps f))
   live-freed e slot free f = any_named e (preorder (freed slot free f)) ∙ freed_named e slot free f ∙ sym (any_named e (preorder f))
 
-  pub live-derived : (p : ProfileName) (transfer : Transfer) (f : Forest Entry) → is_full transfer.source f ≡ true → names_same (cap_at f transfer.source) transfer.cap ≡ true
-      → (e : ℕ) → list_any (λ k. e == k) (filter_map base_of (caps (with_derived p transfer f))) ≡ list_any (λ k. e == k) (filter_map base_of (caps f))
-  live-derived p transfer f full same e =
-      any_named e (preorder (with_derived p transfer f))
-      ∙ either (is_untyped transfer.cap) (put_named e transfer.source transfer.slot transfer.cap f full same)
+  pub live-derived : (p : ProfileName) (placement : CapPlacement) (f : Forest Entry) → is_full placement.source f ≡ true → names_same (cap_at f placement.source) placement.cap ≡ true
+      → (e : ℕ) → list_any (λ k. e == k) (filter_map base_of (caps (with_derived p placement f))) ≡ list_any (λ k. e == k) (filter_map base_of (caps f))
+  live-derived p placement f full same e =
+      any_named e (preorder (with_derived p placement f))
+      ∙ either (is_untyped placement.cap) (put_named e placement.source placement.slot placement.cap f full same)
       ∙ sym (any_named e (preorder f))
     where
       put : Forest Entry
-      put = derived transfer.source transfer.slot transfer.cap f
+      put = derived placement.source placement.slot placement.cap f
 
       either : (b : Bool) → list_any (λ (x : Entry). names e (base_of x.cap)) (preorder put) ≡ list_any (λ (x : Entry). names e (base_of x.cap)) (preorder f)
-          → list_any (λ (x : Entry). names e (base_of x.cap)) (preorder (cond b (freed transfer.source (2 ^ bits_of p transfer.cap) put) put)) ≡ list_any (λ (x : Entry). names e (base_of x.cap)) (preorder f)
-      either true h = freed_named e transfer.source (2 ^ bits_of p transfer.cap) put ∙ h
+          → list_any (λ (x : Entry). names e (base_of x.cap)) (preorder (cond b (freed placement.source (2 ^ bits_of p placement.cap) put) put)) ≡ list_any (λ (x : Entry). names e (base_of x.cap)) (preorder f)
+      either true h = freed_named e placement.source (2 ^ bits_of p placement.cap) put ∙ h
       either false h = h
 
-  pub live-moved : (transfer : Transfer) (f : Forest Entry) → IsDistinct eqb (slots f) → names_same (cap_at f transfer.source) transfer.cap ≡ true
-      → (e : ℕ) → list_any (λ k. e == k) (filter_map base_of (caps (with_moved transfer f))) ≡ list_any (λ k. e == k) (filter_map base_of (caps f))
-  live-moved transfer f distinct same e =
-      any_named e (preorder (with_moved transfer f))
-      ∙ ap (list_any (λ (x : Entry). names e (base_of x.cap))) (preorder-moved transfer.source transfer.slot transfer.cap f)
+  pub live-moved : (placement : CapPlacement) (f : Forest Entry) → IsDistinct eqb (slots f) → names_same (cap_at f placement.source) placement.cap ≡ true
+      → (e : ℕ) → list_any (λ k. e == k) (filter_map base_of (caps (with_moved placement f))) ≡ list_any (λ k. e == k) (filter_map base_of (caps f))
+  live-moved placement f distinct same e =
+      any_named e (preorder (with_moved placement f))
+      ∙ ap (list_any (λ (x : Entry). names e (base_of x.cap))) (preorder-moved placement.source placement.slot placement.cap f)
       ∙ go (preorder f) (each-contains (preorder f))
       ∙ sym (any_named e (preorder f))
     where
-      at : (i : ℕ) → (i == transfer.source) ≡ true → i ≡ transfer.source
+      at : (i : ℕ) → (i == placement.source) ≡ true → i ≡ placement.source
       at i t = grind (arith, nat_tests)
 
-      one : (x : Entry) → Contains (preorder f) x → names e (base_of (moved_entry transfer.source transfer.slot transfer.cap x).cap) ≡ names e (base_of x.cap)
+      one : (x : Entry) → Contains (preorder f) x → names e (base_of (moved_entry placement.source placement.slot placement.cap x).cap) ≡ names e (base_of x.cap)
       one x m =
-          (elim (x.slot == transfer.source) as (λ c. (x.slot == transfer.source) ≡ c → names e (base_of (cond c (entry transfer.slot transfer.cap x.original) x).cap) ≡ names e (base_of x.cap)) [
-            | true ↦ λ t. ap (names e) (sym (is.same (cap_at f transfer.source) transfer.cap same) ∙ ap base_of (ap (cap_at f) (sym (at x.slot t)) ∙ cap-entry f x distinct m))
+          (elim (x.slot == placement.source) as (λ c. (x.slot == placement.source) ≡ c → names e (base_of (cond c (entry placement.slot placement.cap x.original) x).cap) ≡ names e (base_of x.cap)) [
+            | true ↦ λ t. ap (names e) (sym (is.same (cap_at f placement.source) placement.cap same) ∙ ap base_of (ap (cap_at f) (sym (at x.slot t)) ∙ cap-entry f x distinct m))
             | false ↦ λ t. refl
           ]) refl
 
       go : (l : List Entry) → Each (Contains (preorder f)) l
-          → list_any (λ (x : Entry). names e (base_of x.cap)) (map (moved_entry transfer.source transfer.slot transfer.cap) l) ≡ list_any (λ (x : Entry). names e (base_of x.cap)) l
+          → list_any (λ (x : Entry). names e (base_of x.cap)) (map (moved_entry placement.source placement.slot placement.cap) l) ≡ list_any (λ (x : Entry). names e (base_of x.cap)) l
       go [] h = refl
       go (x ∷ l) h =
-          ap (λ b. b || list_any (λ (x : Entry). names e (base_of x.cap)) (map (moved_entry transfer.source transfer.slot transfer.cap) l)) (one x h.0)
+          ap (λ b. b || list_any (λ (x : Entry). names e (base_of x.cap)) (map (moved_entry placement.source placement.slot placement.cap) l)) (one x h.0)
           ∙ ap (λ b. names e (base_of x.cap) || b) (go l h.1)

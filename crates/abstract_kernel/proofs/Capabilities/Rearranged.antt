@@ -7,21 +7,21 @@ use Rattle.slot_core.specs.Entries.{Entry}
 use Rattle.ipc_core.specs.Records.{Instance, SendRecord, AskRecord, same_instance}
 use Rattle.abstract_kernel.specs.declared.call.ThreadState.TheVariants.{Ready, Inactive}
 use Rattle.abstract_kernel.specs.Shown.{threads_of, endpoints_of, waiting_at}
-use Rattle.abstract_kernel.specs.State.{State, endpoint_at, thread_at, first_of, is_sending, is_receiving, inbox_of, thread_view, shown, waiters, waiting_sends, waiting_asks}
+use Rattle.abstract_kernel.specs.State.{State, endpoint_at, thread_at, first_of, is_sending, is_receiving, inbox_of, thread_view, shown, waiters, waiting_sends, waiting_receives}
 use Rattle.abstract_kernel.specs.Step.{counted}
 use Rattle.abstract_kernel.specs.Step as spec
 use Rattle.abstract_kernel.specs.Private.Effects.{done, rearranged}
 use Rattle.abstract_kernel.proofs.Messages.DeliveredSend.{pending}
 use Rattle.abstract_kernel.proofs.Lists.Searches.{find_agrees, table_agrees, some_tally}
-use Rattle.abstract_kernel.proofs.Reached.Invariant.{Invariant, IsShown, list_shown, asks_later, sends_later, asks_born_later, sends_born_later}
+use Rattle.abstract_kernel.proofs.Reached.Invariant.{Invariant, IsShown, list_shown, receives_later, sends_later, receives_born_later, sends_born_later}
 
 -- a thread waits on one live endpoint at most
 module _ (A : State) (inv : Invariant A) (m : Instance) where
   sends_pending : (b : ℕ) → is_sending A m b ≡ true → 1 ≤ pending A m b
   sends_pending b h = let le = some_tally (λ (s : SendRecord). same_instance s.thread m) (waiting_sends A (endpoint_at A b)) h in omega arith
 
-  asks_pending : (b : ℕ) → is_receiving A m b ≡ true → 1 ≤ pending A m b
-  asks_pending b h = let le = some_tally (λ (a : AskRecord). same_instance a.thread m) (waiting_asks A (endpoint_at A b)) h in omega arith
+  receives_pending : (b : ℕ) → is_receiving A m b ≡ true → 1 ≤ pending A m b
+  receives_pending b h = let le = some_tally (λ (a : AskRecord). same_instance a.thread m) (waiting_receives A (endpoint_at A b)) h in omega arith
 
   one_pending : (b c : ℕ) → list_any (λ k. b == k) (endpoints_of A.derivations) ≡ true → list_any (λ k. c == k) (endpoints_of A.derivations) ≡ true → 1 ≤ pending A m b → 1 ≤ pending A m c → b ≡ c
   one_pending b c live live' here there = elim (eqb_tells b c) [
@@ -32,8 +32,8 @@ module _ (A : State) (inv : Invariant A) (m : Instance) where
   pub sends_once : (b c : ℕ) → list_any (λ k. b == k) (endpoints_of A.derivations) ≡ true → list_any (λ k. c == k) (endpoints_of A.derivations) ≡ true → is_sending A m b ≡ true → is_sending A m c ≡ true → b ≡ c
   sends_once b c live live' h h' = one_pending b c live live' (sends_pending b h) (sends_pending c h')
 
-  pub asks_once : (b c : ℕ) → list_any (λ k. b == k) (endpoints_of A.derivations) ≡ true → list_any (λ k. c == k) (endpoints_of A.derivations) ≡ true → is_receiving A m b ≡ true → is_receiving A m c ≡ true → b ≡ c
-  asks_once b c live live' h h' = one_pending b c live live' (asks_pending b h) (asks_pending c h')
+  pub receives_once : (b c : ℕ) → list_any (λ k. b == k) (endpoints_of A.derivations) ≡ true → list_any (λ k. c == k) (endpoints_of A.derivations) ≡ true → is_receiving A m b ≡ true → is_receiving A m c ≡ true → b ≡ c
+  receives_once b c live live' h h' = one_pending b c live live' (receives_pending b h) (receives_pending c h')
 
 module _ (A : State) (f : Forest Entry) (inv : Invariant A)
     (threads : (q : ℕ) → list_any (λ k. q == k) (threads_of f) ≡ list_any (λ k. q == k) (threads_of A.derivations))
@@ -45,7 +45,7 @@ module _ (A : State) (f : Forest Entry) (inv : Invariant A)
   same_sending m = find_agrees (is_sending A m) (is_sending A m) (endpoints_of A.derivations) (endpoints_of f) (λ k live h. (endpoints k ∙ live, h)) (λ k live h. (sym (endpoints k) ∙ live, h)) (sends_once A inv m)
 
   same_receiving : (m : Instance) → find (is_receiving A m) (endpoints_of f) ≡ find (is_receiving A m) (endpoints_of A.derivations)
-  same_receiving m = find_agrees (is_receiving A m) (is_receiving A m) (endpoints_of A.derivations) (endpoints_of f) (λ k live h. (endpoints k ∙ live, h)) (λ k live h. (sym (endpoints k) ∙ live, h)) (asks_once A inv m)
+  same_receiving m = find_agrees (is_receiving A m) (is_receiving A m) (endpoints_of A.derivations) (endpoints_of f) (λ k live h. (endpoints k ∙ live, h)) (λ k live h. (sym (endpoints k) ∙ live, h)) (receives_once A inv m)
 
   same_view : (q : ℕ) → thread_view after_rearranged q ≡ thread_view A q
   same_view q = λ i. record {
@@ -62,25 +62,25 @@ module _ (A : State) (f : Forest Entry) (inv : Invariant A)
   pub inv_rearranged : Invariant after_rearranged
   inv_rearranged = record {
     fresh = λ n lt. inv.fresh n (omega arith);
-    numbered = asks_later A.count A.asks inv.numbered;
+    numbered = receives_later A.count A.receives inv.numbered;
     sends_numbered = sends_later A.count A.sends inv.sends_numbered;
     rising = inv.rising;
     endpoint_births = λ b. let le = inv.endpoint_births b in omega arith;
     thread_births = λ b. let le = inv.thread_births b in omega arith;
-    born = asks_born_later A.count A.asks inv.born;
+    born = receives_born_later A.count A.receives inv.born;
     sends_born = sends_born_later A.count A.sends inv.sends_born;
     awake = inv.awake;
     sends_awake = inv.sends_awake;
-    known = asks_known A.asks inv.known;
+    known = receives_known A.receives inv.known;
     sends_known = sends_still_known A.sends inv.sends_known;
     once = λ m b live. inv.once m b (sym (endpoints b) ∙ live);
     alone = λ m b c live live' ne. inv.alone m b c (sym (endpoints b) ∙ live) (sym (endpoints c) ∙ live') ne;
   }
     where
-      asks_known : (asks : List AskRecord) → AllByRecursion (λ (a : AskRecord). (a.thread ≡ thread_at A a.thread.base) × (list_any (λ k. a.thread.base == k) (threads_of A.derivations) ≡ true)) asks →
-          AllByRecursion (λ (a : AskRecord). (a.thread ≡ thread_at after_rearranged a.thread.base) × (list_any (λ k. a.thread.base == k) (threads_of f) ≡ true)) asks
-      asks_known [] h = tt
-      asks_known (a ∷ asks) h = ((h.0.0, threads a.thread.base ∙ h.0.1), asks_known asks h.1)
+      receives_known : (receives : List AskRecord) → AllByRecursion (λ (a : AskRecord). (a.thread ≡ thread_at A a.thread.base) × (list_any (λ k. a.thread.base == k) (threads_of A.derivations) ≡ true)) receives →
+          AllByRecursion (λ (a : AskRecord). (a.thread ≡ thread_at after_rearranged a.thread.base) × (list_any (λ k. a.thread.base == k) (threads_of f) ≡ true)) receives
+      receives_known [] h = tt
+      receives_known (a ∷ receives) h = ((h.0.0, threads a.thread.base ∙ h.0.1), receives_known receives h.1)
 
       sends_still_known : (sends : List SendRecord) → AllByRecursion (λ (s : SendRecord). (s.thread ≡ thread_at A s.thread.base) × (list_any (λ k. s.thread.base == k) (threads_of A.derivations) ≡ true)) sends →
           AllByRecursion (λ (s : SendRecord). (s.thread ≡ thread_at after_rearranged s.thread.base) × (list_any (λ k. s.thread.base == k) (threads_of f) ≡ true)) sends

@@ -17,8 +17,8 @@ use Rattle.slot_core.proofs.Disjointness.{slot_differs}
 use Rattle.slot_core.proofs.Alike.{IsAlike, alike_self, alike_named}
 use Rattle.slot_core.proofs.Freed.{freed_entry}
 use Rattle.slot_core.proofs.Holding.{cap-entry, none_stands}
-use Rattle.abstract_kernel.specs.declared.task.Transfer.{Transfer}
-use Rattle.abstract_kernel.specs.Transfers.{with_derived}
+use Rattle.abstract_kernel.specs.declared.invocation.CapPlacement.{CapPlacement}
+use Rattle.abstract_kernel.specs.CNodes.{with_derived}
 use Rattle.abstract_kernel.specs.Regions.{free_of, AreRegions}
 use Rattle.abstract_kernel.proofs.Capabilities.Descendants.{contains-below_those, each-descendants_below, each-descendants_after, bare-below, bare-after}
 use Rattle.abstract_kernel.proofs.Capabilities.RegionsKept.{region_is, region-alike, end-alike, keeps-freed, original-renamed, below-renamed, used-renamed}
@@ -197,6 +197,6 @@ module _ (p : ProfileName) (source slot : ℕ) (cap : Cap) (f : Forest Entry) (r
         | false ↦ λ t. record { original = original-derived; below = below-derived; used = λ u d m v n. used-derived u d m v n (λ e. t) }
       ]) refl
 
-pub regions-with_derived : (p : ProfileName) (transfer : Transfer) (f : Forest Entry) → AreRegions p f → IsDistinct eqb (slots f) → is_full transfer.slot f ≡ false
-    → names_same (cap_at f transfer.source) transfer.cap ≡ true → AreRegions p (with_derived p transfer f)
-regions-with_derived p transfer f r distinct empty same = regions-derived p transfer.source transfer.slot transfer.cap f r distinct empty same
+pub regions-with_derived : (p : ProfileName) (placement : CapPlacement) (f : Forest Entry) → AreRegions p f → IsDistinct eqb (slots f) → is_full placement.slot f ≡ false
+    → names_same (cap_at f placement.source) placement.cap ≡ true → AreRegions p (with_derived p placement f)
+regions-with_derived p placement f r distinct empty same = regions-derived p placement.source placement.slot placement.cap f r distinct empty same

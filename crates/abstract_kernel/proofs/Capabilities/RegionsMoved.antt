@@ -14,8 +14,8 @@ use Rattle.slot_core.proofs.Edits.{contains-rooted}
 use Rattle.slot_core.proofs.Alike.{IsAlike, alike_self, alike_named}
 use Rattle.slot_core.proofs.Moved.{moved_entry}
 use Rattle.slot_core.proofs.Holding.{cap-entry, none_stands}
-use Rattle.abstract_kernel.specs.declared.task.Transfer.{Transfer}
-use Rattle.abstract_kernel.specs.Transfers.{with_moved}
+use Rattle.abstract_kernel.specs.declared.invocation.CapPlacement.{CapPlacement}
+use Rattle.abstract_kernel.specs.CNodes.{with_moved}
 use Rattle.abstract_kernel.specs.Regions.{free_of, AreRegions}
 use Rattle.abstract_kernel.proofs.Capabilities.RegionsKept.{KeepsEntries, original-renamed, below-renamed, used-renamed}
 use Rattle.abstract_kernel.proofs.Capabilities.RegionsDerived.{named_some}
@@ -130,6 +130,6 @@ module _ (p : ProfileName) (source slot : ℕ) (cap : Cap) (f : Forest Entry) (d
       used : (u d : Entry) → Contains (preorder f) u → is_untyped u.cap ≡ true → Contains (descendants (is_at u.slot) f) d → end_of p d.cap ≤ base_of u.cap + free_of (moved_entry source slot cap u).cap
       used u d m t n = let F : ℕ → Type 0 = λ i. end_of p d.cap ≤ base_of u.cap + i in subst F (free_is u m) (r.used u d m t n)
 
-pub regions-with_moved : (p : ProfileName) (transfer : Transfer) (f : Forest Entry) → AreRegions p f → IsDistinct eqb (slots f) → is_full transfer.slot f ≡ false
-    → names_same (cap_at f transfer.source) transfer.cap ≡ true → free_of transfer.cap ≡ free_of (cap_at f transfer.source) → AreRegions p (with_moved transfer f)
-regions-with_moved p transfer f r distinct empty same free = regions-moved p transfer.source transfer.slot transfer.cap f distinct empty same r free
+pub regions-with_moved : (p : ProfileName) (placement : CapPlacement) (f : Forest Entry) → AreRegions p f → IsDistinct eqb (slots f) → is_full placement.slot f ≡ false
+    → names_same (cap_at f placement.source) placement.cap ≡ true → free_of placement.cap ≡ free_of (cap_at f placement.source) → AreRegions p (with_moved placement f)
+regions-with_moved p placement f r distinct empty same free = regions-moved p placement.source placement.slot placement.cap f distinct empty same r free

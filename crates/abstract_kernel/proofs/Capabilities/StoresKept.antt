@@ -27,11 +27,11 @@ use Rattle.slot_core.proofs.Freed.{each-freed, distinct-freed}
 use Rattle.slot_core.proofs.Moved.{each-moved, distinct-moved}
 use Rattle.slot_core.proofs.Renamed.{each-map, each-map_old}
 use Rattle.slot_core.proofs.Holding.{cap-entry, original_in-one}
-use Rattle.abstract_kernel.specs.declared.task.Transfer.{Transfer}
+use Rattle.abstract_kernel.specs.declared.invocation.CapPlacement.{CapPlacement}
 use Rattle.abstract_kernel.specs.Private.Stores.{IsKernelStore}
 use Rattle.abstract_kernel.specs.Memory.{IsSlotAddress}
-use Rattle.abstract_kernel.specs.Private.Tasks.{IsTransfer, IsDerivation, IsMove}
-use Rattle.abstract_kernel.specs.Transfers.{with_derived, with_moved}
+use Rattle.abstract_kernel.specs.Private.Invocations.{IsPlacement, IsDerivation, IsMove}
+use Rattle.abstract_kernel.specs.CNodes.{with_derived, with_moved}
 use Rattle.abstract_kernel.proofs.Capabilities.RegionsKept.{region_is}
 use Rattle.abstract_kernel.proofs.Capabilities.RegionsDerived.{regions-with_derived}
 use Rattle.abstract_kernel.proofs.Capabilities.RegionsMoved.{regions-with_moved}
@@ -67,125 +67,125 @@ lawful-freed p memory n (Endpoint base badge rights) e h = h
 lawful-freed p memory n (CNode base radix guard) e h = h
 lawful-freed p memory n (Tcb base) e h = h
 
-module _ (p : ProfileName) (memory : ℕ) (f : Forest Entry) (store : IsKernelStore p memory f) (transfer : Transfer) where
-  module _ (ends : IsTransfer p f transfer) where
-    alike : IsAlike p (cap_at f transfer.source) transfer.cap
-    alike = alike_named p (cap_at f transfer.source) transfer.cap ends.same
+module _ (p : ProfileName) (memory : ℕ) (f : Forest Entry) (store : IsKernelStore p memory f) (placement : CapPlacement) where
+  module _ (ends : IsPlacement p f placement) where
+    alike : IsAlike p (cap_at f placement.source) placement.cap
+    alike = alike_named p (cap_at f placement.source) placement.cap ends.same
 
-    pub source_placed : IsSlotAddress p memory transfer.source
+    pub source_placed : IsSlotAddress p memory placement.source
     source_placed =
-        let s : (e : Entry) × Contains (preorder f) e × (e.slot ≡ transfer.source) × (e.cap ≡ cap_at f transfer.source) = entry_at transfer.source f ends.full in
+        let s : (e : Entry) × Contains (preorder f) e × (e.slot ≡ placement.source) × (e.cap ≡ cap_at f placement.source) = entry_at placement.source f ends.full in
         subst (IsSlotAddress p memory) s.2
         (each-contained (λ (e : Entry). IsSlotAddress p memory e.slot) (preorder f) s.0 (each_of (IsSlotAddress p memory) (λ (e : Entry). e.slot) (preorder f) store.slots_placed) s.1)
 
-    pub slot_placed : IsSlotAddress p memory transfer.slot
+    pub slot_placed : IsSlotAddress p memory placement.slot
     slot_placed = ends.placed memory store.lawful
 
-    pub cap_lawful : IsLawful p memory transfer.cap
+    pub cap_lawful : IsLawful p memory placement.cap
     cap_lawful = ends.lawful memory store.lawful
 
-    pub source_lawful : IsLawful p memory (cap_at f transfer.source)
+    pub source_lawful : IsLawful p memory (cap_at f placement.source)
     source_lawful =
-        let s : (e : Entry) × Contains (preorder f) e × (e.slot ≡ transfer.source) × (e.cap ≡ cap_at f transfer.source) = entry_at transfer.source f ends.full in
+        let s : (e : Entry) × Contains (preorder f) e × (e.slot ≡ placement.source) × (e.cap ≡ cap_at f placement.source) = entry_at placement.source f ends.full in
         subst (IsLawful p memory) s.3
         (each-contained (λ (e : Entry). IsLawful p memory e.cap) (preorder f) s.0 (each_of (IsLawful p memory) (λ (e : Entry). e.cap) (preorder f) store.lawful) s.1)
 
-    pub slots_differ : transfer.source ≢ transfer.slot
-    slots_differ e = let none : is_full transfer.slot f ≡ false = ends.empty in
-        let some : is_full transfer.slot f ≡ true = (let Q : ℕ → Type 0 = λ n. is_full n f ≡ true in subst Q e ends.full) in cc
+    pub slots_differ : placement.source ≢ placement.slot
+    slots_differ e = let none : is_full placement.slot f ≡ false = ends.empty in
+        let some : is_full placement.slot f ≡ true = (let Q : ℕ → Type 0 = λ n. is_full n f ≡ true in subst Q e ends.full) in cc
 
-  module _ (task : IsDerivation p f transfer) where
+  module _ (invocation : IsDerivation p f placement) where
     abbrev put : Forest Entry
-    put = derived transfer.source transfer.slot transfer.cap f
+    put = derived placement.source placement.slot placement.cap f
 
-    held : (e : Entry) → Contains (preorder f) e → e.slot ≡ transfer.source → cap_at f transfer.source ≡ e.cap
+    held : (e : Entry) → Contains (preorder f) e → e.slot ≡ placement.source → cap_at f placement.source ≡ e.cap
     held e m s = ap (cap_at f) (sym s) ∙ cap-entry f e store.slots_distinct m
 
-    original : is_untyped transfer.cap ≡ true → is_original transfer.source f ≡ true
+    original : is_untyped placement.cap ≡ true → is_original placement.source f ≡ true
     original t =
-        original_in-one transfer.source true (preorder f) task.ends.full
-        (each-from_contained (λ (e : Entry). (e.slot == transfer.source) ≡ true → e.original ≡ true) (preorder f)
-        (λ e m s. store.regions.original e m (ap is_untyped (sym (held e m (at e.slot s))) ∙ (alike task.ends).untyped ∙ t)))
+        original_in-one placement.source true (preorder f) invocation.ends.full
+        (each-from_contained (λ (e : Entry). (e.slot == placement.source) ≡ true → e.original ≡ true) (preorder f)
+        (λ e m s. store.regions.original e m (ap is_untyped (sym (held e m (at e.slot s))) ∙ (alike invocation.ends).untyped ∙ t)))
       where
-        at : (i : ℕ) → (i == transfer.source) ≡ true → i ≡ transfer.source
+        at : (i : ℕ) → (i == placement.source) ≡ true → i ≡ placement.source
         at i s = grind (arith, nat_tests)
 
     -- below a source that is no untyped one stand capabilities of its object, and below one that is handed on none
-    bare : (u : Entry) → Contains (descendants (is_at transfer.source) f) u → (is_untyped transfer.cap || is_untyped u.cap) ≡ false
+    bare : (u : Entry) → Contains (descendants (is_at placement.source) f) u → (is_untyped placement.cap || is_untyped u.cap) ≡ false
     bare u m =
-        (elim (is_untyped transfer.cap) as (λ c. is_untyped transfer.cap ≡ c → (c || is_untyped u.cap) ≡ false) [
-          | true ↦ λ t. absurd (childless-bare transfer.source f (task.childless t) u m)
+        (elim (is_untyped placement.cap) as (λ c. is_untyped placement.cap ≡ c → (c || is_untyped u.cap) ≡ false) [
+          | true ↦ λ t. absurd (childless-bare placement.source f (invocation.childless t) u m)
           | false ↦ λ t.
-              let s : (e : Entry) × Contains (preorder f) e × (e.slot ≡ transfer.source) × (e.cap ≡ cap_at f transfer.source) = entry_at transfer.source f task.ends.full in
+              let s : (e : Entry) × Contains (preorder f) e × (e.slot ≡ placement.source) × (e.cap ≡ cap_at f placement.source) = entry_at placement.source f invocation.ends.full in
               let D : ℕ → Type 0 = λ i. Contains (descendants (is_at i) f) u in
               let r : in_region p s.0.cap u.cap ≡ true = store.regions.below s.0 u s.1 (subst D (sym s.2) m) in
               let B : Bool → Type 0 = λ b. cond b (not (is_null u.cap) && contains p s.0.cap u.cap) (same_object s.0.cap u.cap) ≡ true in
-              let typed : is_untyped s.0.cap ≡ false = ap is_untyped s.3 ∙ (alike task.ends).untyped ∙ t in
+              let typed : is_untyped s.0.cap ≡ false = ap is_untyped s.3 ∙ (alike invocation.ends).untyped ∙ t in
               (are_same p s.0.cap u.cap (subst B typed (sym (region_is p s.0.cap u.cap) ∙ r))).second
         ]) refl
 
-    pub put_disjoint : IsDisjoint p (derived transfer.source transfer.slot transfer.cap f)
-    put_disjoint = disjoint-derived_named p transfer.source transfer.slot transfer.cap f store.disjoint store.slots_distinct task.ends.full task.ends.empty task.ends.same original bare
+    pub put_disjoint : IsDisjoint p (derived placement.source placement.slot placement.cap f)
+    put_disjoint = disjoint-derived_named p placement.source placement.slot placement.cap f store.disjoint store.slots_distinct invocation.ends.full invocation.ends.empty invocation.ends.same original bare
 
-    pub source_held : cap_at (derived transfer.source transfer.slot transfer.cap f) transfer.source ≡ cap_at f transfer.source
-    source_held = cap-derived_other transfer.source transfer.source transfer.slot transfer.cap f (slots_differ task.ends)
+    pub source_held : cap_at (derived placement.source placement.slot placement.cap f) placement.source ≡ cap_at f placement.source
+    source_held = cap-derived_other placement.source placement.source placement.slot placement.cap f (slots_differ invocation.ends)
 
     put_placed : Each (λ (e : Entry). IsSlotAddress p memory e.slot) (preorder put)
-    put_placed = each-derived (λ (e : Entry). IsSlotAddress p memory e.slot) transfer.source transfer.slot transfer.cap f (each_of (IsSlotAddress p memory) (λ (e : Entry). e.slot) (preorder f) store.slots_placed) (slot_placed task.ends)
+    put_placed = each-derived (λ (e : Entry). IsSlotAddress p memory e.slot) placement.source placement.slot placement.cap f (each_of (IsSlotAddress p memory) (λ (e : Entry). e.slot) (preorder f) store.slots_placed) (slot_placed invocation.ends)
 
     put_lawful : Each (λ (e : Entry). IsLawful p memory e.cap) (preorder put)
-    put_lawful = each-derived (λ (e : Entry). IsLawful p memory e.cap) transfer.source transfer.slot transfer.cap f (each_of (IsLawful p memory) (λ (e : Entry). e.cap) (preorder f) store.lawful) (cap_lawful task.ends)
+    put_lawful = each-derived (λ (e : Entry). IsLawful p memory e.cap) placement.source placement.slot placement.cap f (each_of (IsLawful p memory) (λ (e : Entry). e.cap) (preorder f) store.lawful) (cap_lawful invocation.ends)
 
     put_distinct : IsDistinct eqb (slots put)
-    put_distinct = distinct-derived transfer.source transfer.slot transfer.cap f store.slots_distinct task.ends.full task.ends.empty
+    put_distinct = distinct-derived placement.source placement.slot placement.cap f store.slots_distinct invocation.ends.full invocation.ends.empty
 
-    size_is : (e : Entry) → Contains (preorder put) e → e.slot ≡ transfer.source → bits_of p transfer.cap ≡ bits_of p e.cap
-    size_is e m s = sym (alike task.ends).bits ∙ ap (bits_of p) (sym source_held ∙ ap (cap_at put) (sym s) ∙ cap-entry put e put_distinct m)
+    size_is : (e : Entry) → Contains (preorder put) e → e.slot ≡ placement.source → bits_of p placement.cap ≡ bits_of p e.cap
+    size_is e m s = sym (alike invocation.ends).bits ∙ ap (bits_of p) (sym source_held ∙ ap (cap_at put) (sym s) ∙ cap-entry put e put_distinct m)
 
     abbrev size : ℕ
-    size = 2 ^ bits_of p transfer.cap
+    size = 2 ^ bits_of p placement.cap
 
-    pub store-derived : IsKernelStore p memory (with_derived p transfer f)
+    pub store-derived : IsKernelStore p memory (with_derived p placement f)
     store-derived =
         record {
           memory_most = store.memory_most;
-          slots_distinct = elim (is_untyped transfer.cap) as (λ c. IsDistinct eqb (slots (cond c (freed transfer.source size put) put))) [
-            | true ↦ distinct-freed transfer.source size put put_distinct
+          slots_distinct = elim (is_untyped placement.cap) as (λ c. IsDistinct eqb (slots (cond c (freed placement.source size put) put))) [
+            | true ↦ distinct-freed placement.source size put put_distinct
             | false ↦ put_distinct
           ];
-          slots_placed = all_of (IsSlotAddress p memory) (λ (e : Entry). e.slot) (preorder (with_derived p transfer f))
-              (elim (is_untyped transfer.cap) as (λ c. Each (λ (e : Entry). IsSlotAddress p memory e.slot) (preorder (cond c (freed transfer.source size put) put))) [
-                | true ↦ each-freed (λ (e : Entry). IsSlotAddress p memory e.slot) transfer.source size put put_placed (λ e m s. source_placed task.ends)
+          slots_placed = all_of (IsSlotAddress p memory) (λ (e : Entry). e.slot) (preorder (with_derived p placement f))
+              (elim (is_untyped placement.cap) as (λ c. Each (λ (e : Entry). IsSlotAddress p memory e.slot) (preorder (cond c (freed placement.source size put) put))) [
+                | true ↦ each-freed (λ (e : Entry). IsSlotAddress p memory e.slot) placement.source size put put_placed (λ e m s. source_placed invocation.ends)
                 | false ↦ put_placed
               ]);
-          lawful = all_of (IsLawful p memory) (λ (e : Entry). e.cap) (preorder (with_derived p transfer f))
-              (elim (is_untyped transfer.cap) as (λ c. Each (λ (e : Entry). IsLawful p memory e.cap) (preorder (cond c (freed transfer.source size put) put))) [
-                | true ↦ each-freed (λ (e : Entry). IsLawful p memory e.cap) transfer.source size put put_lawful
-                    (λ e m s. lawful-freed p memory (bits_of p transfer.cap) e.cap (size_is e m s) (each-contained (λ (e : Entry). IsLawful p memory e.cap) (preorder put) e put_lawful m))
+          lawful = all_of (IsLawful p memory) (λ (e : Entry). e.cap) (preorder (with_derived p placement f))
+              (elim (is_untyped placement.cap) as (λ c. Each (λ (e : Entry). IsLawful p memory e.cap) (preorder (cond c (freed placement.source size put) put))) [
+                | true ↦ each-freed (λ (e : Entry). IsLawful p memory e.cap) placement.source size put put_lawful
+                    (λ e m s. lawful-freed p memory (bits_of p placement.cap) e.cap (size_is e m s) (each-contained (λ (e : Entry). IsLawful p memory e.cap) (preorder put) e put_lawful m))
                 | false ↦ put_lawful
               ]);
-          disjoint = elim (is_untyped transfer.cap) as (λ c. IsDisjoint p (cond c (freed transfer.source size put) put)) [
-            | true ↦ disjoint-freed p transfer.source size put put_disjoint
+          disjoint = elim (is_untyped placement.cap) as (λ c. IsDisjoint p (cond c (freed placement.source size put) put)) [
+            | true ↦ disjoint-freed p placement.source size put put_disjoint
             | false ↦ put_disjoint
           ];
-          regions = regions-with_derived p transfer f store.regions store.slots_distinct task.ends.empty task.ends.same;
+          regions = regions-with_derived p placement f store.regions store.slots_distinct invocation.ends.empty invocation.ends.same;
         }
 
-  module _ (task : IsMove p f transfer) where
-    pub moved_disjoint : IsDisjoint p (moved transfer.source transfer.slot transfer.cap f)
-    moved_disjoint = disjoint-moved p transfer.source transfer.slot transfer.cap f store.disjoint store.slots_distinct task.ends.empty task.ends.same
+  module _ (invocation : IsMove p f placement) where
+    pub moved_disjoint : IsDisjoint p (moved placement.source placement.slot placement.cap f)
+    moved_disjoint = disjoint-moved p placement.source placement.slot placement.cap f store.disjoint store.slots_distinct invocation.ends.empty invocation.ends.same
 
-    pub store-moved : IsKernelStore p memory (with_moved transfer f)
+    pub store-moved : IsKernelStore p memory (with_moved placement f)
     store-moved =
         record {
           memory_most = store.memory_most;
-          slots_distinct = distinct-moved transfer.source transfer.slot transfer.cap f store.slots_distinct task.ends.empty;
-          slots_placed = all_of (IsSlotAddress p memory) (λ (e : Entry). e.slot) (preorder (with_moved transfer f))
-              (each-moved (λ (e : Entry). IsSlotAddress p memory e.slot) transfer.source transfer.slot transfer.cap f
-              (each_of (IsSlotAddress p memory) (λ (e : Entry). e.slot) (preorder f) store.slots_placed) (λ original. slot_placed task.ends));
-          lawful = all_of (IsLawful p memory) (λ (e : Entry). e.cap) (preorder (with_moved transfer f))
-              (each-moved (λ (e : Entry). IsLawful p memory e.cap) transfer.source transfer.slot transfer.cap f
-              (each_of (IsLawful p memory) (λ (e : Entry). e.cap) (preorder f) store.lawful) (λ original. cap_lawful task.ends));
+          slots_distinct = distinct-moved placement.source placement.slot placement.cap f store.slots_distinct invocation.ends.empty;
+          slots_placed = all_of (IsSlotAddress p memory) (λ (e : Entry). e.slot) (preorder (with_moved placement f))
+              (each-moved (λ (e : Entry). IsSlotAddress p memory e.slot) placement.source placement.slot placement.cap f
+              (each_of (IsSlotAddress p memory) (λ (e : Entry). e.slot) (preorder f) store.slots_placed) (λ original. slot_placed invocation.ends));
+          lawful = all_of (IsLawful p memory) (λ (e : Entry). e.cap) (preorder (with_moved placement f))
+              (each-moved (λ (e : Entry). IsLawful p memory e.cap) placement.source placement.slot placement.cap f
+              (each_of (IsLawful p memory) (λ (e : Entry). e.cap) (preorder f) store.lawful) (λ original. cap_lawful invocation.ends));
           disjoint = moved_disjoint;
-          regions = regions-with_moved p transfer f store.regions store.slots_distinct task.ends.empty task.ends.same task.free;
+          regions = regions-with_moved p placement f store.regions store.slots_distinct invocation.ends.empty invocation.ends.same invocation.free;
         }

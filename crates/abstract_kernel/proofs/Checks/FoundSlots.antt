@@ -17,11 +17,12 @@ use Rattle.cspace_core.specs.Bits.{low_bits}
 use Rattle.cspace_core.specs.Resolution.{Found, is_cnode, resolution}
 use Rattle.cspace_core.specs.Target.{found_whole, target_slot}
 use Rattle.cspace_core.proofs.Inside.{found_within}
+use Rattle.abstract_kernel.specs.Checks.{◌>>=◌}
 use Rattle.abstract_kernel.specs.Memory.{IsSlotAddress}
-use Rattle.abstract_kernel.specs.Lookups.{and_then, where_kind, where_empty, where_full, held_in}
+use Rattle.abstract_kernel.specs.Lookups.{where_kind, where_empty, where_full, held_in}
 
 -- where a check passes, so did those before it
-pub passed : {X Y : Type 0} (r : Result X Refusal) (next : X → Result Y Refusal) (y : Y) → and_then r next ≡ Ok y → (x : X) × ((r ≡ Ok x) × (next x ≡ Ok y))
+pub passed : {X Y : Type 0} (r : Result X Refusal) (next : X → Result Y Refusal) (y : Y) → (r >>= next) ≡ Ok y → (x : X) × ((r ≡ Ok x) × (next x ≡ Ok y))
 passed (Ok x) next y h = (x, (refl, h))
 passed (Err refusal) next y h = cc
 

@@ -11,16 +11,16 @@ use Rattle.slot_core.specs.Entries.{Entry, cap_at, cap_in}
 use Rattle.cap_core.specs.declared.profile.ProfileName.{ProfileName}
 use Rattle.cap_core.specs.declared.message.Message.{Message}
 use Rattle.cap_core.specs.Rights.{write_bit, read_bit}
+use Rattle.abstract_kernel.specs.Checks.{◌>>=◌}
 use Rattle.abstract_kernel.specs.declared.call.Op.{Op}
 use Rattle.abstract_kernel.specs.declared.call.Op.TheVariants as op
-use Rattle.abstract_kernel.specs.declared.task.Service.{Service}
-use Rattle.abstract_kernel.specs.declared.task.NewObjects.{NewObjects}
-use Rattle.abstract_kernel.specs.declared.task.Transfer.{Transfer}
-use Rattle.abstract_kernel.specs.declared.task.Task.{Task}
-use Rattle.abstract_kernel.specs.declared.task.Task.TheVariants.{Send, Receive, Retype, Derive, Move}
+use Rattle.abstract_kernel.specs.declared.invocation.Service.{Service}
+use Rattle.abstract_kernel.specs.declared.invocation.NewObjects.{NewObjects}
+use Rattle.abstract_kernel.specs.declared.invocation.CapPlacement.{CapPlacement}
+use Rattle.abstract_kernel.specs.declared.invocation.Invocation.{Invocation}
+use Rattle.abstract_kernel.specs.declared.invocation.Invocation.TheVariants.{Send, Receive, Retype, Derive, Move}
 use Rattle.abstract_kernel.specs.Shown.{endpoint_base, endpoints_of}
-use Rattle.abstract_kernel.specs.Lookups.{and_then}
-use Rattle.abstract_kernel.specs.Checks.{service_of, has_right, retypes, derives, moves, task_of}
+use Rattle.abstract_kernel.specs.Decode.{service_of, has_right, retypes, derives, moves, decoded_invocation}
 
 service_at : (b : Bool) (base : ℕ) (badge : Badge) (service : Service) → ◌≡◌ {A = Result Service Refusal} (cond b (Ok (record { endpoint = base; badge = badge })) (Err InvalidCapability)) (Ok service) → Some base ≡ Some service.endpoint
 service_at true base badge service h =
@@ -58,52 +58,52 @@ named_in base_of (x ∷ es) slot e h null =
 pub live_at : (f : Forest Entry) (slot e : ℕ) → endpoint_base (cap_at f slot) ≡ Some e → list_any (λ k. e == k) (endpoints_of f) ≡ true
 live_at f slot e h = named_in endpoint_base (preorder f) slot e h refl
 
--- the endpoint of a task is live, where it has one
-abbrev pub HasLiveEndpoint : Forest Entry → Task → Type 0
+-- the endpoint of an invocation is live, where it has one
+abbrev pub HasLiveEndpoint : Forest Entry → Invocation → Type 0
 HasLiveEndpoint f (Send service message block) = list_any (λ k. service.endpoint == k) (endpoints_of f) ≡ true
 HasLiveEndpoint f (Receive service block) = list_any (λ k. service.endpoint == k) (endpoints_of f) ≡ true
 HasLiveEndpoint f (Retype new) = Unit {0}
-HasLiveEndpoint f (Derive transfer) = Unit {0}
-HasLiveEndpoint f (Move transfer) = Unit {0}
+HasLiveEndpoint f (Derive placement) = Unit {0}
+HasLiveEndpoint f (Move placement) = Unit {0}
 
-sends_to_live : (f : Forest Entry) (slot : ℕ) (message : Message) (block : Bool) (r : Result Service Refusal) → service_of write_bit (cap_at f slot) ≡ r → (task : Task) →
-    and_then r (λ service. Ok (Send service message block)) ≡ Ok task → HasLiveEndpoint f task
-sends_to_live f slot message block (Err refusal) is task h = cc
-sends_to_live f slot message block (Ok service) is task h =
-    let same : Send service message block ≡ task = cc in
+sends_to_live : (f : Forest Entry) (slot : ℕ) (message : Message) (block : Bool) (r : Result Service Refusal) → service_of write_bit (cap_at f slot) ≡ r → (invocation : Invocation) →
+    (r >>= λ service. Ok (Send service message block)) ≡ Ok invocation → HasLiveEndpoint f invocation
+sends_to_live f slot message block (Err refusal) is invocation h = cc
+sends_to_live f slot message block (Ok service) is invocation h =
+    let same : Send service message block ≡ invocation = cc in
     subst (HasLiveEndpoint f) same (live_at f slot service.endpoint (service_endpoint write_bit (cap_at f slot) service is))
 
-receives_from_live : (f : Forest Entry) (slot : ℕ) (block : Bool) (r : Result Service Refusal) → service_of read_bit (cap_at f slot) ≡ r → (task : Task) →
-    and_then r (λ service. Ok (Receive service block)) ≡ Ok task → HasLiveEndpoint f task
-receives_from_live f slot block (Err refusal) is task h = cc
-receives_from_live f slot block (Ok service) is task h =
-    let same : Receive service block ≡ task = cc in
+receives_from_live : (f : Forest Entry) (slot : ℕ) (block : Bool) (r : Result Service Refusal) → service_of read_bit (cap_at f slot) ≡ r → (invocation : Invocation) →
+    (r >>= λ service. Ok (Receive service block)) ≡ Ok invocation → HasLiveEndpoint f invocation
+receives_from_live f slot block (Err refusal) is invocation h = cc
+receives_from_live f slot block (Ok service) is invocation h =
+    let same : Receive service block ≡ invocation = cc in
     subst (HasLiveEndpoint f) same (live_at f slot service.endpoint (service_endpoint read_bit (cap_at f slot) service is))
 
-retypes_none : (f : Forest Entry) (r : Result NewObjects Refusal) (task : Task) → retypes r ≡ Ok task → HasLiveEndpoint f task
-retypes_none f (Err refusal) task h = cc
-retypes_none f (Ok new) task h = let same : Retype new ≡ task = cc in subst (HasLiveEndpoint f) same tt
+retypes_none : (f : Forest Entry) (r : Result NewObjects Refusal) (invocation : Invocation) → retypes r ≡ Ok invocation → HasLiveEndpoint f invocation
+retypes_none f (Err refusal) invocation h = cc
+retypes_none f (Ok new) invocation h = let same : Retype new ≡ invocation = cc in subst (HasLiveEndpoint f) same tt
 
-derives_none : (f : Forest Entry) (r : Result Transfer Refusal) (task : Task) → derives r ≡ Ok task → HasLiveEndpoint f task
-derives_none f (Err refusal) task h = cc
-derives_none f (Ok transfer) task h = let same : Derive transfer ≡ task = cc in subst (HasLiveEndpoint f) same tt
+derives_none : (f : Forest Entry) (r : Result CapPlacement Refusal) (invocation : Invocation) → derives r ≡ Ok invocation → HasLiveEndpoint f invocation
+derives_none f (Err refusal) invocation h = cc
+derives_none f (Ok placement) invocation h = let same : Derive placement ≡ invocation = cc in subst (HasLiveEndpoint f) same tt
 
-moves_none : (f : Forest Entry) (r : Result Transfer Refusal) (task : Task) → moves r ≡ Ok task → HasLiveEndpoint f task
-moves_none f (Err refusal) task h = cc
-moves_none f (Ok transfer) task h = let same : Move transfer ≡ task = cc in subst (HasLiveEndpoint f) same tt
+moves_none : (f : Forest Entry) (r : Result CapPlacement Refusal) (invocation : Invocation) → moves r ≡ Ok invocation → HasLiveEndpoint f invocation
+moves_none f (Err refusal) invocation h = cc
+moves_none f (Ok placement) invocation h = let same : Move placement ≡ invocation = cc in subst (HasLiveEndpoint f) same tt
 
-task_live : (p : ProfileName) (f : Forest Entry) (thread : ℕ) (op : Op) (slot : ℕ) (task : Task) → task_of p f thread op slot ≡ Ok task → HasLiveEndpoint f task
-task_live p f thread (op.Retype cap kind size_bits root index depth offset count) slot task h = retypes_none f _ task h
-task_live p f thread (op.CapCopy cap index depth src_root src_index src_depth rights) slot task h = derives_none f _ task h
-task_live p f thread (op.CapMint cap index depth src_root src_index src_depth rights word) slot task h = derives_none f _ task h
-task_live p f thread (op.CapMove cap index depth src_root src_index src_depth) slot task h = moves_none f _ task h
-task_live p f thread (op.CapMutate cap index depth src_root src_index src_depth word) slot task h = moves_none f _ task h
-task_live p f thread (op.Send cap message) slot task h = sends_to_live f slot message true _ refl task h
-task_live p f thread (op.NbSend cap message) slot task h = sends_to_live f slot message false _ refl task h
-task_live p f thread (op.Recv cap) slot task h = receives_from_live f slot true _ refl task h
-task_live p f thread (op.NbRecv cap) slot task h = receives_from_live f slot false _ refl task h
+invocation_live : (p : ProfileName) (f : Forest Entry) (thread : ℕ) (op : Op) (slot : ℕ) (invocation : Invocation) → decoded_invocation p f thread op slot ≡ Ok invocation → HasLiveEndpoint f invocation
+invocation_live p f thread (op.Retype cap kind size_bits root index depth offset count) slot invocation h = retypes_none f _ invocation h
+invocation_live p f thread (op.CapCopy cap index depth src_root src_index src_depth rights) slot invocation h = derives_none f _ invocation h
+invocation_live p f thread (op.CapMint cap index depth src_root src_index src_depth rights word) slot invocation h = derives_none f _ invocation h
+invocation_live p f thread (op.CapMove cap index depth src_root src_index src_depth) slot invocation h = moves_none f _ invocation h
+invocation_live p f thread (op.CapMutate cap index depth src_root src_index src_depth word) slot invocation h = moves_none f _ invocation h
+invocation_live p f thread (op.Send cap message) slot invocation h = sends_to_live f slot message true _ refl invocation h
+invocation_live p f thread (op.NbSend cap message) slot invocation h = sends_to_live f slot message false _ refl invocation h
+invocation_live p f thread (op.Recv cap) slot invocation h = receives_from_live f slot true _ refl invocation h
+invocation_live p f thread (op.NbRecv cap) slot invocation h = receives_from_live f slot false _ refl invocation h
 
 -- the endpoint that a call uses is live
-pub found_live : (p : ProfileName) (f : Forest Entry) (thread : ℕ) (op : Op) (r : Result ℕ Refusal) (task : Task) → and_then r (task_of p f thread op) ≡ Ok task → HasLiveEndpoint f task
-found_live p f thread op (Err refusal) task h = cc
-found_live p f thread op (Ok slot) task h = task_live p f thread op slot task h
+pub found_live : (p : ProfileName) (f : Forest Entry) (thread : ℕ) (op : Op) (r : Result ℕ Refusal) (invocation : Invocation) → (r >>= decoded_invocation p f thread op) ≡ Ok invocation → HasLiveEndpoint f invocation
+found_live p f thread op (Err refusal) invocation h = cc
+found_live p f thread op (Ok slot) invocation h = invocation_live p f thread op slot invocation h

@@ -1,13 +1,13 @@
--- Asks by their numbers.
+-- Receives by their numbers.
 use Rattle.std.proofs.Common.{◌≡◌, ℕ, suc, zero, ◌+◌, ◌<◌, Bool, true, false, cond, ◌==◌, ◌||◌, List, [], ◌∷◌, ◌++◌, filter, find, length, Option, None, Some, slice_get, refl, sym, ap, subst, ◌∙◌, arith, inl, inr, ◌⊎◌, eq-eqb}
 use Rattle.std.specs.List.{list_any, zip, AllByRecursion}
 use Rattle.std.proofs.lemmas.Bool.{ne_eqb}
 use Rattle.ipc_core.specs.Records.{AskRecord, SendRecord}
 
--- each ask has a lower number than those after it
+-- each receive has a lower number than those after it
 abbrev pub Rising : List AskRecord → Type 0
 Rising [] = Unit {0}
-Rising (a ∷ asks) = AllByRecursion (λ (b : AskRecord). a.number < b.number) asks × Rising asks
+Rising (a ∷ receives) = AllByRecursion (λ (b : AskRecord). a.number < b.number) receives × Rising receives
 
 abbrev pub Member : AskRecord → List AskRecord → Type 0
 Member a [] = ⊥
@@ -49,7 +49,7 @@ rising_filter f (x ∷ xs) h = elim (f x) as (λ b. Rising (cond b (x ∷ filter
   | false ↦ rising_filter f xs h.1
 ]
 
--- an ask is known by its number
+-- a receive is known by its number
 pub only_one : (xs : List AskRecord) (a : AskRecord) → Rising xs → Member a xs → AllByRecursion (λ (x : AskRecord). x.number ≡ a.number → x ≡ a) xs
 only_one [] a h m = tt
 only_one (x ∷ xs) a h (inl e) =
@@ -59,7 +59,7 @@ only_one (x ∷ xs) a h (inr m) =
     let lt : x.number < a.number = all_at (λ (b : AskRecord). x.number < b.number) xs a h.0 m in
     (λ d. absurd (omega arith), only_one xs a h.1 m)
 
--- the ask that is next to be paired is in no pair yet
+-- the receive that is next to be paired is in no pair yet
 pub next_unpaired : (ss : List SendRecord) (qs : List AskRecord) (a : AskRecord) → Rising qs → slice_get qs (length ss) ≡ Some a → find (λ (p : SendRecord × AskRecord). p.1.number == a.number) (zip ss qs) ≡ None
 next_unpaired [] qs a h met = refl
 next_unpaired (s ∷ ss) [] a h met = cc

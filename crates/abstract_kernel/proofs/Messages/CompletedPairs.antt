@@ -9,22 +9,22 @@ use Rattle.cap_core.specs.declared.message.Message.{Message}
 use Rattle.cap_core.specs.declared.refusal.Refusal.{Refusal}
 use Rattle.ipc_core.specs.Records.{Instance, SendRecord, AskRecord, same_instance}
 use Rattle.abstract_kernel.specs.declared.call.Call.{Call}
-use Rattle.abstract_kernel.specs.declared.task.Task.{Task}
-use Rattle.abstract_kernel.specs.declared.task.Task.TheVariants.{Send, Receive, Retype, Derive, Move}
-use Rattle.abstract_kernel.specs.Transfers.{with_derived, with_moved}
+use Rattle.abstract_kernel.specs.declared.invocation.Invocation.{Invocation}
+use Rattle.abstract_kernel.specs.declared.invocation.Invocation.TheVariants.{Send, Receive, Retype, Derive, Move}
+use Rattle.abstract_kernel.specs.CNodes.{with_derived, with_moved}
 use Rattle.abstract_kernel.specs.declared.call.Reply.{Reply}
-use Rattle.abstract_kernel.specs.declared.task.Service.{Service}
+use Rattle.abstract_kernel.specs.declared.invocation.Service.{Service}
 use Rattle.abstract_kernel.specs.Shown.{endpoints_of}
-use Rattle.abstract_kernel.specs.State.{State, shown, pairs, endpoint_at, sends_to, asks_of}
-use Rattle.abstract_kernel.specs.Checks.{checked}
-use Rattle.abstract_kernel.specs.Step.{Outcome, counted, is_send_awaited, is_receive_awaited, send_accepted, receive_accepted, where_awaited, objects_made, rearranged, step, outcome, performed, send_record, ask_record, reply_to_send, reply_to_receive, replies_of, state_after}
+use Rattle.abstract_kernel.specs.State.{State, shown, pairs, endpoint_at, sends_to, receives_of}
+use Rattle.abstract_kernel.specs.Decode.{decoded_call}
+use Rattle.abstract_kernel.specs.Step.{Outcome, counted, is_send_awaited, is_receive_awaited, send_accepted, receive_accepted, where_awaited, objects_made, rearranged, step, outcome, performed, send_record, receive_record, reply_to_send, reply_to_receive, replies_of, state_after}
 use Rattle.abstract_kernel.specs.Reached.{IsReached}
 use Rattle.abstract_kernel.specs.Deliveries.{is_live, is_delivery, delivery, delivered}
 use Rattle.abstract_kernel.proofs.Lists.Paired.{zip_more_some, zip_some_right, all_get}
 use Rattle.abstract_kernel.specs.declared.call.Reply.TheVariants.{Delivered, Dropped, Empty}
 use Rattle.std.proofs.lemmas.Bool.{false≢true}
 use Rattle.abstract_kernel.proofs.Messages.WaitingSend.{same_tells, sends_here, sends_elsewhere, pairs_stay}
-use Rattle.abstract_kernel.proofs.Messages.WaitingReceive.{asks_here, asks_elsewhere, pairs_kept}
+use Rattle.abstract_kernel.proofs.Messages.WaitingReceive.{receives_here, receives_elsewhere, pairs_kept}
 use Rattle.abstract_kernel.proofs.Reached.Invariant.{Invariant, Passes, passes}
 use Rattle.abstract_kernel.proofs.Reached.Simulation.{reached_inv}
 use Rattle.abstract_kernel.proofs.Reached.Runs.{reached_after}
@@ -73,18 +73,18 @@ here_told A base reply live is =
     ∙ ap (λ (b : Bool). cond b (reply ∷ []) []) (is ∙ eq-eqb base base refl)
 
 send_grows : (A : State) (t : ℕ) (service : Service) (message : Message) → Invariant A → list_any (λ k. service.endpoint == k) (endpoints_of A.derivations) ≡ true →
-    (o : Option AskRecord) → slice_get (asks_of A (endpoint_at A service.endpoint)) (length (sends_to A (endpoint_at A service.endpoint))) ≡ o → (e : Instance) → Grows A e (send_accepted A t service message)
+    (o : Option AskRecord) → slice_get (receives_of A (endpoint_at A service.endpoint)) (length (sends_to A (endpoint_at A service.endpoint))) ≡ o → (e : Instance) → Grows A e (send_accepted A t service message)
 send_grows A t service message inv live None alone e =
     same_pairs A e (send_accepted A t service message) (pairs_stay A t service message (inv.fresh (A.count + 1) (omega arith)) alone e)
     (ap (λ (o : Option AskRecord). is_delivery e.base (reply_to_send (send_record A t service message) o)) alone)
 send_grows A t service message inv live (Some a) met e = elim (same_tells (endpoint_at A service.endpoint) e) [
   | inl w ↦ subst (λ (m : Instance). Grows A m (send_accepted A t service message)) w
-      (ap (map delivery) (ap (λ (ss : List SendRecord). zip ss (asks_of A (endpoint_at A service.endpoint))) (sends_here A t service message fresh)
-      ∙ zip_more_some (sends_to A (endpoint_at A service.endpoint)) (asks_of A (endpoint_at A service.endpoint)) s a met)
+      (ap (map delivery) (ap (λ (ss : List SendRecord). zip ss (receives_of A (endpoint_at A service.endpoint))) (sends_here A t service message fresh)
+      ∙ zip_more_some (sends_to A (endpoint_at A service.endpoint)) (receives_of A (endpoint_at A service.endpoint)) s a met)
       ∙ map-append delivery (pairs A (endpoint_at A service.endpoint)) ((s, a) ∷ [])
       ∙ ap (λ (r : Reply). map delivery (pairs A (endpoint_at A service.endpoint)) ++ r ∷ []) (sym reply)
       ∙ ap (λ (xs : List Reply). map delivery (pairs A (endpoint_at A service.endpoint)) ++ xs) (sym (here_told A service.endpoint _ live (ap (is_delivery service.endpoint) reply))))
-  | inr w ↦ ap (map delivery) (ap (λ (ss : List SendRecord). zip ss (asks_of A e)) (sends_elsewhere A t service message fresh e w))
+  | inr w ↦ ap (map delivery) (ap (λ (ss : List SendRecord). zip ss (receives_of A e)) (sends_elsewhere A t service message fresh e w))
       ∙ sym (append-nil (map delivery (pairs A e)))
       ∙ ap (λ (xs : List Reply). map delivery (pairs A e) ++ xs) (sym (elsewhere_silent A e service.endpoint _ w (ap (is_delivery e.base) reply)))
 ]
@@ -95,23 +95,23 @@ send_grows A t service message inv live (Some a) met e = elim (same_tells (endpo
     s : SendRecord
     s = send_record A t service message
 
-    reply : reply_to_send (send_record A t service message) (slice_get (asks_of A (endpoint_at A service.endpoint)) (length (sends_to A (endpoint_at A service.endpoint)))) ≡ delivery (s, a)
+    reply : reply_to_send (send_record A t service message) (slice_get (receives_of A (endpoint_at A service.endpoint)) (length (sends_to A (endpoint_at A service.endpoint)))) ≡ delivery (s, a)
     reply = ap (reply_to_send (send_record A t service message)) met
 
 receive_grows : (A : State) (t : ℕ) (service : Service) → Invariant A → list_any (λ k. service.endpoint == k) (endpoints_of A.derivations) ≡ true →
-    (o : Option SendRecord) → slice_get (sends_to A (endpoint_at A service.endpoint)) (length (asks_of A (endpoint_at A service.endpoint))) ≡ o →
+    (o : Option SendRecord) → slice_get (sends_to A (endpoint_at A service.endpoint)) (length (receives_of A (endpoint_at A service.endpoint))) ≡ o →
     ((s : SendRecord) → o ≡ Some s → s.endpoint.base ≡ service.endpoint) → (e : Instance) → Grows A e (receive_accepted A t service)
 receive_grows A t service inv live None alone of e =
     same_pairs A e (receive_accepted A t service) (pairs_kept A t service (inv.fresh (A.count + 1) (omega arith)) inv.numbered alone e)
-    (ap (λ (o : Option SendRecord). is_delivery e.base (reply_to_receive (ask_record A t service) o)) alone)
+    (ap (λ (o : Option SendRecord). is_delivery e.base (reply_to_receive (receive_record A t service) o)) alone)
 receive_grows A t service inv live (Some s) met of e = elim (same_tells (endpoint_at A service.endpoint) e) [
   | inl w ↦ subst (λ (m : Instance). Grows A m (receive_accepted A t service)) w
-      (ap (map delivery) (ap (λ (qs : List AskRecord). zip (sends_to A (endpoint_at A service.endpoint)) qs) (asks_here A t service fresh inv.numbered)
-      ∙ zip_some_right (sends_to A (endpoint_at A service.endpoint)) (asks_of A (endpoint_at A service.endpoint)) s a met)
+      (ap (map delivery) (ap (λ (qs : List AskRecord). zip (sends_to A (endpoint_at A service.endpoint)) qs) (receives_here A t service fresh inv.numbered)
+      ∙ zip_some_right (sends_to A (endpoint_at A service.endpoint)) (receives_of A (endpoint_at A service.endpoint)) s a met)
       ∙ map-append delivery (pairs A (endpoint_at A service.endpoint)) ((s, a) ∷ [])
       ∙ ap (λ (r : Reply). map delivery (pairs A (endpoint_at A service.endpoint)) ++ r ∷ []) (sym (reply ∙ ap (λ (b : ℕ). Delivered b s.thread.base t s.badge s.message) (sym (of s refl))))
       ∙ ap (λ (xs : List Reply). map delivery (pairs A (endpoint_at A service.endpoint)) ++ xs) (sym (here_told A service.endpoint _ live (ap (is_delivery service.endpoint) reply))))
-  | inr w ↦ ap (map delivery) (ap (λ (qs : List AskRecord). zip (sends_to A e) qs) (asks_elsewhere A t service fresh inv.numbered e w))
+  | inr w ↦ ap (map delivery) (ap (λ (qs : List AskRecord). zip (sends_to A e) qs) (receives_elsewhere A t service fresh inv.numbered e w))
       ∙ sym (append-nil (map delivery (pairs A e)))
       ∙ ap (λ (xs : List Reply). map delivery (pairs A e) ++ xs) (sym (elsewhere_silent A e service.endpoint _ w (ap (is_delivery e.base) reply)))
 ]
@@ -120,10 +120,10 @@ receive_grows A t service inv live (Some s) met of e = elim (same_tells (endpoin
     fresh = inv.fresh (A.count + 1) (omega arith)
 
     a : AskRecord
-    a = ask_record A t service
+    a = receive_record A t service
 
-    reply : reply_to_receive (ask_record A t service) (slice_get (sends_to A (endpoint_at A service.endpoint)) (length (asks_of A (endpoint_at A service.endpoint)))) ≡ Delivered service.endpoint s.thread.base t s.badge s.message
-    reply = ap (reply_to_receive (ask_record A t service)) met
+    reply : reply_to_receive (receive_record A t service) (slice_get (sends_to A (endpoint_at A service.endpoint)) (length (receives_of A (endpoint_at A service.endpoint)))) ≡ Delivered service.endpoint s.thread.base t s.badge s.message
+    reply = ap (reply_to_receive (receive_record A t service)) met
 
 -- the records of an endpoint are its own
 own_record : (A : State) (e : Instance) (xs : List SendRecord) (i : ℕ) (s : SendRecord) → slice_get (filter (λ (r : SendRecord). same_instance r.endpoint e && not (A.is_cancelled r.number)) xs) i ≡ Some s → s.endpoint.base ≡ e.base
@@ -154,24 +154,24 @@ sends_grow p A t service message false inv pass e =
 
 receives_grow : (p : ProfileName) (A : State) (t : ℕ) (service : Service) (block : Bool) → Invariant A → Passes A t (Receive service block) → (e : Instance) → Grows A e (performed p A t (Receive service block))
 receives_grow p A t service true inv pass e =
-    receive_grows A t service inv pass.endpoint_live _ refl (λ s is. own_record A (endpoint_at A service.endpoint) A.sends (length (asks_of A (endpoint_at A service.endpoint))) s is) e
+    receive_grows A t service inv pass.endpoint_live _ refl (λ s is. own_record A (endpoint_at A service.endpoint) A.sends (length (receives_of A (endpoint_at A service.endpoint))) s is) e
 receives_grow p A t service false inv pass e =
     awaited_grows A e (is_receive_awaited A (endpoint_at A service.endpoint)) (receive_accepted A t service) Empty refl
-    (receive_grows A t service inv pass.endpoint_live _ refl (λ s is. own_record A (endpoint_at A service.endpoint) A.sends (length (asks_of A (endpoint_at A service.endpoint))) s is) e)
+    (receive_grows A t service inv pass.endpoint_live _ refl (λ s is. own_record A (endpoint_at A service.endpoint) A.sends (length (receives_of A (endpoint_at A service.endpoint))) s is) e)
 
-performed_grows : (p : ProfileName) (A : State) (t : ℕ) (task : Task) → Invariant A → Passes A t task → (e : Instance) → Grows A e (performed p A t task)
+performed_grows : (p : ProfileName) (A : State) (t : ℕ) (invocation : Invocation) → Invariant A → Passes A t invocation → (e : Instance) → Grows A e (performed p A t invocation)
 performed_grows p A t (Send service message block) inv pass e = sends_grow p A t service message block inv pass e
 performed_grows p A t (Receive service block) inv pass e = receives_grow p A t service block inv pass e
 performed_grows p A t (Retype new) inv pass e = same_pairs A e (objects_made p A new) refl refl
-performed_grows p A t (Derive transfer) inv pass e = same_pairs A e (rearranged A (with_derived p transfer A.derivations)) refl refl
-performed_grows p A t (Move transfer) inv pass e = same_pairs A e (rearranged A (with_moved transfer A.derivations)) refl refl
+performed_grows p A t (Derive placement) inv pass e = same_pairs A e (rearranged A (with_derived p placement A.derivations)) refl refl
+performed_grows p A t (Move placement) inv pass e = same_pairs A e (rearranged A (with_moved placement A.derivations)) refl refl
 
-outcome_grows : (p : ProfileName) (A : State) (call : Call) → Invariant A → (r : Result Task Refusal) → checked p (shown A) call ≡ r → (e : Instance) → Grows A e (outcome p A call.thread r)
+outcome_grows : (p : ProfileName) (A : State) (call : Call) → Invariant A → (r : Result Invocation Refusal) → decoded_call p (shown A) call ≡ r → (e : Instance) → Grows A e (outcome p A call.thread r)
 outcome_grows p A call inv (Err refusal) h e = same_pairs A e (outcome p A call.thread (Err refusal)) refl refl
-outcome_grows p A call inv (Ok task) h e = performed_grows p A call.thread task inv (passes p A call task h) e
+outcome_grows p A call inv (Ok invocation) h e = performed_grows p A call.thread invocation inv (passes p A call invocation h) e
 
 step_grows : (p : ProfileName) (A : State) (call : Call) → Invariant A → (e : Instance) → Grows A e (step p A call)
-step_grows p A call inv e = outcome_grows p A call inv (checked p (shown A) call) refl e
+step_grows p A call inv e = outcome_grows p A call inv (decoded_call p (shown A) call) refl e
 
 more_delivered : (b : Bool) (reply : Reply) (before rest : List Reply) → (before ++ cond b (reply ∷ []) []) ++ rest ≡ before ++ cond b (reply ∷ rest) rest
 more_delivered true reply before rest = append_assoc before (reply ∷ []) rest

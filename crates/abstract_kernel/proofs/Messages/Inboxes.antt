@@ -37,13 +37,13 @@ last_up_to n (p ∷ ps) h = elim (last_up_to n ps h.1) [
   ]
 ]
 
--- asks, of which those with the number n are now paired as p
+-- receives, of which those with the number n are now paired as p
 module _ (g g' : AskRecord → Option Pair) (n : ℕ) (p : Pair) (others : (x : AskRecord) → x.number ≢ n → g' x ≡ g x) where
-  -- each of these asks with the number is paired as p
+  -- each of these receives with the number is paired as p
   abbrev pub Here : List AskRecord → Type 0
-  Here asks = AllByRecursion (λ (x : AskRecord). x.number ≡ n → g' x ≡ Some p) asks
+  Here receives = AllByRecursion (λ (x : AskRecord). x.number ≡ n → g' x ≡ Some p) receives
 
-  -- none of these asks has the number
+  -- none of these receives has the number
   pub untouched : (xs : List AskRecord) → list_any (λ (x : AskRecord). x.number == n) xs ≡ false → filter_map g' xs ≡ filter_map g xs
   untouched [] h = refl
   untouched (x ∷ xs) h = elim (eqb_tells x.number n) [
@@ -66,7 +66,7 @@ module _ (g g' : AskRecord → Option Pair) (n : ℕ) (p : Pair) (others : (x : 
       more None ps u v = v
       more (Some q) ps u v = (omega (arith, u.0), v)
 
-  -- one of these asks has the number: its pair is the last
+  -- one of these receives has the number: its pair is the last
   pub now_last : (xs : List AskRecord) (m : ℕ) → Here xs → UpTo m (filter_map g xs) → m < completion p → list_any (λ (x : AskRecord). x.number == n) xs ≡ true → last_completed (filter_map g' xs) ≡ Some p
   now_last [] m here h lt there = cc
   now_last (x ∷ xs) m here h lt there = elim (eqb_tells x.number n) [

@@ -11,10 +11,10 @@ use Rattle.abstract_kernel.proofs.Lists.Paired.{drop_all, get_none, zip_none_rig
 use Rattle.abstract_kernel.proofs.Messages.WaitingSend.{same_itself, not_same, same_tells, in_table}
 use Rattle.abstract_kernel.specs.declared.call.ThreadState.{ThreadState}
 use Rattle.abstract_kernel.specs.declared.call.ThreadState.TheVariants.{Ready, Inactive, Receiving}
-use Rattle.abstract_kernel.specs.declared.task.Service.{Service}
+use Rattle.abstract_kernel.specs.declared.invocation.Service.{Service}
 use Rattle.ipc_core.specs.Records.{AskRecord, Instance, SendRecord, receiver, same_instance, sender, waiting_list}
-use Rattle.abstract_kernel.specs.State.{State, asks_of, endpoint_at, first_of, inbox_of, inbox_with, is_receiving, is_sending, last_completed, pair_of, pairs, sends_to, shown, state_of, thread_at, thread_view, waiters, waiting_asks}
-use Rattle.abstract_kernel.specs.Step.{ask_record, counted}
+use Rattle.abstract_kernel.specs.State.{State, receives_of, endpoint_at, first_of, inbox_of, inbox_with, is_receiving, is_sending, last_completed, pair_of, pairs, sends_to, shown, state_of, thread_at, thread_view, waiters, waiting_receives}
+use Rattle.abstract_kernel.specs.Step.{receive_record, counted}
 use Rattle.abstract_kernel.specs.Private.Effects.{changed}
 use Rattle.abstract_kernel.specs.Shown.{endpoints_of, table, threads_of}
 use Rattle.ipc_core.specs.Waits.{first_sender}
@@ -22,9 +22,9 @@ use Rattle.ipc_core.specs.Waits.{first_sender}
 one_longer : (qs : List AskRecord) (a : AskRecord) → length (qs ++ a ∷ []) ≡ suc (length qs)
 one_longer qs a = length-append qs (a ∷ []) ∙ omega arith
 
--- one more asks, and no send is left
-pub list_asks : (ss : List SendRecord) (qs : List AskRecord) (a : AskRecord) → slice_get ss (length qs) ≡ None → waiting_list ss (qs ++ a ∷ []) ≡ waiting_list ss qs ++ receiver a ∷ []
-list_asks ss qs a none =
+-- one more receives, and no send is left
+pub list_receive_waits : (ss : List SendRecord) (qs : List AskRecord) (a : AskRecord) → slice_get ss (length qs) ≡ None → waiting_list ss (qs ++ a ∷ []) ≡ waiting_list ss qs ++ receiver a ∷ []
+list_receive_waits ss qs a none =
     let le : length ss ≤ length qs = get_none (length qs) ss none in
     let longer = one_longer qs a in
     let nobody : drop (length qs) ss ≡ [] = drop_all (length qs) ss le in
@@ -34,24 +34,24 @@ list_asks ss qs a none =
     ∙ map-append receiver (drop (length ss) qs) (a ∷ [])
     ∙ ap (λ (xs : List SendRecord). (map sender xs ++ map receiver (drop (length ss) qs)) ++ receiver a ∷ []) (sym nobody)
 
-askers_first : (qs : List AskRecord) → first_sender (map receiver qs) ≡ None
-askers_first [] = refl
-askers_first (a ∷ qs) = refl
+receivers_first : (qs : List AskRecord) → first_sender (map receiver qs) ≡ None
+receivers_first [] = refl
+receivers_first (a ∷ qs) = refl
 
 pub no_sender : (ss : List SendRecord) (qs : List AskRecord) → slice_get ss (length qs) ≡ None → first_sender (waiting_list ss qs) ≡ None
 no_sender ss qs none =
     ap (λ (xs : List SendRecord). first_sender (map sender xs ++ map receiver (drop (length ss) qs))) (drop_all (length qs) ss (get_none (length qs) ss none))
-    ∙ askers_first (drop (length ss) qs)
+    ∙ receivers_first (drop (length ss) qs)
 
--- a number that no ask has yet finds no pair
-abbrev pub AsksUpTo : ℕ → List AskRecord → Type 0
-AsksUpTo n asks = AllByRecursion (λ (a : AskRecord). a.number ≤ n) asks
+-- a number that no receive has yet finds no pair
+abbrev pub ReceivesUpTo : ℕ → List AskRecord → Type 0
+ReceivesUpTo n receives = AllByRecursion (λ (a : AskRecord). a.number ≤ n) receives
 
-pub up_to_filter : (f : AskRecord → Bool) (n : ℕ) (asks : List AskRecord) → AsksUpTo n asks → AsksUpTo n (filter f asks)
+pub up_to_filter : (f : AskRecord → Bool) (n : ℕ) (receives : List AskRecord) → ReceivesUpTo n receives → ReceivesUpTo n (filter f receives)
 up_to_filter f n [] h = tt
-up_to_filter f n (a ∷ asks) h = elim (f a) as (λ b. AsksUpTo n (cond b (a ∷ filter f asks) (filter f asks))) [ true ↦ (h.0, up_to_filter f n asks h.1) | false ↦ up_to_filter f n asks h.1 ]
+up_to_filter f n (a ∷ receives) h = elim (f a) as (λ b. ReceivesUpTo n (cond b (a ∷ filter f receives) (filter f receives))) [ true ↦ (h.0, up_to_filter f n receives h.1) | false ↦ up_to_filter f n receives h.1 ]
 
-pub no_pair_yet : (n m : ℕ) (ss : List SendRecord) (qs : List AskRecord) → n < m → AsksUpTo n qs → find (λ (p : SendRecord × AskRecord). p.1.number == m) (zip ss qs) ≡ None
+pub no_pair_yet : (n m : ℕ) (ss : List SendRecord) (qs : List AskRecord) → n < m → ReceivesUpTo n qs → find (λ (p : SendRecord × AskRecord). p.1.number == m) (zip ss qs) ≡ None
 no_pair_yet n m [] qs lt h = refl
 no_pair_yet n m (s ∷ ss) [] lt h = refl
 no_pair_yet n m (s ∷ ss) (a ∷ qs) lt h =
@@ -65,114 +65,114 @@ none_received None None other h = (refl, refl)
 none_received None (Some e) other h = cc
 none_received (Some e) r other h = cc
 
-module _ (A : State) (t : ℕ) (service : Service) (fresh : A.is_cancelled (A.count + 1) ≡ false) (numbered : AsksUpTo A.count A.asks) where
-  abbrev pub record_asked : AskRecord
-  record_asked = ask_record A t service
+module _ (A : State) (t : ℕ) (service : Service) (fresh : A.is_cancelled (A.count + 1) ≡ false) (numbered : ReceivesUpTo A.count A.receives) where
+  abbrev pub record_received : AskRecord
+  record_received = receive_record A t service
 
   -- the state after the receive
-  abbrev pub after_ask : State
-  after_ask = record (counted A) { asks = A.asks ++ record_asked ∷ [] }
+  abbrev pub after_receive : State
+  after_receive = record (counted A) { receives = A.receives ++ record_received ∷ [] }
 
-  pub asks_here : asks_of after_ask record_asked.endpoint ≡ asks_of A record_asked.endpoint ++ record_asked ∷ []
-  asks_here =
-      filter-append (λ (a : AskRecord). same_instance a.endpoint record_asked.endpoint && not (A.is_cancelled a.number)) A.asks (record_asked ∷ [])
-      ∙ ap (λ (b : Bool). asks_of A record_asked.endpoint ++ cond (b && not (A.is_cancelled (A.count + 1))) (record_asked ∷ []) []) (same_itself record_asked.endpoint)
-      ∙ ap (λ (b : Bool). asks_of A record_asked.endpoint ++ cond (not b) (record_asked ∷ []) []) fresh
+  pub receives_here : receives_of after_receive record_received.endpoint ≡ receives_of A record_received.endpoint ++ record_received ∷ []
+  receives_here =
+      filter-append (λ (a : AskRecord). same_instance a.endpoint record_received.endpoint && not (A.is_cancelled a.number)) A.receives (record_received ∷ [])
+      ∙ ap (λ (b : Bool). receives_of A record_received.endpoint ++ cond (b && not (A.is_cancelled (A.count + 1))) (record_received ∷ []) []) (same_itself record_received.endpoint)
+      ∙ ap (λ (b : Bool). receives_of A record_received.endpoint ++ cond (not b) (record_received ∷ []) []) fresh
 
-  pub asks_elsewhere : (q : Instance) → same_instance record_asked.endpoint q ≡ false → asks_of after_ask q ≡ asks_of A q
-  asks_elsewhere q other =
-      filter-append (λ (a : AskRecord). same_instance a.endpoint q && not (A.is_cancelled a.number)) A.asks (record_asked ∷ [])
-      ∙ ap (λ (b : Bool). asks_of A q ++ cond (b && not (A.is_cancelled (A.count + 1))) (record_asked ∷ []) []) other
-      ∙ append-nil (asks_of A q)
+  pub receives_elsewhere : (q : Instance) → same_instance record_received.endpoint q ≡ false → receives_of after_receive q ≡ receives_of A q
+  receives_elsewhere q other =
+      filter-append (λ (a : AskRecord). same_instance a.endpoint q && not (A.is_cancelled a.number)) A.receives (record_received ∷ [])
+      ∙ ap (λ (b : Bool). receives_of A q ++ cond (b && not (A.is_cancelled (A.count + 1))) (record_received ∷ []) []) other
+      ∙ append-nil (receives_of A q)
 
-  pub lists_elsewhere : (q : Instance) → same_instance record_asked.endpoint q ≡ false → waiters after_ask q ≡ waiters A q
-  lists_elsewhere q other = ap (λ (qs : List AskRecord). waiting_list (sends_to A q) qs) (asks_elsewhere q other)
+  pub lists_elsewhere : (q : Instance) → same_instance record_received.endpoint q ≡ false → waiters after_receive q ≡ waiters A q
+  lists_elsewhere q other = ap (λ (qs : List AskRecord). waiting_list (sends_to A q) qs) (receives_elsewhere q other)
 
-  module _ (alone : slice_get (sends_to A record_asked.endpoint) (length (asks_of A record_asked.endpoint)) ≡ None) where
-    pub few : length (sends_to A record_asked.endpoint) ≤ length (asks_of A record_asked.endpoint)
-    few = get_none _ (sends_to A record_asked.endpoint) alone
+  module _ (alone : slice_get (sends_to A record_received.endpoint) (length (receives_of A record_received.endpoint)) ≡ None) where
+    pub few : length (sends_to A record_received.endpoint) ≤ length (receives_of A record_received.endpoint)
+    few = get_none _ (sends_to A record_received.endpoint) alone
 
-    pub list_here : waiters after_ask record_asked.endpoint ≡ waiters A record_asked.endpoint ++ receiver record_asked ∷ []
-    list_here = ap (λ (qs : List AskRecord). waiting_list (sends_to A record_asked.endpoint) qs) asks_here ∙ list_asks (sends_to A record_asked.endpoint) (asks_of A record_asked.endpoint) record_asked alone
+    pub list_here : waiters after_receive record_received.endpoint ≡ waiters A record_received.endpoint ++ receiver record_received ∷ []
+    list_here = ap (λ (qs : List AskRecord). waiting_list (sends_to A record_received.endpoint) qs) receives_here ∙ list_receive_waits (sends_to A record_received.endpoint) (receives_of A record_received.endpoint) record_received alone
 
-    pub pairs_kept : (q : Instance) → pairs after_ask q ≡ pairs A q
-    pairs_kept q = elim (same_tells record_asked.endpoint q) [
-      | inl w ↦ subst (λ (m : Instance). pairs after_ask m ≡ pairs A m) w
-          (ap (λ (qs : List AskRecord). zip (sends_to A record_asked.endpoint) qs) asks_here
-          ∙ zip_none_right (sends_to A record_asked.endpoint) (asks_of A record_asked.endpoint) record_asked few)
-      | inr w ↦ ap (λ (qs : List AskRecord). zip (sends_to A q) qs) (asks_elsewhere q w)
+    pub pairs_kept : (q : Instance) → pairs after_receive q ≡ pairs A q
+    pairs_kept q = elim (same_tells record_received.endpoint q) [
+      | inl w ↦ subst (λ (m : Instance). pairs after_receive m ≡ pairs A m) w
+          (ap (λ (qs : List AskRecord). zip (sends_to A record_received.endpoint) qs) receives_here
+          ∙ zip_none_right (sends_to A record_received.endpoint) (receives_of A record_received.endpoint) record_received few)
+      | inr w ↦ ap (λ (qs : List AskRecord). zip (sends_to A q) qs) (receives_elsewhere q w)
     ]
 
-    -- the new ask has no pair, so no inbox changes
-    pub inbox_kept : (q : Instance) → inbox_of after_ask q ≡ inbox_of A q
+    -- the new receive has no pair, so no inbox changes
+    pub inbox_kept : (q : Instance) → inbox_of after_receive q ≡ inbox_of A q
     inbox_kept q =
-        (λ i. inbox_with (last_completed (filter_map (λ (a : AskRecord). find (λ (p : SendRecord × AskRecord). p.1.number == a.number) (pairs_kept a.endpoint i)) (filter-append (λ (a : AskRecord). same_instance a.thread q) A.asks (record_asked ∷ []) i))))
-        ∙ ap (λ (ps : List (SendRecord × AskRecord)). inbox_with (last_completed ps)) (filter_map-append (pair_of A) (filter (λ (a : AskRecord). same_instance a.thread q) A.asks) (filter (λ (a : AskRecord). same_instance a.thread q) (record_asked ∷ [])))
-        ∙ ap (λ (ps : List (SendRecord × AskRecord)). inbox_with (last_completed (filter_map (pair_of A) (filter (λ (a : AskRecord). same_instance a.thread q) A.asks) ++ ps))) (nothing (same_instance record_asked.thread q))
-        ∙ ap (λ (ps : List (SendRecord × AskRecord)). inbox_with (last_completed ps)) (append-nil (filter_map (pair_of A) (filter (λ (a : AskRecord). same_instance a.thread q) A.asks)))
+        (λ i. inbox_with (last_completed (filter_map (λ (a : AskRecord). find (λ (p : SendRecord × AskRecord). p.1.number == a.number) (pairs_kept a.endpoint i)) (filter-append (λ (a : AskRecord). same_instance a.thread q) A.receives (record_received ∷ []) i))))
+        ∙ ap (λ (ps : List (SendRecord × AskRecord)). inbox_with (last_completed ps)) (filter_map-append (pair_of A) (filter (λ (a : AskRecord). same_instance a.thread q) A.receives) (filter (λ (a : AskRecord). same_instance a.thread q) (record_received ∷ [])))
+        ∙ ap (λ (ps : List (SendRecord × AskRecord)). inbox_with (last_completed (filter_map (pair_of A) (filter (λ (a : AskRecord). same_instance a.thread q) A.receives) ++ ps))) (nothing (same_instance record_received.thread q))
+        ∙ ap (λ (ps : List (SendRecord × AskRecord)). inbox_with (last_completed ps)) (append-nil (filter_map (pair_of A) (filter (λ (a : AskRecord). same_instance a.thread q) A.receives)))
       where
-        unpaired : pair_of A record_asked ≡ None
-        unpaired = no_pair_yet A.count (A.count + 1) (sends_to A record_asked.endpoint) (asks_of A record_asked.endpoint) (omega arith) (up_to_filter _ A.count A.asks numbered)
+        unpaired : pair_of A record_received ≡ None
+        unpaired = no_pair_yet A.count (A.count + 1) (sends_to A record_received.endpoint) (receives_of A record_received.endpoint) (omega arith) (up_to_filter _ A.count A.receives numbered)
 
-        nothing : (b : Bool) → filter_map (pair_of A) (cond b (record_asked ∷ []) []) ≡ []
+        nothing : (b : Bool) → filter_map (pair_of A) (cond b (record_received ∷ []) []) ≡ []
         nothing true = ap (λ (o : Option (SendRecord × AskRecord)). cons_option o []) unpaired
         nothing false = refl
 
-    pub asks_wait : waiting_asks after_ask record_asked.endpoint ≡ waiting_asks A record_asked.endpoint ++ record_asked ∷ []
-    asks_wait =
-        ap (drop (length (sends_to A record_asked.endpoint))) asks_here
-        ∙ drop-append-le (length (sends_to A record_asked.endpoint)) (asks_of A record_asked.endpoint) (record_asked ∷ []) few
+    pub receives_wait : waiting_receives after_receive record_received.endpoint ≡ waiting_receives A record_received.endpoint ++ record_received ∷ []
+    receives_wait =
+        ap (drop (length (sends_to A record_received.endpoint))) receives_here
+        ∙ drop-append-le (length (sends_to A record_received.endpoint)) (receives_of A record_received.endpoint) (record_received ∷ []) few
 
-    pub elsewhere_kept : (q : Instance) (base : ℕ) → base ≢ service.endpoint → is_receiving after_ask q base ≡ is_receiving A q base
-    elsewhere_kept q base ne = ap (λ (qs : List AskRecord). list_any (λ (a : AskRecord). same_instance a.thread q) (drop (length (sends_to A (endpoint_at A base))) qs)) (asks_elsewhere (endpoint_at A base) (not_same record_asked.endpoint (endpoint_at A base) (λ e. ne (sym e))))
+    pub elsewhere_kept : (q : Instance) (base : ℕ) → base ≢ service.endpoint → is_receiving after_receive q base ≡ is_receiving A q base
+    elsewhere_kept q base ne = ap (λ (qs : List AskRecord). list_any (λ (a : AskRecord). same_instance a.thread q) (drop (length (sends_to A (endpoint_at A base))) qs)) (receives_elsewhere (endpoint_at A base) (not_same record_received.endpoint (endpoint_at A base) (λ e. ne (sym e))))
 
-    pub others_kept : (q base : ℕ) → q ≢ t → is_receiving after_ask (thread_at A q) base ≡ is_receiving A (thread_at A q) base
+    pub others_kept : (q base : ℕ) → q ≢ t → is_receiving after_receive (thread_at A q) base ≡ is_receiving A (thread_at A q) base
     others_kept q base ne = elim (eqb_tells base service.endpoint) [
-      | inl w ↦ subst (λ (b : ℕ). is_receiving after_ask (thread_at A q) b ≡ is_receiving A (thread_at A q) b) (sym w.1)
-          (ap (list_any (λ (a : AskRecord). same_instance a.thread (thread_at A q))) asks_wait
-          ∙ any_push_false (λ (a : AskRecord). same_instance a.thread (thread_at A q)) (waiting_asks A record_asked.endpoint) record_asked (not_same (thread_at A t) (thread_at A q) (λ e. ne (sym e))))
+      | inl w ↦ subst (λ (b : ℕ). is_receiving after_receive (thread_at A q) b ≡ is_receiving A (thread_at A q) b) (sym w.1)
+          (ap (list_any (λ (a : AskRecord). same_instance a.thread (thread_at A q))) receives_wait
+          ∙ any_push_false (λ (a : AskRecord). same_instance a.thread (thread_at A q)) (waiting_receives A record_received.endpoint) record_received (not_same (thread_at A t) (thread_at A q) (λ e. ne (sym e))))
       | inr w ↦ elsewhere_kept (thread_at A q) base w.1
     ]
 
-    pub sending_kept : (q : Instance) (base : ℕ) → is_sending after_ask q base ≡ is_sending A q base
+    pub sending_kept : (q : Instance) (base : ℕ) → is_sending after_receive q base ≡ is_sending A q base
     sending_kept q base = elim (eqb_tells base service.endpoint) [
-      | inl w ↦ subst (λ (b : ℕ). is_sending after_ask q b ≡ is_sending A q b) (sym w.1)
-          (let longer = one_longer (asks_of A record_asked.endpoint) record_asked in
+      | inl w ↦ subst (λ (b : ℕ). is_sending after_receive q b ≡ is_sending A q b) (sym w.1)
+          (let longer = one_longer (receives_of A record_received.endpoint) record_received in
           let le = few in
-          let long : length (asks_of after_ask record_asked.endpoint) ≡ length (asks_of A record_asked.endpoint ++ record_asked ∷ []) = ap length asks_here in
-          ap (list_any (λ (s : SendRecord). same_instance s.thread q)) (drop_all _ (sends_to A record_asked.endpoint) (omega arith) ∙ sym (drop_all _ (sends_to A record_asked.endpoint) le)))
-      | inr w ↦ ap (λ (qs : List AskRecord). list_any (λ (s : SendRecord). same_instance s.thread q) (drop (length qs) (sends_to A (endpoint_at A base)))) (asks_elsewhere (endpoint_at A base) (not_same record_asked.endpoint (endpoint_at A base) (λ e. w.1 (sym e))))
+          let long : length (receives_of after_receive record_received.endpoint) ≡ length (receives_of A record_received.endpoint ++ record_received ∷ []) = ap length receives_here in
+          ap (list_any (λ (s : SendRecord). same_instance s.thread q)) (drop_all _ (sends_to A record_received.endpoint) (omega arith) ∙ sym (drop_all _ (sends_to A record_received.endpoint) le)))
+      | inr w ↦ ap (λ (qs : List AskRecord). list_any (λ (s : SendRecord). same_instance s.thread q) (drop (length qs) (sends_to A (endpoint_at A base)))) (receives_elsewhere (endpoint_at A base) (not_same record_received.endpoint (endpoint_at A base) (λ e. w.1 (sym e))))
     ]
 
-    pub receives_now : is_receiving after_ask (thread_at A t) service.endpoint ≡ true
+    pub receives_now : is_receiving after_receive (thread_at A t) service.endpoint ≡ true
     receives_now =
-        ap (list_any (λ (a : AskRecord). same_instance a.thread (thread_at A t))) asks_wait
-        ∙ any_push_true (λ (a : AskRecord). same_instance a.thread (thread_at A t)) (waiting_asks A record_asked.endpoint) record_asked (same_itself (thread_at A t))
+        ap (list_any (λ (a : AskRecord). same_instance a.thread (thread_at A t))) receives_wait
+        ∙ any_push_true (λ (a : AskRecord). same_instance a.thread (thread_at A t)) (waiting_receives A record_received.endpoint) record_received (same_itself (thread_at A t))
 
-    pub row_kept : (q : ℕ) → q ≢ t → thread_view after_ask q ≡ thread_view A q
+    pub row_kept : (q : ℕ) → q ≢ t → thread_view after_receive q ≡ thread_view A q
     row_kept q ne = λ i. record {
       state = first_of (find (λ base. sending_kept (thread_at A q) base i) (endpoints_of A.derivations)) (find (λ base. others_kept q base ne i) (endpoints_of A.derivations)) (cond (A.is_idle (thread_at A q)) Inactive Ready);
       inbox = inbox_kept (thread_at A q) i;
     }
 
-    pub row_asks : state_of A (thread_at A t) ≡ Ready → list_any (λ k. service.endpoint == k) (endpoints_of A.derivations) ≡ true →
-        thread_view after_ask t ≡ record { state = Receiving service.endpoint; inbox = inbox_of A (thread_at A t) }
-    row_asks ready live =
+    pub row_receives : state_of A (thread_at A t) ≡ Ready → list_any (λ k. service.endpoint == k) (endpoints_of A.derivations) ≡ true →
+        thread_view after_receive t ≡ record { state = Receiving service.endpoint; inbox = inbox_of A (thread_at A t) }
+    row_receives ready live =
         let before = none_received _ _ _ ready in
-        let sends : find (is_sending after_ask (thread_at A t)) (endpoints_of A.derivations) ≡ None = (λ i. find (λ base. sending_kept (thread_at A t) base i) (endpoints_of A.derivations)) ∙ before.0 in
-        let found = find_one (is_receiving A (thread_at A t)) (is_receiving after_ask (thread_at A t)) (endpoints_of A.derivations) service.endpoint before.1 (elsewhere_kept (thread_at A t)) receives_now live in
+        let sends : find (is_sending after_receive (thread_at A t)) (endpoints_of A.derivations) ≡ None = (λ i. find (λ base. sending_kept (thread_at A t) base i) (endpoints_of A.derivations)) ∙ before.0 in
+        let found = find_one (is_receiving A (thread_at A t)) (is_receiving after_receive (thread_at A t)) (endpoints_of A.derivations) service.endpoint before.1 (elsewhere_kept (thread_at A t)) receives_now live in
         λ i. record {
           state = first_of (sends i) (found i) (cond (A.is_idle (thread_at A t)) Inactive Ready);
           inbox = inbox_kept (thread_at A t) i;
         }
 
     -- what is shown after a receive that waits
-    pub shown_asks : state_of A (thread_at A t) ≡ Ready → list_any (λ k. service.endpoint == k) (endpoints_of A.derivations) ≡ true →
+    pub shown_receive_waits : state_of A (thread_at A t) ≡ Ready → list_any (λ k. service.endpoint == k) (endpoints_of A.derivations) ≡ true →
         list_any (λ k. t == k) (threads_of A.derivations) ≡ true →
-        shown after_ask ≡ changed (shown A) t (record { state = Receiving service.endpoint; inbox = inbox_of A (thread_at A t) }) service.endpoint (waiters A record_asked.endpoint ++ receiver record_asked ∷ [])
-    shown_asks ready live thread =
-        let rows = table_changed (threads_of A.derivations) (thread_view A) (thread_view after_ask) t (in_table _ _ _ thread) row_kept in
-        let lists = table_changed (endpoints_of A.derivations) (λ base. waiters A (endpoint_at A base)) (λ base. waiters after_ask (endpoint_at A base)) service.endpoint (in_table _ _ _ live) (λ q ne. lists_elsewhere (endpoint_at A q) (not_same record_asked.endpoint (endpoint_at A q) (λ e. ne (sym e)))) in
-        let rows' = rows ∙ ap (insert (table (threads_of A.derivations) (thread_view A)) t) (row_asks ready live) in
+        shown after_receive ≡ changed (shown A) t (record { state = Receiving service.endpoint; inbox = inbox_of A (thread_at A t) }) service.endpoint (waiters A record_received.endpoint ++ receiver record_received ∷ [])
+    shown_receive_waits ready live thread =
+        let rows = table_changed (threads_of A.derivations) (thread_view A) (thread_view after_receive) t (in_table _ _ _ thread) row_kept in
+        let lists = table_changed (endpoints_of A.derivations) (λ base. waiters A (endpoint_at A base)) (λ base. waiters after_receive (endpoint_at A base)) service.endpoint (in_table _ _ _ live) (λ q ne. lists_elsewhere (endpoint_at A q) (not_same record_received.endpoint (endpoint_at A q) (λ e. ne (sym e)))) in
+        let rows' = rows ∙ ap (insert (table (threads_of A.derivations) (thread_view A)) t) (row_receives ready live) in
         let lists' = lists ∙ ap (insert (table (endpoints_of A.derivations) (λ base. waiters A (endpoint_at A base))) service.endpoint) list_here in
         λ i. record { derivations = A.derivations; threads = rows' i; endpoints = lists' i }

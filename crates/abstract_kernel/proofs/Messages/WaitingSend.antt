@@ -10,10 +10,10 @@ use Rattle.std.proofs.lemmas.List.Elements.{filter-append}
 use Rattle.abstract_kernel.proofs.Lists.Paired.{drop_all, get_none, drop_get, get_within, zip_more_none, find_one, any_push_false, any_push_true}
 use Rattle.abstract_kernel.specs.declared.call.ThreadState.{ThreadState}
 use Rattle.abstract_kernel.specs.declared.call.ThreadState.TheVariants.{Ready, Inactive, Sending}
-use Rattle.abstract_kernel.specs.declared.task.Service.{Service}
+use Rattle.abstract_kernel.specs.declared.invocation.Service.{Service}
 use Rattle.ipc_core.specs.Records.{AskRecord, Instance, SendRecord, receiver, same_instance, sender, waiting_list}
 use Rattle.cap_core.specs.declared.message.Message.{Message}
-use Rattle.abstract_kernel.specs.State.{State, asks_of, endpoint_at, first_of, inbox_of, inbox_with, is_receiving, is_sending, last_completed, pairs, sends_to, shown, state_of, thread_at, thread_view, waiters, waiting_sends}
+use Rattle.abstract_kernel.specs.State.{State, receives_of, endpoint_at, first_of, inbox_of, inbox_with, is_receiving, is_sending, last_completed, pairs, sends_to, shown, state_of, thread_at, thread_view, waiters, waiting_sends}
 use Rattle.ipc_core.specs.declared.waiter.Waiter.{Waiter}
 use Rattle.abstract_kernel.specs.Private.Effects.{changed}
 use Rattle.abstract_kernel.specs.Step.{counted, send_record}
@@ -106,30 +106,30 @@ module _ (A : State) (t : ℕ) (service : Service) (message : Message) (fresh : 
       ∙ append-nil (sends_to A q)
 
   pub waiters_elsewhere : (q : Instance) → same_instance record_sent.endpoint q ≡ false → waiters after_send q ≡ waiters A q
-  waiters_elsewhere q other = ap (λ (ss : List SendRecord). waiting_list ss (asks_of A q)) (sends_elsewhere q other)
+  waiters_elsewhere q other = ap (λ (ss : List SendRecord). waiting_list ss (receives_of A q)) (sends_elsewhere q other)
 
-  module _ (alone : slice_get (asks_of A record_sent.endpoint) (length (sends_to A record_sent.endpoint)) ≡ None) where
+  module _ (alone : slice_get (receives_of A record_sent.endpoint) (length (sends_to A record_sent.endpoint)) ≡ None) where
     pub waiters_here : waiters after_send record_sent.endpoint ≡ waiters A record_sent.endpoint ++ sender record_sent ∷ []
-    waiters_here = ap (λ (ss : List SendRecord). waiting_list ss (asks_of A record_sent.endpoint)) sends_here ∙ list_waits (sends_to A record_sent.endpoint) (asks_of A record_sent.endpoint) record_sent alone
+    waiters_here = ap (λ (ss : List SendRecord). waiting_list ss (receives_of A record_sent.endpoint)) sends_here ∙ list_waits (sends_to A record_sent.endpoint) (receives_of A record_sent.endpoint) record_sent alone
 
     pub pairs_stay : (q : Instance) → pairs after_send q ≡ pairs A q
     pairs_stay q = elim (same_tells record_sent.endpoint q) [
       | inl w ↦ subst (λ (m : Instance). pairs after_send m ≡ pairs A m) w
-          (ap (λ (ss : List SendRecord). zip ss (asks_of A record_sent.endpoint)) sends_here
-          ∙ zip_more_none (sends_to A record_sent.endpoint) (asks_of A record_sent.endpoint) record_sent (get_none _ (asks_of A record_sent.endpoint) alone))
-      | inr w ↦ ap (λ (ss : List SendRecord). zip ss (asks_of A q)) (sends_elsewhere q w)
+          (ap (λ (ss : List SendRecord). zip ss (receives_of A record_sent.endpoint)) sends_here
+          ∙ zip_more_none (sends_to A record_sent.endpoint) (receives_of A record_sent.endpoint) record_sent (get_none _ (receives_of A record_sent.endpoint) alone))
+      | inr w ↦ ap (λ (ss : List SendRecord). zip ss (receives_of A q)) (sends_elsewhere q w)
     ]
 
     pub inbox_stays : (q : Instance) → inbox_of after_send q ≡ inbox_of A q
-    inbox_stays q = λ i. inbox_with (last_completed (filter_map (λ (a : AskRecord). find (λ (p : SendRecord × AskRecord). p.1.number == a.number) (pairs_stay a.endpoint i)) (filter (λ (a : AskRecord). same_instance a.thread q) A.asks)))
+    inbox_stays q = λ i. inbox_with (last_completed (filter_map (λ (a : AskRecord). find (λ (p : SendRecord × AskRecord). p.1.number == a.number) (pairs_stay a.endpoint i)) (filter (λ (a : AskRecord). same_instance a.thread q) A.receives)))
 
     pub waits_here : waiting_sends after_send record_sent.endpoint ≡ waiting_sends A record_sent.endpoint ++ record_sent ∷ []
     waits_here =
-        ap (drop (length (asks_of A record_sent.endpoint))) sends_here
-        ∙ drop-append-le (length (asks_of A record_sent.endpoint)) (sends_to A record_sent.endpoint) (record_sent ∷ []) (get_none _ (asks_of A record_sent.endpoint) alone)
+        ap (drop (length (receives_of A record_sent.endpoint))) sends_here
+        ∙ drop-append-le (length (receives_of A record_sent.endpoint)) (sends_to A record_sent.endpoint) (record_sent ∷ []) (get_none _ (receives_of A record_sent.endpoint) alone)
 
     pub elsewhere_stays : (q : Instance) (base : ℕ) → base ≢ service.endpoint → is_sending after_send q base ≡ is_sending A q base
-    elsewhere_stays q base ne = ap (λ (ss : List SendRecord). list_any (λ (s : SendRecord). same_instance s.thread q) (drop (length (asks_of A (endpoint_at A base))) ss)) (sends_elsewhere (endpoint_at A base) (not_same record_sent.endpoint (endpoint_at A base) (λ e. ne (sym e))))
+    elsewhere_stays q base ne = ap (λ (ss : List SendRecord). list_any (λ (s : SendRecord). same_instance s.thread q) (drop (length (receives_of A (endpoint_at A base))) ss)) (sends_elsewhere (endpoint_at A base) (not_same record_sent.endpoint (endpoint_at A base) (λ e. ne (sym e))))
 
     pub others_stay : (q base : ℕ) → q ≢ t → is_sending after_send (thread_at A q) base ≡ is_sending A (thread_at A q) base
     others_stay q base ne = elim (eqb_tells base service.endpoint) [
@@ -143,10 +143,10 @@ module _ (A : State) (t : ℕ) (service : Service) (message : Message) (fresh : 
     receiving_stays q base = elim (eqb_tells base service.endpoint) [
       | inl w ↦ subst (λ (b : ℕ). is_receiving after_send q b ≡ is_receiving A q b) (sym w.1)
           (let longer = one_longer (sends_to A record_sent.endpoint) record_sent in
-          let le : length (asks_of A record_sent.endpoint) ≤ length (sends_to A record_sent.endpoint) = get_none _ (asks_of A record_sent.endpoint) alone in
+          let le : length (receives_of A record_sent.endpoint) ≤ length (sends_to A record_sent.endpoint) = get_none _ (receives_of A record_sent.endpoint) alone in
           let long : length (sends_to after_send record_sent.endpoint) ≡ length (sends_to A record_sent.endpoint ++ record_sent ∷ []) = ap length sends_here in
-          ap (list_any (λ (a : AskRecord). same_instance a.thread q)) (drop_all _ (asks_of A record_sent.endpoint) (omega arith) ∙ sym (drop_all _ (asks_of A record_sent.endpoint) le)))
-      | inr w ↦ ap (λ (ss : List SendRecord). list_any (λ (a : AskRecord). same_instance a.thread q) (drop (length ss) (asks_of A (endpoint_at A base)))) (sends_elsewhere (endpoint_at A base) (not_same record_sent.endpoint (endpoint_at A base) (λ e. w.1 (sym e))))
+          ap (list_any (λ (a : AskRecord). same_instance a.thread q)) (drop_all _ (receives_of A record_sent.endpoint) (omega arith) ∙ sym (drop_all _ (receives_of A record_sent.endpoint) le)))
+      | inr w ↦ ap (λ (ss : List SendRecord). list_any (λ (a : AskRecord). same_instance a.thread q) (drop (length ss) (receives_of A (endpoint_at A base)))) (sends_elsewhere (endpoint_at A base) (not_same record_sent.endpoint (endpoint_at A base) (λ e. w.1 (sym e))))
     ]
 
     pub sends_now : is_sending after_send (thread_at A t) service.endpoint ≡ true

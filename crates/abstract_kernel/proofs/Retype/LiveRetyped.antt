@@ -11,7 +11,7 @@ use Rattle.slot_core.specs.Derivation.{retyped, freed, with_free}
 use Rattle.slot_core.proofs.Retyped.{any-retyped, full-retyped}
 use Rattle.slot_core.proofs.Freed.{any-freed, full-freed}
 use Rattle.slot_core.proofs.Holding.{cap-empty}
-use Rattle.abstract_kernel.specs.declared.task.NewObjects.{NewObjects}
+use Rattle.abstract_kernel.specs.declared.invocation.NewObjects.{NewObjects}
 use Rattle.abstract_kernel.specs.Retyping.{new_caps, with_new, with_objects, new_bases}
 use Rattle.abstract_kernel.specs.Shown.{tcb_base, endpoint_base}
 

@@ -12,11 +12,11 @@ use Rattle.slot_core.specs.Entries.{Entry, is_at, caps, slots, cap_at}
 use Rattle.slot_core.specs.Disjoint.{IsDisjoint}
 use Rattle.slot_core.specs.Derivation.{freed, is_named}
 use Rattle.slot_core.proofs.Freed.{named-freed}
-use Rattle.abstract_kernel.specs.declared.task.NewObjects.{NewObjects}
+use Rattle.abstract_kernel.specs.declared.invocation.NewObjects.{NewObjects}
 use Rattle.abstract_kernel.specs.Regions.{AreRegions}
 use Rattle.abstract_kernel.specs.Retyping.{new_caps, new_bases}
 use Rattle.abstract_kernel.specs.Shown.{tcb_base, endpoint_base, threads_of, endpoints_of}
-use Rattle.abstract_kernel.specs.Private.Tasks.{IsRetype}
+use Rattle.abstract_kernel.specs.Private.Invocations.{IsRetype}
 use Rattle.abstract_kernel.proofs.Retype.PutInOrder.{IsNew, CanMake, unnamed_new}
 use Rattle.abstract_kernel.proofs.Retype.RetypedForest.{can_make}
 

@@ -9,9 +9,9 @@ use Rattle.slot_core.specs.Entries.{is_full}
 use Rattle.ipc_core.specs.Records.{Instance, SendRecord, AskRecord, same_instance, waiting_list}
 use Rattle.ipc_core.specs.declared.waiter.Waiter.{Waiter}
 use Rattle.abstract_kernel.specs.declared.call.ThreadState.TheVariants.{Ready, Inactive}
-use Rattle.abstract_kernel.specs.declared.task.NewObjects.{NewObjects}
+use Rattle.abstract_kernel.specs.declared.invocation.NewObjects.{NewObjects}
 use Rattle.abstract_kernel.specs.Shown.{ThreadView, threads_of, endpoints_of, endpoint_base, tcb_base, waiting_at, table}
-use Rattle.abstract_kernel.specs.State.{State, endpoint_at, thread_at, sends_to, asks_of, first_of, is_sending, is_receiving, state_of, inbox_of, inbox_with, pair_of, last_completed, thread_view, shown, waiters, waiting_sends, waiting_asks}
+use Rattle.abstract_kernel.specs.State.{State, endpoint_at, thread_at, sends_to, receives_of, first_of, is_sending, is_receiving, state_of, inbox_of, inbox_with, pair_of, last_completed, thread_view, shown, waiters, waiting_sends, waiting_receives}
 use Rattle.abstract_kernel.specs.Retyping.{with_objects, new_bases}
 use Rattle.abstract_kernel.specs.Step.{objects_made, born_at}
 use Rattle.abstract_kernel.specs.Private.Effects.{done, objects_shown, new_thread, with_threads}
@@ -20,9 +20,9 @@ use Rattle.abstract_kernel.proofs.Lists.Numbered.{tally, find_nothing}
 use Rattle.abstract_kernel.proofs.Lists.Paired.{all_kept}
 use Rattle.abstract_kernel.proofs.Lists.Tables.{get_table, get_after, same_nat_map}
 use Rattle.abstract_kernel.proofs.Lists.Searches.{find_agrees, table_agrees}
-use Rattle.abstract_kernel.proofs.Capabilities.Rearranged.{sends_once, asks_once}
+use Rattle.abstract_kernel.proofs.Capabilities.Rearranged.{sends_once, receives_once}
 use Rattle.abstract_kernel.proofs.Retype.LiveRetyped.{live-objects, endpoint_base-freed, tcb_base-freed}
-use Rattle.abstract_kernel.proofs.Reached.Invariant.{Invariant, IsShown, list_shown, asks_later, sends_later, asks_born_later, sends_born_later}
+use Rattle.abstract_kernel.proofs.Reached.Invariant.{Invariant, IsShown, list_shown, receives_later, sends_later, receives_born_later, sends_born_later}
 
 -- tests
 
@@ -135,54 +135,54 @@ module _ (p : ProfileName) (A : State) (new : NewObjects) (inv : Invariant A) (f
   sends_none : (e : Instance) → e.birth ≡ A.count + 1 → sends_to A e ≡ []
   sends_none e at = filter_none _ A.sends (all_weaker _ _ (λ (s : SendRecord) w. ap (λ (b : Bool). b && not (A.is_cancelled s.number)) (born_before s.endpoint e A.count w.0 at)) A.sends inv.sends_born)
 
-  asks_none : (e : Instance) → e.birth ≡ A.count + 1 → asks_of A e ≡ []
-  asks_none e at = filter_none _ A.asks (all_weaker _ _ (λ (a : AskRecord) w. ap (λ (b : Bool). b && not (A.is_cancelled a.number)) (born_before a.endpoint e A.count w.0 at)) A.asks inv.born)
+  receives_none : (e : Instance) → e.birth ≡ A.count + 1 → receives_of A e ≡ []
+  receives_none e at = filter_none _ A.receives (all_weaker _ _ (λ (a : AskRecord) w. ap (λ (b : Bool). b && not (A.is_cancelled a.number)) (born_before a.endpoint e A.count w.0 at)) A.receives inv.born)
 
   sends_nowhere : (m : Instance) → m.birth ≡ A.count + 1 → (b : ℕ) → is_sending after_made m b ≡ false
-  sends_nowhere m at b = any_none _ (waiting_sends after_made (endpoint_at after_made b)) (all_dropped _ (length (asks_of A (endpoint_at after_made b))) (sends_to A (endpoint_at after_made b))
+  sends_nowhere m at b = any_none _ (waiting_sends after_made (endpoint_at after_made b)) (all_dropped _ (length (receives_of A (endpoint_at after_made b))) (sends_to A (endpoint_at after_made b))
       (all_kept _ _ A.sends (all_weaker _ _ (λ (s : SendRecord) w. born_before s.thread m A.count w.1 at) A.sends inv.sends_born)))
 
-  asks_nowhere : (m : Instance) → m.birth ≡ A.count + 1 → (b : ℕ) → is_receiving after_made m b ≡ false
-  asks_nowhere m at b = any_none _ (waiting_asks after_made (endpoint_at after_made b)) (all_dropped _ (length (sends_to A (endpoint_at after_made b))) (asks_of A (endpoint_at after_made b))
-      (all_kept _ _ A.asks (all_weaker _ _ (λ (a : AskRecord) w. born_before a.thread m A.count w.1 at) A.asks inv.born)))
+  receives_nowhere : (m : Instance) → m.birth ≡ A.count + 1 → (b : ℕ) → is_receiving after_made m b ≡ false
+  receives_nowhere m at b = any_none _ (waiting_receives after_made (endpoint_at after_made b)) (all_dropped _ (length (sends_to A (endpoint_at after_made b))) (receives_of A (endpoint_at after_made b))
+      (all_kept _ _ A.receives (all_weaker _ _ (λ (a : AskRecord) w. born_before a.thread m A.count w.1 at) A.receives inv.born)))
 
   inbox_none : (m : Instance) → m.birth ≡ A.count + 1 → inbox_of after_made m ≡ None
   inbox_none m at = ap (λ (qs : List AskRecord). inbox_with (last_completed (filter_map (pair_of A) qs)))
-      (filter_none _ A.asks (all_weaker _ _ (λ (a : AskRecord) w. born_before a.thread m A.count w.1 at) A.asks inv.born))
+      (filter_none _ A.receives (all_weaker _ _ (λ (a : AskRecord) w. born_before a.thread m A.count w.1 at) A.receives inv.born))
 
   -- an endpoint that was made has no queue, and others keep theirs
   nobody_sends : (m : Instance) (b : ℕ) → list_any (λ k. b == k) (new_bases endpoint_base p new) ≡ true → is_sending after_made m b ≡ false
   nobody_sends m b made =
       let ss = sends_none (endpoint_at after_made b) (endpoint_born b made) in
-      let qs = asks_none (endpoint_at after_made b) (endpoint_born b made) in
+      let qs = receives_none (endpoint_at after_made b) (endpoint_born b made) in
       λ i. list_any (λ (s : SendRecord). same_instance s.thread m) (drop (length (qs i)) (ss i))
 
-  nobody_asks : (m : Instance) (b : ℕ) → list_any (λ k. b == k) (new_bases endpoint_base p new) ≡ true → is_receiving after_made m b ≡ false
-  nobody_asks m b made =
+  nobody_receives : (m : Instance) (b : ℕ) → list_any (λ k. b == k) (new_bases endpoint_base p new) ≡ true → is_receiving after_made m b ≡ false
+  nobody_receives m b made =
       let ss = sends_none (endpoint_at after_made b) (endpoint_born b made) in
-      let qs = asks_none (endpoint_at after_made b) (endpoint_born b made) in
+      let qs = receives_none (endpoint_at after_made b) (endpoint_born b made) in
       λ i. list_any (λ (a : AskRecord). same_instance a.thread m) (drop (length (ss i)) (qs i))
 
   nobody_waits : (b : ℕ) → list_any (λ k. b == k) (new_bases endpoint_base p new) ≡ true → waiters after_made (endpoint_at after_made b) ≡ []
   nobody_waits b made =
       let ss = sends_none (endpoint_at after_made b) (endpoint_born b made) in
-      let qs = asks_none (endpoint_at after_made b) (endpoint_born b made) in
+      let qs = receives_none (endpoint_at after_made b) (endpoint_born b made) in
       λ i. waiting_list (ss i) (qs i)
 
   none_pending : (m : Instance) (b : ℕ) → list_any (λ k. b == k) (new_bases endpoint_base p new) ≡ true → pending after_made m b ≡ 0
   none_pending m b made =
       let ss = sends_none (endpoint_at after_made b) (endpoint_born b made) in
-      let qs = asks_none (endpoint_at after_made b) (endpoint_born b made) in
+      let qs = receives_none (endpoint_at after_made b) (endpoint_born b made) in
       λ i. tally (λ (s : SendRecord). same_instance s.thread m) (drop (length (qs i)) (ss i)) + tally (λ (a : AskRecord). same_instance a.thread m) (drop (length (ss i)) (qs i))
 
   same_pending : (m : Instance) (b : ℕ) → list_any (λ k. b == k) (new_bases endpoint_base p new) ≡ false → pending after_made m b ≡ pending A m b
-  same_pending m b none = ap (λ (e : Instance). tally (λ (s : SendRecord). same_instance s.thread m) (waiting_sends A e) + tally (λ (a : AskRecord). same_instance a.thread m) (waiting_asks A e)) (same_endpoint b none)
+  same_pending m b none = ap (λ (e : Instance). tally (λ (s : SendRecord). same_instance s.thread m) (waiting_sends A e) + tally (λ (a : AskRecord). same_instance a.thread m) (waiting_receives A e)) (same_endpoint b none)
 
   same_sending : (m : Instance) (b : ℕ) → list_any (λ k. b == k) (new_bases endpoint_base p new) ≡ false → is_sending after_made m b ≡ is_sending A m b
   same_sending m b none = ap (λ (e : Instance). list_any (λ (s : SendRecord). same_instance s.thread m) (waiting_sends A e)) (same_endpoint b none)
 
   same_receiving : (m : Instance) (b : ℕ) → list_any (λ k. b == k) (new_bases endpoint_base p new) ≡ false → is_receiving after_made m b ≡ is_receiving A m b
-  same_receiving m b none = ap (λ (e : Instance). list_any (λ (a : AskRecord). same_instance a.thread m) (waiting_asks A e)) (same_endpoint b none)
+  same_receiving m b none = ap (λ (e : Instance). list_any (λ (a : AskRecord). same_instance a.thread m) (waiting_receives A e)) (same_endpoint b none)
 
   by_new : (P : ℕ → Type 0) (b : ℕ) → (list_any (λ k. b == k) (new_bases endpoint_base p new) ≡ true → P b) → (list_any (λ k. b == k) (new_bases endpoint_base p new) ≡ false → P b) → P b
   by_new P b made none = elim (list_any (λ k. b == k) (new_bases endpoint_base p new)) as (λ c. list_any (λ k. b == k) (new_bases endpoint_base p new) ≡ c → P b) [ true ↦ made | false ↦ none ] refl
@@ -200,9 +200,9 @@ module _ (p : ProfileName) (A : State) (new : NewObjects) (inv : Invariant A) (f
   receiving_found m = find_agrees (is_receiving A m) (is_receiving after_made m) (endpoints_of A.derivations) (endpoints_of (with_objects p new A.derivations))
       (λ k live h. (still_endpoint k live, same_receiving m k (old_endpoint k live) ∙ h))
       (λ k live h. by_new (λ b. (list_any (λ x. b == x) (endpoints_of A.derivations) ≡ true) × (is_receiving A m b ≡ true)) k
-      (λ made. absurd (false≢true (sym (nobody_asks m k made) ∙ h)))
+      (λ made. absurd (false≢true (sym (nobody_receives m k made) ∙ h)))
       (λ none. (was_endpoint k none live, sym (same_receiving m k none) ∙ h)))
-      (asks_once A inv m)
+      (receives_once A inv m)
 
   idle_kept : (m : Instance) → list_any (λ k. m.base == k) (new_bases tcb_base p new) ≡ false → after_made.is_idle m ≡ A.is_idle m
   idle_kept m none = ap (λ (b : Bool). A.is_idle m || (b && (m.birth == A.count + 1))) none ∙ or_false (A.is_idle m)
@@ -226,7 +226,7 @@ module _ (p : ProfileName) (A : State) (new : NewObjects) (inv : Invariant A) (f
       let m : Instance = thread_at after_made q in
       let at = thread_born q made in
       let sending : find (is_sending after_made m) (endpoints_of (with_objects p new A.derivations)) ≡ None = find_nothing (is_sending after_made m) (endpoints_of (with_objects p new A.derivations)) (λ k live. sends_nowhere m at k) in
-      let receiving : find (is_receiving after_made m) (endpoints_of (with_objects p new A.derivations)) ≡ None = find_nothing (is_receiving after_made m) (endpoints_of (with_objects p new A.derivations)) (λ k live. asks_nowhere m at k) in
+      let receiving : find (is_receiving after_made m) (endpoints_of (with_objects p new A.derivations)) ≡ None = find_nothing (is_receiving after_made m) (endpoints_of (with_objects p new A.derivations)) (λ k live. receives_nowhere m at k) in
       let idle : after_made.is_idle m ≡ true = idle_made m made at in
       let inbox = inbox_none m at in
       λ i. record { state = first_of (sending i) (receiving i) (cond (idle i) Inactive Ready); inbox = inbox i }
@@ -277,35 +277,35 @@ module _ (p : ProfileName) (A : State) (new : NewObjects) (inv : Invariant A) (f
   pub inv_made : Invariant after_made
   inv_made = record {
     fresh = λ n lt. inv.fresh n (omega arith);
-    numbered = asks_later A.count A.asks inv.numbered;
+    numbered = receives_later A.count A.receives inv.numbered;
     sends_numbered = sends_later A.count A.sends inv.sends_numbered;
     rising = inv.rising;
     endpoint_births = λ b. born_by A.endpoint_birth (new_bases endpoint_base p new) b (inv.endpoint_births b);
     thread_births = λ b. born_by A.thread_birth (new_bases tcb_base p new) b (inv.thread_births b);
-    born = asks_born_later A.count A.asks inv.born;
+    born = receives_born_later A.count A.receives inv.born;
     sends_born = sends_born_later A.count A.sends inv.sends_born;
-    awake = asks_awake A.asks inv.known inv.awake;
+    awake = receives_awake A.receives inv.known inv.awake;
     sends_awake = sends_still_awake A.sends inv.sends_known inv.sends_awake;
-    known = asks_known A.asks inv.known;
+    known = receives_known A.receives inv.known;
     sends_known = sends_still_known A.sends inv.sends_known;
     once = at_most_one;
     alone = one_of_two;
   }
     where
-      asks_known : (asks : List AskRecord) → AllByRecursion (λ (a : AskRecord). (a.thread ≡ thread_at A a.thread.base) × (list_any (λ k. a.thread.base == k) (threads_of A.derivations) ≡ true)) asks →
-          AllByRecursion (λ (a : AskRecord). (a.thread ≡ thread_at after_made a.thread.base) × (list_any (λ k. a.thread.base == k) (threads_of after_made.derivations) ≡ true)) asks
-      asks_known [] h = tt
-      asks_known (a ∷ asks) h = ((h.0.0 ∙ sym (same_thread a.thread.base (old_thread a.thread.base h.0.1)), still_thread a.thread.base h.0.1), asks_known asks h.1)
+      receives_known : (receives : List AskRecord) → AllByRecursion (λ (a : AskRecord). (a.thread ≡ thread_at A a.thread.base) × (list_any (λ k. a.thread.base == k) (threads_of A.derivations) ≡ true)) receives →
+          AllByRecursion (λ (a : AskRecord). (a.thread ≡ thread_at after_made a.thread.base) × (list_any (λ k. a.thread.base == k) (threads_of after_made.derivations) ≡ true)) receives
+      receives_known [] h = tt
+      receives_known (a ∷ receives) h = ((h.0.0 ∙ sym (same_thread a.thread.base (old_thread a.thread.base h.0.1)), still_thread a.thread.base h.0.1), receives_known receives h.1)
 
       sends_still_known : (sends : List SendRecord) → AllByRecursion (λ (s : SendRecord). (s.thread ≡ thread_at A s.thread.base) × (list_any (λ k. s.thread.base == k) (threads_of A.derivations) ≡ true)) sends →
           AllByRecursion (λ (s : SendRecord). (s.thread ≡ thread_at after_made s.thread.base) × (list_any (λ k. s.thread.base == k) (threads_of after_made.derivations) ≡ true)) sends
       sends_still_known [] h = tt
       sends_still_known (s ∷ sends) h = ((h.0.0 ∙ sym (same_thread s.thread.base (old_thread s.thread.base h.0.1)), still_thread s.thread.base h.0.1), sends_still_known sends h.1)
 
-      asks_awake : (asks : List AskRecord) → AllByRecursion (λ (a : AskRecord). (a.thread ≡ thread_at A a.thread.base) × (list_any (λ k. a.thread.base == k) (threads_of A.derivations) ≡ true)) asks →
-          AllByRecursion (λ (a : AskRecord). A.is_idle a.thread ≡ false) asks → AllByRecursion (λ (a : AskRecord). after_made.is_idle a.thread ≡ false) asks
-      asks_awake [] h k = tt
-      asks_awake (a ∷ asks) h k = (idle_kept a.thread (old_thread a.thread.base h.0.1) ∙ k.0, asks_awake asks h.1 k.1)
+      receives_awake : (receives : List AskRecord) → AllByRecursion (λ (a : AskRecord). (a.thread ≡ thread_at A a.thread.base) × (list_any (λ k. a.thread.base == k) (threads_of A.derivations) ≡ true)) receives →
+          AllByRecursion (λ (a : AskRecord). A.is_idle a.thread ≡ false) receives → AllByRecursion (λ (a : AskRecord). after_made.is_idle a.thread ≡ false) receives
+      receives_awake [] h k = tt
+      receives_awake (a ∷ receives) h k = (idle_kept a.thread (old_thread a.thread.base h.0.1) ∙ k.0, receives_awake receives h.1 k.1)
 
       sends_still_awake : (sends : List SendRecord) → AllByRecursion (λ (s : SendRecord). (s.thread ≡ thread_at A s.thread.base) × (list_any (λ k. s.thread.base == k) (threads_of A.derivations) ≡ true)) sends →
           AllByRecursion (λ (s : SendRecord). A.is_idle s.thread ≡ false) sends → AllByRecursion (λ (s : SendRecord). after_made.is_idle s.thread ≡ false) sends

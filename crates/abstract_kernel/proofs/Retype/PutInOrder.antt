@@ -48,7 +48,7 @@ pub record CanMake (p : ProfileName) (memory untyped : ℕ) (puts : List (ℕ ×
   pub new : Each (IsNew p memory (cap_at f untyped) f) puts
   pub order : AreInOrder p puts
 
--- what `put_new` asks
+-- what `put_new` receives
 pub record IsPutNew (p : ProfileName) (memory untyped slot : ℕ) (cap : Cap) (f : Forest Entry) : Type 0 where
   pub parent : is_untyped (cap_at f untyped) ≡ true
   pub contains_is : contains p (cap_at f untyped) cap ≡ true

@@ -26,12 +26,12 @@ use Rattle.slot_core.proofs.Alike.{IsAlike, alike_freed, contains-alike_first}
 use Rattle.slot_core.proofs.DisjointRenamed.{disjoint-freed}
 use Rattle.slot_core.proofs.Freed.{freed_entry, slot-freed_entry, full-freed, cap-freed_here, distinct-freed, each-freed}
 use Rattle.cspace_core.specs.Resolution.{slot_of}
-use Rattle.abstract_kernel.specs.declared.task.NewObjects.{NewObjects}
+use Rattle.abstract_kernel.specs.declared.invocation.NewObjects.{NewObjects}
 use Rattle.abstract_kernel.specs.Regions.{free_of, AreRegions}
 use Rattle.abstract_kernel.specs.Memory.{IsSlotAddress}
 use Rattle.abstract_kernel.specs.Shown.{has_child}
 use Rattle.abstract_kernel.specs.Retyping.{new_caps, with_objects}
-use Rattle.abstract_kernel.specs.Private.Tasks.{IsRetype}
+use Rattle.abstract_kernel.specs.Private.Invocations.{IsRetype}
 use Rattle.abstract_kernel.proofs.Capabilities.Descendants.{contains-below_those}
 use Rattle.abstract_kernel.proofs.Capabilities.RegionsKept.{end-alike, keeps-freed, descendants-renamed, regions-freed}
 use Rattle.abstract_kernel.proofs.Retype.LiveRetyped.{untyped_full}
@@ -141,7 +141,7 @@ module _ (p : ProfileName) (f : Forest Entry) (new : NewObjects) (is : IsRetype 
         let s : (s : Entry) × Contains (preorder f) s × (s.slot ≡ new.untyped) × (s.cap ≡ cap_at f new.untyped) = entry_at new.untyped f (untyped_full new.untyped f is.untyped) in
         subst (IsLawful p memory) s.3 (each-contained (λ (e : Entry). IsLawful p memory e.cap) (preorder f) s.0 (each_cap (IsLawful p memory) f lawful) s.1)
 
-    -- what `set_free` asks
+    -- what `set_free` receives
     pub freed_lawful : IsLawful p memory (with_free new.placed.free (cap_at f new.untyped))
     freed_lawful = lawful_free p memory new.placed.free (cap_at f new.untyped) (let w = lies.within in omega arith) untyped_lawful
 

@@ -17,10 +17,10 @@ use Rattle.slot_core.specs.Derivation.{retyped}
 use Rattle.slot_core.proofs.Forests.{each-contained}
 use Rattle.slot_core.proofs.Edits.{entry_at}
 use Rattle.cspace_core.specs.Resolution.{slot_of}
-use Rattle.abstract_kernel.specs.declared.task.NewObjects.{NewObjects}
+use Rattle.abstract_kernel.specs.declared.invocation.NewObjects.{NewObjects}
 use Rattle.abstract_kernel.specs.Memory.{IsSlotAddress}
 use Rattle.abstract_kernel.specs.Retyping.{with_new, new_caps}
-use Rattle.abstract_kernel.specs.Private.Tasks.{IsRetype}
+use Rattle.abstract_kernel.specs.Private.Invocations.{IsRetype}
 use Rattle.abstract_kernel.proofs.Retype.LiveRetyped.{untyped_full}
 use Rattle.abstract_kernel.proofs.Retype.PutInOrder.{IsPutNew, CanMake, first_new, other_new}
 use Rattle.abstract_kernel.proofs.Retype.RetypedForest.{each_slot, lies, untyped_lawful}

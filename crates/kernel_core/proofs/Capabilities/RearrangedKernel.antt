@@ -7,12 +7,12 @@ use Rattle.slot_core.specs.Forest.{Forest}
 use Rattle.slot_core.specs.Entries.{Entry}
 use Rattle.ipc_core.specs.Waits.{Waits}
 use Rattle.kernel_core.specs.declared.rows.ThreadRow.{ThreadRow}
-use Rattle.abstract_kernel.specs.declared.task.Transfer.{Transfer}
+use Rattle.abstract_kernel.specs.declared.invocation.CapPlacement.{CapPlacement}
 use Rattle.abstract_kernel.specs.Shown.{Shown, threads_of, endpoints_of, table, tcb_base, endpoint_base}
 use Rattle.kernel_core.specs.Rows.{IsKernel, kernel_shown, threads_shown}
 use Rattle.abstract_kernel.specs.Private.Stores.{IsKernelStore}
-use Rattle.abstract_kernel.specs.Private.Tasks.{IsDerivation, IsMove}
-use Rattle.abstract_kernel.specs.Transfers.{with_derived, with_moved}
+use Rattle.abstract_kernel.specs.Private.Invocations.{IsDerivation, IsMove}
+use Rattle.abstract_kernel.specs.CNodes.{with_derived, with_moved}
 use Rattle.abstract_kernel.specs.Private.Effects.{rearranged}
 use Rattle.kernel_core.proofs.Messages.KernelParts.{waiting_is}
 use Rattle.abstract_kernel.proofs.Capabilities.LiveAfter.{tcb_is_base, endpoint_is_base, live-derived, live-moved}
@@ -62,36 +62,36 @@ module _ (p : ProfileName) (memory store waiters : ℕ) (f : Forest Entry) (rows
     endpoints = table (endpoints_of g) (λ e. sym (waiting_is p memory store waiters f rows w kernel e) i);
   }
 
-  pub derived_kernel : (transfer : Transfer) (v : Shown) → kernel_shown p f rows w ≡ v → IsDerivation p v.derivations transfer → (store' : ℕ) (g : Forest Entry) → store' ≡ store
-      → g ≡ with_derived p transfer f → IsKernel p memory store' waiters g rows w
-  derived_kernel transfer v view task store' g same is =
+  pub derived_kernel : (placement : CapPlacement) (v : Shown) → kernel_shown p f rows w ≡ v → IsDerivation p v.derivations placement → (store' : ℕ) (g : Forest Entry) → store' ≡ store
+      → g ≡ with_derived p placement f → IsKernel p memory store' waiters g rows w
+  derived_kernel placement v view invocation store' g same is =
       subst (λ (h : Forest Entry). IsKernel p memory store' waiters h rows w) (sym is)
-      (rearranged_kernel store' (with_derived p transfer f) same (store-derived p memory f in_memory transfer here)
-      (live-derived tcb_base tcb_is_base p transfer f here.ends.full here.ends.same)
-      (live-derived endpoint_base endpoint_is_base p transfer f here.ends.full here.ends.same))
+      (rearranged_kernel store' (with_derived p placement f) same (store-derived p memory f in_memory placement here)
+      (live-derived tcb_base tcb_is_base p placement f here.ends.full here.ends.same)
+      (live-derived endpoint_base endpoint_is_base p placement f here.ends.full here.ends.same))
     where
-      here : IsDerivation p f transfer
-      here = subst (λ (u : Shown). IsDerivation p u.derivations transfer) (sym view) task
+      here : IsDerivation p f placement
+      here = subst (λ (u : Shown). IsDerivation p u.derivations placement) (sym view) invocation
 
-  pub derived_shown : (transfer : Transfer) (v : Shown) → kernel_shown p f rows w ≡ v → (g : Forest Entry) → g ≡ with_derived p transfer f
-      → kernel_shown p g rows w ≡ rearranged v (with_derived p transfer v.derivations)
-  derived_shown transfer v view g is =
-      subst (λ (u : Shown). kernel_shown p g rows w ≡ rearranged u (with_derived p transfer u.derivations)) view
-      (subst (λ (h : Forest Entry). kernel_shown p h rows w ≡ rearranged (kernel_shown p f rows w) (with_derived p transfer f)) (sym is) (rearranged_shown (with_derived p transfer f)))
+  pub derived_shown : (placement : CapPlacement) (v : Shown) → kernel_shown p f rows w ≡ v → (g : Forest Entry) → g ≡ with_derived p placement f
+      → kernel_shown p g rows w ≡ rearranged v (with_derived p placement v.derivations)
+  derived_shown placement v view g is =
+      subst (λ (u : Shown). kernel_shown p g rows w ≡ rearranged u (with_derived p placement u.derivations)) view
+      (subst (λ (h : Forest Entry). kernel_shown p h rows w ≡ rearranged (kernel_shown p f rows w) (with_derived p placement f)) (sym is) (rearranged_shown (with_derived p placement f)))
 
-  pub moved_kernel : (transfer : Transfer) (v : Shown) → kernel_shown p f rows w ≡ v → IsMove p v.derivations transfer → (store' : ℕ) (g : Forest Entry) → store' ≡ store
-      → g ≡ with_moved transfer f → IsKernel p memory store' waiters g rows w
-  moved_kernel transfer v view task store' g same is =
+  pub moved_kernel : (placement : CapPlacement) (v : Shown) → kernel_shown p f rows w ≡ v → IsMove p v.derivations placement → (store' : ℕ) (g : Forest Entry) → store' ≡ store
+      → g ≡ with_moved placement f → IsKernel p memory store' waiters g rows w
+  moved_kernel placement v view invocation store' g same is =
       subst (λ (h : Forest Entry). IsKernel p memory store' waiters h rows w) (sym is)
-      (rearranged_kernel store' (with_moved transfer f) same (store-moved p memory f in_memory transfer here)
-      (live-moved tcb_base tcb_is_base transfer f kernel.slots_distinct here.ends.same)
-      (live-moved endpoint_base endpoint_is_base transfer f kernel.slots_distinct here.ends.same))
+      (rearranged_kernel store' (with_moved placement f) same (store-moved p memory f in_memory placement here)
+      (live-moved tcb_base tcb_is_base placement f kernel.slots_distinct here.ends.same)
+      (live-moved endpoint_base endpoint_is_base placement f kernel.slots_distinct here.ends.same))
     where
-      here : IsMove p f transfer
-      here = subst (λ (u : Shown). IsMove p u.derivations transfer) (sym view) task
+      here : IsMove p f placement
+      here = subst (λ (u : Shown). IsMove p u.derivations placement) (sym view) invocation
 
-  pub moved_shown : (transfer : Transfer) (v : Shown) → kernel_shown p f rows w ≡ v → (g : Forest Entry) → g ≡ with_moved transfer f
-      → kernel_shown p g rows w ≡ rearranged v (with_moved transfer v.derivations)
-  moved_shown transfer v view g is =
-      subst (λ (u : Shown). kernel_shown p g rows w ≡ rearranged u (with_moved transfer u.derivations)) view
-      (subst (λ (h : Forest Entry). kernel_shown p h rows w ≡ rearranged (kernel_shown p f rows w) (with_moved transfer f)) (sym is) (rearranged_shown (with_moved transfer f)))
+  pub moved_shown : (placement : CapPlacement) (v : Shown) → kernel_shown p f rows w ≡ v → (g : Forest Entry) → g ≡ with_moved placement f
+      → kernel_shown p g rows w ≡ rearranged v (with_moved placement v.derivations)
+  moved_shown placement v view g is =
+      subst (λ (u : Shown). kernel_shown p g rows w ≡ rearranged u (with_moved placement u.derivations)) view
+      (subst (λ (h : Forest Entry). kernel_shown p h rows w ≡ rearranged (kernel_shown p f rows w) (with_moved placement f)) (sym is) (rearranged_shown (with_moved placement f)))

@@ -18,13 +18,13 @@ use Rattle.cspace_core.specs.Resolution.{slot_of}
 use Rattle.ipc_core.specs.declared.waiter.Role.{Role}
 use Rattle.ipc_core.specs.Waits.{Waits, thread_of}
 use Rattle.kernel_core.specs.declared.rows.ThreadRow.{ThreadRow}
-use Rattle.abstract_kernel.specs.declared.task.NewObjects.{NewObjects}
+use Rattle.abstract_kernel.specs.declared.invocation.NewObjects.{NewObjects}
 use Rattle.abstract_kernel.specs.Shown.{Shown, ThreadView, endpoints_of, endpoint_base, tcb_base, table, waiting_at}
 use Rattle.kernel_core.specs.Rows.{rows_map, view_of, threads_shown, kernel_shown, IsActive, IsKernel}
 use Rattle.kernel_core.specs.Private.NewRows.{new_row, with_rows}
 use Rattle.abstract_kernel.specs.Retyping.{with_objects, new_bases}
 use Rattle.abstract_kernel.specs.Private.Effects.{objects_shown, new_thread, with_threads}
-use Rattle.abstract_kernel.specs.Private.Tasks.{IsRetype}
+use Rattle.abstract_kernel.specs.Private.Invocations.{IsRetype}
 use Rattle.abstract_kernel.proofs.Lists.Tables.{get_after, same_nat_map}
 use Rattle.kernel_core.proofs.Threads.RowViews.{get_thread}
 use Rattle.kernel_core.proofs.Messages.KernelParts.{waiting_is}

@@ -15,11 +15,11 @@ use Rattle.ipc_core.specs.declared.waiter.Received.TheVariants as D
 use Rattle.ipc_core.specs.declared.waiter.Offer.{Offer}
 use Rattle.ipc_core.specs.Waits.{Waits, IsEndpointAddress, IsThreadAddress, first_receiver, first_sender, sent, after_send, waits_sent_to, received, after_receive, waits_received_from}
 use Rattle.abstract_kernel.specs.declared.call.Reply.TheVariants.{Delivered, Waiting, Dropped, Empty}
-use Rattle.abstract_kernel.specs.declared.task.Service.{Service}
+use Rattle.abstract_kernel.specs.declared.invocation.Service.{Service}
 use Rattle.abstract_kernel.specs.declared.call.ThreadState.TheVariants.{Sending, Receiving}
 use Rattle.kernel_core.specs.declared.rows.ThreadRow.{ThreadRow}
 use Rattle.abstract_kernel.specs.Shown.{Shown, endpoints_of, waiting_at}
-use Rattle.abstract_kernel.specs.Private.Effects.{Effect, send_effect, send_meets, receive_effect, receive_meets, IsLiveEndpoint, IsReady}
+use Rattle.abstract_kernel.specs.Private.Effects.{Effect, send_effect, send_to_first, receive_effect, receive_from_first, IsLiveEndpoint, IsReady}
 use Rattle.kernel_core.specs.Rows.{rows_map, kernel_shown, IsActive, IsKernel}
 use Rattle.kernel_core.proofs.Threads.Addresses.{live_address, row_address}
 use Rattle.kernel_core.proofs.Messages.KernelParts.{served_kernel, queued_kernel, receiver_active, sender_active}
@@ -65,8 +65,8 @@ module _ (p : ProfileName) (memory store waiters : ℕ) (f : Forest Entry) (rows
       unmatched_waits : (b : Bool) → (first_receiver (w.queue service.endpoint) ≡ None) × (block ≡ b) → w' ≡ waits_sent_to None b service.endpoint t (Sender t service.badge message) w
       unmatched_waits b is = sent_waits None is.0 ∙ ap (λ (c : Bool). waits_sent_to None c service.endpoint t (Sender t service.badge message) w) is.1
 
-      unmatched : (b : Bool) → (first_receiver (w.queue service.endpoint) ≡ None) × (block ≡ b) → send_effect v t service message block (waiting_at v service.endpoint) ≡ send_meets v t service message (w.queue service.endpoint) b None
-      unmatched b is = send_is p memory store waiters f rows w kernel v view t service live message block None is.0 ∙ ap (λ (c : Bool). send_meets v t service message (w.queue service.endpoint) c None) is.1
+      unmatched : (b : Bool) → (first_receiver (w.queue service.endpoint) ≡ None) × (block ≡ b) → send_effect v t service message block (waiting_at v service.endpoint) ≡ send_to_first v t service message (w.queue service.endpoint) b None
+      unmatched b is = send_is p memory store waiters f rows w kernel v view t service live message block None is.0 ∙ ap (λ (c : Bool). send_to_first v t service message (w.queue service.endpoint) c None) is.1
 
       module _ (to : ℕ) (answer : S.Delivered to ≡ sent block service.endpoint w) where
         first_is : first_receiver (w.queue service.endpoint) ≡ Some to
@@ -126,8 +126,8 @@ module _ (p : ProfileName) (memory store waiters : ℕ) (f : Forest Entry) (rows
       unoffered_waits : (b : Bool) → (first_sender (w.queue service.endpoint) ≡ None) × (block ≡ b) → w' ≡ waits_received_from None b service.endpoint t w
       unoffered_waits b is = received_waits None is.0 ∙ ap (λ (c : Bool). waits_received_from None c service.endpoint t w) is.1
 
-      unoffered : (b : Bool) → (first_sender (w.queue service.endpoint) ≡ None) × (block ≡ b) → receive_effect v t service block (waiting_at v service.endpoint) ≡ receive_meets v t service (w.queue service.endpoint) b None
-      unoffered b is = receive_is p memory store waiters f rows w kernel v view t service live block None is.0 ∙ ap (λ (c : Bool). receive_meets v t service (w.queue service.endpoint) c None) is.1
+      unoffered : (b : Bool) → (first_sender (w.queue service.endpoint) ≡ None) × (block ≡ b) → receive_effect v t service block (waiting_at v service.endpoint) ≡ receive_from_first v t service (w.queue service.endpoint) b None
+      unoffered b is = receive_is p memory store waiters f rows w kernel v view t service live block None is.0 ∙ ap (λ (c : Bool). receive_from_first v t service (w.queue service.endpoint) c None) is.1
 
       module _ (from : ℕ) (badge : Badge) (message : Message) (answer : D.Delivered from badge message ≡ received block service.endpoint w) where
         offer : Offer

@@ -17,12 +17,12 @@ use Rattle.ipc_core.specs.declared.waiter.Received.TheVariants as D
 use Rattle.ipc_core.specs.declared.waiter.Offer.{Offer}
 use Rattle.ipc_core.specs.Waits.{Waits, first_receiver, first_sender, served, queued, sent_to, received_from}
 use Rattle.abstract_kernel.specs.declared.call.Inbox.{Inbox}
-use Rattle.abstract_kernel.specs.declared.task.Service.{Service}
+use Rattle.abstract_kernel.specs.declared.invocation.Service.{Service}
 use Rattle.abstract_kernel.specs.declared.call.ThreadState.{ThreadState}
 use Rattle.abstract_kernel.specs.declared.call.ThreadState.TheVariants.{Ready}
 use Rattle.kernel_core.specs.declared.rows.ThreadRow.{ThreadRow}
 use Rattle.abstract_kernel.specs.Shown.{Shown, ThreadView, endpoints_of, waiting_at, inbox_at, state_at, table}
-use Rattle.abstract_kernel.specs.Private.Effects.{changed, receives, send_effect, send_meets, receive_effect, receive_meets, IsLiveEndpoint, IsReady}
+use Rattle.abstract_kernel.specs.Private.Effects.{changed, with_message, send_effect, send_to_first, receive_effect, receive_from_first, IsLiveEndpoint, IsReady}
 use Rattle.kernel_core.specs.Rows.{rows_map, threads_shown, kernel_shown, IsActive, IsKernel, view_of, state_with}
 use Rattle.abstract_kernel.proofs.Lists.Tables.{get_after, get_table, table_changed}
 use Rattle.kernel_core.proofs.Threads.RowViews.{threads_changed, IsReadyRow, ready_thread, inbox_shown_is, state_shown_is}
@@ -102,22 +102,22 @@ module _ (p : ProfileName) (memory store waiters : ℕ) (f : Forest Entry) (rows
       λ i. record { derivations = f; threads = seen i; endpoints = lists i }
 
   pub send_is : (message : Message) (block : Bool) (first : Option ℕ) → first_receiver (w.queue service.endpoint) ≡ first →
-      send_effect v t service message block (waiting_at v service.endpoint) ≡ send_meets v t service message (w.queue service.endpoint) block first
-  send_is message block first e = ap (send_effect v t service message block) list_is ∙ ap (send_meets v t service message (w.queue service.endpoint) block) e
+      send_effect v t service message block (waiting_at v service.endpoint) ≡ send_to_first v t service message (w.queue service.endpoint) block first
+  send_is message block first e = ap (send_effect v t service message block) list_is ∙ ap (send_to_first v t service message (w.queue service.endpoint) block) e
 
   pub receive_is : (block : Bool) (first : Option Offer) → first_sender (w.queue service.endpoint) ≡ first →
-      receive_effect v t service block (waiting_at v service.endpoint) ≡ receive_meets v t service (w.queue service.endpoint) block first
-  receive_is block first e = ap (receive_effect v t service block) list_is ∙ ap (receive_meets v t service (w.queue service.endpoint) block) e
+      receive_effect v t service block (waiting_at v service.endpoint) ≡ receive_from_first v t service (w.queue service.endpoint) block first
+  receive_is block first e = ap (receive_effect v t service block) list_is ∙ ap (receive_from_first v t service (w.queue service.endpoint) block) e
 
   -- a send that is delivered
   pub shows_delivered : (rows' : List (Option ThreadRow)) (to : ℕ) (badge : Badge) (message : Message) →
       rows_map (tcb_size p) rows' ≡ insert (rows_map (tcb_size p) rows) to (record { inactive = false; inbox = Some (record { badge = badge; message = message }) }) →
-      kernel_shown p f rows' (served service.endpoint to w) ≡ changed v to (receives badge message) service.endpoint (drop 1 (w.queue service.endpoint))
+      kernel_shown p f rows' (served service.endpoint to w) ≡ changed v to (with_message badge message) service.endpoint (drop 1 (w.queue service.endpoint))
   shows_delivered rows' to badge message mapped =
       let row : ThreadRow = record { inactive = false; inbox = Some (record { badge = badge; message = message }) } in
       let at_row : (q : ℕ) → get (rows_map (tcb_size p) rows') q ≡ cond (q == to) (Some row) (get (rows_map (tcb_size p) rows) q) =
       λ q. ap (λ (m : FinMap nat_cmp ThreadRow). get m q) mapped ∙ get_after (rows_map (tcb_size p) rows) to row q in
-      let seen = threads_changed (tcb_size p) rows rows' w (served service.endpoint to w) to (receives badge message)
+      let seen = threads_changed (tcb_size p) rows rows' w (served service.endpoint to w) to (with_message badge message)
       (λ q ne. at_row q ∙ changed_else q to (Some row) _ ne)
       (λ q ne. changed_else q to None (w.role q) ne)
       (ap (λ (r : Option Role). option_map (view_of r) (get (rows_map (tcb_size p) rows') to)) (changed_here to None (w.role to))
@@ -125,7 +125,7 @@ module _ (p : ProfileName) (memory store waiters : ℕ) (f : Forest Entry) (rows
       shown_with rows' (served service.endpoint to w) _ (drop 1 (w.queue service.endpoint)) seen
       (changed_here service.endpoint (drop 1 (w.queue service.endpoint)) (w.queue service.endpoint))
       (λ q ne. changed_else q service.endpoint (drop 1 (w.queue service.endpoint)) (w.queue q) ne)
-      ∙ ap (λ (u : Shown). changed u to (receives badge message) service.endpoint (drop 1 (w.queue service.endpoint))) view
+      ∙ ap (λ (u : Shown). changed u to (with_message badge message) service.endpoint (drop 1 (w.queue service.endpoint))) view
 
   module _ (ready : IsReady v t) where
     pub ready_row : IsReadyRow (get (rows_map (tcb_size p) rows) t) (w.role t)
@@ -155,7 +155,7 @@ module _ (p : ProfileName) (memory store waiters : ℕ) (f : Forest Entry) (rows
     -- a receive to which a message is delivered
     pub shows_received : (rows' : List (Option ThreadRow)) (offer : Offer) → IsActive (tcb_size p) rows offer.thread →
         rows_map (tcb_size p) rows' ≡ insert (rows_map (tcb_size p) rows) t (record { inactive = false; inbox = Some (record { badge = offer.badge; message = offer.message }) }) →
-        kernel_shown p f rows' (served service.endpoint offer.thread w) ≡ (receive_meets v t service (w.queue service.endpoint) true (Some offer)).after
+        kernel_shown p f rows' (served service.endpoint offer.thread w) ≡ (receive_from_first v t service (w.queue service.endpoint) true (Some offer)).after
     shows_received rows' offer active mapped =
         let row : ThreadRow = record { inactive = false; inbox = Some (record { badge = offer.badge; message = offer.message }) } in
         let w' = served service.endpoint offer.thread w in
@@ -169,15 +169,15 @@ module _ (p : ProfileName) (memory store waiters : ℕ) (f : Forest Entry) (rows
         (ap (λ (r : Option Role). option_map (view_of r) (get (rows_map (tcb_size p) rows) offer.thread)) (changed_here offer.thread None (w.role offer.thread))
         ∙ active_shows _ active
         ∙ ap (λ (i : Option Inbox). Some (record { state = Ready; inbox = i })) (sym (inbox_shown_is (tcb_size p) rows w offer.thread))) in
-        let then = threads_changed (tcb_size p) rows rows' w' w' t (receives offer.badge offer.message)
+        let then = threads_changed (tcb_size p) rows rows' w' w' t (with_message offer.badge offer.message)
         (λ q ne. at_row q ∙ changed_else q t (Some row) _ ne)
         (λ q ne. refl)
         (ap (λ (r : Option Role). option_map (view_of r) (get (rows_map (tcb_size p) rows') t)) no_role
         ∙ ap (option_map (view_of None)) (at_row t ∙ changed_here t (Some row) _)) in
-        shown_with rows' w' _ (drop 1 (w.queue service.endpoint)) (then ∙ ap (λ (m : FinMap nat_cmp ThreadView). insert m t (receives offer.badge offer.message)) first)
+        shown_with rows' w' _ (drop 1 (w.queue service.endpoint)) (then ∙ ap (λ (m : FinMap nat_cmp ThreadView). insert m t (with_message offer.badge offer.message)) first)
         (changed_here service.endpoint (drop 1 (w.queue service.endpoint)) (w.queue service.endpoint))
         (λ q ne. changed_else q service.endpoint (drop 1 (w.queue service.endpoint)) (w.queue q) ne)
-        ∙ ap (λ (u : Shown). (receive_meets u t service (w.queue service.endpoint) true (Some offer)).after) view
+        ∙ ap (λ (u : Shown). (receive_from_first u t service (w.queue service.endpoint) true (Some offer)).after) view
       where
         role_none : (b : Bool) (r : Option Role) → r ≡ None → cond b None r ≡ None
         role_none true r h = refl

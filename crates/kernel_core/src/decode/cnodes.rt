@@ -8,35 +8,35 @@ ghost use Rattle.ipc_core.specs.Waits.{IsThreadAddress};
 ghost use Rattle.cap_core.specs.Minting.{with_data};
 ghost use Rattle.cspace_core.specs.Resolution.{is_cnode};
 ghost use Rattle.abstract_kernel.specs.Lookups.{where_kind};
-ghost use Rattle.abstract_kernel.specs.Transfers.{transfer_checked, changed_cap, where_derivable, where_set};
+ghost use Rattle.abstract_kernel.specs.CNodes.{decoded_placement, changed_cap, where_derivable, where_set};
 
-use crate::checks::lookup::{empty_slot, extra_capability, full_slot};
-use abstract_kernel::task::{Change, Transfer, TransferArguments};
+use crate::decode::lookup::{empty_slot, extra_capability, full_slot};
+use abstract_kernel::invocation::{CapPlacement, Change, SlotArguments};
 use cap_core::limits::MAX_MEMORY_BITS;
 use cap_core::{Cap, Profile, Refusal, mask, set_data};
 use slot_core::{CapStore, Slot};
 
-/// The transfer that an operation on a CNode asks for, or the first check that fails: the invoked capability is a CNode's, the
+/// The placement that an operation on a CNode receives for, or the first check that fails: the invoked capability is a CNode's, the
 /// extra word leads to a slot, the slot that is filled is found and empty, the source is found and full, and the new
 /// capability may be made.
-pub fn transfer<P: Profile, S: CapStore<P>>(
+pub fn decode_placement<P: Profile, S: CapStore<P>>(
     store: &S,
     thread: u64,
     invoked: Cap,
-    asked: TransferArguments,
+    asked: SlotArguments,
     change: Change,
-) -> Result<Transfer, Refusal>
+) -> Result<CapPlacement, Refusal>
     requires memory { S.memory_bits store.now ≤ MAX_MEMORY_BITS }
     requires thread { IsThreadAddress P.the (S.memory_bits store.now) thread }
     requires lawful { (invoked ≡ Null) ⊎ IsLawful P.the (S.memory_bits store.now) invoked }
-    ensures { result ≡ transfer_checked P.the (S.forest store.now) thread invoked asked change }
+    ensures { result ≡ decoded_placement P.the (S.forest store.now) thread invoked asked change }
 {
     let node = cnode(invoked)?;
     let root = extra_capability::<P, S>(store, thread, asked.src_root)?;
     let slot = empty_slot::<P, S>(store, node, asked.index, asked.depth)?;
     let source = full_slot::<P, S>(store, root, asked.src_index, asked.src_depth)?;
     let cap = changed::<P, S>(store, source, change)?;
-    Ok(Transfer {
+    Ok(CapPlacement {
         source: source.address::<P>(),
         slot: slot.address::<P>(),
         cap,

@@ -15,16 +15,16 @@ use Rattle.slot_core.specs.Forest.{Forest}
 use Rattle.slot_core.specs.Entries.{Entry, caps, cap_at, first_child}
 use Rattle.slot_core.specs.Derivation.{names_same}
 use Rattle.cspace_core.specs.Resolution.{is_cnode}
-use Rattle.abstract_kernel.specs.declared.task.Change.{Change}
-use Rattle.abstract_kernel.specs.declared.task.Change.TheVariants.{Copy, Mint, Move, Mutate}
-use Rattle.abstract_kernel.specs.declared.task.Transfer.{Transfer}
-use Rattle.abstract_kernel.specs.declared.task.TransferArguments.{TransferArguments}
+use Rattle.abstract_kernel.specs.declared.invocation.Change.{Change}
+use Rattle.abstract_kernel.specs.declared.invocation.Change.TheVariants.{Copy, Mint, Move, Mutate}
+use Rattle.abstract_kernel.specs.declared.invocation.CapPlacement.{CapPlacement}
+use Rattle.abstract_kernel.specs.declared.invocation.SlotArguments.{SlotArguments}
 use Rattle.abstract_kernel.specs.Regions.{free_of}
 use Rattle.abstract_kernel.specs.Memory.{IsSlotAddress}
 use Rattle.abstract_kernel.specs.Shown.{has_child}
 use Rattle.abstract_kernel.specs.Lookups.{extra_cap, where_kind, empty_slot, full_slot}
-use Rattle.abstract_kernel.specs.Transfers.{where_set, where_derivable, changed_cap, transfer_checked}
-use Rattle.abstract_kernel.specs.Private.Tasks.{IsTransfer, IsDerivation, IsMove}
+use Rattle.abstract_kernel.specs.CNodes.{where_set, where_derivable, changed_cap, decoded_placement}
+use Rattle.abstract_kernel.specs.Private.Invocations.{IsPlacement, IsDerivation, IsMove}
 use Rattle.abstract_kernel.proofs.Checks.FoundSlots.{passed, cond_failed, ok_same, kind_passed, lawful_at, lawful_full, empty_at, full_at, empty_passed, full_passed, target_passed}
 
 -- a new capability of the object that another names, as lawful as that one
@@ -174,23 +174,23 @@ minted_changed p f source rights word cap made full h =
     let new = minted p word rights cap made full is in
     record { remade = new.0; badge = new.1; childless = derivable.1 }
 
--- the slots and the capability that a transfer's checks find
-record IsFound (p : ProfileName) (f : Forest Entry) (change : Change) (transfer : Transfer) : Type 0 where
-  full : is_null (cap_at f transfer.source) ≡ false
-  empty : is_null (cap_at f transfer.slot) ≡ true
-  placed : (memory : ℕ) → All (IsLawful p memory) (caps f) → IsSlotAddress p memory transfer.slot
-  changed : changed_cap p f transfer.source change (cap_at f transfer.source) ≡ Ok transfer.cap
+-- the slots and the capability that a placement's checks find
+record IsFound (p : ProfileName) (f : Forest Entry) (change : Change) (placement : CapPlacement) : Type 0 where
+  full : is_null (cap_at f placement.source) ≡ false
+  empty : is_null (cap_at f placement.slot) ≡ true
+  placed : (memory : ℕ) → All (IsLawful p memory) (caps f) → IsSlotAddress p memory placement.slot
+  changed : changed_cap p f placement.source change (cap_at f placement.source) ≡ Ok placement.cap
 
-transfer_found : (p : ProfileName) (f : Forest Entry) (thread slot : ℕ) (asked : TransferArguments) (change : Change) (transfer : Transfer) →
-    transfer_checked p f thread (cap_at f slot) asked change ≡ Ok transfer → IsFound p f change transfer
-transfer_found p f thread slot asked change transfer h =
-    let node = passed (where_kind is_cnode (cap_at f slot)) _ transfer h in
-    let root = passed (extra_cap p f thread asked.src_root) _ transfer node.1.1 in
-    let target = passed (empty_slot p f node.0 asked.index asked.depth) _ transfer root.1.1 in
-    let source = passed (full_slot p f root.0 asked.src_index asked.src_depth) _ transfer target.1.1 in
-    let made = passed (changed_cap p f source.0 change (cap_at f source.0)) _ transfer source.1.1 in
-    let found : Transfer = record { source = source.0; slot = target.0; cap = made.0 } in
-    let same : found ≡ transfer = ok_same found transfer made.1.1 in
+placement_found : (p : ProfileName) (f : Forest Entry) (thread slot : ℕ) (asked : SlotArguments) (change : Change) (placement : CapPlacement) →
+    decoded_placement p f thread (cap_at f slot) asked change ≡ Ok placement → IsFound p f change placement
+placement_found p f thread slot asked change placement h =
+    let node = passed (where_kind is_cnode (cap_at f slot)) _ placement h in
+    let root = passed (extra_cap p f thread asked.src_root) _ placement node.1.1 in
+    let target = passed (empty_slot p f node.0 asked.index asked.depth) _ placement root.1.1 in
+    let source = passed (full_slot p f root.0 asked.src_index asked.src_depth) _ placement target.1.1 in
+    let made = passed (changed_cap p f source.0 change (cap_at f source.0)) _ placement source.1.1 in
+    let found : CapPlacement = record { source = source.0; slot = target.0; cap = made.0 } in
+    let same : found ≡ placement = ok_same found placement made.1.1 in
     let empty = empty_passed f _ target.0 target.1.0 in
     let invoked = (kind_passed is_cnode (cap_at f slot) node.0 node.1.0).1 in
     subst (IsFound p f change) same
@@ -202,45 +202,45 @@ transfer_found p f thread slot asked change transfer h =
       changed = made.1.0;
     })
 
-transferred : (p : ProfileName) (memory : ℕ) (f : Forest Entry) (change : Change) (transfer : Transfer) → All (IsLawful p memory) (caps f) →
-    IsFound p f change transfer → IsRemade p (cap_at f transfer.source) transfer.cap → IsTransfer p f transfer
-transferred p memory f change transfer all found remade = record {
-  full = full_at f transfer.source found.full;
-  empty = empty_at p memory f all transfer.slot found.empty;
+placement_passed : (p : ProfileName) (memory : ℕ) (f : Forest Entry) (change : Change) (placement : CapPlacement) → All (IsLawful p memory) (caps f) →
+    IsFound p f change placement → IsRemade p (cap_at f placement.source) placement.cap → IsPlacement p f placement
+placement_passed p memory f change placement all found remade = record {
+  full = full_at f placement.source found.full;
+  empty = empty_at p memory f all placement.slot found.empty;
   placed = found.placed;
-  lawful = λ m lawful. remade.lawful m (lawful_full p m (cap_at f transfer.source) found.full (lawful_at p m f lawful transfer.source));
+  lawful = λ m lawful. remade.lawful m (lawful_full p m (cap_at f placement.source) found.full (lawful_at p m f lawful placement.source));
   same = remade.same;
 }
 
-derivation_found : (p : ProfileName) (memory : ℕ) (f : Forest Entry) (change : Change) (transfer : Transfer) → All (IsLawful p memory) (caps f) →
-    IsFound p f change transfer → IsChanged p f transfer.source (cap_at f transfer.source) transfer.cap → IsDerivation p f transfer
+derivation_found : (p : ProfileName) (memory : ℕ) (f : Forest Entry) (change : Change) (placement : CapPlacement) → All (IsLawful p memory) (caps f) →
+    IsFound p f change placement → IsChanged p f placement.source (cap_at f placement.source) placement.cap → IsDerivation p f placement
 unfolding IsBadged
-derivation_found p memory f change transfer all found is =
-    record { ends = transferred p memory f change transfer all found is.remade; badge = is.badge; childless = is.childless }
+derivation_found p memory f change placement all found is =
+    record { ends = placement_passed p memory f change placement all found is.remade; badge = is.badge; childless = is.childless }
 
-module _ (p : ProfileName) (memory : ℕ) (f : Forest Entry) (all : All (IsLawful p memory) (caps f)) (thread slot : ℕ) (asked : TransferArguments) (transfer : Transfer) where
-  pub copy_derives : (rights : Rights) → transfer_checked p f thread (cap_at f slot) asked (Copy rights) ≡ Ok transfer → IsDerivation p f transfer
+module _ (p : ProfileName) (memory : ℕ) (f : Forest Entry) (all : All (IsLawful p memory) (caps f)) (thread slot : ℕ) (asked : SlotArguments) (placement : CapPlacement) where
+  pub copy_derives : (rights : Rights) → decoded_placement p f thread (cap_at f slot) asked (Copy rights) ≡ Ok placement → IsDerivation p f placement
   copy_derives rights h =
-      let found = transfer_found p f thread slot asked (Copy rights) transfer h in
-      derivation_found p memory f (Copy rights) transfer all found (copied p f transfer.source rights _ transfer.cap found.full found.changed)
+      let found = placement_found p f thread slot asked (Copy rights) placement h in
+      derivation_found p memory f (Copy rights) placement all found (copied p f placement.source rights _ placement.cap found.full found.changed)
 
-  pub mint_derives : (rights : Rights) (word : ℕ) → transfer_checked p f thread (cap_at f slot) asked (Mint rights word) ≡ Ok transfer → IsDerivation p f transfer
+  pub mint_derives : (rights : Rights) (word : ℕ) → decoded_placement p f thread (cap_at f slot) asked (Mint rights word) ≡ Ok placement → IsDerivation p f placement
   mint_derives rights word h =
-      let found = transfer_found p f thread slot asked (Mint rights word) transfer h in
-      derivation_found p memory f (Mint rights word) transfer all found (minted_changed p f transfer.source rights word _ transfer.cap found.full found.changed)
+      let found = placement_found p f thread slot asked (Mint rights word) placement h in
+      derivation_found p memory f (Mint rights word) placement all found (minted_changed p f placement.source rights word _ placement.cap found.full found.changed)
 
-  pub move_moves : transfer_checked p f thread (cap_at f slot) asked Move ≡ Ok transfer → IsMove p f transfer
+  pub move_moves : decoded_placement p f thread (cap_at f slot) asked Move ≡ Ok placement → IsMove p f placement
   move_moves h =
-      let found = transfer_found p f thread slot asked Move transfer h in
-      let same : cap_at f transfer.source ≡ transfer.cap = ok_same _ transfer.cap found.changed in
+      let found = placement_found p f thread slot asked Move placement h in
+      let same : cap_at f placement.source ≡ placement.cap = ok_same _ placement.cap found.changed in
       record {
-        ends = transferred p memory f Move transfer all found (subst (IsRemade p (cap_at f transfer.source)) same (itself_remade p _ found.full));
+        ends = placement_passed p memory f Move placement all found (subst (IsRemade p (cap_at f placement.source)) same (itself_remade p _ found.full));
         badge = sym (ap badge_of same);
         free = sym (ap free_of same);
       }
 
-  pub mutate_moves : (word : ℕ) → transfer_checked p f thread (cap_at f slot) asked (Mutate word) ≡ Ok transfer → IsMove p f transfer
+  pub mutate_moves : (word : ℕ) → decoded_placement p f thread (cap_at f slot) asked (Mutate word) ≡ Ok placement → IsMove p f placement
   mutate_moves word h =
-      let found = transfer_found p f thread slot asked (Mutate word) transfer h in
-      let new = mutated p word (cap_at f transfer.source) transfer.cap found.full (set_passed _ transfer.cap found.changed) in
-      record { ends = transferred p memory f (Mutate word) transfer all found new.0; badge = new.1.badge; free = new.1.free }
+      let found = placement_found p f thread slot asked (Mutate word) placement h in
+      let new = mutated p word (cap_at f placement.source) placement.cap found.full (set_passed _ placement.cap found.changed) in
+      record { ends = placement_passed p memory f (Mutate word) placement all found new.0; badge = new.1.badge; free = new.1.free }

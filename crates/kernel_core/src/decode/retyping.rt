@@ -12,10 +12,10 @@ ghost use Rattle.mem_core.specs.Shapes.{IsShape};
 ghost use Rattle.mem_core.specs.Plans.{IsRetypable};
 ghost use Rattle.abstract_kernel.specs.Lookups.{where_kind};
 ghost use Rattle.abstract_kernel.specs.Shown.{has_child};
-ghost use Rattle.abstract_kernel.specs.Retyping.{retype_checked, node_cap, first_slot as first_slot_of, placed_in, are_slots, some_full};
+ghost use Rattle.abstract_kernel.specs.Retyping.{decoded_retype, node_cap, first_slot as first_slot_of, placed_in, are_slots, some_full};
 
-use crate::checks::lookup::extra_capability;
-use abstract_kernel::task::{NewObjects, RetypeArguments};
+use crate::decode::lookup::extra_capability;
+use abstract_kernel::invocation::{NewObjects, RetypeArguments};
 use cap_core::limits::{MAX_MEMORY_BITS, MAX_RETYPE_COUNT};
 use cap_core::{Cap, LookupFault, Profile, Refusal};
 use cspace_core::target;
@@ -25,7 +25,7 @@ use slot_core::{CapStore, Slot};
 /// The objects that a retype makes, or the first check that fails: the invoked capability is an untyped one, the extra word
 /// leads to a slot, the objects have a shape, the CNode is found, the slots are within it and empty, and the untyped has
 /// room.
-pub fn new_objects<P: Profile, S: CapStore<P>>(
+pub fn decode_retype<P: Profile, S: CapStore<P>>(
     store: &S,
     thread: u64,
     slot: Slot,
@@ -33,7 +33,7 @@ pub fn new_objects<P: Profile, S: CapStore<P>>(
 ) -> Result<NewObjects, Refusal>
     requires memory { S.memory_bits store.now ≤ MAX_MEMORY_BITS }
     requires thread { IsThreadAddress P.the (S.memory_bits store.now) thread }
-    ensures { result ≡ retype_checked P.the (S.forest store.now) thread (address_of P.the slot) (cap_at (S.forest store.now) (address_of P.the slot)) asked }
+    ensures { result ≡ decoded_retype P.the (S.forest store.now) thread (address_of P.the slot) (cap_at (S.forest store.now) (address_of P.the slot)) asked }
 {
     let untyped = untyped_in(store.get(slot))?;
     let root = extra_capability::<P, S>(store, thread, asked.root)?;

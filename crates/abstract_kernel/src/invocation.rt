@@ -24,7 +24,7 @@ pub struct RetypeArguments {
 /// The words by which a copy or a move names its slots: `index` and `depth` from the CNode that is invoked the one that is
 /// filled, the others the source.
 #[derive(Clone, Copy, Debug, PartialEq, Eq)]
-pub struct TransferArguments {
+pub struct SlotArguments {
     pub index: u64,
     pub depth: u64,
     pub src_root: u64,
@@ -55,7 +55,7 @@ pub struct NewObjects {
 
 /// A capability that is derived from the one in the slot at `source`, or moved from it, to the empty slot at `slot`, as `cap`.
 #[derive(Clone, Copy, Debug, PartialEq, Eq)]
-pub struct Transfer {
+pub struct CapPlacement {
     pub source: u64,
     pub slot: u64,
     pub cap: Cap,
@@ -63,7 +63,7 @@ pub struct Transfer {
 
 /// What a call whose checks passed does: one variant for each effect that calls have.
 #[derive(Clone, Copy, Debug, PartialEq, Eq)]
-pub enum Task {
+pub enum Invocation {
     /// Sends a message, and where no receiver waits either waits, with `block`, or drops it.
     Send {
         service: Service,
@@ -78,7 +78,7 @@ pub enum Task {
     /// Makes objects, and puts their capabilities.
     Retype(NewObjects),
     /// Derives a capability.
-    Derive(Transfer),
+    Derive(CapPlacement),
     /// Moves a capability.
-    Move(Transfer),
+    Move(CapPlacement),
 }

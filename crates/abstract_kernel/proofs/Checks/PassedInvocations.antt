@@ -1,4 +1,4 @@
--- What the checks show of a task.
+-- What the checks show of an invocation.
 use Rattle.std.proofs.Common.{◌≡◌, ℕ, ◌<◌, ◌≤◌, ◌⊎◌, Bool, true, false, cond, ◌==◌, not, Result, Ok, Err, All, refl, sym, subst, ◌∙◌}
 use Rattle.cap_core.specs.declared.profile.ProfileName.{ProfileName}
 use Rattle.cap_core.specs.declared.capability.Cap.{Cap}
@@ -14,28 +14,29 @@ use Rattle.slot_core.specs.Entries.{Entry, caps, cap_at}
 use Rattle.cspace_core.specs.Resolution.{slot_of}
 use Rattle.cspace_core.specs.Target.{target_slot}
 use Rattle.cspace_core.proofs.Nodes.{lawful_node}
+use Rattle.abstract_kernel.specs.Checks.{◌>>=◌}
 use Rattle.abstract_kernel.specs.declared.call.Op.{Op}
 use Rattle.abstract_kernel.specs.declared.call.Op.TheVariants as op
-use Rattle.abstract_kernel.specs.declared.task.NewObjects.{NewObjects}
-use Rattle.abstract_kernel.specs.declared.task.RetypeArguments.{RetypeArguments}
-use Rattle.abstract_kernel.specs.declared.task.Transfer.{Transfer}
-use Rattle.abstract_kernel.specs.declared.task.Task.{Task}
-use Rattle.abstract_kernel.specs.declared.task.Task.TheVariants.{Send, Receive, Retype, Derive, Move}
+use Rattle.abstract_kernel.specs.declared.invocation.NewObjects.{NewObjects}
+use Rattle.abstract_kernel.specs.declared.invocation.RetypeArguments.{RetypeArguments}
+use Rattle.abstract_kernel.specs.declared.invocation.CapPlacement.{CapPlacement}
+use Rattle.abstract_kernel.specs.declared.invocation.Invocation.{Invocation}
+use Rattle.abstract_kernel.specs.declared.invocation.Invocation.TheVariants.{Send, Receive, Retype, Derive, Move}
 use Rattle.abstract_kernel.specs.Memory.{IsSlotAddress}
-use Rattle.abstract_kernel.specs.declared.task.Service.{Service}
+use Rattle.abstract_kernel.specs.declared.invocation.Service.{Service}
 use Rattle.cap_core.specs.declared.message.Message.{Message}
 use Rattle.cap_core.specs.declared.limits.TheConstants.{MAX_RETYPE_COUNT}
 use Rattle.cap_core.specs.Rights.{write_bit, read_bit}
 use Rattle.abstract_kernel.specs.Shown.{has_child}
-use Rattle.abstract_kernel.specs.Words.{retype_words, transfer_words, service_word}
-use Rattle.abstract_kernel.specs.Lookups.{and_then, invoked_slot, extra_cap, held_in, where_kind}
-use Rattle.abstract_kernel.specs.Retyping.{node_cap, are_slots, some_full, where_all_empty, first_slot, placed_in, retype_checked}
-use Rattle.abstract_kernel.specs.Checks.{task_of, service_of, retypes, derives, moves, invoked}
-use Rattle.abstract_kernel.specs.Private.Tasks.{IsRetype, IsDerivation, IsMove}
+use Rattle.abstract_kernel.specs.Decode.{service_word, objects_asked, slots_named}
+use Rattle.abstract_kernel.specs.Lookups.{invoked_slot, extra_cap, held_in, where_kind}
+use Rattle.abstract_kernel.specs.Retyping.{node_cap, are_slots, some_full, where_all_empty, first_slot, placed_in, decoded_retype}
+use Rattle.abstract_kernel.specs.Decode.{decoded_invocation, service_of, retypes, derives, moves, decoded_op}
+use Rattle.abstract_kernel.specs.Private.Invocations.{IsRetype, IsDerivation, IsMove}
 use Rattle.abstract_kernel.proofs.Checks.FoundSlots.{passed, cond_passed, cond_failed, ok_same, kind_passed, lawful_at, empty_at, held_passed, none_of_range, not_false}
 use Rattle.abstract_kernel.proofs.Checks.Placement.{placed_lie}
 use Rattle.abstract_kernel.proofs.Checks.FilledSlots.{slots_there, slot_address}
-use Rattle.abstract_kernel.proofs.Checks.PassedTransfers.{copy_derives, mint_derives, move_moves, mutate_moves}
+use Rattle.abstract_kernel.proofs.Checks.PassedCNodeChecks.{copy_derives, mint_derives, move_moves, mutate_moves}
 
 -- the slots that are filled: as many as a retype fills, empty, and in the memory
 record AreFilled (p : ProfileName) (f : Forest Entry) (first count : ℕ) (node : Cap) : Type 0 where
@@ -68,7 +69,7 @@ node_held p f root node index depth true held h = (held.0, held.1 ∙ ok_same ro
 node_held p f root node index depth false held h = held_passed f (target_slot p (cap_at f) root index depth) node h
 
 retype_shows : (p : ProfileName) (memory : ℕ) (f : Forest Entry) → All (IsLawful p memory) (caps f) → (thread slot : ℕ) (asked : RetypeArguments) (new : NewObjects) →
-    retype_checked p f thread slot (cap_at f slot) asked ≡ Ok new → IsRetype p f new
+    decoded_retype p f thread slot (cap_at f slot) asked ≡ Ok new → IsRetype p f new
 retype_shows p memory f all thread slot asked new h =
     let untyped = passed (where_kind is_untyped (cap_at f slot)) _ new h in
     let root = passed (extra_cap p f thread asked.root) _ new untyped.1.1 in
@@ -93,52 +94,52 @@ retype_shows p memory f all thread slot asked new h =
       slots = λ m lawful i low. filled.slots m (subst (λ cap. (cap ≡ Null) ⊎ IsLawful p m cap) there.1 (lawful_at p m f lawful there.0)) i low;
     })
 
--- what the checks show of a task that touches capabilities
-abbrev pub IsEdit : ProfileName → Forest Entry → Task → Type 0
+-- what the checks show of an invocation that touches capabilities
+abbrev pub IsEdit : ProfileName → Forest Entry → Invocation → Type 0
 IsEdit p f (Send service message block) = Unit {0}
 IsEdit p f (Receive service block) = Unit {0}
 IsEdit p f (Retype new) = IsRetype p f new
-IsEdit p f (Derive transfer) = IsDerivation p f transfer
-IsEdit p f (Move transfer) = IsMove p f transfer
+IsEdit p f (Derive placement) = IsDerivation p f placement
+IsEdit p f (Move placement) = IsMove p f placement
 
 module _ (p : ProfileName) (memory : ℕ) (f : Forest Entry) (all : All (IsLawful p memory) (caps f)) where
-  retypes_edit : (r : Result NewObjects Refusal) (task : Task) → ((new : NewObjects) → r ≡ Ok new → IsRetype p f new) → retypes r ≡ Ok task → IsEdit p f task
-  retypes_edit (Err refusal) task shows h = cc
-  retypes_edit (Ok new) task shows h = subst (IsEdit p f) (ok_same (Retype new) task h) (shows new refl)
+  retypes_edit : (r : Result NewObjects Refusal) (invocation : Invocation) → ((new : NewObjects) → r ≡ Ok new → IsRetype p f new) → retypes r ≡ Ok invocation → IsEdit p f invocation
+  retypes_edit (Err refusal) invocation shows h = cc
+  retypes_edit (Ok new) invocation shows h = subst (IsEdit p f) (ok_same (Retype new) invocation h) (shows new refl)
 
-  derives_edit : (r : Result Transfer Refusal) (task : Task) → ((transfer : Transfer) → r ≡ Ok transfer → IsDerivation p f transfer) → derives r ≡ Ok task → IsEdit p f task
-  derives_edit (Err refusal) task shows h = cc
-  derives_edit (Ok transfer) task shows h = subst (IsEdit p f) (ok_same (Derive transfer) task h) (shows transfer refl)
+  derives_edit : (r : Result CapPlacement Refusal) (invocation : Invocation) → ((placement : CapPlacement) → r ≡ Ok placement → IsDerivation p f placement) → derives r ≡ Ok invocation → IsEdit p f invocation
+  derives_edit (Err refusal) invocation shows h = cc
+  derives_edit (Ok placement) invocation shows h = subst (IsEdit p f) (ok_same (Derive placement) invocation h) (shows placement refl)
 
-  moves_edit : (r : Result Transfer Refusal) (task : Task) → ((transfer : Transfer) → r ≡ Ok transfer → IsMove p f transfer) → moves r ≡ Ok task → IsEdit p f task
-  moves_edit (Err refusal) task shows h = cc
-  moves_edit (Ok transfer) task shows h = subst (IsEdit p f) (ok_same (Move transfer) task h) (shows transfer refl)
+  moves_edit : (r : Result CapPlacement Refusal) (invocation : Invocation) → ((placement : CapPlacement) → r ≡ Ok placement → IsMove p f placement) → moves r ≡ Ok invocation → IsEdit p f invocation
+  moves_edit (Err refusal) invocation shows h = cc
+  moves_edit (Ok placement) invocation shows h = subst (IsEdit p f) (ok_same (Move placement) invocation h) (shows placement refl)
 
-  sends_edit : (r : Result Service Refusal) (message : Message) (block : Bool) (task : Task) → and_then r (λ service. Ok (Send service message block)) ≡ Ok task → IsEdit p f task
-  sends_edit (Err refusal) message block task h = cc
-  sends_edit (Ok service) message block task h = subst (IsEdit p f) (ok_same (Send service message block) task h) tt
+  sends_edit : (r : Result Service Refusal) (message : Message) (block : Bool) (invocation : Invocation) → (r >>= λ service. Ok (Send service message block)) ≡ Ok invocation → IsEdit p f invocation
+  sends_edit (Err refusal) message block invocation h = cc
+  sends_edit (Ok service) message block invocation h = subst (IsEdit p f) (ok_same (Send service message block) invocation h) tt
 
-  receives_edit : (r : Result Service Refusal) (block : Bool) (task : Task) → and_then r (λ service. Ok (Receive service block)) ≡ Ok task → IsEdit p f task
-  receives_edit (Err refusal) block task h = cc
-  receives_edit (Ok service) block task h = subst (IsEdit p f) (ok_same (Receive service block) task h) tt
+  receives_edit : (r : Result Service Refusal) (block : Bool) (invocation : Invocation) → (r >>= λ service. Ok (Receive service block)) ≡ Ok invocation → IsEdit p f invocation
+  receives_edit (Err refusal) block invocation h = cc
+  receives_edit (Ok service) block invocation h = subst (IsEdit p f) (ok_same (Receive service block) invocation h) tt
 
-  task_edit : (thread : ℕ) (o : Op) (slot : ℕ) (task : Task) → task_of p f thread o slot ≡ Ok task → IsEdit p f task
-  task_edit thread (op.Retype cap kind size_bits root index depth offset count) slot task h =
-      retypes_edit _ task (λ new is. retype_shows p memory f all thread slot (retype_words (op.Retype cap kind size_bits root index depth offset count)) new is) h
-  task_edit thread (op.CapCopy cap index depth src_root src_index src_depth rights) slot task h =
-      derives_edit _ task (λ transfer is. copy_derives p memory f all thread slot (transfer_words (op.CapCopy cap index depth src_root src_index src_depth rights)) transfer rights is) h
-  task_edit thread (op.CapMint cap index depth src_root src_index src_depth rights word) slot task h =
-      derives_edit _ task (λ transfer is. mint_derives p memory f all thread slot (transfer_words (op.CapMint cap index depth src_root src_index src_depth rights word)) transfer rights word is) h
-  task_edit thread (op.CapMove cap index depth src_root src_index src_depth) slot task h =
-      moves_edit _ task (λ transfer is. move_moves p memory f all thread slot (transfer_words (op.CapMove cap index depth src_root src_index src_depth)) transfer is) h
-  task_edit thread (op.CapMutate cap index depth src_root src_index src_depth word) slot task h =
-      moves_edit _ task (λ transfer is. mutate_moves p memory f all thread slot (transfer_words (op.CapMutate cap index depth src_root src_index src_depth word)) transfer word is) h
-  task_edit thread (op.Send cap message) slot task h = sends_edit (service_of write_bit (cap_at f slot)) message true task h
-  task_edit thread (op.NbSend cap message) slot task h = sends_edit (service_of write_bit (cap_at f slot)) message false task h
-  task_edit thread (op.Recv cap) slot task h = receives_edit (service_of read_bit (cap_at f slot)) true task h
-  task_edit thread (op.NbRecv cap) slot task h = receives_edit (service_of read_bit (cap_at f slot)) false task h
+  invocation_edit : (thread : ℕ) (o : Op) (slot : ℕ) (invocation : Invocation) → decoded_invocation p f thread o slot ≡ Ok invocation → IsEdit p f invocation
+  invocation_edit thread (op.Retype cap kind size_bits root index depth offset count) slot invocation h =
+      retypes_edit _ invocation (λ new is. retype_shows p memory f all thread slot (objects_asked kind size_bits root index depth offset count) new is) h
+  invocation_edit thread (op.CapCopy cap index depth src_root src_index src_depth rights) slot invocation h =
+      derives_edit _ invocation (λ placement is. copy_derives p memory f all thread slot (slots_named index depth src_root src_index src_depth) placement rights is) h
+  invocation_edit thread (op.CapMint cap index depth src_root src_index src_depth rights word) slot invocation h =
+      derives_edit _ invocation (λ placement is. mint_derives p memory f all thread slot (slots_named index depth src_root src_index src_depth) placement rights word is) h
+  invocation_edit thread (op.CapMove cap index depth src_root src_index src_depth) slot invocation h =
+      moves_edit _ invocation (λ placement is. move_moves p memory f all thread slot (slots_named index depth src_root src_index src_depth) placement is) h
+  invocation_edit thread (op.CapMutate cap index depth src_root src_index src_depth word) slot invocation h =
+      moves_edit _ invocation (λ placement is. mutate_moves p memory f all thread slot (slots_named index depth src_root src_index src_depth) placement word is) h
+  invocation_edit thread (op.Send cap message) slot invocation h = sends_edit (service_of write_bit (cap_at f slot)) message true invocation h
+  invocation_edit thread (op.NbSend cap message) slot invocation h = sends_edit (service_of write_bit (cap_at f slot)) message false invocation h
+  invocation_edit thread (op.Recv cap) slot invocation h = receives_edit (service_of read_bit (cap_at f slot)) true invocation h
+  invocation_edit thread (op.NbRecv cap) slot invocation h = receives_edit (service_of read_bit (cap_at f slot)) false invocation h
 
-  pub invoked_edit : (thread : ℕ) (o : Op) (task : Task) → invoked p f thread o ≡ Ok task → IsEdit p f task
-  invoked_edit thread o task h =
-      let slot = passed (invoked_slot p f thread (service_word o)) (task_of p f thread o) task h in
-      task_edit thread o slot.0 task slot.1.1
+  pub invoked_edit : (thread : ℕ) (o : Op) (invocation : Invocation) → decoded_op p f thread o ≡ Ok invocation → IsEdit p f invocation
+  invoked_edit thread o invocation h =
+      let slot = passed (invoked_slot p f thread (service_word o)) (decoded_invocation p f thread o) invocation h in
+      invocation_edit thread o slot.0 invocation slot.1.1

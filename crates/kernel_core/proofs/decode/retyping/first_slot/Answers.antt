@@ -3,7 +3,7 @@ use Rattle.cap_core.specs.Numbers.{word_bits}
 use Rattle.cspace_core.specs.Resolution.{slot_of}
 use Rattle.cspace_core.proofs.Nodes.{lawful_node, lawful_in_words, slot_aligned, slot_within}
 use Rattle.abstract_kernel.proofs.Checks.FilledSlots.{AreSlots, radix_small, slots_there, first_aligned, slots_end}
-use Rattle.kernel_core.proofs.checks.retyping.first_slot.Goals as goal
+use Rattle.kernel_core.proofs.decode.retyping.first_slot.Goals as goal
 
 pub has_slots-requires : goal.has_slots-requires
 has_slots-requires g c =

@@ -9,34 +9,34 @@ use Rattle.slot_core.specs.Forest.{Forest}
 use Rattle.slot_core.specs.Entries.{Entry, caps, cap_at, is_full, first_child}
 use Rattle.slot_core.specs.Derivation.{names_same}
 use Rattle.cspace_core.specs.Resolution.{slot_of}
-use Rattle.abstract_kernel.specs.declared.task.NewObjects.{NewObjects}
-use Rattle.abstract_kernel.specs.declared.task.Transfer.{Transfer}
-use Rattle.abstract_kernel.specs.declared.task.Task.{Task}
-use Rattle.abstract_kernel.specs.declared.task.Task.TheVariants.{Send, Receive, Retype, Derive, Move}
+use Rattle.abstract_kernel.specs.declared.invocation.NewObjects.{NewObjects}
+use Rattle.abstract_kernel.specs.declared.invocation.CapPlacement.{CapPlacement}
+use Rattle.abstract_kernel.specs.declared.invocation.Invocation.{Invocation}
+use Rattle.abstract_kernel.specs.declared.invocation.Invocation.TheVariants.{Send, Receive, Retype, Derive, Move}
 use Rattle.abstract_kernel.specs.Regions.{free_of}
 use Rattle.abstract_kernel.specs.Memory.{IsSlotAddress}
 use Rattle.abstract_kernel.specs.Shown.{Shown, has_child}
 use Rattle.abstract_kernel.specs.Private.Effects.{IsLiveEndpoint}
 
 -- an empty slot gets a lawful capability of the object that a full slot names, in whatever memory all are lawful
-pub record IsTransfer (p : ProfileName) (f : Forest Entry) (transfer : Transfer) : Type 0 where
-  pub full : is_full transfer.source f ≡ true
-  pub empty : is_full transfer.slot f ≡ false
-  pub placed : (memory : ℕ) → All (IsLawful p memory) (caps f) → IsSlotAddress p memory transfer.slot
-  pub lawful : (memory : ℕ) → All (IsLawful p memory) (caps f) → IsLawful p memory transfer.cap
-  pub same : names_same (cap_at f transfer.source) transfer.cap ≡ true
+pub record IsPlacement (p : ProfileName) (f : Forest Entry) (placement : CapPlacement) : Type 0 where
+  pub full : is_full placement.source f ≡ true
+  pub empty : is_full placement.slot f ≡ false
+  pub placed : (memory : ℕ) → All (IsLawful p memory) (caps f) → IsSlotAddress p memory placement.slot
+  pub lawful : (memory : ℕ) → All (IsLawful p memory) (caps f) → IsLawful p memory placement.cap
+  pub same : names_same (cap_at f placement.source) placement.cap ≡ true
 
 -- a badge is set where there was none, and an untyped region of which nothing was made is handed on
-pub record IsDerivation (p : ProfileName) (f : Forest Entry) (transfer : Transfer) : Type 0 where
-  pub ends : IsTransfer p f transfer
-  pub badge : (badge_of transfer.cap ≡ badge_of (cap_at f transfer.source)) ⊎ (badge_of (cap_at f transfer.source) ≡ 0)
-  pub childless : is_untyped transfer.cap ≡ true → first_child transfer.source f ≡ None
+pub record IsDerivation (p : ProfileName) (f : Forest Entry) (placement : CapPlacement) : Type 0 where
+  pub ends : IsPlacement p f placement
+  pub badge : (badge_of placement.cap ≡ badge_of (cap_at f placement.source)) ⊎ (badge_of (cap_at f placement.source) ≡ 0)
+  pub childless : is_untyped placement.cap ≡ true → first_child placement.source f ≡ None
 
 -- neither the badge nor what is used of an untyped region is changed
-pub record IsMove (p : ProfileName) (f : Forest Entry) (transfer : Transfer) : Type 0 where
-  pub ends : IsTransfer p f transfer
-  pub badge : badge_of transfer.cap ≡ badge_of (cap_at f transfer.source)
-  pub free : free_of transfer.cap ≡ free_of (cap_at f transfer.source)
+pub record IsMove (p : ProfileName) (f : Forest Entry) (placement : CapPlacement) : Type 0 where
+  pub ends : IsPlacement p f placement
+  pub badge : badge_of placement.cap ≡ badge_of (cap_at f placement.source)
+  pub free : free_of placement.cap ≡ free_of (cap_at f placement.source)
 
 -- an untyped has room for objects of a lawful shape, and each gets an empty slot
 pub record IsRetype (p : ProfileName) (f : Forest Entry) (new : NewObjects) : Type 0 where
@@ -48,9 +48,9 @@ pub record IsRetype (p : ProfileName) (f : Forest Entry) (new : NewObjects) : Ty
   pub empty : (i : ℕ) → i < new.count → is_full (slot_of p new.first_slot i) f ≡ false
   pub slots : (memory : ℕ) → All (IsLawful p memory) (caps f) → (i : ℕ) → i < new.count → IsSlotAddress p memory (slot_of p new.first_slot i)
 
-abbrev pub IsTask : ProfileName → Shown → Task → Type 0
-IsTask p v (Send service message block) = IsLiveEndpoint v service.endpoint
-IsTask p v (Receive service block) = IsLiveEndpoint v service.endpoint
-IsTask p v (Retype new) = IsRetype p v.derivations new
-IsTask p v (Derive transfer) = IsDerivation p v.derivations transfer
-IsTask p v (Move transfer) = IsMove p v.derivations transfer
+abbrev pub IsInvocation : ProfileName → Shown → Invocation → Type 0
+IsInvocation p v (Send service message block) = IsLiveEndpoint v service.endpoint
+IsInvocation p v (Receive service block) = IsLiveEndpoint v service.endpoint
+IsInvocation p v (Retype new) = IsRetype p v.derivations new
+IsInvocation p v (Derive placement) = IsDerivation p v.derivations placement
+IsInvocation p v (Move placement) = IsMove p v.derivations placement

@@ -1,7 +1,7 @@
 use Rattle.std.proofs.Common.{Bool, ◌∙◌, ap, is_some}
 use Rattle.abstract_kernel.specs.Retyping.{placed_in}
 use Rattle.abstract_kernel.proofs.Checks.Placement.{plan_is, some_mapped}
-use Rattle.kernel_core.proofs.checks.retyping.place.Goals as goal
+use Rattle.kernel_core.proofs.decode.retyping.place.Goals as goal
 
 pub returns : goal.returns
 returns g c =
