@@ -71,6 +71,3 @@ pub fn plan(cap: Cap, has_children: bool, shape: Shape, count: u64) -> Result<Pl
         free: first + count * size,
     })
 }
-
-#[cfg(test)]
-mod tests;
