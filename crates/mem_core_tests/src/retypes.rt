@@ -1,5 +1,7 @@
-use super::*;
-use cap_core::{Narrow, Wide};
+//! The shapes and the places of objects that a retype asks for.
+use cap_core::limits::MAX_RETYPE_COUNT;
+use cap_core::{Cap, Kind, Narrow, Profile, Wide};
+use mem_core::{plan, shape};
 use std::test::Fail;
 
 /// The kind and the bits of a shape.
