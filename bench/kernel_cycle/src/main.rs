@@ -6,7 +6,8 @@ use std::time::Instant;
 
 // Many short runs of which the least counts, so that other work on the machine weighs little.
 const ROUNDS: u16 = 1000;
-const REPEATS: u32 = 200;
+const TURNS: u32 = 20;
+const REPEATS: u32 = 20;
 
 #[link(name = "kernel_cycle", kind = "static")]
 #[link(name = "libc_c", kind = "static")]
@@ -64,17 +65,19 @@ fn time(run: Run, rounds: u16) -> f64 {
     start.elapsed().as_secs_f64()
 }
 
-/// The runs one after another, each from a heap that the one before it left free: boots that took turns would find memory
-/// that the allocator gave back, and measure the pages that the system hands out anew.
+/// The runs in turn, so that each has its share of the times at which the machine is quiet, but many times each: boots that
+/// took turns one by one would find memory that the allocator gave back, and measure the pages that the system hands out anew.
 fn measured() -> [Least; RUNS.len()] {
-    RUNS.map(|(_, run)| {
-        let mut least = Least { boot: f64::MAX, whole: f64::MAX };
-        for _ in 0..REPEATS {
-            least.boot = least.boot.min(time(run, 0));
-            least.whole = least.whole.min(time(run, ROUNDS));
+    let mut all = [Least { boot: f64::MAX, whole: f64::MAX }; RUNS.len()];
+    for _ in 0..TURNS {
+        for ((_, run), least) in RUNS.iter().zip(&mut all) {
+            for _ in 0..REPEATS {
+                least.boot = least.boot.min(time(*run, 0));
+                least.whole = least.whole.min(time(*run, ROUNDS));
+            }
         }
-        least
-    })
+    }
+    all
 }
 
 fn print(what: &str, unit: &str, proved: f64, plain: f64, inlined: f64) {
