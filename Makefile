@@ -22,5 +22,6 @@ rows: run
 bench: run
 	bench/run.sh store_cycle
 	bench/run.sh ping_pong
-	bench/run.sh kernel_cycle
+	bench/run.sh kernel_cycle kernel_cycle kernel_replies
+	python3 bench/instructions.py bench/kernel_cycle/out/target/release/kernel_cycle
 	python3 bench/check.py $(program)

@@ -1,11 +1,18 @@
 #!/bin/sh
-# run.sh NAME: proves and builds the static library crates/NAME, builds the program of bench/NAME beside it, and prints the
-# times of one run and their ratio.
+# run.sh NAME [LIBRARY..]: proves and builds the static libraries crates/LIBRARY, crates/NAME where none is named, builds the
+# program of bench/NAME beside them, and prints the times of one run and their ratios.
 set -e
 cd "$(dirname "$0")/.."
-mkdir -p "bench/$1/out"
-(cd "crates/$1" && rt lib) >"bench/$1/out/rt_lib.log" 2>&1 || { cat "bench/$1/out/rt_lib.log"; exit 1; }
+name=$1
+[ $# -gt 1 ] && shift
+mkdir -p "bench/$name/out"
 kit=$(dirname "$(rt doc)")
-export BENCH_LIBRARIES="$PWD/crates/$1/out:$kit/c"
-cd "bench/$1"
+BENCH_LIBRARIES="$kit/c"
+for library in "$@"; do
+    log="$PWD/bench/$name/out/rt_lib.log"
+    (cd "crates/$library" && rt lib) >"$log" 2>&1 || { cat "$log"; exit 1; }
+    BENCH_LIBRARIES="$PWD/crates/$library/out:$BENCH_LIBRARIES"
+done
+export BENCH_LIBRARIES
+cd "bench/$name"
 CARGO_TARGET_DIR=out/target cargo run --release --quiet

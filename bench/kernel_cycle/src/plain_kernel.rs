@@ -1,6 +1,6 @@
 //! The same kernel in plain Rust, over the plain linked list and the plain queues: lookups, checks, and what each call does.
-use crate::plain_store::{Cap, Guard, Store};
-use crate::plain_waiters::{Message, Received, Sent, Waiters};
+use super::plain_store::{Cap, Guard, Store};
+use super::plain_waiters::{Message, Received, Sent, Waiters};
 
 #[derive(Clone, Copy)]
 pub enum Op {
@@ -131,6 +131,7 @@ fn low(word: u64, bits: u32) -> u64 {
     }
 }
 
+#[cfg_attr(feature = "inlined", inline(always))]
 fn field(word: u64, from: u32, bits: u32) -> u64 {
     if bits == 0 {
         0
@@ -139,6 +140,7 @@ fn field(word: u64, from: u32, bits: u32) -> u64 {
     }
 }
 
+#[cfg_attr(feature = "inlined", inline(always))]
 fn mask(cap: Cap, given: u8) -> Cap {
     match cap {
         Cap::Endpoint { base, badge, rights } => Cap::Endpoint {
@@ -150,6 +152,7 @@ fn mask(cap: Cap, given: u8) -> Cap {
     }
 }
 
+#[cfg_attr(feature = "inlined", inline(always))]
 fn set_data(word: u64, cap: Cap) -> Result<Cap, Refusal> {
     match cap {
         Cap::Endpoint { base, badge, rights } => {
@@ -262,6 +265,13 @@ impl Kernel {
         }
     }
 
+    /// Makes calls in order, and appends the reply to each.
+    pub fn run(&mut self, calls: &[(u64, Op)], replies: &mut Vec<Reply>) {
+        for (thread, op) in calls {
+            replies.push(self.step(*thread, *op));
+        }
+    }
+
     fn take(&mut self, thread: u64, op: Op) -> Result<Reply, Refusal> {
         self.ready(thread)?;
         match op {
@@ -310,6 +320,7 @@ impl Kernel {
         Ok(())
     }
 
+    #[cfg_attr(feature = "inlined", inline(always))]
     fn resolve(&self, root: Cap, address: u64, bits: u32) -> Result<(u64, u32), Refusal> {
         let mut cap = root;
         let mut left = bits;
@@ -333,11 +344,13 @@ impl Kernel {
         }
     }
 
+    #[cfg_attr(feature = "inlined", inline(always))]
     fn named_slot(&self, thread: u64, word: u64) -> Result<u64, Refusal> {
         let root = self.store.get(thread >> SLOT_BITS);
         Ok(self.resolve(root, word, WORD_BITS)?.0)
     }
 
+    #[cfg_attr(feature = "inlined", inline(always))]
     fn target(&self, root: Cap, index: u64, depth: u64) -> Result<u64, Refusal> {
         let Cap::CNode { .. } = root else {
             return Err(Refusal::FailedLookup(Lookup::InvalidRoot));
@@ -352,6 +365,7 @@ impl Kernel {
     }
 
     /// The extra capability of a call whose invoked one, in a slot, is of the right kind.
+    #[cfg_attr(feature = "inlined", inline(always))]
     fn extra(&self, slot: u64, thread: u64, word: u64, is: fn(Cap) -> bool) -> Result<Cap, Refusal> {
         match self.store.get(slot) {
             Cap::Null => Err(Refusal::InvalidCapability),
@@ -360,6 +374,7 @@ impl Kernel {
         }
     }
 
+    #[cfg_attr(feature = "inlined", inline(always))]
     fn ends(&self, thread: u64, cap: u64, slots: Slots) -> Result<(u64, u64), Refusal> {
         let invoked = self.named_slot(thread, cap)?;
         let root = self.extra(invoked, thread, slots.src_root, |cap| matches!(cap, Cap::CNode { .. }))?;
@@ -374,6 +389,7 @@ impl Kernel {
         Ok((source, slot))
     }
 
+    #[cfg_attr(feature = "inlined", inline(always))]
     fn first_slot(&self, node: Cap, offset: u64, count: u64) -> Result<u64, Refusal> {
         let Cap::CNode { base, radix, .. } = node else {
             return Err(Refusal::FailedLookup(Lookup::MissingCapability));
@@ -414,6 +430,7 @@ impl Kernel {
         Ok(Reply::Done)
     }
 
+    #[cfg_attr(feature = "inlined", inline(always))]
     fn derive(&mut self, source: u64, slot: u64, cap: Cap) -> Result<Reply, Refusal> {
         if let Cap::Untyped { bits, .. } = cap {
             if self.store.first_child(source).is_some() {
@@ -427,6 +444,7 @@ impl Kernel {
         Ok(Reply::Done)
     }
 
+    #[cfg_attr(feature = "inlined", inline(always))]
     fn service(&self, thread: u64, cap: u64, right: u8) -> Result<(u64, u64), Refusal> {
         match self.store.get(self.named_slot(thread, cap)?) {
             Cap::Null => Err(Refusal::InvalidCapability),

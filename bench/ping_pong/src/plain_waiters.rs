@@ -83,6 +83,7 @@ impl Waiters {
         &mut self.endpoints[(endpoint >> ENDPOINT_BITS) as usize]
     }
 
+    #[cfg_attr(feature = "inlined", inline(always))]
     fn take_out(&mut self, thread: u64) {
         let row = *self.thread(thread);
         let endpoint = match row.role {
@@ -100,6 +101,7 @@ impl Waiters {
         self.thread(thread).role = None;
     }
 
+    #[cfg_attr(feature = "inlined", inline(always))]
     fn wait_last(&mut self, endpoint: u64, thread: u64, row: ThreadRow) {
         let last = self.endpoint(endpoint).last;
         *self.thread(thread) = ThreadRow {
@@ -113,6 +115,7 @@ impl Waiters {
         self.endpoint(endpoint).last = Some(thread);
     }
 
+    #[cfg_attr(feature = "inlined", inline(always))]
     pub fn send(&mut self, endpoint: u64, thread: u64, badge: u64, message: Message, block: bool) -> Sent {
         if let Some(first) = self.endpoint(endpoint).first {
             if let Some(Role::Receiving(_)) = self.thread(first).role {
@@ -128,6 +131,7 @@ impl Waiters {
         Sent::Waiting
     }
 
+    #[cfg_attr(feature = "inlined", inline(always))]
     pub fn recv(&mut self, endpoint: u64, thread: u64, block: bool) -> Received {
         if let Some(first) = self.endpoint(endpoint).first {
             let row = *self.thread(first);
@@ -148,6 +152,7 @@ impl Waiters {
         Received::Waiting
     }
 
+    #[cfg_attr(feature = "inlined", inline(always))]
     pub fn role(&self, thread: u64) -> Option<Role> {
         self.threads[(thread >> TCB_BITS) as usize].role
     }

@@ -83,6 +83,7 @@ fn in_region(a: Cap, b: Cap) -> bool {
     }
 }
 
+#[cfg_attr(feature = "inlined", inline(always))]
 fn is_parent(a: &Link, b: &Link) -> bool {
     a.revocable
         && in_region(a.cap, b.cap)
@@ -114,6 +115,7 @@ impl Store {
         self.last = Some(slot);
     }
 
+    #[cfg_attr(feature = "inlined", inline(always))]
     pub fn derive(&mut self, source: u64, slot: u64, cap: Cap) {
         let from = self.links[source as usize];
         let original = matches!(cap, Cap::Untyped { .. }) || badge_of(cap) != badge_of(from.cap);
@@ -148,12 +150,14 @@ impl Store {
         self.links[slot as usize] = EMPTY;
     }
 
+    #[cfg_attr(feature = "inlined", inline(always))]
     pub fn first_child(&self, slot: u64) -> Option<u64> {
         let link = &self.links[slot as usize];
         let next = link.next?;
         is_parent(link, &self.links[next as usize]).then_some(next)
     }
 
+    #[cfg_attr(feature = "inlined", inline(always))]
     pub fn get(&self, slot: u64) -> Cap {
         match self.links.get(slot as usize) {
             Some(link) => link.cap,
@@ -178,6 +182,7 @@ impl Store {
         }
     }
 
+    #[cfg_attr(feature = "inlined", inline(always))]
     pub fn relocate(&mut self, source: u64, slot: u64, cap: Cap) {
         let link = self.links[source as usize];
         self.links[slot as usize] = Link { cap, ..link };

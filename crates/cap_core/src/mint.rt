@@ -12,6 +12,7 @@ use bitflags::Flags;
 
 /// The capability with no rights but those that are given too. Only a capability of an endpoint has rights; every other
 /// stays as it is.
+#[inline(always)]
 pub fn mask(cap: Cap, rights: Rights) -> Cap
     ensures value { result ≡ masked rights cap }
     ensures meet { (right : ℕ) → Allows result right ↔ (Allows cap right × HasRight rights right) }
@@ -36,6 +37,7 @@ pub fn mask(cap: Cap, rights: Rights) -> Cap
 ///
 /// None: the badge of an endpoint's capability is set already or is to be preserved, or a CNode's guard and radix together
 /// would be longer than a word.
+#[inline(always)]
 pub fn set_data<P: Profile>(preserve: bool, word: u64, cap: Cap) -> Option<Cap>
     ensures value { result ≡ with_data P.the preserve word cap }
     ensures read_back { (base radix : ℕ) (before guard : GuardValue) → cap ≡ CNode base radix before → word ≡ guard_word P.the guard

@@ -24,6 +24,7 @@ use slot_core::{CapStore, Slot};
 /// `InvalidRoot`: the root is no CNode. `GuardMismatch`: the bits don't go on with a CNode's guard. `DepthMismatch`:
 /// after a CNode's guard there are fewer bits than its radix. `MissingCapability` is never answered, since an empty slot
 /// is found like any other.
+#[inline(always)]
 pub fn resolve<P: Profile, S: CapStore<P>>(
     store: &S,
     root: Cap,
@@ -60,6 +61,7 @@ pub fn resolve<P: Profile, S: CapStore<P>>(
 /// `FailedLookup(InvalidRoot)`: the root is no CNode, at whatever depth. `RangeError`: the depth is 0 or more than the bits
 /// of a word. `FailedLookup`: resolution fails, with its fault, or bits are left over, which is a `DepthMismatch`. The first
 /// of these that holds is answered.
+#[inline(always)]
 pub fn target<P: Profile, S: CapStore<P>>(
     store: &S,
     root: Cap,
@@ -87,6 +89,7 @@ pub fn target<P: Profile, S: CapStore<P>>(
 }
 
 /// What one capability makes of the low bits of an address: the slot that it chooses, and how many bits are left.
+#[inline(always)]
 fn choose<P: Profile>(cap: Cap, address: u64, bits: u32) -> Result<(Slot, u32), LookupFault>
     requires lawful { (cap ≡ Null) ⊎ IsLawful P.the (word_bits P.the) cap }
     requires bits { bits ≤ word_bits P.the }
@@ -113,6 +116,7 @@ fn choose<P: Profile>(cap: Cap, address: u64, bits: u32) -> Result<(Slot, u32), 
 }
 
 /// The `count` bits of a word that stand above its low `from` bits.
+#[inline(always)]
 fn field(word: u64, from: u32, count: u32) -> u64
     requires { from + count ≤ 64 }
     ensures { result ≡ word / 2 ^ from % 2 ^ count }

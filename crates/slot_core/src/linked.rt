@@ -41,6 +41,7 @@ impl<P: Profile> CapStore<P> for LinkedStore<P> {
 
     ghost memory_bits = { λ s. s.1 };
 
+    #[inline(always)]
     fn get(&self, slot: Slot) -> Cap {
         row(&self.links, slot).cap
     }
@@ -49,6 +50,7 @@ impl<P: Profile> CapStore<P> for LinkedStore<P> {
         append(&mut self.links, &mut self.first, &mut self.last, slot, cap);
     }
 
+    #[inline(always)]
     fn derive(&mut self, source: Slot, slot: Slot, cap: Cap) {
         let marks = is_new_original(row(&self.links, source).cap, cap);
         insert_after(
@@ -75,6 +77,7 @@ impl<P: Profile> CapStore<P> for LinkedStore<P> {
         );
     }
 
+    #[inline(always)]
     fn relocate(&mut self, source: Slot, slot: Slot, cap: Cap) {
         replace(
             &mut self.links,
@@ -94,6 +97,7 @@ impl<P: Profile> CapStore<P> for LinkedStore<P> {
         unlink(&mut self.links, &mut self.first, &mut self.last, slot);
     }
 
+    #[inline(always)]
     fn first_child(&self, slot: Slot) -> Option<Slot> {
         let link = row(&self.links, slot);
         let next = link.next?;

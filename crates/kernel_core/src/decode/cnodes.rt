@@ -16,9 +16,10 @@ use cap_core::limits::MAX_MEMORY_BITS;
 use cap_core::{Cap, Profile, Refusal, mask, set_data};
 use slot_core::{CapStore, Slot};
 
-/// The placement that an operation on a CNode receives for, or the first check that fails: the invoked capability is a CNode's, the
+/// The placement that an operation on a CNode asks for, or the first check that fails: the invoked capability is a CNode's, the
 /// extra word leads to a slot, the slot that is filled is found and empty, the source is found and full, and the new
 /// capability may be made.
+#[inline(always)]
 pub fn decode_placement<P: Profile, S: CapStore<P>>(
     store: &S,
     thread: u64,
@@ -44,6 +45,7 @@ pub fn decode_placement<P: Profile, S: CapStore<P>>(
 }
 
 /// The capability in the source's slot as it is after a change.
+#[inline(always)]
 fn changed<P: Profile, S: CapStore<P>>(
     store: &S,
     source: Slot,
@@ -63,6 +65,7 @@ fn changed<P: Profile, S: CapStore<P>>(
     }
 }
 
+#[inline(always)]
 fn with_word<P: Profile>(preserve: bool, word: u64, cap: Cap) -> Result<Cap, Refusal>
     ensures { result ≡ where_set (with_data P.the preserve word cap) }
 {
@@ -70,6 +73,7 @@ fn with_word<P: Profile>(preserve: bool, word: u64, cap: Cap) -> Result<Cap, Ref
 }
 
 /// A capability that may be derived from the one in a slot: an untyped one where nothing was derived from it.
+#[inline(always)]
 fn derivable<P: Profile, S: CapStore<P>>(store: &S, source: Slot, cap: Cap) -> Result<Cap, Refusal>
     ensures { result ≡ where_derivable (S.forest store.now) (address_of P.the source) cap }
 {

@@ -39,6 +39,7 @@ pub fn is_endpoint_address<P: Profile>(memory_bits: u32, address: u64) -> bool
 
 /// The slot that a word names in a thread's capability space, whose root is in the slot at the thread's own address. All the
 /// word's bits are looked up, and bits left over are ignored.
+#[inline(always)]
 pub fn named_slot<P: Profile, S: CapStore<P>>(
     store: &S,
     thread: u64,
@@ -58,6 +59,7 @@ pub fn named_slot<P: Profile, S: CapStore<P>>(
 }
 
 /// The capability that an extra word of a call names: `Null` where its slot is empty.
+#[inline(always)]
 pub fn extra_capability<P: Profile, S: CapStore<P>>(
     store: &S,
     thread: u64,
@@ -73,6 +75,7 @@ pub fn extra_capability<P: Profile, S: CapStore<P>>(
 }
 
 /// The empty slot that an operation names by an index and a depth from a capability.
+#[inline(always)]
 pub fn empty_slot<P: Profile, S: CapStore<P>>(
     store: &S,
     node: Cap,
@@ -91,6 +94,7 @@ pub fn empty_slot<P: Profile, S: CapStore<P>>(
 }
 
 /// The full slot that an operation names by an index and a depth from a capability.
+#[inline(always)]
 pub fn full_slot<P: Profile, S: CapStore<P>>(
     store: &S,
     node: Cap,

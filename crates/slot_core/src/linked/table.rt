@@ -116,6 +116,7 @@ fn hand_on(links: &mut [Link], slot: Option<Slot>, mark: bool)
 }
 
 /// Links `slot` in directly behind `source`, with both marks set or neither.
+#[inline(always)]
 pub fn insert_after(
     links: &mut [Link],
     first: &mut Option<Slot>,
@@ -273,6 +274,7 @@ pub fn free_from(links: &mut [Link], slot: Slot, free: u64)
 }
 
 /// The row of `slot`: an empty one past the end of the table.
+#[inline(always)]
 pub fn row(links: &[Link], slot: Slot) -> Link
     ensures { result ≡ link_at links.now slot.place }
 {
@@ -295,6 +297,7 @@ pub fn names(links: &[Link], slot: Option<Slot>, cap: Cap) -> bool
 
 /// Whether `a` is parent of `b` in the list (seL4 abstract specification, on the capability derivation tree as a list):
 /// `a` is revocable and has `b` in its region, and where `a` has a badge, `b` has the same and is not first badged.
+#[inline(always)]
 pub fn is_parent<P: Profile>(a: Link, b: Link) -> bool
     ensures { result ≡ is_parent_in P.the (marked 0 a.cap a.revocable a.first_badged) (marked 0 b.cap b.revocable b.first_badged) }
 {
