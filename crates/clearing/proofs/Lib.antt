@@ -1,0 +1,9 @@
+pub mod Members
+pub mod Objects
+pub mod Without
+pub mod Sets
+pub mod Rounds
+pub mod Orders
+pub mod Lookups
+pub mod Midway
+pub mod Revoking
