@@ -143,3 +143,20 @@ ended-both a b d h g = λ i c. step (named a c) (named b c) (named d c) (h c) (g
   where
     step : (x y z : Bool) → (y ≡ true → x ≡ true) → (z ≡ true → y ≡ true) → (x && not y) || (y && not z) ≡ x && not z
     step x y z h g = grind arith
+
+-- with as many turns as there are full slots, no child is left
+revoked_ends : (p : ProfileName) (k s : ℕ) (f : Forest Entry) → length (preorder f) ≤ k → first_child s (revoked p k s f) ≡ None
+revoked_ends p zero s f h = elim (child_or_none (first_child s f)) [
+      inl e ↦ e
+    | inr w ↦ absurd (let x = child_less p s w.0 f w.1 in omega arith)
+    ]
+revoked_ends p (suc k) s f h = elim (child_or_none (first_child s f)) [
+      inl e ↦ ap (first_child s) (revoked_none p (suc k) s f e) ∙ e
+    | inr w ↦
+        let x = child_less p s w.0 f w.1 in
+        ap (first_child s) (revoked_some p k s w.0 f w.1) ∙ revoked_ends p k s (clear p w.0 f) (omega arith)
+    ]
+
+pub revoke_ends : (p : ProfileName) (s : ℕ) (f : Forest Entry) → first_child s (revoke p s f) ≡ None
+unfolding revoke
+revoke_ends p s f = revoked_ends p (length (preorder f)) s f (omega arith)
