@@ -7,3 +7,8 @@ pub mod Orders
 pub mod Lookups
 pub mod Midway
 pub mod Revoking
+pub mod Holding
+pub mod Ranges
+pub mod Clearable
+pub mod Below
+pub mod Kept

@@ -5,3 +5,4 @@ pub mod Without
 pub mod Clear
 pub mod Revoke
 pub mod Work
+pub mod Housed
