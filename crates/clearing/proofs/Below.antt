@@ -18,7 +18,7 @@ below_absent q none h = refl
 below_absent q (tree a k r) h = step q a k r (below_absent q k) (below_absent q r) h
   where
     step : {A : Type 0} (q : A → Bool) (a : A) (k r : Forest A) → (list_any q (preorder k) ≡ false → below_those q k ≡ none) → (list_any q (preorder r) ≡ false → below_those q r ≡ none)
-      → list_any q (preorder (tree a k r)) ≡ false → below_those q (tree a k r) ≡ none
+        → list_any q (preorder (tree a k r)) ≡ false → below_those q (tree a k r) ≡ none
     step q a k r f g h =
         let e = list_any-append q (preorder k) (preorder r) in
         grind arith
@@ -32,7 +32,7 @@ ancestors_absent q none h = refl
 ancestors_absent q (tree a k r) h = step q a k r (ancestors_absent q k) (ancestors_absent q r) h
   where
     step : {A : Type 0} (q : A → Bool) (a : A) (k r : Forest A) → (has q k ≡ false → ancestors q k ≡ []) → (has q r ≡ false → ancestors q r ≡ [])
-      → has q (tree a k r) ≡ false → ancestors q (tree a k r) ≡ []
+        → has q (tree a k r) ≡ false → ancestors q (tree a k r) ≡ []
     step q a k r f g h = grind arith
 
 -- two forests side by side
@@ -66,7 +66,7 @@ ancestors-join q none g o = refl
 ancestors-join {A} q (tree a k r) g o =
     let o' = one-split q a (preorder k) (preorder r) (preorder g) o in
     step q a k r g (ancestors-join q r g (one-right q (preorder k) (preorder r ++ preorder g) o'.1))
-        (λ e. (right_none (preorder k) (preorder r) (preorder g) (o'.0 e), tail_none (preorder k) (preorder r) (preorder g) (o'.0 e)))
+    (λ e. (right_none (preorder k) (preorder r) (preorder g) (o'.0 e), tail_none (preorder k) (preorder r) (preorder g) (o'.0 e)))
   where
     right_none : (k r g : List A) → list_any q (k ++ (r ++ g)) ≡ false → list_any q r ≡ false
     right_none k r g h =
@@ -81,7 +81,7 @@ ancestors-join {A} q (tree a k r) g o =
         grind arith
 
     step : {A : Type 0} (q : A → Bool) (a : A) (k r g : Forest A) → ancestors q (join r g) ≡ cond (has q r) (ancestors q r) (ancestors q g)
-      → (q a ≡ true → (list_any q (preorder r) ≡ false) × (list_any q (preorder g) ≡ false)) → ancestors q (join (tree a k r) g) ≡ cond (has q (tree a k r)) (ancestors q (tree a k r)) (ancestors q g)
+        → (q a ≡ true → (list_any q (preorder r) ≡ false) × (list_any q (preorder g) ≡ false)) → ancestors q (join (tree a k r) g) ≡ cond (has q (tree a k r)) (ancestors q (tree a k r)) (ancestors q g)
     step q a k r g ih h =
         (elim (has q k) as (λ c. cond c (a ∷ ancestors q k) (ancestors q (join r g)) ≡ cond (q a || (c || has q r)) (cond c (a ∷ ancestors q k) (ancestors q r)) (ancestors q g)) [
           | true ↦ (elim (q a) as (λ c. a ∷ ancestors q k ≡ cond (c || true) (a ∷ ancestors q k) (ancestors q g)) [ true ↦ refl | false ↦ refl ])

@@ -63,9 +63,9 @@ slots_apart p a b n d s i j =
     apart : (ab ae bb be : ℕ) (s u v c d : Bool) → (nat_le ae bb || nat_le be ab) || (s || ((u && c) || (v && d))) ≡ true → s ≡ false → u ≡ false → v ≡ false
         → ab ≤ n → n < ae → bb ≤ n → n < be → ⊥
     apart ab ae bb be s u v c d h e f g w x y z = elim (either (nat_le ae bb) (nat_le be ab) (first (nat_le ae bb || nat_le be ab) s u v c d h e f g)) [
-          inl t ↦ let k = le ae bb t in omega arith
-        | inr t ↦ let k = le be ab t in omega arith
-        ]
+      | inl t ↦ let k = le ae bb t in omega arith
+      | inr t ↦ let k = le be ab t in omega arith
+    ]
 
 not_null : (c : Cap) → is_null c ≡ false → c ≡ Null → ⊥
 not_null c h e = let z : true ≡ false = sym (ap is_null e) ∙ h in cc

@@ -74,9 +74,12 @@ unfolding IsDistinct
 distinct-filter q [] d = tt
 distinct-filter q (a ∷ l) d =
     elim (q a) as (λ b. IsDistinct eqb (map (λ (e : Entry). e.slot) (cond b (a ∷ filter q l) (filter q l)))) [
-      true ↦ (mapped_of_each (λ n. eqb a.slot n ≡ false) (λ (e : Entry). e.slot) (filter q l)
-        (each-filter (λ (e : Entry). eqb a.slot e.slot ≡ false) q l (each_of_mapped (λ n. eqb a.slot n ≡ false) (λ (e : Entry). e.slot) l d.0)), distinct-filter q l d.1)
-    | false ↦ distinct-filter q l d.1
+      | true ↦ (
+        mapped_of_each (λ n. eqb a.slot n ≡ false) (λ (e : Entry). e.slot) (filter q l)
+            (each-filter (λ (e : Entry). eqb a.slot e.slot ≡ false) q l (each_of_mapped (λ n. eqb a.slot n ≡ false) (λ (e : Entry). e.slot) l d.0)),
+        distinct-filter q l d.1,
+      )
+      | false ↦ distinct-filter q l d.1
     ]
 
 pub distinct-without : (t : Entry → Bool) (f : Forest Entry) → IsDistinct eqb (slots f) → IsDistinct eqb (slots (without t f))
@@ -103,12 +106,12 @@ module _ (X : ℕ → Bool) (f : Forest Entry) (distinct : IsDistinct eqb (slots
       let P : Forest Entry → Type 0 = λ k. In c (preorder k) in
       let e = below_those-without (is_at u.slot) (λ (e : Entry). X e.slot) (λ b. stays u b h) f (apart_of (preorder f) distinct u.slot) in
       inr (inl (in_contains (descendants (is_at u.slot) (without (λ e. X e.slot) f)) c
-        (subst P (sym e) (without_in (λ (e : Entry). X e.slot) (below_those (is_at u.slot) f) c (contains_in (descendants (is_at u.slot) f) c m) g))))
+      (subst P (sym e) (without_in (λ (e : Entry). X e.slot) (below_those (is_at u.slot) f) c (contains_in (descendants (is_at u.slot) f) c m) g))))
   in_line u c h g (inr (inr m)) =
       let P : List Entry → Type 0 = In c in
       let e = ancestors-without (is_at u.slot) (λ (e : Entry). X e.slot) (λ b. stays u b h) f (apart_of (preorder f) distinct u.slot) in
       inr (inr (in_contains (ancestors (is_at u.slot) (without (λ e. X e.slot) f)) c
-        (subst P (sym e) (filter_in (λ (e : Entry). not (X e.slot)) (ancestors (is_at u.slot) f) c (contains_in (ancestors (is_at u.slot) f) c m) (ap not g)))))
+      (subst P (sym e) (filter_in (λ (e : Entry). not (X e.slot)) (ancestors (is_at u.slot) f) c (contains_in (ancestors (is_at u.slot) f) c m) (ap not g)))))
 
   pub disjoint-without : (p : ProfileName) → IsDisjoint p f → IsDisjoint p (without (λ (e : Entry). X e.slot) f)
   disjoint-without p d = record { objects = objects; lines = lines }
@@ -120,7 +123,7 @@ module _ (X : ℕ → Bool) (f : Forest Entry) (distinct : IsDistinct eqb (slots
       objects a b m n = d.objects a b (in_contains (preorder f) a (old a m).0) (in_contains (preorder f) b (old b n).0)
 
       lines : (u c : Entry) → Contains (preorder (without (λ e. X e.slot) f)) u → Contains (preorder (without (λ e. X e.slot) f)) c → IsTrue (is_untyped u.cap) → IsTrue (contains p u.cap c.cap)
-        → AreInLine (without (λ e. X e.slot) f) u c
+          → AreInLine (without (λ e. X e.slot) f) u c
       lines u c m n t v = in_line u c (old u m).1 (old c n).1 (d.lines u c (in_contains (preorder f) u (old u m).0) (in_contains (preorder f) c (old c n).0) t v)
 
   -- what holds between each and all that stands below it, as that this lies in its region
@@ -141,11 +144,11 @@ left_over : (l : List Entry) (X : ℕ → Bool) (a : Entry) → has_all l X a �
 left_over [] X a h = cc
 left_over (c ∷ l) X a h =
     (elim (tells (same_object a.cap c.cap)) [
-      inl s ↦ elim (tells (X c.slot)) [
-          inl x ↦ let w = left_over l X a (rest _ _ _ h s x) in (w.0, (inr w.1.0, w.1.1, w.1.2))
+      | inl s ↦ elim (tells (X c.slot)) [
+        | inl x ↦ let w = left_over l X a (rest _ _ _ h s x) in (w.0, (inr w.1.0, w.1.1, w.1.2))
         | inr x ↦ (c, (inl refl, s, x))
-        ]
-    | inr s ↦ let w = left_over l X a (rest' _ _ _ h s) in (w.0, (inr w.1.0, w.1.1, w.1.2))
+      ]
+      | inr s ↦ let w = left_over l X a (rest' _ _ _ h s) in (w.0, (inr w.1.0, w.1.1, w.1.2))
     ])
   where
     rest : (s x r : Bool) → (not s || x) && r ≡ false → s ≡ true → x ≡ true → r ≡ false
@@ -190,9 +193,9 @@ kept-revoke p P keeps s f h = go (length (preorder f)) f h
     go : (k : ℕ) (g : Forest Entry) → P g → P (revoked p k s g)
     go zero g h = h
     go (suc k) g h = elim (child_or_none (first_child s g)) [
-          inl e ↦ subst P (sym (revoked_none p (suc k) s g e)) h
-        | inr w ↦ subst P (sym (revoked_some p k s w.0 g w.1)) (go k (clear p w.0 g) (keeps w.0 g h))
-        ]
+      | inl e ↦ subst P (sym (revoked_none p (suc k) s g e)) h
+      | inr w ↦ subst P (sym (revoked_some p k s w.0 g w.1)) (go k (clear p w.0 g) (keeps w.0 g h))
+    ]
 
 pub housed-revoke : (p : ProfileName) (s : ℕ) (f : Forest Entry) → IsHoused p f → IsHoused p (revoke p s f)
 housed-revoke p s f h = kept-revoke p (IsHoused p) (housed-clear p) s f h

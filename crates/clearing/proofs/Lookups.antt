@@ -20,7 +20,7 @@ out_absent p none h = refl
 out_absent p (tree a k r) h = out_absent_step p a k r (out_absent p k) (out_absent p r) h
   where
     out_absent_step : {A : Type 0} (p : A → Bool) (a : A) (k r : Forest A) → (list_any p (preorder k) ≡ false → out p k ≡ k) → (list_any p (preorder r) ≡ false → out p r ≡ r)
-      → list_any p (preorder (tree a k r)) ≡ false → out p (tree a k r) ≡ tree a k r
+        → list_any p (preorder (tree a k r)) ≡ false → out p (tree a k r) ≡ tree a k r
     out_absent_step p a k r h g e =
         let e' : p a || (list_any p (preorder k) || list_any p (preorder r)) ≡ false = ap (λ b. p a || b) (sym (list_any-append p (preorder k) (preorder r))) ∙ e in
         grind arith
@@ -30,10 +30,10 @@ pub cap_at_only : (l : List Entry) (n : ℕ) (a : Entry) → In a l → a.slot =
 cap_at_only [] n a i e only = absurd i
 cap_at_only (x ∷ l) n a i e only =
     elim (x.slot == n) as (λ t. x.slot == n ≡ t → cond t x.cap (held l n) ≡ a.cap) [
-      true ↦ λ h. ap (λ (q : Entry). q.cap) (only x (inl refl) h)
-    | false ↦ λ h. elim i [
-        inl s ↦ absurd (let z : true ≡ false = sym e ∙ ap (λ (q : Entry). q.slot == n) s ∙ h in cc)
-      | inr j ↦ cap_at_only l n a j e (λ b k. only b (inr k))
+      | true ↦ λ h. ap (λ (q : Entry). q.cap) (only x (inl refl) h)
+      | false ↦ λ h. elim i [
+        | inl s ↦ absurd (let z : true ≡ false = sym e ∙ ap (λ (q : Entry). q.slot == n) s ∙ h in cc)
+        | inr j ↦ cap_at_only l n a j e (λ b k. only b (inr k))
       ]
     ] refl
 
@@ -60,8 +60,8 @@ remaining E l = filter (λ e. not (E e.slot)) l
 pub last_none : (l : List Entry) (n : ℕ) → last_at l n ≡ true → list_any (λ (b : Entry). not (b.slot == n) && same_object b.cap (held l n)) l ≡ false
 last_none l n h = by_case (is_untyped (held l n)) (list_any (λ (b : Entry). not (b.slot == n) && same_object b.cap (held l n)) l) (λ t.
     not_true (list_any (λ (b : Entry). not (b.slot == n) && same_object b.cap (held l n)) l) (λ g.
-      let w = any_of (λ (b : Entry). not (b.slot == n) && same_object b.cap (held l n)) l g in
-      let z : true ≡ false = sym (both_true (not (w.0.slot == n)) (same_object w.0.cap (held l n)) w.1.1).1 ∙ untyped_same w.0.cap (held l n) t in cc)) h
+    let w = any_of (λ (b : Entry). not (b.slot == n) && same_object b.cap (held l n)) l g in
+    let z : true ≡ false = sym (both_true (not (w.0.slot == n)) (same_object w.0.cap (held l n)) w.1.1).1 ∙ untyped_same w.0.cap (held l n) t in cc)) h
   where
     by_case : (x y : Bool) → (x ≡ true → y ≡ false) → x || not y ≡ true → y ≡ false
     by_case x y f g = grind arith
@@ -76,11 +76,11 @@ last_other l n h = by_case (is_untyped (held l n)) (list_any (λ (b : Entry). no
 pub last_all : (l : List Entry) (E : ℕ → Bool) (a : Entry) → held (remaining E l) a.slot ≡ a.cap → last_at (remaining E l) a.slot ≡ true → has_all l (more E a.slot) a ≡ true
 last_all l E a k h = all_of (λ b. not (same_object a.cap b.cap) || (E b.slot || b.slot == a.slot)) l (λ b i.
     elim (tells (E b.slot)) [
-      inl e ↦ true_right (not (same_object a.cap b.cap)) (E b.slot || b.slot == a.slot) (true_left (E b.slot) (b.slot == a.slot) e)
-    | inr e ↦
-        let j : In b (remaining E l) = filter_in (λ e. not (E e.slot)) l b i (ap not e) in
-        let none_other = last_none (remaining E l) a.slot h in
-        last_all_step (b.slot == a.slot) (same_object a.cap b.cap) (E b.slot)
+      | inl e ↦ true_right (not (same_object a.cap b.cap)) (E b.slot || b.slot == a.slot) (true_left (E b.slot) (b.slot == a.slot) e)
+      | inr e ↦
+          let j : In b (remaining E l) = filter_in (λ e. not (E e.slot)) l b i (ap not e) in
+          let none_other = last_none (remaining E l) a.slot h in
+          last_all_step (b.slot == a.slot) (same_object a.cap b.cap) (E b.slot)
           (λ u v. let z : true ≡ false = sym (any_in (λ (b : Entry). not (b.slot == a.slot) && same_object b.cap (held (remaining E l) a.slot)) (remaining E l) b j (rw (u, k, same_sym a.cap b.cap v) refl)) ∙ none_other in cc)
     ])
   where
@@ -107,8 +107,8 @@ named_but : (l : List Entry) (a : Entry) → ((b : Entry) → In b l → b.slot 
 named_but l a only c e =
     let w = any_of (λ (b : Entry). same_object b.cap c) l e in
     elim (tells (w.0.slot == a.slot)) [
-      inl t ↦ inr (ap (λ (q : Entry). same_object q.cap c) (sym (only w.0 w.1.0 t)) ∙ w.1.1)
-    | inr t ↦ inl (any_in (λ (b : Entry). same_object b.cap c) (filter (λ e. not (e.slot == a.slot)) l) w.0 (filter_in (λ e. not (e.slot == a.slot)) l w.0 w.1.0 (ap not t)) w.1.1)
+      | inl t ↦ inr (ap (λ (q : Entry). same_object q.cap c) (sym (only w.0 w.1.0 t)) ∙ w.1.1)
+      | inr t ↦ inl (any_in (λ (b : Entry). same_object b.cap c) (filter (λ e. not (e.slot == a.slot)) l) w.0 (filter_in (λ e. not (e.slot == a.slot)) l w.0 w.1.0 (ap not t)) w.1.1)
     ]
 
 -- which objects have ended_in, with one slot more: that of the slot, where it is the last of it
@@ -116,15 +116,15 @@ pub ended-last : (before l : List Entry) (a : Entry) → ((b : Entry) → In b l
     (c : Cap) → ended_in before (filter (λ e. not (e.slot == a.slot)) l) c ≡ (ended_in before l c || same_object a.cap c)
 ended-last before l a sub i only k h c =
     last_step (named before c) (named l c) (named (filter (λ e. not (e.slot == a.slot)) l) c) (same_object a.cap c)
-      (λ e. any_in (λ (b : Entry). same_object b.cap c) before a (sub a i) e)
-      (λ e. let w = any_of (λ (b : Entry). same_object b.cap c) (filter (λ e. not (e.slot == a.slot)) l) e in any_in (λ (b : Entry). same_object b.cap c) l w.0 (in_filter (λ e. not (e.slot == a.slot)) l w.0 w.1.0).0 w.1.1)
-      (named_but l a only c)
-      (λ e. not_true (named (filter (λ e. not (e.slot == a.slot)) l) c) (λ g.
-        let w = any_of (λ (b : Entry). same_object b.cap c) (filter (λ e. not (e.slot == a.slot)) l) g in
-        let j = in_filter (λ e. not (e.slot == a.slot)) l w.0 w.1.0 in
-        let s : same_object w.0.cap a.cap ≡ true = same_sym a.cap w.0.cap (same_right a.cap c e w.0.cap ∙ same_sym w.0.cap c w.1.1) in
-        let none_other = last_none l a.slot h in
-        let z : true ≡ false = sym (any_in (λ (b : Entry). not (b.slot == a.slot) && same_object b.cap (held l a.slot)) l w.0 j.0 (rw (j.1, k, s) refl)) ∙ none_other in cc))
+    (λ e. any_in (λ (b : Entry). same_object b.cap c) before a (sub a i) e)
+    (λ e. let w = any_of (λ (b : Entry). same_object b.cap c) (filter (λ e. not (e.slot == a.slot)) l) e in any_in (λ (b : Entry). same_object b.cap c) l w.0 (in_filter (λ e. not (e.slot == a.slot)) l w.0 w.1.0).0 w.1.1)
+    (named_but l a only c)
+    (λ e. not_true (named (filter (λ e. not (e.slot == a.slot)) l) c) (λ g.
+    let w = any_of (λ (b : Entry). same_object b.cap c) (filter (λ e. not (e.slot == a.slot)) l) g in
+    let j = in_filter (λ e. not (e.slot == a.slot)) l w.0 w.1.0 in
+    let s : same_object w.0.cap a.cap ≡ true = same_sym a.cap w.0.cap (same_right a.cap c e w.0.cap ∙ same_sym w.0.cap c w.1.1) in
+    let none_other = last_none l a.slot h in
+    let z : true ≡ false = sym (any_in (λ (b : Entry). not (b.slot == a.slot) && same_object b.cap (held l a.slot)) l w.0 j.0 (rw (j.1, k, s) refl)) ∙ none_other in cc))
   where
     last_step : (before old new s : Bool) → (s ≡ true → before ≡ true) → (new ≡ true → old ≡ true) → (old ≡ true → (new ≡ true) ⊎ (s ≡ true)) → (s ≡ true → new ≡ false) → before && not new ≡ (before && not old) || s
     last_step before old new s f g h k = grind arith
@@ -136,8 +136,8 @@ ended-other before l a only k h c =
     let b = both_true (not (w.0.slot == a.slot)) (same_object w.0.cap (held l a.slot)) w.1.1 in
     let s : same_object w.0.cap a.cap ≡ true = ap (same_object w.0.cap) (sym k) ∙ b.1 in
     ap (λ t. named before c && not t) (same_truth (named (filter (λ e. not (e.slot == a.slot)) l) c) (named l c)
-      (λ e. let w = any_of (λ (b : Entry). same_object b.cap c) (filter (λ e. not (e.slot == a.slot)) l) e in any_in (λ (b : Entry). same_object b.cap c) l w.0 (in_filter (λ e. not (e.slot == a.slot)) l w.0 w.1.0).0 w.1.1)
-      (λ e. elim (named_but l a only c e) [
-          inl t ↦ t
-        | inr t ↦ any_in (λ (b : Entry). same_object b.cap c) (filter (λ e. not (e.slot == a.slot)) l) w.0 (filter_in (λ e. not (e.slot == a.slot)) l w.0 w.1.0 b.0) (same_sym c w.0.cap (sym (same_right a.cap c t w.0.cap) ∙ same_sym w.0.cap a.cap s))
-        ]))
+    (λ e. let w = any_of (λ (b : Entry). same_object b.cap c) (filter (λ e. not (e.slot == a.slot)) l) e in any_in (λ (b : Entry). same_object b.cap c) l w.0 (in_filter (λ e. not (e.slot == a.slot)) l w.0 w.1.0).0 w.1.1)
+    (λ e. elim (named_but l a only c e) [
+      | inl t ↦ t
+      | inr t ↦ any_in (λ (b : Entry). same_object b.cap c) (filter (λ e. not (e.slot == a.slot)) l) w.0 (filter_in (λ e. not (e.slot == a.slot)) l w.0 w.1.0 b.0) (same_sym c w.0.cap (sym (same_right a.cap c t w.0.cap) ∙ same_sym w.0.cap a.cap s))
+    ]))

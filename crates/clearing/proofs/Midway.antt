@@ -40,13 +40,13 @@ without_nothing (tree a k r) = λ i. tree a (without_nothing k i) (without_nothi
 
 pub midway-begin : (p : ProfileName) (f : Forest Entry) (s size : ℕ) → s < size → Midway p f f s size (s ∷ [])
 midway-begin p f s size h = record {
-    gone = λ n. false;
-    left = without_nothing f;
-    clearing = clearing-begin p (preorder f) s;
-    distinct = (λ i. i, tt);
-    below = (h, tt);
-    apart = λ n i. absurd i;
-  }
+  gone = λ n. false;
+  left = without_nothing f;
+  clearing = clearing-begin p (preorder f) s;
+  distinct = (λ i. i, tt);
+  below = (h, tt);
+  apart = λ n i. absurd i;
+}
 
 -- at the end the least set has left
 pub midway-end : (p : ProfileName) (f g : Forest Entry) (s size : ℕ) → Midway p f g s size [] → g ≡ clear p s f
@@ -86,7 +86,12 @@ stands f g n gone apart left h =
     let i = in_filter (λ e. not (gone e.slot)) (preorder f) w.0 (let P : List Entry → Type 0 = λ q. In w.0 q in subst P kept w.1.0) in
     let only : (b : Entry) → In b (preorder f) → b.slot == w.0.slot ≡ true → b ≡ w.0 = λ b j t. one_only (is_at w.0.slot) (preorder f) (apart w.0.slot) w.0 b i.0 j (eqb_self w.0.slot) t in
     record {
-      a = w.0; at = e; here = i.0; left = w.1.0; not_gone = not_of (gone w.0.slot) i.1; only = only;
+      a = w.0;
+      at = e;
+      here = i.0;
+      left = w.1.0;
+      not_gone = not_of (gone w.0.slot) i.1;
+      only = only;
       cap = cap_at_only (preorder g) w.0.slot w.0 w.1.0 (eqb_self w.0.slot) (λ b j t. only b (in_filter (λ e. not (gone e.slot)) (preorder f) b (let P : List Entry → Type 0 = λ q. In b q in subst P kept j)).0 t);
     }
 
@@ -110,12 +115,12 @@ full_last p f g s size W a law m here not_gone only cap last =
       distinct = distinct_join (slots_of p a.cap) W (law.distinct a here) m.distinct.1 (λ n u v. m.apart n v a here not_gone u);
       below = below_join size (slots_of p a.cap) W (law.within a here) m.below.1;
       apart = λ n i b j e k. elim (in_append n (slots_of p a.cap) W (rest_in n (slots_of p a.cap ++ W) i)) [
-          inl u ↦ elim (tells (same_object a.cap b.cap)) [
-              inl t ↦ still (same_object a.cap b.cap) (more m.gone a.slot b.slot) (all_in (λ c. not (same_object a.cap c.cap) || more m.gone a.slot c.slot) (preorder f) b all j) t e
-            | inr t ↦ law.objects a b here j t n u k
-            ]
+        | inl u ↦ elim (tells (same_object a.cap b.cap)) [
+          | inl t ↦ still (same_object a.cap b.cap) (more m.gone a.slot b.slot) (all_in (λ c. not (same_object a.cap c.cap) || more m.gone a.slot c.slot) (preorder f) b all j) t e
+          | inr t ↦ law.objects a b here j t n u k
+        ]
         | inr v ↦ m.apart n v b j (either_false (m.gone b.slot) (b.slot == a.slot) e) k
-        ];
+      ];
     }
   where
     still : (x y : Bool) → not x || y ≡ true → x ≡ true → y ≡ false → ⊥
@@ -138,33 +143,33 @@ full_other p f g s size W a law m here not_gone only cap last =
 
 empty_step : (p : ProfileName) (f g : Forest Entry) (s size n : ℕ) (W : List ℕ) → full (preorder g) n ≡ false → Midway p f g s size (n ∷ W) → Midway p f (out (is_at n) g) s size W
 empty_step p f g s size n W h m = record {
-    gone = m.gone;
-    left = out_absent (is_at n) g h ∙ m.left;
-    clearing = clearing-skip p (preorder f) s n m.gone W (λ e.
+  gone = m.gone;
+  left = out_absent (is_at n) g h ∙ m.left;
+  clearing = clearing-skip p (preorder f) s n m.gone W (λ e.
       let w = any_of (is_at n) (preorder f) e in
       elim (tells (m.gone w.0.slot)) [
-        inl t ↦ let P : ℕ → Type 0 = λ k. m.gone k ≡ true in subst P (eqb-true w.0.slot n w.1.1) t
-      | inr t ↦
-          let i : In w.0 (preorder g) = let P : List Entry → Type 0 = λ q. In w.0 q in subst P (sym (remains f g m.gone m.left)) (filter_in (λ e. not (m.gone e.slot)) (preorder f) w.0 w.1.0 (ap not t)) in
-          let z : true ≡ false = sym (any_in (is_at n) (preorder g) w.0 i w.1.1) ∙ h in cc
+        | inl t ↦ let P : ℕ → Type 0 = λ k. m.gone k ≡ true in subst P (eqb-true w.0.slot n w.1.1) t
+        | inr t ↦
+            let i : In w.0 (preorder g) = let P : List Entry → Type 0 = λ q. In w.0 q in subst P (sym (remains f g m.gone m.left)) (filter_in (λ e. not (m.gone e.slot)) (preorder f) w.0 w.1.0 (ap not t)) in
+            let z : true ≡ false = sym (any_in (is_at n) (preorder g) w.0 i w.1.1) ∙ h in cc
       ]) m.clearing;
-    distinct = m.distinct.1;
-    below = m.below.1;
-    apart = λ k i b j e u. m.apart k (rest_in k W i) b j e u;
-  }
+  distinct = m.distinct.1;
+  below = m.below.1;
+  apart = λ k i b j e u. m.apart k (rest_in k W i) b j e u;
+}
 
 -- one slot is looked at
 pub midway-step : (p : ProfileName) (f g : Forest Entry) (s size n : ℕ) (W : List ℕ) → IsClearable p size (preorder f) → Midway p f g s size (n ∷ W) → Midway p f (out (is_at n) g) s size (list_after p (preorder g) n W)
 midway-step p f g s size n W law m = elim (tells (full (preorder g) n)) [
-      inl h ↦
-        let st = stands f g n m.gone law.apart m.left h in
-        let P : ℕ → Type 0 = λ k. full (preorder g) k ≡ true → (q : Midway p f g s size (k ∷ W)) → q.gone st.a.slot ≡ false → Midway p f (out (is_at k) g) s size (list_after p (preorder g) k W) in
-        subst P st.at (λ e q ng. elim (tells (last_at (preorder g) st.a.slot)) [
-            inl t ↦ rw (e, t, st.cap) (full_last p f g s size W st.a law q st.here ng st.only st.cap t)
-          | inr t ↦ rw (e, t) (full_other p f g s size W st.a law q st.here ng st.only st.cap t)
-          ]) h m st.not_gone
-    | inr h ↦ rw h (empty_step p f g s size n W h m)
-    ]
+  | inl h ↦
+      let st = stands f g n m.gone law.apart m.left h in
+      let P : ℕ → Type 0 = λ k. full (preorder g) k ≡ true → (q : Midway p f g s size (k ∷ W)) → q.gone st.a.slot ≡ false → Midway p f (out (is_at k) g) s size (list_after p (preorder g) k W) in
+      subst P st.at (λ e q ng. elim (tells (last_at (preorder g) st.a.slot)) [
+        | inl t ↦ rw (e, t, st.cap) (full_last p f g s size W st.a law q st.here ng st.only st.cap t)
+        | inr t ↦ rw (e, t) (full_other p f g s size W st.a law q st.here ng st.only st.cap t)
+      ]) h m st.not_gone
+  | inr h ↦ rw h (empty_step p f g s size n W h m)
+]
 
 apart_left : (f g : Forest Entry) (gone : ℕ → Bool) → AreApart (preorder f) → g ≡ without (λ e. gone e.slot) f → AreApart (preorder g)
 apart_left f g gone h e = let P : Forest Entry → Type 0 = λ q. AreApart (preorder q) in subst P (sym e) (apart-without (λ e. gone e.slot) f h)
@@ -181,22 +186,22 @@ ended-more p f g s size n W law m h =
     let P : ℕ → Type 0 = λ k. last_at (preorder g) k ≡ true → (λ (c : Cap). ended_in (preorder f) (preorder g) c || same_object (held (preorder g) k) c) ≡ ended_in (preorder f) (preorder (out (is_at k) g)) in
     let sub : (b : Entry) → In b (preorder g) → In b (preorder f) = λ b i. (in_filter (λ e. not (m.gone e.slot)) (preorder f) b (let Q : List Entry → Type 0 = λ q. In b q in subst Q (remains f g m.gone m.left) i)).0 in
     subst P st.at (λ t.
-      rw (st.cap, out_filter g st.a.slot (apart_left f g m.gone law.apart m.left))
-        (sym (λ i c. ended-last (preorder f) (preorder g) st.a sub st.left (λ b j e. st.only b (sub b j) e) st.cap t c i))) b.1
+    rw (st.cap, out_filter g st.a.slot (apart_left f g m.gone law.apart m.left))
+    (sym (λ i c. ended-last (preorder f) (preorder g) st.a sub st.left (λ b j e. st.only b (sub b j) e) st.cap t c i))) b.1
 
 -- and none more where it doesn't
 pub ended-same : (p : ProfileName) (f g : Forest Entry) (s size n : ℕ) (W : List ℕ) → IsClearable p size (preorder f) → Midway p f g s size (n ∷ W) → ends (preorder g) n ≡ false →
     ended_in (preorder f) (preorder g) ≡ ended_in (preorder f) (preorder (out (is_at n) g))
 ended-same p f g s size n W law m h = elim (tells (full (preorder g) n)) [
-      inl e ↦
-        let st = stands f g n m.gone law.apart m.left e in
-        let sub : (b : Entry) → In b (preorder g) → In b (preorder f) = λ b i. (in_filter (λ e. not (m.gone e.slot)) (preorder f) b (let Q : List Entry → Type 0 = λ q. In b q in subst Q (remains f g m.gone m.left) i)).0 in
-        let P : ℕ → Type 0 = λ k. full (preorder g) k && last_at (preorder g) k ≡ false → full (preorder g) k ≡ true → ended_in (preorder f) (preorder g) ≡ ended_in (preorder f) (preorder (out (is_at k) g)) in
-        subst P st.at (λ t u.
-          rw (out_filter g st.a.slot (apart_left f g m.gone law.apart m.left))
-            (sym (λ i c. ended-other (preorder f) (preorder g) st.a (λ b j e. st.only b (sub b j) e) st.cap (and_false _ _ u t) c i))) h e
-    | inr e ↦ ap (λ (q : Forest Entry). ended_in (preorder f) (preorder q)) (sym (out_absent (is_at n) g e))
-    ]
+  | inl e ↦
+      let st = stands f g n m.gone law.apart m.left e in
+      let sub : (b : Entry) → In b (preorder g) → In b (preorder f) = λ b i. (in_filter (λ e. not (m.gone e.slot)) (preorder f) b (let Q : List Entry → Type 0 = λ q. In b q in subst Q (remains f g m.gone m.left) i)).0 in
+      let P : ℕ → Type 0 = λ k. full (preorder g) k && last_at (preorder g) k ≡ false → full (preorder g) k ≡ true → ended_in (preorder f) (preorder g) ≡ ended_in (preorder f) (preorder (out (is_at k) g)) in
+      subst P st.at (λ t u.
+      rw (out_filter g st.a.slot (apart_left f g m.gone law.apart m.left))
+      (sym (λ i c. ended-other (preorder f) (preorder g) st.a (λ b j e. st.only b (sub b j) e) st.cap (and_false _ _ u t) c i))) h e
+  | inr e ↦ ap (λ (q : Forest Entry). ended_in (preorder f) (preorder q)) (sym (out_absent (is_at n) g e))
+]
   where
     and_false : (x y : Bool) → x ≡ true → x && y ≡ false → y ≡ false
     and_false x y h g = grind arith
@@ -226,23 +231,23 @@ unfolding weight
 weight_less p [] n h e = cc
 weight_less p (x ∷ l) n h e =
     elim (x.slot == n) as (λ t. x.slot == n ≡ t → t || full l n ≡ true → weight p (cond (not t) (x ∷ filter (λ e. not (e.slot == n)) l) (filter (λ e. not (e.slot == n)) l)) + (1 + length (slots_of p (cond t x.cap (held l n)))) ≡ suc (length (slots_of p x.cap)) + weight p l) [
-      true ↦ λ t u. rw (weight_none l n (h.0 t)) (omega arith)
-    | false ↦ λ t u. let ih : weight p (filter (λ e. not (e.slot == n)) l) + (1 + length (slots_of p (held l n))) ≡ weight p l = weight_less p l n h.1 u in omega arith
+      | true ↦ λ t u. rw (weight_none l n (h.0 t)) (omega arith)
+      | false ↦ λ t u. let ih : weight p (filter (λ e. not (e.slot == n)) l) + (1 + length (slots_of p (held l n))) ≡ weight p l = weight_less p l n h.1 u in omega arith
     ] refl e
 
 -- each slot that is looked at leaves less to do
 pub midway-smaller : (p : ProfileName) (f g : Forest Entry) (s size n : ℕ) (W : List ℕ) → IsClearable p size (preorder f) → Midway p f g s size (n ∷ W) →
     weight p (preorder (out (is_at n) g)) + length (list_after p (preorder g) n W) < weight p (preorder g) + length (n ∷ W)
 midway-smaller p f g s size n W law m = elim (tells (full (preorder g) n)) [
-      inl e ↦
-        let w : weight p (preorder (out (is_at n) g)) + (1 + length (slots_of p (held (preorder g) n))) ≡ weight p (preorder g) =
-          ap (λ q. weight p q + (1 + length (slots_of p (held (preorder g) n)))) (out_filter g n (apart_left f g m.gone law.apart m.left)) ∙ weight_less p (preorder g) n (apart_left f g m.gone law.apart m.left n) e in
-        rw e (elim (last_at (preorder g) n) as (λ t. weight p (preorder (out (is_at n) g)) + length (cond t (slots_of p (held (preorder g) n) ++ W) W) < weight p (preorder g) + suc (length W)) [
-          true ↦ omega (arith, length-append (slots_of p (held (preorder g) n)) W)
+  | inl e ↦
+      let w : weight p (preorder (out (is_at n) g)) + (1 + length (slots_of p (held (preorder g) n))) ≡ weight p (preorder g) =
+      ap (λ q. weight p q + (1 + length (slots_of p (held (preorder g) n)))) (out_filter g n (apart_left f g m.gone law.apart m.left)) ∙ weight_less p (preorder g) n (apart_left f g m.gone law.apart m.left n) e in
+      rw e (elim (last_at (preorder g) n) as (λ t. weight p (preorder (out (is_at n) g)) + length (cond t (slots_of p (held (preorder g) n) ++ W) W) < weight p (preorder g) + suc (length W)) [
+        | true ↦ omega (arith, length-append (slots_of p (held (preorder g) n)) W)
         | false ↦ omega arith
-        ])
-    | inr e ↦ rw (e, out_absent (is_at n) g e) (omega arith)
-    ]
+      ])
+  | inr e ↦ rw (e, out_absent (is_at n) g e) (omega arith)
+]
 
 pub midway-no_null : (p : ProfileName) (f g : Forest Entry) (s size n : ℕ) (W : List ℕ) → IsClearable p size (preorder f) → Midway p f g s size W → full (preorder g) n ≡ true → held (preorder g) n ≡ Null → ⊥
 midway-no_null p f g s size n W law m h e =

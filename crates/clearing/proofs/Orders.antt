@@ -18,19 +18,22 @@ use Rattle.clearing.proofs.Without.{without-without, preorder-without, out_one}
 pub one_only : {A : Type 0} (p : A → Bool) (l : List A) → OneAtMost p l → (a b : A) → In a l → In b l → p a ≡ true → p b ≡ true → b ≡ a
 one_only p [] h a b i j e f = absurd i
 one_only p (x ∷ l) h a b i j e f = elim i [
-      inl s ↦ elim j [ inl t ↦ t ∙ sym s | inr t ↦ absurd (let z : true ≡ false = sym (any_in p l b t f) ∙ h.0 (ap p (sym s) ∙ e) in cc) ]
-    | inr s ↦ elim j [ inl t ↦ absurd (let z : true ≡ false = sym (any_in p l a s e) ∙ h.0 (ap p (sym t) ∙ f) in cc) | inr t ↦ one_only p l h.1 a b s t e f ]
-    ]
+  | inl s ↦ elim j [ inl t ↦ t ∙ sym s | inr t ↦ absurd (let z : true ≡ false = sym (any_in p l b t f) ∙ h.0 (ap p (sym s) ∙ e) in cc) ]
+  | inr s ↦ elim j [ inl t ↦ absurd (let z : true ≡ false = sym (any_in p l a s e) ∙ h.0 (ap p (sym t) ∙ f) in cc) | inr t ↦ one_only p l h.1 a b s t e f ]
+]
 
 pub one-filter : {A : Type 0} (p q : A → Bool) (l : List A) → OneAtMost p l → OneAtMost p (filter q l)
 one-filter p q [] h = tt
 one-filter p q (x ∷ l) h = elim (q x) as (λ b. OneAtMost p (cond b (x ∷ filter q l) (filter q l))) [
-      true ↦ (λ e. elim (tells (list_any p (filter q l))) [
-          inl t ↦ let w = any_of p (filter q l) t in absurd (let z : true ≡ false = sym (any_in p l w.0 (in_filter q l w.0 w.1.0).0 w.1.1) ∙ h.0 e in cc)
-        | inr t ↦ t
-        ], one-filter p q l h.1)
-    | false ↦ one-filter p q l h.1
-    ]
+  | true ↦ (
+    λ e. elim (tells (list_any p (filter q l))) [
+      | inl t ↦ let w = any_of p (filter q l) t in absurd (let z : true ≡ false = sym (any_in p l w.0 (in_filter q l w.0 w.1.0).0 w.1.1) ∙ h.0 e in cc)
+      | inr t ↦ t
+    ],
+    one-filter p q l h.1,
+  )
+  | false ↦ one-filter p q l h.1
+]
 
 pub apart-without : (p : Entry → Bool) (f : Forest Entry) → AreApart (preorder f) → AreApart (preorder (without p f))
 apart-without p f h n = rw (preorder-without p f) (one-filter (is_at n) (λ a. not (p a)) (preorder f) (h n))

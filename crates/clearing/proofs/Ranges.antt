@@ -16,8 +16,8 @@ in_addresses size first zero n i = absurd i
 in_addresses size first (suc count) n i =
     let e : suc count * size ≡ count * size + size = suc-mul count size in
     elim i [
-      inl h ↦ (omega (arith, h), omega (arith, h, e))
-    | inr j ↦ let x = in_addresses size (first + size) count n j in (omega (arith, x.0), omega (arith, x.1, e))
+      | inl h ↦ (omega (arith, h), omega (arith, h, e))
+      | inr j ↦ let x = in_addresses size (first + size) count n j in (omega (arith, x.0), omega (arith, x.1, e))
     ]
 
 pub distinct_addresses : (size first count : ℕ) → 1 ≤ size → AreDistinct (addresses size first count)
@@ -37,9 +37,9 @@ slot_in_range p (CNode base radix guard) n i =
     let o : 1 ≤ 2 ^ slot_bits p = one-le-pow (slot_bits p) 2 (omega arith) in
     (x.0, omega (arith, x.1, e, o))
 slot_in_range p (Tcb base) n i = elim i [
-      inl h ↦ let o : 1 ≤ 2 ^ tcb_bits p = one-le-pow (tcb_bits p) 2 (omega arith) in (omega (arith, h), omega (arith, h, o))
-    | inr j ↦ absurd j
-    ]
+  | inl h ↦ let o : 1 ≤ 2 ^ tcb_bits p = one-le-pow (tcb_bits p) 2 (omega arith) in (omega (arith, h), omega (arith, h, o))
+  | inr j ↦ absurd j
+]
 slot_in_range p Null n i = absurd i
 slot_in_range p (Untyped base bits free) n i = absurd i
 slot_in_range p (Endpoint base badge rights) n i = absurd i

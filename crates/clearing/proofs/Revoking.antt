@@ -28,10 +28,10 @@ below_in : {A : Type 0} (p : A → Bool) (a : A) (f : Forest A) → In a (preord
 below_in p a none i = i
 below_in {A} p a (tree b k r) i =
     elim (p b) as (λ t. In a (preorder (cond t k (join (below_those p k) (below_those p r)))) → In a (b ∷ (preorder k ++ preorder r))) [
-      true ↦ λ j. inr (in_left a (preorder k) (preorder r) j)
-    | false ↦ λ j. elim (in_join a (below_those p k) (below_those p r) j) [
-        inl u ↦ inr (in_left a (preorder k) (preorder r) (below_in p a k u))
-      | inr u ↦ inr (in_right a (preorder k) (preorder r) (below_in p a r u))
+      | true ↦ λ j. inr (in_left a (preorder k) (preorder r) j)
+      | false ↦ λ j. elim (in_join a (below_those p k) (below_those p r) j) [
+        | inl u ↦ inr (in_left a (preorder k) (preorder r) (below_in p a k u))
+        | inr u ↦ inr (in_right a (preorder k) (preorder r) (below_in p a r u))
       ]
     ] i
 
@@ -54,8 +54,8 @@ filter_less p [] a i e = absurd i
 filter_less {A} p (x ∷ l) a i e =
     let le : length (filter p l) ≤ length l = filter_le p l in
     elim (p x) as (λ b. p x ≡ b → length (cond b (x ∷ filter p l) (filter p l)) < suc (length l)) [
-      true ↦ λ t. elim i [ inl s ↦ absurd (let z : true ≡ false = sym t ∙ ap p (sym s) ∙ e in cc) | inr j ↦ let ih : length (filter p l) < length l = filter_less p l a j e in omega arith ]
-    | false ↦ λ t. omega arith
+      | true ↦ λ t. elim i [ inl s ↦ absurd (let z : true ≡ false = sym t ∙ ap p (sym s) ∙ e in cc) | inr j ↦ let ih : length (filter p l) < length l = filter_less p l a j e in omega arith ]
+      | false ↦ λ t. omega arith
     ] refl
 
 -- to clear a full slot leaves less
@@ -87,19 +87,19 @@ child_or_none (Some c) = inr (c, refl)
 -- more turns than there are full slots change nothing
 revoked_enough : (p : ProfileName) (j k s : ℕ) (f : Forest Entry) → length (preorder f) ≤ j → length (preorder f) ≤ k → revoked p j s f ≡ revoked p k s f
 revoked_enough p zero k s f h g = elim (child_or_none (first_child s f)) [
-      inl e ↦ sym (revoked_none p k s f e)
-    | inr w ↦ absurd (let x = child_less p s w.0 f w.1 in omega arith)
-    ]
+  | inl e ↦ sym (revoked_none p k s f e)
+  | inr w ↦ absurd (let x = child_less p s w.0 f w.1 in omega arith)
+]
 revoked_enough p (suc j) zero s f h g = elim (child_or_none (first_child s f)) [
-      inl e ↦ revoked_none p (suc j) s f e
-    | inr w ↦ absurd (let x = child_less p s w.0 f w.1 in omega arith)
-    ]
+  | inl e ↦ revoked_none p (suc j) s f e
+  | inr w ↦ absurd (let x = child_less p s w.0 f w.1 in omega arith)
+]
 revoked_enough p (suc j) (suc k) s f h g = elim (child_or_none (first_child s f)) [
-      inl e ↦ revoked_none p (suc j) s f e ∙ sym (revoked_none p (suc k) s f e)
-    | inr w ↦
-        let x = child_less p s w.0 f w.1 in
-        revoked_some p j s w.0 f w.1 ∙ revoked_enough p j k s (clear p w.0 f) (omega arith) (omega arith) ∙ sym (revoked_some p k s w.0 f w.1)
-    ]
+  | inl e ↦ revoked_none p (suc j) s f e ∙ sym (revoked_none p (suc k) s f e)
+  | inr w ↦
+      let x = child_less p s w.0 f w.1 in
+      revoked_some p j s w.0 f w.1 ∙ revoked_enough p j k s (clear p w.0 f) (omega arith) (omega arith) ∙ sym (revoked_some p k s w.0 f w.1)
+]
 
 -- D8, as two equations
 pub revoke_none : (p : ProfileName) (s : ℕ) (f : Forest Entry) → first_child s f ≡ None → revoke p s f ≡ f
@@ -147,15 +147,15 @@ ended-both a b d h g = λ i c. step (named a c) (named b c) (named d c) (h c) (g
 -- with as many turns as there are full slots, no child is left
 revoked_ends : (p : ProfileName) (k s : ℕ) (f : Forest Entry) → length (preorder f) ≤ k → first_child s (revoked p k s f) ≡ None
 revoked_ends p zero s f h = elim (child_or_none (first_child s f)) [
-      inl e ↦ e
-    | inr w ↦ absurd (let x = child_less p s w.0 f w.1 in omega arith)
-    ]
+  | inl e ↦ e
+  | inr w ↦ absurd (let x = child_less p s w.0 f w.1 in omega arith)
+]
 revoked_ends p (suc k) s f h = elim (child_or_none (first_child s f)) [
-      inl e ↦ ap (first_child s) (revoked_none p (suc k) s f e) ∙ e
-    | inr w ↦
-        let x = child_less p s w.0 f w.1 in
-        ap (first_child s) (revoked_some p k s w.0 f w.1) ∙ revoked_ends p k s (clear p w.0 f) (omega arith)
-    ]
+  | inl e ↦ ap (first_child s) (revoked_none p (suc k) s f e) ∙ e
+  | inr w ↦
+      let x = child_less p s w.0 f w.1 in
+      ap (first_child s) (revoked_some p k s w.0 f w.1) ∙ revoked_ends p k s (clear p w.0 f) (omega arith)
+]
 
 pub revoke_ends : (p : ProfileName) (s : ℕ) (f : Forest Entry) → first_child s (revoke p s f) ≡ None
 unfolding revoke

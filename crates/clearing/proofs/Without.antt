@@ -22,7 +22,7 @@ without-without p q none = refl
 without-without p q (tree a k r) = without-without_step p q a k r (without-without p q k) (without-without p q r)
   where
     without-without_step : {A : Type 0} (p q : A → Bool) (a : A) (k r : Forest A) → without p (without q k) ≡ without (λ a. q a || p a) k → without p (without q r) ≡ without (λ a. q a || p a) r
-      → without p (without q (tree a k r)) ≡ without (λ a. q a || p a) (tree a k r)
+        → without p (without q (tree a k r)) ≡ without (λ a. q a || p a) (tree a k r)
     without-without_step p q a k r h g = grind (arith, without-join)
 
 -- where none passes, nothing changes
@@ -31,7 +31,7 @@ without_absent p none h = refl
 without_absent p (tree a k r) h = without_absent_step p a k r (without_absent p k) (without_absent p r) h
   where
     without_absent_step : {A : Type 0} (p : A → Bool) (a : A) (k r : Forest A) → (list_any p (preorder k) ≡ false → without p k ≡ k) → (list_any p (preorder r) ≡ false → without p r ≡ r)
-      → list_any p (preorder (tree a k r)) ≡ false → without p (tree a k r) ≡ tree a k r
+        → list_any p (preorder (tree a k r)) ≡ false → without p (tree a k r) ≡ tree a k r
     without_absent_step p a k r h g e =
         let e' : p a || (list_any p (preorder k) || list_any p (preorder r)) ≡ false = ap (λ b. p a || b) (sym (list_any-append p (preorder k) (preorder r))) ∙ e in
         grind arith
@@ -41,7 +41,7 @@ preorder-without p none = refl
 preorder-without p (tree a k r) = preorder-without_step p a k r (preorder-without p k) (preorder-without p r)
   where
     preorder-without_step : {A : Type 0} (p : A → Bool) (a : A) (k r : Forest A) → preorder (without p k) ≡ filter (λ a. not (p a)) (preorder k) → preorder (without p r) ≡ filter (λ a. not (p a)) (preorder r)
-      → preorder (without p (tree a k r)) ≡ filter (λ a. not (p a)) (preorder (tree a k r))
+        → preorder (without p (tree a k r)) ≡ filter (λ a. not (p a)) (preorder (tree a k r))
     preorder-without_step p a k r h g =
         let e = filter-append (λ a. not (p a)) (preorder k) (preorder r) in
         let j = preorder-join (without p k) (without p r) in
@@ -65,7 +65,7 @@ out_one p (tree a k r) h =
     out_one_step p a k r (out_one p k (one-left p (preorder k) (preorder r) h.1)) (out_one p r (one-right p (preorder k) (preorder r) h.1)) h.0
   where
     out_one_step : {A : Type 0} (p : A → Bool) (a : A) (k r : Forest A) → out p k ≡ without p k → out p r ≡ without p r → (p a ≡ true → list_any p (preorder k ++ preorder r) ≡ false)
-      → out p (tree a k r) ≡ without p (tree a k r)
+        → out p (tree a k r) ≡ without p (tree a k r)
     out_one_step p a k r h g e =
         let j = list_any-append p (preorder k) (preorder r) in
         let x = without_absent p k in
