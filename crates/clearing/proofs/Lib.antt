@@ -12,3 +12,4 @@ pub mod Ranges
 pub mod Clearable
 pub mod Below
 pub mod Kept
+pub mod Chains

@@ -6,3 +6,4 @@ pub mod Clear
 pub mod Revoke
 pub mod Work
 pub mod Housed
+pub mod Chain
