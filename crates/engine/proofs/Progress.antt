@@ -24,14 +24,14 @@ Consumes-trans (Some x) (Some y) None bytes piece first second = absurd second
 Consumes-trans (Some x) (Some y) (Some z) bytes piece first second =
     first ∙ ap (λ r. bytes ++ r) second ∙ sym (append_assoc bytes piece z)
 
-pub Consumes-all : (a b c : Option (List ℕ)) (bytes : List ℕ) → Consumes a b bytes → Consumes b c [] → IsAtEnd c → IfSome a (λ input. bytes ≡ input)
+pub Consumes-all : (a b c : Option (List ℕ)) (bytes : List ℕ) → Consumes a b bytes → Consumes b c [] → IsAtEnd c → IfSome a (λ told. told ≡ bytes)
 Consumes-all None b c bytes first second end = tt
 Consumes-all (Some x) None c bytes first second end = absurd first
 Consumes-all (Some x) (Some y) None bytes first second end = absurd second
 Consumes-all (Some x) (Some y) (Some z) bytes first second end =
-    sym (first ∙ ap (λ r. bytes ++ r) (second ∙ end) ∙ append-nil bytes)
+    first ∙ ap (λ r. bytes ++ r) (second ∙ end) ∙ append-nil bytes
 
-pub Consumes-least : (limit : ℕ) (a b : Option (List ℕ)) (bytes : List ℕ) → limit ≤ length bytes → Consumes a b bytes → IfSome a (λ input. limit ≤ length input)
+pub Consumes-least : (limit : ℕ) (a b : Option (List ℕ)) (bytes : List ℕ) → limit ≤ length bytes → Consumes a b bytes → IfSome a (λ told. limit ≤ length told)
 Consumes-least limit None b bytes many first = tt
 Consumes-least limit (Some x) None bytes many first = absurd first
 Consumes-least limit (Some x) (Some y) bytes many first = omega (arith, ap length first, length-append bytes y)
@@ -39,10 +39,11 @@ Consumes-least limit (Some x) (Some y) bytes many first = omega (arith, ap lengt
 -- ---- writes
 
 -- the text is what was written and what is left, and the sink has taken what was written
-pub record HasWritten (text rest : List ℕ) (old new : Option (List ℕ)) (failed_old failed_new : Bool) : Type 0 where
+pub record HasWritten (text rest : List ℕ) (old new : Option (List ℕ)) (written_old written_new : ℕ) (failed_old failed_new : Bool) : Type 0 where
   pub front : List ℕ
   pub is_front : text ≡ front ++ rest
   pub appends : Appends old new front
+  pub written : written_new ≡ written_old + length front
   pub failed : failed_new ≡ failed_old
 
 pub Appends-refl : (old : Option (List ℕ)) → Appends old old []
@@ -55,3 +56,7 @@ Appends-trans (Some x) None c front piece first second = absurd first
 Appends-trans (Some x) (Some y) None front piece first second = absurd second
 Appends-trans (Some x) (Some y) (Some z) front piece first second =
     second ∙ ap (λ r. r ++ piece) first ∙ append_assoc x front piece
+
+-- a piece that was counted after what was counted before it
+pub written-trans : (a b c n : ℕ) (front piece : List ℕ) → length piece ≡ n → b ≡ a + length front → c ≡ b + n → c ≡ a + length (front ++ piece)
+written-trans a b c n front piece is first second = omega (arith, is, first, second, length-append front piece)

@@ -1,7 +1,7 @@
 //! The whole program over a source and a sink.
-ghost use Rattle.std.specs.Prelude.{◌≡◌, ◌⊎◌, ◌<◌, true, false, length, IfOk, IfSome, OnOk};
-ghost use Rattle.std.specs.Io.KnownBytes.{Appends, IsAtEnd};
-ghost use Rattle.engine.specs.Devices.{AppendsFront, GivesAsMany};
+ghost use Rattle.std.specs.Prelude.{◌≡◌, ◌⊎◌, ◌+◌, ◌<◌, ℕ, List, true, false, IfOk, OnOk};
+ghost use Rattle.std.specs.Io.KnownBytes.{IsAtEnd};
+ghost use Rattle.engine.specs.Devices.{Gave, GaveAsMany, Took, TookFront};
 ghost use Rattle.engine.specs.Program.{program};
 
 use crate::fault::{RunFault, Verdict};
@@ -29,16 +29,23 @@ pub fn check<S: Source, K: Sink>(
 ) -> Result<Verdict, RunFault>
     requires source { S.failed source.old ≡ false }
     requires sink { K.failed sink.old ≡ false }
-    ensures ok { IfOk result (λ verdict. IfSome (S.left source.old) (λ input. ((program input).1 ≡ verdict) × Appends (K.taken sink.old) (K.taken sink.new) (program input).0)) }
-    ensures short { OnOk result (IfSome (S.left source.old) (λ input. length input < INPUT_LIMIT)) }
+    ensures ok { IfOk result (λ verdict. (input : List ℕ)
+        × Gave S.left S.given source.old source.new input
+        × Took K.taken K.written sink.old sink.new (program input).0
+        × ((program input).1 ≡ verdict)) }
+    ensures short { OnOk result (S.given source.new < S.given source.old + INPUT_LIMIT) }
     ensures read { OnOk result (IsAtEnd (S.left source.new)) }
 
-    ensures reading { result ≡ Err RunFault.Reading → (S.failed source.new ≡ true) ⊎ GivesAsMany INPUT_LIMIT (S.given source.old) (S.given source.new) (S.left source.old) }
+    ensures reading { result ≡ Err RunFault.Reading
+        → (S.failed source.new ≡ true) ⊎ GaveAsMany S.left S.given source.old source.new INPUT_LIMIT }
     ensures reading_keeps { result ≡ Err RunFault.Reading → sink.new ≡ sink.old }
     ensures source_marked { S.failed source.new ≡ true → result ≡ Err RunFault.Reading }
 
     ensures writing { result ≡ Err RunFault.Writing → K.failed sink.new ≡ true }
-    ensures writing_front { result ≡ Err RunFault.Writing → IfSome (S.left source.old) (λ input. AppendsFront (K.taken sink.old) (K.taken sink.new) (program input).0) }
+    ensures writing_front { result ≡ Err RunFault.Writing
+        → (input : List ℕ)
+        × Gave S.left S.given source.old source.new input
+        × TookFront K.taken K.written sink.old sink.new (program input).0 }
     ensures sink_marked { K.failed sink.new ≡ true → result ≡ Err RunFault.Writing }
 
     ensures memory_keeps { result ≡ Err RunFault.Memory → sink.new ≡ sink.old }

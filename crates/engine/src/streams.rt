@@ -1,7 +1,7 @@
 //! All that a source holds, and a whole text to a sink.
-ghost use Rattle.std.specs.Prelude.{◌≡◌, ◌≢◌, ◌⊎◌, ◌+◌, ◌<◌, true, false, length, IfOk, IfErr, IfSome, OnErr, OnOk};
-ghost use Rattle.std.specs.Io.KnownBytes.{Appends, IsAtEnd};
-ghost use Rattle.engine.specs.Devices.{AppendsFront, GivesAsMany};
+ghost use Rattle.std.specs.Prelude.{◌≡◌, ◌≢◌, ◌⊎◌, ◌<◌, true, false, length, IfOk, IfErr, OnErr, OnOk};
+ghost use Rattle.std.specs.Io.KnownBytes.{IsAtEnd};
+ghost use Rattle.engine.specs.Devices.{Gave, GaveAsMany, Took, TookFront};
 
 use crate::fault::RunFault;
 use crate::sink::Sink;
@@ -21,11 +21,11 @@ pub fn read_below<S: Source>(
     limit: usize,
 ) -> Result<Vec<u8>, RunFault>
     requires { S.failed source.old ≡ false }
-    ensures all { IfOk result (λ bytes. IfSome (S.left source.old) (λ input. bytes.items ≡ input)) }
-    ensures given { IfOk result (λ bytes. S.given source.new ≡ S.given source.old + length bytes.items) }
+    ensures all { IfOk result (λ bytes. Gave S.left S.given source.old source.new bytes.items) }
     ensures end { OnOk result (IsAtEnd (S.left source.new)) }
     ensures short { IfOk result (λ bytes. length bytes.items < limit) }
-    ensures reading { result ≡ Err RunFault.Reading → (S.failed source.new ≡ true) ⊎ GivesAsMany limit (S.given source.old) (S.given source.new) (S.left source.old) }
+    ensures reading { result ≡ Err RunFault.Reading
+        → (S.failed source.new ≡ true) ⊎ GaveAsMany S.left S.given source.old source.new limit }
     ensures marked { S.failed source.new ≡ true → result ≡ Err RunFault.Reading }
     ensures never_writing { IfErr result (λ fault. fault ≢ RunFault.Writing) }
 {
@@ -52,8 +52,8 @@ pub fn read_below<S: Source>(
 /// `Writing` where a write failed or took no byte; the sink has then taken a front of the text.
 pub fn write_all<K: Sink>(sink: &mut K, text: &[u8]) -> Result<(), RunFault>
     requires { K.failed sink.old ≡ false }
-    ensures all { OnOk result (Appends (K.taken sink.old) (K.taken sink.new) text.now) }
-    ensures front { OnErr result (AppendsFront (K.taken sink.old) (K.taken sink.new) text.now) }
+    ensures all { OnOk result (Took K.taken K.written sink.old sink.new text.now) }
+    ensures front { OnErr result (TookFront K.taken K.written sink.old sink.new text.now) }
     ensures writing { IfErr result (λ fault. fault ≡ RunFault.Writing) }
     ensures ok { OnOk result (K.failed sink.new ≡ false) }
     ensures err { OnErr result (K.failed sink.new ≡ true) }

@@ -1,3 +1,4 @@
+-- What is read after each round, below the limit.
 use Rattle.std.proofs.Common.{length, ◌-◌}
 use Rattle.engine.proofs.Progress.{HasRead}
 use Rattle.engine.proofs.streams.read_below.Given as goal

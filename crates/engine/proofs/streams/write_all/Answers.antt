@@ -1,6 +1,7 @@
+-- What a write took comes behind what was written before.
 use Rattle.std.proofs.Common.{◌≡◌, ◌∙◌, ◌++◌, take, drop, sym, ap, append_assoc, rules}
-use Rattle.std.proofs.lemmas.List.{take-append-drop}
-use Rattle.engine.proofs.Progress.{Appends-trans}
+use Rattle.std.proofs.lemmas.List.{length-take-le, take-append-drop}
+use Rattle.engine.proofs.Progress.{Appends-trans, written-trans}
 use Rattle.engine.proofs.streams.write_all.Goals as goal
 
 pub loop-rest-preserved : goal.loop-rest-preserved
@@ -15,5 +16,6 @@ loop-rest-preserved g c =
       front = so_far.front ++ take n rest;
       is_front = rw after whole;
       appends = Appends-trans _ _ _ so_far.front (take n rest) so_far.appends c.in-Ok.ensures.bytes;
+      written = written-trans _ _ _ n so_far.front (take n rest) (length-take-le n rest (c.in-Ok.ensures.count).1) so_far.written c.in-Ok.ensures.written;
       failed = c.in-Ok.ensures.ok ∙ so_far.failed;
     }
