@@ -39,7 +39,7 @@ held_in f (Err refusal) = Err refusal
 abbrev pub extra_cap : ProfileName → Forest Entry → ℕ → ℕ → Result Cap Refusal
 extra_cap p f thread word = held_in f (invoked_slot p f thread word)
 
--- the invoked capability, where it is of the kind that the operation receives for
+-- the invoked capability, where it is of the kind that the operation asks for
 abbrev pub where_kind : (Cap → Bool) → Cap → Result Cap Refusal
 where_kind is cap = cond (is_null cap) (Err InvalidCapability) (cond (is cap) (Ok cap) (Err IllegalOperation))
 

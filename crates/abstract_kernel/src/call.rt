@@ -1,7 +1,7 @@
 //! Calls, replies, and what is seen of a thread.
 use cap_core::{Badge, Message, Refusal, Rights};
 
-/// What a thread receives of the kernel (seL4 Reference Manual, on system calls and on the methods of its objects). `cap` is
+/// What a thread asks of the kernel (seL4 Reference Manual, on system calls and on the methods of its objects). `cap` is
 /// the address, in the thread's capability space, of the capability that it uses; `root` and `src_root` are addresses there
 /// too. An index names the slot that its low bits, as many as the depth, lead to from a CNode.
 #[derive(Clone, Copy, Debug, PartialEq, Eq)]

@@ -69,7 +69,7 @@ impl<P: Profile, S: CapStore<P> + Drop, W: Waiters<P> + Drop> Kernel<P, S, W> {
     /// - `FailedLookup` with its kind where the word `cap`, all its bits, leads to no slot of the thread's capability
     ///   space;
     /// - `InvalidCapability` where that slot is empty, `IllegalOperation` where it holds a capability of another kind than the
-    ///   operation receives for: an endpoint's to send and to receive, an untyped one to retype, a CNode's for the others;
+    ///   operation asks for: an endpoint's to send and to receive, an untyped one to retype, a CNode's for the others;
     /// - `InvalidCapability` where an endpoint's capability lacks the right: to write for a send, to read for a receive.
     ///
     /// Those of a retype: `FailedLookup` where `root` leads to no slot; `InvalidArgument` where no kind has the number, and
@@ -133,7 +133,7 @@ impl<P: Profile, S: CapStore<P> + Drop, W: Waiters<P> + Drop> Kernel<P, S, W> {
         }
     }
 
-    /// Does what a call whose checks passed receives for.
+    /// Does what a call whose checks passed asks for.
     fn perform_invocation(&mut self, thread: u64, invocation: Invocation) -> Reply
         requires ready { IsReady self.old thread }
         requires invocation { IsInvocation P.the self.old invocation }
