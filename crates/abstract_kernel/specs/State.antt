@@ -1,8 +1,8 @@
 -- The abstract state: the capabilities, and whole histories of sends and receives.
 use Rattle.std.specs.Prelude.{ℕ, Bool, not, ◌==◌, ◌&&◌, cond, List, [], ◌∷◌, length, drop, filter, find, Option, None, Some, max, nat_lt}
 use Rattle.std.specs.List.{list_any, filter_map}
-use Rattle.slot_core.specs.Forest.{Forest}
-use Rattle.slot_core.specs.Entries.{Entry}
+use Rattle.derivation.specs.Forest.{Forest}
+use Rattle.derivation.specs.Entries.{Entry}
 use Rattle.ipc_core.specs.declared.waiter.Waiter.{Waiter}
 use Rattle.ipc_core.specs.Records.{Instance, same_instance, SendRecord, AskRecord, paired, waiting_list}
 use Rattle.abstract_kernel.specs.declared.call.ThreadState.{ThreadState}

@@ -2,8 +2,8 @@
 ghost use Rattle.std.specs.Prelude.{◌≡◌, ◌==◌, ℕ, List, Bool, true, Option, None, Some, eqb};
 ghost use Rattle.std.specs.List.{list_any, IsDistinct};
 ghost use Rattle.cap_core.specs.declared.profile.ProfileName.{ProfileName};
-ghost use Rattle.slot_core.specs.Forest.{Forest, preorder};
-ghost use Rattle.slot_core.specs.Entries.{Entry, slots, first_child};
+ghost use Rattle.derivation.specs.Forest.{Forest, preorder};
+ghost use Rattle.derivation.specs.Entries.{Entry, slots, first_child};
 ghost use Rattle.clearing.specs.Least.{IsLeast, cleared};
 ghost use Rattle.clearing.specs.Clear.{clear, all_emptied};
 ghost use Rattle.clearing.specs.Revoke.{revoke};

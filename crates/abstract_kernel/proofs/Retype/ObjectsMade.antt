@@ -5,7 +5,7 @@ use Rattle.std.specs.FinMap.{FinMap, get, insert}
 use Rattle.std.specs.Ordering.{nat_cmp}
 use Rattle.std.proofs.lemmas.Bool.{false≢true, ne_eqb}
 use Rattle.cap_core.specs.declared.profile.ProfileName.{ProfileName}
-use Rattle.slot_core.specs.Entries.{is_full}
+use Rattle.derivation.specs.Entries.{is_full}
 use Rattle.ipc_core.specs.Records.{Instance, SendRecord, AskRecord, same_instance, waiting_list}
 use Rattle.ipc_core.specs.declared.waiter.Waiter.{Waiter}
 use Rattle.abstract_kernel.specs.declared.call.ThreadState.TheVariants.{Ready, Inactive}
