@@ -5,8 +5,8 @@ use Rattle.cap_core.specs.declared.profile.ProfileName.{ProfileName}
 use Rattle.cap_core.specs.declared.message.Message.{Message}
 use Rattle.cap_core.specs.Numbers.{word_bits}
 use Rattle.cap_core.specs.Rights.{all_rights}
-use Rattle.kernel_core.specs.declared.call.Op.{Op}
-use Rattle.kernel_core.specs.declared.call.Op.TheVariants as ops
+use Rattle.abstract_kernel.specs.declared.call.Op.{Op}
+use Rattle.abstract_kernel.specs.declared.call.Op.TheVariants as ops
 use Rattle.kernel_core.specs.declared.task.TransferArguments.{TransferArguments}
 use Rattle.setup_format.specs.declared.fault.Place.{Place}
 use Rattle.setup_format.specs.declared.setup.OpName.{OpName}

@@ -1,7 +1,7 @@
 -- What is seen of a set-up.
 use Rattle.std.specs.Prelude.{ℕ, List, Option}
-use Rattle.kernel_core.specs.declared.call.Call.{Call}
-use Rattle.kernel_core.specs.Plan.{Plan}
+use Rattle.abstract_kernel.specs.declared.call.Call.{Call}
+use Rattle.abstract_kernel.specs.Plan.{Plan}
 
 -- a call, the client that makes it, and what its reply is expected to begin with
 pub record CallView : Type 0 where

@@ -1,7 +1,7 @@
 use Rattle.std.proofs.Common.{◌≡◌, ◌<◌, ◌*◌, ◌/◌, ◌^◌, true, false, sym, ap, ◌∙◌, rules, arith}
 use Rattle.std.specs.List.{filter}
 use Rattle.cap_core.specs.Numbers.{slot_size}
-use Rattle.slot_core.specs.Entries.{slots}
+use Rattle.derivation.specs.Entries.{slots}
 use Rattle.setup_report.specs.Report.{is_full, rising}
 use Rattle.setup_report.proofs.Addresses.Slots.{multiples, some_place, placed, slots_found, found_none, found_full, found_empty}
 use Rattle.setup_report.proofs.slots.full_slots.Goals as goal
