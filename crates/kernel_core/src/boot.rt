@@ -170,6 +170,3 @@ fn derive_spaces<P: Profile, S: CapStore<P>>(store: &mut S, plan: &BootPlan)
         store.derive(Slot::of_node::<P>(0, 1), root_slot, cap);
     }
 }
-
-#[cfg(test)]
-mod tests;

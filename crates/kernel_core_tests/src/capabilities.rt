@@ -1,7 +1,8 @@
 //! Retype, copy, mint, move and mutate, over each pair of a capability store and a store of waiting threads.
-use crate::{BootPlan, Call, Kernel, Op, Reply};
+use crate::looks::{has_children, holds};
 use cap_core::{Badge, Cap, Guard, Narrow, Profile, Rights, Wide};
 use ipc_core::{LinkedWaiters, MakeWaiters, RowWaiters};
+use kernel_core::{BootPlan, Call, Kernel, Op, Reply};
 use slot_core::{LinkedStore, MakeStore, RowStore};
 use std::alloc::Global;
 use std::process::Abort;
@@ -144,13 +145,16 @@ fn transfers<S: MakeStore<Wide>, W: MakeWaiters<Wide>>(
         (mutate(13, 12, 323), DONE),
     ];
     let kernel = stepped::<Wide, S, W>(rt, alloc, 2048, &steps)?;
-    assert_eq!(rt; kernel.cap_at(256), endpoint(6144, Rights(3)));
-    assert_eq!(rt; kernel.cap_at(288), endpoint(6144, Rights(1)));
-    assert_eq!(rt; kernel.cap_at(128), Cap::Null);
-    assert_eq!(rt; kernel.cap_at(320), endpoint(6144, Rights::ALL));
-    assert!(rt; kernel.has_children(320));
-    assert_eq!(rt; kernel.cap_at(384), Cap::Null);
-    assert_eq!(rt; kernel.cap_at(416), node(16384, 2, 5, 3));
+    let wanted = [
+        (256, endpoint(6144, Rights(3))),
+        (288, endpoint(6144, Rights(1))),
+        (128, Cap::Null),
+        (320, endpoint(6144, Rights::ALL)),
+        (384, Cap::Null),
+        (416, node(16384, 2, 5, 3)),
+    ];
+    holds(rt, &kernel, &wanted);
+    has_children(rt, &kernel, &[(320, true)]);
     Ok(())
 }
 
@@ -171,11 +175,14 @@ fn narrow_numbers<S: MakeStore<Narrow>, W: MakeWaiters<Narrow>>(
         (retype(5, 1, 0, 10, 1), DONE),
     ];
     let kernel = stepped::<Narrow, S, W>(rt, alloc, 1024, &steps)?;
-    assert_eq!(rt; kernel.cap_at(80), untyped(2048));
-    assert!(rt; kernel.has_children(80));
-    assert_eq!(rt; kernel.cap_at(128), endpoint(16384, Rights::ALL));
-    assert_eq!(rt; kernel.cap_at(144), endpoint(16400, Rights::ALL));
-    assert_eq!(rt; kernel.cap_at(160), Cap::Tcb { base: 17408 });
+    let wanted = [
+        (80, untyped(2048)),
+        (128, endpoint(16384, Rights::ALL)),
+        (144, endpoint(16400, Rights::ALL)),
+        (160, Cap::Tcb { base: 17408 }),
+    ];
+    holds(rt, &kernel, &wanted);
+    has_children(rt, &kernel, &[(80, true)]);
     Ok(())
 }
 

@@ -1,7 +1,8 @@
 //! Sends and receives of booted kernels, and what is read of them.
-use crate::{BootPlan, Call, Inbox, Kernel, Op, Reply, ThreadState};
+use crate::looks::{has_children, has_inbox, has_state, has_waiting, holds};
 use cap_core::{Badge, Cap, Guard, LookupFault, Message, Narrow, Profile, Refusal, Wide};
 use ipc_core::RowWaiters;
+use kernel_core::{BootPlan, Call, Inbox, Kernel, Op, Reply, ThreadState};
 use slot_core::RowStore;
 use std::alloc::{AllocError, Global};
 use std::process::Abort;
@@ -76,6 +77,22 @@ fn recv(thread: u64, cap: u64) -> Call {
     }
 }
 
+/// A kernel answers a call so.
+fn answers<P: Profile>(rt: &impl Abort, kernel: &mut RowKernel<P>, call: Call, wanted: Reply) {
+    assert_eq!(rt; kernel.step(call), wanted);
+}
+
+/// The reply to a message with a label that one thread sends another through the endpoint.
+fn delivered(at: Layout, from: u64, to: u64, label: u64) -> Reply {
+    Reply::Delivered {
+        endpoint: at.endpoint,
+        from,
+        to,
+        badge: Badge(0),
+        message: message(label),
+    }
+}
+
 fn refuses_calls_of_threads_that_wait<P: Profile>(
     rt: &impl Abort,
     alloc: Global,
@@ -83,39 +100,33 @@ fn refuses_calls_of_threads_that_wait<P: Profile>(
 ) -> Result<(), Fail> {
     let mut kernel = booted::<P>(rt, alloc)?;
     let [first, second, _] = at.tcbs;
-    assert_eq!(rt; kernel.step(send(first, 5, 7)), Reply::Waiting);
-    assert_eq!(rt;
-        kernel.step(recv(first, 5)),
-        Reply::Refused(Refusal::NotReady)
-    );
-    assert_eq!(rt;
-        kernel.step(recv(at.no_tcb, 5)),
-        Reply::Refused(Refusal::NoThread)
-    );
-    assert_eq!(rt;
-        kernel.thread_state(first),
-        Some(ThreadState::Sending(at.endpoint))
-    );
-    assert_eq!(rt; kernel.waiting(at.endpoint, 0), Some(first));
-    assert_eq!(rt; kernel.waiting(at.endpoint, 1), None);
-    assert_eq!(rt; kernel.waiting(at.no_endpoint, 0), None);
-    let delivered = Reply::Delivered {
-        endpoint: at.endpoint,
-        from: first,
-        to: second,
-        badge: Badge(0),
-        message: message(7),
-    };
-    assert_eq!(rt; kernel.step(recv(second, 5)), delivered);
-    assert_eq!(rt; kernel.thread_state(first), Some(ThreadState::Ready));
-    assert_eq!(rt; kernel.waiting(at.endpoint, 0), None);
+    answers(rt, &mut kernel, send(first, 5, 7), Reply::Waiting);
+    let not_ready = Reply::Refused(Refusal::NotReady);
+    answers(rt, &mut kernel, recv(first, 5), not_ready);
+    let no_thread = Reply::Refused(Refusal::NoThread);
+    answers(rt, &mut kernel, recv(at.no_tcb, 5), no_thread);
+    let sending = ThreadState::Sending(at.endpoint);
+    has_state(rt, &kernel, first, Some(sending));
+    has_waiting(rt, &kernel, at.endpoint, 0, Some(first));
+    has_waiting(rt, &kernel, at.endpoint, 1, None);
+    has_waiting(rt, &kernel, at.no_endpoint, 0, None);
+    let reply = delivered(at, first, second, 7);
+    answers(rt, &mut kernel, recv(second, 5), reply);
+    shows_a_delivery(rt, &kernel, at);
+    Ok(())
+}
+
+/// The first thread's message was delivered to the second.
+fn shows_a_delivery<P: Profile>(rt: &impl Abort, kernel: &RowKernel<P>, at: Layout) {
+    let [first, second, _] = at.tcbs;
+    has_state(rt, kernel, first, Some(ThreadState::Ready));
+    has_waiting(rt, kernel, at.endpoint, 0, None);
     let inbox = Inbox {
         badge: Badge(0),
         message: message(7),
     };
-    assert_eq!(rt; kernel.inbox(second), Some(inbox));
-    assert_eq!(rt; kernel.inbox(first), None);
-    Ok(())
+    has_inbox(rt, kernel, second, Some(inbox));
+    has_inbox(rt, kernel, first, None);
 }
 
 #[test]
@@ -139,20 +150,8 @@ fn serves_senders_in_order<P: Profile>(
     ];
     let mut replies = Vec::with_capacity(alloc, 4)?;
     kernel.run(&calls, &mut replies);
-    let of_first = Reply::Delivered {
-        endpoint: at.endpoint,
-        from: first,
-        to: third,
-        badge: Badge(0),
-        message: message(1),
-    };
-    let of_second = Reply::Delivered {
-        endpoint: at.endpoint,
-        from: second,
-        to: third,
-        badge: Badge(0),
-        message: message(2),
-    };
+    let of_first = delivered(at, first, third, 1);
+    let of_second = delivered(at, second, third, 2);
     let wanted = [Reply::Waiting, Reply::Waiting, of_first, of_second];
     assert!(rt; replies.as_slice() == wanted.as_slice());
     Ok(())
@@ -167,20 +166,12 @@ fn the_first_sender_is_served_first(rt: HostRuntime) -> Result<(), Fail> {
 fn meets_the_receiver<P: Profile>(rt: &impl Abort, alloc: Global, at: Layout) -> Result<(), Fail> {
     let mut kernel = booted::<P>(rt, alloc)?;
     let [first, second, _] = at.tcbs;
-    assert_eq!(rt; kernel.step(recv(second, 5)), Reply::Waiting);
-    assert_eq!(rt;
-        kernel.thread_state(second),
-        Some(ThreadState::Receiving(at.endpoint))
-    );
-    let delivered = Reply::Delivered {
-        endpoint: at.endpoint,
-        from: first,
-        to: second,
-        badge: Badge(0),
-        message: message(9),
-    };
-    assert_eq!(rt; kernel.step(send(first, 5, 9)), delivered);
-    assert_eq!(rt; kernel.thread_state(second), Some(ThreadState::Ready));
+    answers(rt, &mut kernel, recv(second, 5), Reply::Waiting);
+    let receiving = ThreadState::Receiving(at.endpoint);
+    has_state(rt, &kernel, second, Some(receiving));
+    let reply = delivered(at, first, second, 9);
+    answers(rt, &mut kernel, send(first, 5, 9), reply);
+    has_state(rt, &kernel, second, Some(ThreadState::Ready));
     Ok(())
 }
 
@@ -197,17 +188,15 @@ fn refuses_what_is_no_endpoint<P: Profile>(
 ) -> Result<(), Fail> {
     let mut kernel = booted::<P>(rt, alloc)?;
     let [first, _, _] = at.tcbs;
-    let unknown = Refusal::FailedLookup(LookupFault::GuardMismatch);
-    assert_eq!(rt; kernel.step(send(first, 16, 0)), Reply::Refused(unknown));
-    assert_eq!(rt;
-        kernel.step(send(first, 15, 0)),
-        Reply::Refused(Refusal::InvalidCapability)
-    );
-    assert_eq!(rt;
-        kernel.step(send(first, 2, 0)),
-        Reply::Refused(Refusal::IllegalOperation)
-    );
-    assert_eq!(rt; kernel.thread_state(first), Some(ThreadState::Ready));
+    for (cap, refusal) in [
+        (16, Refusal::FailedLookup(LookupFault::GuardMismatch)),
+        (15, Refusal::InvalidCapability),
+        (2, Refusal::IllegalOperation),
+    ] {
+        let refused = Reply::Refused(refusal);
+        answers(rt, &mut kernel, send(first, cap, 0), refused);
+    }
+    has_state(rt, &kernel, first, Some(ThreadState::Ready));
     Ok(())
 }
 
@@ -232,18 +221,24 @@ fn shows_its_capabilities<P: Profile>(
             size: at.guard_size,
         },
     };
-    assert_eq!(rt; kernel.cap_at(at.root_slot), root);
-    assert_eq!(rt; kernel.cap_at(first), root);
-    assert_eq!(rt; kernel.cap_at(at.tcb_slot), Cap::Tcb { base: third });
-    assert_eq!(rt; kernel.cap_at(0), Cap::Null);
-    assert_eq!(rt; kernel.cap_at(at.no_slot), Cap::Null);
-    assert_eq!(rt; kernel.cap_at(1 << 40), Cap::Null);
-    assert!(rt; kernel.has_children(at.root_slot));
-    assert!(rt; !kernel.has_children(at.tcb_slot));
-    assert!(rt; !kernel.has_children(first));
-    assert!(rt; !kernel.has_children(1 << 40));
-    assert_eq!(rt; kernel.thread_state(0), None);
-    assert_eq!(rt; kernel.inbox(0), None);
+    let wanted = [
+        (at.root_slot, root),
+        (first, root),
+        (at.tcb_slot, Cap::Tcb { base: third }),
+        (0, Cap::Null),
+        (at.no_slot, Cap::Null),
+        (1 << 40, Cap::Null),
+    ];
+    holds(rt, &kernel, &wanted);
+    let children = [
+        (at.root_slot, true),
+        (at.tcb_slot, false),
+        (first, false),
+        (1 << 40, false),
+    ];
+    has_children(rt, &kernel, &children);
+    has_state(rt, &kernel, 0, None);
+    has_inbox(rt, &kernel, 0, None);
     Ok(())
 }
 
