@@ -131,6 +131,3 @@ fn field(word: u64, from: u32, count: u32) -> u64
         high % (1 << count)
     }
 }
-
-#[cfg(test)]
-mod tests;

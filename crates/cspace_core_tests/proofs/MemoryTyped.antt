@@ -11,7 +11,7 @@ use Rattle.derivation.specs.Forest.{Forest, none, preorder}
 use Rattle.derivation.specs.Entries.{Entry, cap_at, is_full}
 use Rattle.derivation.specs.Derivation.{derived, rooted}
 use Rattle.derivation.specs.Disjoint.{IsDisjoint}
-use Rattle.cspace_core.specs.Memory.{memory_bits, root, endpoint, node, in_root, with_root, with_endpoint, with_node, with_guarded, with_copy, with_itself}
+use Rattle.cspace_core_tests.specs.Memory.{memory_bits, root, endpoint, node, in_root, with_root, with_endpoint, with_node, with_guarded, with_copy, with_itself}
 use Rattle.derivation.proofs.Trees.Forests.{each-contained}
 use Rattle.derivation.proofs.Slots.Edits.{each-rooted, each-derived}
 use Rattle.derivation.proofs.Disjoint.Disjointness.{disjoint-none, disjoint-rooted, disjoint-derived}
@@ -60,20 +60,6 @@ copy_typed Narrow = typed_derived Narrow 64 16432 endpoint (with_guarded Narrow)
 pub itself_typed : (p : ProfileName) → IsTyped p (with_itself p)
 itself_typed Wide = typed_derived Wide 256 16384 (node 0 0) (with_copy Wide) (copy_typed Wide) refl refl refl refl
 itself_typed Narrow = typed_derived Narrow 128 16384 (node 0 0) (with_copy Narrow) (copy_typed Narrow) refl refl refl refl
-
--- what the capabilities of the tests may stand in
-
-pub root_lawful : (p : ProfileName) (memory value size : ℕ) → memory ≡ memory_bits → size + 4 ≤ word_bits p → value < 2 ^ size → IsLawful p memory (CNode 0 4 (record { value = value; size = size }))
-root_lawful Wide m value size e s v = record { full = refl; placed = record { aligned = refl; within = rw e (omega arith); addressed = omega arith }; holds = record { some = omega arith; both = s; cut = v } }
-root_lawful Narrow m value size e s v = record { full = refl; placed = record { aligned = refl; within = rw e (omega arith); addressed = omega arith }; holds = record { some = omega arith; both = s; cut = v } }
-
-pub node_lawful : (p : ProfileName) (memory value size : ℕ) → memory ≡ memory_bits → size + 2 ≤ word_bits p → value < 2 ^ size → IsLawful p memory (node value size)
-node_lawful Wide m value size e s v = record { full = refl; placed = record { aligned = refl; within = rw e (omega arith); addressed = omega arith }; holds = record { some = omega arith; both = s; cut = v } }
-node_lawful Narrow m value size e s v = record { full = refl; placed = record { aligned = refl; within = rw e (omega arith); addressed = omega arith }; holds = record { some = omega arith; both = s; cut = v } }
-
-pub endpoint_lawful : (p : ProfileName) (memory : ℕ) → memory ≡ memory_bits → IsLawful p memory endpoint
-endpoint_lawful Wide m e = record { full = refl; placed = record { aligned = refl; within = rw e (omega arith); addressed = omega arith }; holds = tt }
-endpoint_lawful Narrow m e = record { full = refl; placed = record { aligned = refl; within = rw e (omega arith); addressed = omega arith }; holds = tt }
 
 -- the same at equal slots, capabilities and forests
 pub disjoint_same : (p : ProfileName) (a b s t : ℕ) (cap new : Cap) (f h : Forest Entry) → a ≡ b → s ≡ t → cap ≡ new → f ≡ h → IsDisjoint p (derived b t new h) → IsDisjoint p (derived a s cap f)

@@ -5,7 +5,7 @@ ghost use Rattle.cap_core.specs.Numbers.{slot_size, word_bits};
 ghost use Rattle.derivation.specs.Forest.{none};
 ghost use Rattle.cap_core.specs.declared.capability.Cap.TheVariants.{CNode};
 ghost use Rattle.slot_core.specs.Places.{address_of};
-ghost use Rattle.cspace_core.specs.Memory.{memory_bits, endpoint as endpoint_cap, node as node_cap, with_root, with_endpoint, with_node, with_guarded, with_copy, with_itself};
+ghost use Rattle.cspace_core_tests.specs.Memory.{memory_bits, endpoint as endpoint_cap, node as node_cap, with_root, with_endpoint, with_node, with_guarded, with_copy, with_itself};
 
 use cap_core::{Badge, Cap, Guard, Profile, Rights};
 use slot_core::{MakeStore, Slot};

@@ -1,7 +1,7 @@
 use Rattle.slot_core.specs.Places.{address_of}
-use Rattle.cspace_core.specs.Memory.{node, in_root, with_node}
-use Rattle.cspace_core.proofs.Memory.{disjoint_same, guarded_typed}
-use Rattle.cspace_core.proofs.tests.memory.derive_guarded.Goals as goal
+use Rattle.cspace_core_tests.specs.Memory.{node, in_root, with_node}
+use Rattle.cspace_core_tests.proofs.MemoryTyped.{disjoint_same, guarded_typed}
+use Rattle.cspace_core_tests.proofs.memory.derive_guarded.Goals as goal
 
 pub derive-requires-clause-disjoint : goal.derive-requires-clause-disjoint
 derive-requires-clause-disjoint g c =

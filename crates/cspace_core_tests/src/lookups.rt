@@ -1,43 +1,46 @@
+//! What addresses lead to, in both profiles.
 ghost use Rattle.std.specs.Prelude.{◌≡◌, ◌⊎◌, ◌≤◌};
 ghost use Rattle.cap_core.specs.Numbers.{word_bits};
 ghost use Rattle.cap_core.specs.declared.capability.Cap.TheVariants.{Null};
 ghost use Rattle.cap_core.specs.Objects.{IsLawful};
-ghost use Rattle.cspace_core.specs.Memory.{memory_bits};
+ghost use Rattle.cspace_core_tests.specs.Memory.{memory_bits};
 
-use super::*;
-use cap_core::{Narrow, Wide};
-use memory::{memory, node, root};
-use slot_core::RowStore;
+use crate::memory::{memory, node, root};
+use cap_core::{Cap, LookupFault, Narrow, Profile, Wide};
+use cspace_core::{resolve, target};
+use slot_core::{CapStore, RowStore};
 use std::test::Fail;
 
-mod memory;
-
-/// What `resolve` answers for all bits of a word, by the slot's address.
-fn resolved<P: Profile, S: CapStore<P>>(
+/// Whether `resolve` answers so for all bits of a word, by the slot's address.
+fn is_resolved<P: Profile, S: CapStore<P>>(
     store: &S,
     root: Cap,
     address: u64,
-) -> Result<(u64, u32), LookupFault>
+    want: Result<(u64, u32), LookupFault>,
+) -> bool
     requires memory { S.memory_bits store.now ≡ memory_bits }
     requires lawful { (root ≡ Null) ⊎ IsLawful P.the memory_bits root }
 {
-    let (slot, left) = resolve::<P, S>(store, root, address, P::WORD_BITS)?;
-    Ok((slot.address::<P>(), left))
+    match resolve::<P, S>(store, root, address, P::WORD_BITS) {
+        Ok((slot, left)) => want == Ok((slot.address::<P>(), left)),
+        Err(fault) => want == Err(fault),
+    }
 }
 
-/// What `target` answers, by the slot's address and the refusal's number and kind.
-fn targeted<P: Profile, S: CapStore<P>>(
+/// Whether `target` answers so, by the slot's address and the refusal's number and kind.
+fn is_target<P: Profile, S: CapStore<P>>(
     store: &S,
     root: Cap,
     index: u64,
     depth: u64,
-) -> Result<u64, (u32, u32)>
+    want: Result<u64, (u32, u32)>,
+) -> bool
     requires memory { S.memory_bits store.now ≡ memory_bits }
     requires lawful { (root ≡ Null) ⊎ IsLawful P.the memory_bits root }
 {
     match target::<P, S>(store, root, index, depth) {
-        Ok(slot) => Ok(slot.address::<P>()),
-        Err(refusal) => Err((refusal.code(), refusal.kind())),
+        Ok(slot) => want == Ok(slot.address::<P>()),
+        Err(refusal) => want == Err((refusal.code(), refusal.kind())),
     }
 }
 
@@ -51,9 +54,8 @@ fn invocations_go_through_two_cnodes(rt: HostRuntime) -> Result<(), Fail> {
         (4, Err(LookupFault::GuardMismatch)),
         (64, Err(LookupFault::GuardMismatch)),
     ] {
-        assert_eq!(rt;
-            resolved::<Wide, RowStore<Wide>>(&store, root::<Wide>(0, 58), address),
-            want
+        assert!(rt;
+            is_resolved::<Wide, RowStore<Wide>>(&store, root::<Wide>(0, 58), address, want)
         );
     }
     Ok(())
@@ -68,10 +70,7 @@ fn guarded_cnodes_are_targets(rt: HostRuntime) -> Result<(), Fail> {
         (10, 4, Err((6, 3))),
         (46, 6, Err((6, 3))),
     ] {
-        assert_eq!(rt;
-            targeted::<Wide, RowStore<Wide>>(&store, node(0b101, 3), index, depth),
-            want
-        );
+        assert!(rt; is_target::<Wide, RowStore<Wide>>(&store, node(0b101, 3), index, depth, want));
     }
     Ok(())
 }
@@ -89,9 +88,8 @@ fn guards_stand_between_cnodes(rt: HostRuntime) -> Result<(), Fail> {
         (0b1001, 4, Ok(288)),
         (0b1000_00_00_11, 10, Ok(16480)),
     ] {
-        assert_eq!(rt;
-            targeted::<Wide, RowStore<Wide>>(&store, root::<Wide>(0, 0), index, depth),
-            want
+        assert!(rt;
+            is_target::<Wide, RowStore<Wide>>(&store, root::<Wide>(0, 0), index, depth, want)
         );
     }
     Ok(())
@@ -108,10 +106,7 @@ fn narrow_words_have_32_bits(rt: HostRuntime) -> Result<(), Fail> {
         (4, Err(LookupFault::GuardMismatch)),
         (64, Err(LookupFault::GuardMismatch)),
     ] {
-        assert_eq!(rt;
-            resolved::<Narrow, RowStore<Narrow>>(&store, root, address),
-            want
-        );
+        assert!(rt; is_resolved::<Narrow, RowStore<Narrow>>(&store, root, address, want));
     }
     for (index, depth, want) in [
         (35, 32, Ok(16432)),
@@ -119,10 +114,7 @@ fn narrow_words_have_32_bits(rt: HostRuntime) -> Result<(), Fail> {
         (35, 0, Err((4, 0))),
         (16, 32, Err((6, 3))),
     ] {
-        assert_eq!(rt;
-            targeted::<Narrow, RowStore<Narrow>>(&store, root, index, depth),
-            want
-        );
+        assert!(rt; is_target::<Narrow, RowStore<Narrow>>(&store, root, index, depth, want));
     }
     Ok(())
 }
@@ -137,35 +129,22 @@ fn depths_are_those_of_a_word(rt: HostRuntime) -> Result<(), Fail> {
         (0b11, u64::MAX, Err((4, 0))),
         (0b1, 1, Err((6, 3))),
     ] {
-        assert_eq!(rt;
-            targeted::<Wide, RowStore<Wide>>(&store, node(0, 0), index, depth),
-            want
-        );
+        assert!(rt; is_target::<Wide, RowStore<Wide>>(&store, node(0, 0), index, depth, want));
     }
     let root = root::<Wide>(0, 60);
-    assert_eq!(rt;
-        targeted::<Wide, RowStore<Wide>>(&store, root, 4, 64),
-        Ok(128)
-    );
-    assert_eq!(rt;
-        targeted::<Wide, RowStore<Wide>>(&store, root, 4, 4),
-        Err((6, 4))
-    );
+    assert!(rt; is_target::<Wide, RowStore<Wide>>(&store, root, 4, 64, Ok(128)));
+    assert!(rt; is_target::<Wide, RowStore<Wide>>(&store, root, 4, 4, Err((6, 4))));
     Ok(())
 }
 
 #[test]
 fn a_root_is_a_cnode_at_every_depth(rt: HostRuntime) -> Result<(), Fail> {
     let store = memory::<Wide, RowStore<Wide>>(rt.alloc())?;
-    assert_eq!(rt;
-        resolved::<Wide, RowStore<Wide>>(&store, Cap::Null, 4),
-        Err(LookupFault::InvalidRoot)
+    assert!(rt;
+        is_resolved::<Wide, RowStore<Wide>>(&store, Cap::Null, 4, Err(LookupFault::InvalidRoot))
     );
     for depth in [0, 1, 64, 65] {
-        assert_eq!(rt;
-            targeted::<Wide, RowStore<Wide>>(&store, Cap::Null, 0, depth),
-            Err((6, 1))
-        );
+        assert!(rt; is_target::<Wide, RowStore<Wide>>(&store, Cap::Null, 0, depth, Err((6, 1))));
     }
     Ok(())
 }
