@@ -1,4 +1,5 @@
 -- The marked list: what it keeps through each edit, and what the edit is to the forest that it stands for.
+pub mod ListEdits
 pub mod MarkedEdits
 pub mod MarkedKept
 pub mod MarkedLines

@@ -8,3 +8,4 @@ pub use Rattle.derivation.specs.MarkedEdits
 pub mod Places
 pub mod Rows
 pub mod Links
+pub mod Calls

@@ -35,7 +35,15 @@ impl<P: Profile> Model for LinkedStore<P> {
 }
 
 impl<P: Profile> CapStore<P> for LinkedStore<P> {
+    ghost use Rattle.std.specs.Prelude.{◌^◌, ◌<◌, true, false};
+    ghost use Rattle.cap_core.specs.Objects.{IsLawful, is_untyped, badge_of, contains};
+    ghost use Rattle.slot_core.specs.Places.{address_of};
+    ghost use Rattle.slot_core.specs.Calls.{held, is_filled, rooted_at, retyped_at, derived_at, moved_at, freed_at, emptied_at};
+    ghost use Rattle.slot_core.specs.Calls.{KeepsBadge, IsChildless};
+    ghost use Rattle.derivation.specs.Derivation.{with_free, names_same, is_named};
+    ghost use Rattle.derivation.specs.Disjoint.{IsDisjoint};
     ghost use Rattle.derivation.specs.Marked.{forest_of};
+    ghost use Rattle.derivation.specs.MarkedEdits.{appended, object_behind, derived_behind, moved_to, freed_at as freed_in, taken_out};
 
     ghost forest = { λ s. forest_of P.the s.0 };
 
@@ -45,11 +53,32 @@ impl<P: Profile> CapStore<P> for LinkedStore<P> {
         row(&self.links, slot).cap
     }
 
-    fn put_root(&mut self, slot: Slot, cap: Cap) {
+    fn put_root(&mut self, slot: Slot, cap: Cap)
+        requires within { address_of P.the slot < 2 ^ self.old.1 }
+        requires empty { is_filled P.the slot (forest_of P.the self.old.0) ≡ false }
+        requires lawful { IsLawful P.the (self.old.1) cap }
+        requires unnamed { is_named cap (forest_of P.the self.old.0) ≡ false }
+        requires disjoint { IsDisjoint P.the (rooted_at P.the slot cap (forest_of P.the self.old.0)) }
+        ensures list { self.new.0 ≡ appended slot.place cap self.old.0 }
+        ensures forest { forest_of P.the self.new.0 ≡ rooted_at P.the slot cap (forest_of P.the self.old.0) }
+        ensures memory { self.new.1 ≡ self.old.1 }
+    {
         append(&mut self.links, &mut self.first, &mut self.last, slot, cap);
     }
 
-    fn derive(&mut self, source: Slot, slot: Slot, cap: Cap) {
+    fn derive(&mut self, source: Slot, slot: Slot, cap: Cap)
+        requires source { is_filled P.the source (forest_of P.the self.old.0) ≡ true }
+        requires within { address_of P.the slot < 2 ^ self.old.1 }
+        requires empty { is_filled P.the slot (forest_of P.the self.old.0) ≡ false }
+        requires lawful { IsLawful P.the (self.old.1) cap }
+        requires same { names_same (held P.the source (forest_of P.the self.old.0)) cap ≡ true }
+        requires badge { KeepsBadge (held P.the source (forest_of P.the self.old.0)) cap }
+        requires childless { IsChildless P.the source cap (forest_of P.the self.old.0) }
+        requires disjoint { IsDisjoint P.the (derived_at P.the source slot cap (forest_of P.the self.old.0)) }
+        ensures list { self.new.0 ≡ derived_behind source.place slot.place cap self.old.0 }
+        ensures forest { forest_of P.the self.new.0 ≡ derived_at P.the source slot cap (forest_of P.the self.old.0) }
+        ensures memory { self.new.1 ≡ self.old.1 }
+    {
         let marks = is_new_original(row(&self.links, source).cap, cap);
         insert_after(
             &mut self.links,
@@ -62,7 +91,18 @@ impl<P: Profile> CapStore<P> for LinkedStore<P> {
         );
     }
 
-    fn put_new(&mut self, parent: Slot, slot: Slot, cap: Cap) {
+    fn put_new(&mut self, parent: Slot, slot: Slot, cap: Cap)
+        requires parent { is_untyped (held P.the parent (forest_of P.the self.old.0)) ≡ true }
+        requires contains { contains P.the (held P.the parent (forest_of P.the self.old.0)) cap ≡ true }
+        requires within { address_of P.the slot < 2 ^ self.old.1 }
+        requires empty { is_filled P.the slot (forest_of P.the self.old.0) ≡ false }
+        requires lawful { IsLawful P.the (self.old.1) cap }
+        requires unnamed { is_named cap (forest_of P.the self.old.0) ≡ false }
+        requires disjoint { IsDisjoint P.the (retyped_at P.the parent slot cap (forest_of P.the self.old.0)) }
+        ensures list { self.new.0 ≡ object_behind parent.place slot.place cap self.old.0 }
+        ensures forest { forest_of P.the self.new.0 ≡ retyped_at P.the parent slot cap (forest_of P.the self.old.0) }
+        ensures memory { self.new.1 ≡ self.old.1 }
+    {
         let marks = true;
         insert_after(
             &mut self.links,
@@ -75,7 +115,18 @@ impl<P: Profile> CapStore<P> for LinkedStore<P> {
         );
     }
 
-    fn relocate(&mut self, source: Slot, slot: Slot, cap: Cap) {
+    fn relocate(&mut self, source: Slot, slot: Slot, cap: Cap)
+        requires source { is_filled P.the source (forest_of P.the self.old.0) ≡ true }
+        requires within { address_of P.the slot < 2 ^ self.old.1 }
+        requires empty { is_filled P.the slot (forest_of P.the self.old.0) ≡ false }
+        requires lawful { IsLawful P.the (self.old.1) cap }
+        requires same { names_same (held P.the source (forest_of P.the self.old.0)) cap ≡ true }
+        requires badge { badge_of cap ≡ badge_of (held P.the source (forest_of P.the self.old.0)) }
+        requires disjoint { IsDisjoint P.the (moved_at P.the source slot cap (forest_of P.the self.old.0)) }
+        ensures list { self.new.0 ≡ moved_to source.place slot.place cap self.old.0 }
+        ensures forest { forest_of P.the self.new.0 ≡ moved_at P.the source slot cap (forest_of P.the self.old.0) }
+        ensures memory { self.new.1 ≡ self.old.1 }
+    {
         replace(
             &mut self.links,
             &mut self.first,
@@ -86,11 +137,22 @@ impl<P: Profile> CapStore<P> for LinkedStore<P> {
         );
     }
 
-    fn set_free(&mut self, slot: Slot, free: u64) {
+    fn set_free(&mut self, slot: Slot, free: u64)
+        requires untyped { is_untyped (held P.the slot (forest_of P.the self.old.0)) ≡ true }
+        requires lawful { IsLawful P.the (self.old.1) (with_free free (held P.the slot (forest_of P.the self.old.0))) }
+        ensures list { self.new.0 ≡ freed_in slot.place free self.old.0 }
+        ensures forest { forest_of P.the self.new.0 ≡ freed_at P.the slot free (forest_of P.the self.old.0) }
+        ensures memory { self.new.1 ≡ self.old.1 }
+    {
         free_from(&mut self.links, slot, free);
     }
 
-    fn remove(&mut self, slot: Slot) {
+    fn remove(&mut self, slot: Slot)
+        requires full { is_filled P.the slot (forest_of P.the self.old.0) ≡ true }
+        ensures list { self.new.0 ≡ taken_out slot.place self.old.0 }
+        ensures forest { forest_of P.the self.new.0 ≡ emptied_at P.the slot (forest_of P.the self.old.0) }
+        ensures memory { self.new.1 ≡ self.old.1 }
+    {
         unlink(&mut self.links, &mut self.first, &mut self.last, slot);
     }
 
