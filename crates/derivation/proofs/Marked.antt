@@ -2,8 +2,10 @@
 pub mod ListEdits
 pub mod MarkedEdits
 pub mod MarkedKept
+pub mod MarkedLaw
 pub mod MarkedLines
 pub mod MarkedPuts
+pub mod MarkedReads
 pub mod MarkedRemoval
 pub mod MarkedRenamed
 pub mod MarkedRetype

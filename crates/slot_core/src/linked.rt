@@ -12,7 +12,8 @@ use cap_core::{Cap, Profile};
 use std::alloc::{AllocError, Global};
 use std::marker::{Model, PhantomData};
 
-/// The linked form of a capability store: a row for each slot of the memory, and the first and the last slot of the list.
+/// The linked form of a capability store: a row for each slot of the memory, and the first and the last slot of the
+/// list.
 #[derive(Drop)]
 pub struct LinkedStore<P: Profile> {
     links: Vec<Link>,
@@ -209,13 +210,13 @@ impl<P: Profile> MakeStore<P> for LinkedStore<P> {
 }
 
 impl<P: Profile> LinkedStore<P> {
-    ghost use Rattle.std.specs.Prelude.{◌≡◌, ◌*◌, ◌<◌, ◌^◌, None, List, ◌∷◌, ◌++◌, map};
+    ghost use Rattle.std.specs.Prelude.{◌≡◌, ◌<◌, ◌^◌, None};
     ghost use Rattle.slot_core.specs.Places.{address_of};
     ghost use Rattle.slot_core.specs.Links.{place_in};
-    ghost use Rattle.derivation.specs.Marked.{Marked, row_in, previous_in, next_in, entry_of, forest_of, run_of, StandsForEntries, HasOthersBelow};
-    ghost use Rattle.derivation.specs.Forest.{Forest, descendants};
-    ghost use Rattle.derivation.specs.Entries.{Entry, is_at};
-    ghost use Rattle.cap_core.specs.Numbers.{slot_size};
+    ghost use Rattle.derivation.specs.Marked.{row_in, previous_in, next_in, forest_of, StandsForEntries};
+    ghost use Rattle.derivation.specs.Marked.{HasRunsBelow, HasChildrenNext, HasLastsAlone, HasOthersBelow};
+    ghost use Rattle.derivation.specs.Forest.{Forest};
+    ghost use Rattle.derivation.specs.Entries.{Entry};
 
     /// A slot's row in the list; an empty slot's has no capability, no neighbours and no mark.
     pub fn link(&self, slot: Slot) -> Link
@@ -229,13 +230,17 @@ impl<P: Profile> LinkedStore<P> {
         row(&self.links, slot)
     }
 
-    /// Derivation without a tree. Whatever calls a store has had, the rows that `link` answers stand for its forest, where
-    /// revocable is originality, and for no other. The descendants of a slot are the longest run of the slots behind it that
-    /// it is parent of. An original capability with no badge has all other capabilities of its object below it.
+    /// Derivation without a tree. Whatever calls a store has had, the rows that `link` answers stand for its forest,
+    /// where revocable is originality, and for no other. The descendants of a slot are the longest run of the slots
+    /// behind it that it is parent of, and its newest child is the next slot, where it is parent of that. A capability
+    /// is the last of its object where it is untyped, or neither neighbour names the object. An original capability
+    /// with no badge has all other capabilities of its object below it.
     pub fn stands_for_its_forest(&self)
         ensures stands { StandsForEntries P.the self.now.0 (forest_of P.the self.now.0) }
         ensures alone { (f : Forest Entry) → StandsForEntries P.the self.now.0 f → f ≡ forest_of P.the self.now.0 }
-        ensures descendants { (pre : List Marked) (s : Marked) (post : List Marked) → self.now.0 ≡ pre ++ s ∷ post → descendants (is_at (s.place * slot_size P.the)) (forest_of P.the self.now.0) ≡ map (entry_of P.the) (run_of P.the s post) }
+        ensures descendants { HasRunsBelow P.the self.now.0 }
+        ensures children { HasChildrenNext P.the self.now.0 }
+        ensures lasts { HasLastsAlone P.the self.now.0 }
         ensures below { HasOthersBelow (forest_of P.the self.now.0) }
     {
         // The type's promise is known once a field is read.
