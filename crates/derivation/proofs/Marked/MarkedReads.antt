@@ -1,5 +1,5 @@
 -- What is read off the marked list: the newest child of a slot, and whether its capability is the last of its object.
-use Rattle.std.proofs.Common.{◌≡◌, ℕ, ◌*◌, Bool, true, false, cond, not, ◌||◌, ◌&&◌, ◌==◌, eq-eqb, List, [], ◌∷◌, ◌++◌, map, Option, Some, None, refl, sym, ◌∙◌, ap, subst, append_assoc}
+use Rattle.std.proofs.Common.{◌≡◌, ◌*◌, Bool, true, false, cond, not, ◌||◌, ◌&&◌, ◌==◌, eq-eqb, List, [], ◌∷◌, ◌++◌, map, Some, None, refl, sym, ◌∙◌, ap, subst, append_assoc}
 use Rattle.std.specs.Prelude.{option_map}
 use Rattle.std.specs.List.{AllByRecursion as Each, list_any}
 use Rattle.std.proofs.lemmas.List.Folds.{list_any-append}
@@ -8,7 +8,7 @@ use Rattle.cap_core.specs.declared.capability.Cap.{Cap}
 use Rattle.cap_core.specs.Numbers.{slot_size}
 use Rattle.cap_core.specs.Objects.{is_untyped, same_object, in_region}
 use Rattle.derivation.specs.Forest.{preorder}
-use Rattle.derivation.specs.Entries.{Entry, cap_at, first_child}
+use Rattle.derivation.specs.Entries.{Entry, first_child}
 use Rattle.derivation.specs.Derivation.{is_last}
 use Rattle.derivation.specs.Marked.{Marked, is_parent, entry_of, forest_of, stands_at, IsFront, IsGathered, next_child, is_named_before, is_named_behind}
 use Rattle.derivation.proofs.Trees.Built.{Absent, next_passing}

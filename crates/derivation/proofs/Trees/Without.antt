@@ -1,5 +1,5 @@
 -- A forest that several leave at once: its preorder, one set after another, and the one that leaves alone.
-use Rattle.std.proofs.Common.{◌≡◌, Bool, true, false, not, ◌||◌, List, [], ◌∷◌, ◌++◌, refl, arith}
+use Rattle.std.proofs.Common.{◌≡◌, Bool, true, false, not, ◌||◌, refl, arith}
 use Rattle.std.specs.List.{filter}
 use Rattle.std.proofs.lemmas.List.Elements.{filter-append}
 use Rattle.derivation.specs.Forest.{Forest, none, tree, preorder, join, out}
