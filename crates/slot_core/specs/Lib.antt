@@ -9,3 +9,4 @@ pub mod Places
 pub mod Rows
 pub mod Links
 pub mod Calls
+pub mod TableEdits

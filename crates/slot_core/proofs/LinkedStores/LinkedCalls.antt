@@ -1,5 +1,5 @@
 -- The store's calls on its table, as its contracts see them: through the slice of a vector, and by the value that it shows.
-use Rattle.std.proofs.Common.{◌≡◌, ◌≢◌, ℕ, ◌*◌, ◌^◌, ◌<◌, Bool, true, false, List, [], ◌∷◌, ◌++◌, map, length, Option, None, ◌⊎◌, refl, sym, ◌∙◌, ap, subst, IfSome}
+use Rattle.std.proofs.Common.{◌≡◌, ℕ, ◌*◌, ◌^◌, ◌<◌, Bool, true, false, List, [], ◌∷◌, ◌++◌, map, length, Option, None, ◌⊎◌, refl, sym, ◌∙◌, ap, subst, IfSome}
 use Rattle.std.specs.List.{AllByRecursion as Each}
 use Rattle.cap_core.specs.declared.profile.ProfileName.{ProfileName}
 use Rattle.cap_core.specs.declared.capability.Cap.{Cap}
@@ -13,10 +13,10 @@ use Rattle.derivation.specs.Disjoint.{IsDisjoint}
 use Rattle.derivation.specs.Marked.{Marked, marked, with_cap, forest_of}
 use Rattle.derivation.specs.MarkedEdits.{appended, object_behind, derived_behind, moved_to, freed_at, taken_out}
 use Rattle.derivation.proofs.Marked.ListEdits.{changed_at-at}
+use Rattle.slot_core.specs.TableEdits.{PutsBehind, Appends, TakesOut, Replaces, Frees}
 use Rattle.slot_core.specs.Links.{next_of, previous_of, row_of, Lacks, IsLinked, rows_of, memory_of, IsLinkedStore}
 use Rattle.slot_core.proofs.LinkedStores.Chains.{linked-same}
-use Rattle.slot_core.proofs.LinkedStores.Linkings.{map-same, map-parts, PutsBehind, Appends}
-use Rattle.slot_core.proofs.LinkedStores.Unlinkings.{TakesOut, Replaces}
+use Rattle.slot_core.proofs.LinkedStores.Linkings.{map-same, map-parts}
 use Rattle.derivation.proofs.Marked.MarkedLines.{absent_at}
 use Rattle.derivation.proofs.Marked.MarkedSteps.{cap_nowhere}
 use Rattle.derivation.proofs.Marked.MarkedEdits.{freed_list}
@@ -114,14 +114,6 @@ pub emptied_call : (p : ProfileName) (old mid new k : List Link) (first first' l
 emptied_call p old mid new k first first' last last' s value e ek v inv full w =
     through p old mid new k first last first' last' value (taken_out s) (emptied (s * slot_size p)) e ek v inv
     (λ v' i. emptied_store p mid new first first' last last' s i (found p mid first last s value v' i full) w)
-
--- the free index of an untyped capability is set
-pub record Frees (links links' : List Link) (s free : ℕ) : Type 0 where
-  pub next : (i : ℕ) → next_of links' i ≡ next_of links i
-  pub previous : (i : ℕ) → previous_of links' i ≡ previous_of links i
-  pub rows : (i : ℕ) → i ≢ s → row_of links' i ≡ row_of links i
-  pub row : row_of links' s ≡ with_cap (with_free free (row_of links s).cap) (row_of links s)
-  pub size : length links' ≡ length links
 
 each-all : (P : ℕ → Type 0) → ((i : ℕ) → P i) → (l : List ℕ) → Each P l
 each-all P f [] = tt
