@@ -64,7 +64,7 @@ impl Slot {
     }
 
     /// The slot's place in a table with one row a slot of the memory.
-    pub(crate) fn index(self) -> usize
+    pub fn index(self) -> usize
         ensures { result ≡ self.place }
     {
         self.place as usize
