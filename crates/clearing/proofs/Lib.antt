@@ -13,3 +13,4 @@ pub mod Clearable
 pub mod Below
 pub mod Kept
 pub mod Chains
+pub mod Steps

@@ -1,5 +1,5 @@
 -- The slots of an object lie in its range, each once.
-use Rattle.std.proofs.Common.{◌≡◌, ◌⊎◌, inl, inr, ℕ, zero, suc, ◌+◌, ◌-◌, ◌*◌, ◌%◌, ◌^◌, ◌≤◌, ◌<◌, Bool, true, false, nat_lt, List, [], ◌∷◌, ◌++◌, append_assoc, refl, sym, ◌∙◌, ap, subst, arith}
+use Rattle.std.proofs.Common.{◌≡◌, inl, inr, ℕ, zero, suc, ◌+◌, ◌-◌, ◌*◌, ◌%◌, ◌^◌, ◌≤◌, ◌<◌, Bool, true, false, nat_lt, List, [], ◌∷◌, ◌++◌, append_assoc, refl, sym, ◌∙◌, ap, subst, arith}
 use Rattle.std.proofs.Math.Nat.{one-le-pow, pow-le-pow_right, suc-mul, zero-mul}
 use Rattle.std.proofs.lemmas.Nat.{pow-add, pow_pos, pow_below}
 use Rattle.std.proofs.Math.Pow.{mod-mod-pow}
@@ -10,7 +10,7 @@ use Rattle.cap_core.specs.declared.capability.Guard.{Guard}
 use Rattle.cap_core.specs.declared.capability.Cap.{Cap}
 use Rattle.cap_core.specs.declared.capability.Cap.TheVariants.{Null, Untyped, Endpoint, CNode, Tcb}
 use Rattle.cap_core.specs.Numbers.{word_bits, slot_bits, slot_size, tcb_bits}
-use Rattle.cap_core.specs.Objects.{IsLawful, base_of, bits_of, end_of}
+use Rattle.cap_core.specs.Objects.{IsLawful, base_of, end_of}
 use Rattle.clearing.specs.Members.{In, AreDistinct, AreBelow}
 use Rattle.clearing.specs.Slots.{addresses, slots_of}
 
@@ -114,11 +114,10 @@ next_of_range size base (suc left) count a old now l m e d b h =
     let bytes : now.1 ≡ old.1 = ap (λ x. x.1) is in
     let front : List ℕ × ℕ → List ℕ × ℕ = λ x. (a ∷ x.0, x.1) in
     let put : ℕ → List ℕ × ℕ = λ k. (k ∷ (addresses size (base + left * size + size) rest ++ old.0), old.1) in
-    let below : base + left * size < old.1 = push_within size old.1 base left rest count all b in
-    (
+    let below : base + left * size < old.1 = push_within size old.1 base left rest count all b in (
       (λ i. push_absent size base left rest count old.0 all d (subst Q is (subst P at i))),
       omega (arith, below, at, bytes),
-      ap front is ∙ ap (λ k. put k) at ∙ rw (minus, more) refl
+      ap front is ∙ ap (λ k. put k) at ∙ rw (minus, more) refl,
     )
 
 -- what a lawful capability says of its object's slots

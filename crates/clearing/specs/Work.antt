@@ -1,10 +1,9 @@
 -- One slot of those still to be looked at while a slot is cleared, and what has to hold of the full slots.
-use Rattle.std.specs.Prelude.{◌≡◌, ◌<◌, ◌%◌, ℕ, Bool, true, false, not, cond, ◌==◌, ◌||◌, ◌&&◌, List, ◌++◌}
+use Rattle.std.specs.Prelude.{◌≡◌, ◌<◌, ℕ, Bool, false, not, cond, ◌==◌, ◌||◌, ◌&&◌, List, ◌++◌}
 use Rattle.std.specs.List.{list_any}
 use Rattle.cap_core.specs.declared.profile.ProfileName.{ProfileName}
 use Rattle.cap_core.specs.declared.capability.Cap.{Cap}
 use Rattle.cap_core.specs.declared.capability.Cap.TheVariants.{Null}
-use Rattle.cap_core.specs.Numbers.{slot_size}
 use Rattle.cap_core.specs.Objects.{is_untyped, same_object}
 use Rattle.slot_core.specs.Entries.{Entry, cap_in}
 use Rattle.clearing.specs.Members.{In, AreApart, AreDistinct, AreBelow}

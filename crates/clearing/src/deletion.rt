@@ -49,7 +49,12 @@ fn push_slots<P: Profile>(chain: &mut SlotChain<P>, cap: Cap)
 }
 
 /// Looks at one slot: a full one is emptied. Where an object ends with it, the object's slots go in front of the chain.
-fn clear_one<P: Profile, S: CapStore<P>, F: Finalise>(store: &mut S, rest: &mut F, chain: &mut SlotChain<P>, slot: Slot)
+fn clear_one<P: Profile, S: CapStore<P>, F: Finalise>(
+    store: &mut S,
+    rest: &mut F,
+    chain: &mut SlotChain<P>,
+    slot: Slot,
+)
     requires no_null { is_full (address_of P.the slot) (S.forest store.old) ≡ true → cap_at (S.forest store.old) (address_of P.the slot) ≢ Null }
     requires distinct { AreDistinct (list_after P.the (preorder (S.forest store.old)) (address_of P.the slot) chain.old.0) }
     requires within { AreBelow chain.old.1 (list_after P.the (preorder (S.forest store.old)) (address_of P.the slot) chain.old.0) }
@@ -59,7 +64,7 @@ fn clear_one<P: Profile, S: CapStore<P>, F: Finalise>(store: &mut S, rest: &mut 
     ensures chain { chain.new ≡ (list_after P.the (preorder (S.forest store.old)) (address_of P.the slot) chain.old.0, chain.old.1) }
 {
     let cap = store.get(slot);
-    if cap == Cap::Null {
+    if let Cap::Null = cap {
         return;
     }
     let ends = store.is_last(slot);
@@ -72,7 +77,12 @@ fn clear_one<P: Profile, S: CapStore<P>, F: Finalise>(store: &mut S, rest: &mut 
 
 /// Deletes what a slot holds (seL4 Reference Manual, on `seL4_CNode_Delete`): it is emptied, and with each object that ends all
 /// that the object's slots hold. `rest` is told of each object that ends.
-pub fn clear<P: Profile, S: CapStore<P>, F: Finalise>(store: &mut S, rest: &mut F, chain: &mut SlotChain<P>, slot: Slot)
+pub fn clear<P: Profile, S: CapStore<P>, F: Finalise>(
+    store: &mut S,
+    rest: &mut F,
+    chain: &mut SlotChain<P>,
+    slot: Slot,
+)
     requires clearable { IsClearable P.the chain.old.1 (preorder (S.forest store.old)) }
     requires within { address_of P.the slot < chain.old.1 }
     requires empty { chain.old.0 ≡ [] }
@@ -89,7 +99,12 @@ pub fn clear<P: Profile, S: CapStore<P>, F: Finalise>(store: &mut S, rest: &mut 
 
 /// Deletes all that was derived from what a slot holds (seL4 Reference Manual, on `seL4_CNode_Revoke`): while the slot has a
 /// child, its first child is cleared.
-pub fn revoke<P: Profile, S: CapStore<P>, F: Finalise>(store: &mut S, rest: &mut F, chain: &mut SlotChain<P>, slot: Slot)
+pub fn revoke<P: Profile, S: CapStore<P>, F: Finalise>(
+    store: &mut S,
+    rest: &mut F,
+    chain: &mut SlotChain<P>,
+    slot: Slot,
+)
     requires clearable { IsClearable P.the chain.old.1 (preorder (S.forest store.old)) }
     requires empty { chain.old.0 ≡ [] }
     ensures forest { S.forest store.new ≡ revoked_forest P.the (address_of P.the slot) (S.forest store.old) }
