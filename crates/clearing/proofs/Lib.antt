@@ -14,3 +14,4 @@ pub mod Below
 pub mod Kept
 pub mod Chains
 pub mod Steps
+pub mod Selfheld

@@ -35,7 +35,7 @@ ends l n = full l n && last_at l n
 abbrev pub list_after : ProfileName → List Entry → ℕ → List ℕ → List ℕ
 list_after p l n W = cond (ends l n) (slots_of p (held l n) ++ W) W
 
--- slots are apart, none is full of Null, and live objects' slots are apart and stand where slots of a memory of so many bytes stand
+-- slots are apart, none is full of Null, live objects' slots are apart, and all lie in a memory of so many bytes
 pub record IsClearable (p : ProfileName) (size : ℕ) (l : List Entry) : Type 0 where
   pub apart : AreApart l
   pub no_null : (a : Entry) → In a l → a.cap ≡ Null → ⊥

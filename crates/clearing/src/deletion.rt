@@ -1,25 +1,24 @@
 //! Deletion and revocation, over any capability store.
-ghost use Rattle.std.specs.Prelude.{◌≡◌, ◌≢◌, ◌⊎◌, ℕ, Bool, ◌||◌, ◌&&◌, ◌*◌, ◌%◌, ◌^◌, ◌<◌, ◌≤◌, ◌++◌, ◌∷◌, [], true, false, cond};
+ghost use Rattle.std.specs.Prelude.{◌≡◌, Bool, ◌<◌, ◌++◌, [], false};
 ghost use Rattle.cap_core.specs.declared.capability.Cap.{Cap};
-ghost use Rattle.cap_core.specs.declared.capability.Cap.TheVariants.{Null};
-ghost use Rattle.cap_core.specs.Numbers.{slot_size, word_bits};
+ghost use Rattle.cap_core.specs.Numbers.{word_bits};
 ghost use Rattle.cap_core.specs.Objects.{IsLawful, same_object};
 ghost use Rattle.slot_core.specs.Places.{address_of};
 ghost use Rattle.slot_core.specs.Forest.{preorder};
-ghost use Rattle.slot_core.specs.Entries.{cap_at, is_full};
 ghost use Rattle.slot_core.specs.Derivation.{emptied};
 ghost use Rattle.clearing.specs.Members.{AreDistinct, AreBelow};
 ghost use Rattle.clearing.specs.Slots.{slots_of};
 ghost use Rattle.clearing.specs.Clear.{clear as cleared_forest, ended};
 ghost use Rattle.clearing.specs.Revoke.{revoke as revoked_forest};
-ghost use Rattle.clearing.specs.Work.{ends, list_after, IsClearable};
+ghost use Rattle.clearing.specs.Work.{IsClearable};
+ghost use Rattle.clearing.specs.Calls.{either, HoldsNoNull, rest_after, ends_object};
 
 use crate::chain::SlotChain;
 use cap_core::{Cap, Profile};
 use slot_core::{CapStore, Slot};
 
-/// What is kept of objects beside their capabilities, as the threads that wait on an endpoint. It is told of each object that
-/// ends.
+/// What is kept of objects beside their capabilities, as the threads that wait on an endpoint. It is told of each
+/// object that ends.
 pub trait Finalise {
     /// The second is what the first comes to where the objects that pass have ended.
     ghost Ended: { (Cap → Bool) → Self → Self → Type 0 };
@@ -30,7 +29,7 @@ pub trait Finalise {
 
     ghost none_ended: { (w : Self) → Ended (λ c. false) w w };
 
-    ghost both_ended: { (p q : Cap → Bool) (u v w : Self) → Ended p u v → Ended q v w → Ended (λ c. p c || q c) u w };
+    ghost both_ended: { (p q : Cap → Bool) (u v w : Self) → Ended p u v → Ended q v w → Ended (either p q) u w };
 }
 
 /// Puts the slots of an object in front of the chain, by rising address.
@@ -55,13 +54,13 @@ fn clear_one<P: Profile, S: CapStore<P>, F: Finalise>(
     chain: &mut SlotChain<P>,
     slot: Slot,
 )
-    requires no_null { is_full (address_of P.the slot) (S.forest store.old) ≡ true → cap_at (S.forest store.old) (address_of P.the slot) ≢ Null }
-    requires distinct { AreDistinct (list_after P.the (preorder (S.forest store.old)) (address_of P.the slot) chain.old.0) }
-    requires within { AreBelow chain.old.1 (list_after P.the (preorder (S.forest store.old)) (address_of P.the slot) chain.old.0) }
+    requires no_null { HoldsNoNull P.the slot (S.forest store.old) }
+    requires distinct { AreDistinct (rest_after P.the slot (S.forest store.old) chain.old.0) }
+    requires within { AreBelow chain.old.1 (rest_after P.the slot (S.forest store.old) chain.old.0) }
     ensures forest { S.forest store.new ≡ emptied (address_of P.the slot) (S.forest store.old) }
     ensures memory { S.memory_bits store.new ≡ S.memory_bits store.old }
-    ensures ended { F.Ended (λ c. ends (preorder (S.forest store.old)) (address_of P.the slot) && same_object (cap_at (S.forest store.old) (address_of P.the slot)) c) rest.old rest.new }
-    ensures chain { chain.new ≡ (list_after P.the (preorder (S.forest store.old)) (address_of P.the slot) chain.old.0, chain.old.1) }
+    ensures ended { F.Ended (ends_object P.the slot (S.forest store.old)) rest.old rest.new }
+    ensures chain { chain.new ≡ (rest_after P.the slot (S.forest store.old) chain.old.0, chain.old.1) }
 {
     let cap = store.get(slot);
     if let Cap::Null = cap {
@@ -75,8 +74,8 @@ fn clear_one<P: Profile, S: CapStore<P>, F: Finalise>(
     }
 }
 
-/// Deletes what a slot holds (seL4 Reference Manual, on `seL4_CNode_Delete`): it is emptied, and with each object that ends all
-/// that the object's slots hold. `rest` is told of each object that ends.
+/// Deletes what a slot holds (seL4 Reference Manual, on `seL4_CNode_Delete`): it is emptied, and with each object that
+/// ends all that the object's slots hold. `rest` is told of each object that ends.
 pub fn clear<P: Profile, S: CapStore<P>, F: Finalise>(
     store: &mut S,
     rest: &mut F,
@@ -97,8 +96,8 @@ pub fn clear<P: Profile, S: CapStore<P>, F: Finalise>(
     }
 }
 
-/// Deletes all that was derived from what a slot holds (seL4 Reference Manual, on `seL4_CNode_Revoke`): while the slot has a
-/// child, its first child is cleared.
+/// Deletes all that was derived from what a slot holds (seL4 Reference Manual, on `seL4_CNode_Revoke`): while the slot
+/// has a child, its first child is cleared.
 pub fn revoke<P: Profile, S: CapStore<P>, F: Finalise>(
     store: &mut S,
     rest: &mut F,
