@@ -1,9 +1,10 @@
 # make run: the proved program on the stored set-up; make test: the gate; make try: the stored set-up before any proof;
-# make rows: each worked set-up and each example through the built program, and each of its requests for memory refused in turn;
+# make rows: each worked set-up through the built program, and each of its requests for memory refused in turn;
 # make bench: the linked forms and the kernel beside plain Rust, and the time of long set-ups.
 .PHONY: run test try rows bench
 
 program = crates/sel4sim/out/sel4sim
+setups = crates/worked_setups/data
 
 run:
 	cd crates/sel4sim && rt run < stdin
@@ -15,9 +16,8 @@ try:
 	cd crates/sel4sim && rt try < stdin
 
 rows: run
-	python3 rows/run.py $(program)
-	examples/run.sh $(program)
-	python3 rows/refuse_memory.py $(program) rows/send_then_receive.toml
+	python3 rows/run.py $(program) $(setups)
+	python3 rows/refuse_memory.py $(program) $(setups)/examples/send_then_receive.toml
 
 bench: run
 	bench/run.sh store_cycle

@@ -64,7 +64,7 @@ def instructions(program, path, folder):
         found = re.search(rf"^\s*([\d,]+) .*:{re.escape(name)}(?:::<\S+>)? \[", text, re.M)
         return int(found.group(1).replace(",", "")) if found else 0
 
-    whole, setup, calls = (of(f"sel4sim::engine::{name}") for name in ("text_of", "run_setup", "run_calls"))
+    whole, setup, calls = (of(f"engine::run::{name}") for name in ("text_of", "run_setup", "run_calls"))
     boot = of("kernel_core::kernel::Kernel::boot")
     return {"reading": whole - setup, "booting": boot, "running": calls - boot, "reporting": setup - calls}
 

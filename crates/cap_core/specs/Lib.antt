@@ -5,3 +5,4 @@ pub mod Refusals
 pub mod Kinds
 pub mod Ranges
 pub mod Minting
+pub mod Distinct

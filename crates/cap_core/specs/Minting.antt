@@ -1,20 +1,17 @@
 -- What a mint makes of a capability: rights that are met, and data that is set.
-use Rattle.std.specs.Prelude.{◌≡◌, ℕ, Bool, true, false, ◌+◌, ◌*◌, ◌/◌, ◌%◌, ◌^◌, ◌==◌, cond, nat_le, bit_and, Option, Some, None}
+use Rattle.std.specs.Prelude.{◌≡◌, ℕ, Bool, ◌+◌, ◌*◌, ◌/◌, ◌%◌, ◌^◌, ◌==◌, ◌&&◌, not, cond, nat_le, bit_and, Option, Some, None}
 use Rattle.std.specs.Int.{bit_at}
 use Rattle.cap_core.specs.declared.profile.ProfileName.{ProfileName}
 use Rattle.cap_core.specs.declared.rights.Rights.{Rights}
 use Rattle.cap_core.specs.declared.capability.Guard.{Guard}
 use Rattle.cap_core.specs.declared.capability.Cap.{Cap}
-use Rattle.cap_core.specs.declared.capability.Cap.TheVariants.{Null, Untyped, Endpoint, CNode, Tcb}
+use Rattle.cap_core.specs.declared.capability.Cap.TheVariants.{Endpoint, CNode}
 use Rattle.cap_core.specs.Numbers.{word_bits, guard_size_bits, badge_bits}
 
 -- the capability with no rights but those that are given too. Only an endpoint's has rights
 abbrev pub masked : Rights → Cap → Cap
-masked rights Null = Null
-masked rights (Untyped base bits free) = Untyped base bits free
 masked rights (Endpoint base badge had) = Endpoint base badge (record { 0 = bit_and had.0 rights.0 })
-masked rights (CNode base radix guard) = CNode base radix guard
-masked rights (Tcb base) = Tcb base
+masked rights other = other
 
 -- a right, by the number of its bit, is in a set
 abbrev pub HasRight : Rights → ℕ → Type 0
@@ -22,11 +19,8 @@ HasRight rights right = bit_at rights.0 right ≡ 1
 
 -- a capability allows a right
 abbrev pub Allows : Cap → ℕ → Type 0
-Allows Null right = ⊥
-Allows (Untyped base bits free) right = ⊥
 Allows (Endpoint base badge rights) right = HasRight rights right
-Allows (CNode base radix guard) right = ⊥
-Allows (Tcb base) right = ⊥
+Allows _ right = ⊥
 
 -- the word that holds a guard: its size in the low bits and its value above them
 abbrev pub guard_word : ProfileName → Guard → ℕ
@@ -45,10 +39,7 @@ guarded p base radix guard = cond (nat_le (guard.size + radix) (word_bits p)) (S
 -- the capability with its data set by a word: a badge is set once and is not changed where it is to be preserved, a guard
 -- is what the word holds, and no other capability has data
 abbrev pub with_data : ProfileName → Bool → ℕ → Cap → Option Cap
-with_data p preserve word Null = Some Null
-with_data p preserve word (Untyped base bits free) = Some (Untyped base bits free)
-with_data p true word (Endpoint base badge rights) = None
-with_data p false word (Endpoint base badge rights) =
-    cond (badge.0 == 0) (Some (Endpoint base (record { 0 = word % 2 ^ badge_bits p }) rights)) None
+with_data p preserve word (Endpoint base badge rights) =
+    cond (not preserve && badge.0 == 0) (Some (Endpoint base (record { 0 = word % 2 ^ badge_bits p }) rights)) None
 with_data p preserve word (CNode base radix guard) = guarded p base radix (guard_held p word)
-with_data p preserve word (Tcb base) = Some (Tcb base)
+with_data p preserve word other = Some other

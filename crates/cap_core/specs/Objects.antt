@@ -8,25 +8,16 @@ use Rattle.cap_core.specs.Numbers.{word_bits, slot_bits, tcb_bits, endpoint_bits
 
 abbrev pub is_null : Cap → Bool
 is_null Null = true
-is_null (Untyped base bits free) = false
-is_null (Endpoint base badge rights) = false
-is_null (CNode base radix guard) = false
-is_null (Tcb base) = false
+is_null _ = false
 
 abbrev pub is_untyped : Cap → Bool
-is_untyped Null = false
 is_untyped (Untyped base bits free) = true
-is_untyped (Endpoint base badge rights) = false
-is_untyped (CNode base radix guard) = false
-is_untyped (Tcb base) = false
+is_untyped _ = false
 
 -- the badge of a capability, 0 where it has none
 abbrev pub badge_of : Cap → ℕ
-badge_of Null = 0
-badge_of (Untyped base bits free) = 0
 badge_of (Endpoint base badge rights) = badge.0
-badge_of (CNode base radix guard) = 0
-badge_of (Tcb base) = 0
+badge_of _ = 0
 
 -- the address of the first byte of the object that a capability names
 abbrev pub base_of : Cap → ℕ
@@ -66,10 +57,7 @@ are_apart p a b = nat_le (end_of p a) (base_of b) || nat_le (end_of p b) (base_o
 -- b lies in a's region: within the range of an untyped a, and otherwise it names the same object. Null names none
 abbrev pub in_region : ProfileName → Cap → Cap → Bool
 in_region p (Untyped base bits free) b = not (is_null b) && contains p (Untyped base bits free) b
-in_region p Null b = false
-in_region p (Endpoint base badge rights) b = same_object (Endpoint base badge rights) b
-in_region p (CNode base radix guard) b = same_object (CNode base radix guard) b
-in_region p (Tcb base) b = same_object (Tcb base) b
+in_region p a b = same_object a b
 
 -- the object stands at a multiple of its size, within a memory of 2^memory bytes, and its addresses are words
 pub record IsPlaced (p : ProfileName) (memory : ℕ) (cap : Cap) : Type 0 where
@@ -90,11 +78,9 @@ pub record IsLawfulUntyped (p : ProfileName) (bits free : ℕ) : Type 0 where
 
 -- what a capability holds is within the profile
 abbrev pub IsWithinProfile : ProfileName → Cap → Type 0
-IsWithinProfile p Null = ⊤
 IsWithinProfile p (Untyped base bits free) = IsLawfulUntyped p bits free
-IsWithinProfile p (Endpoint base badge rights) = ⊤
 IsWithinProfile p (CNode base radix guard) = IsLawfulNode p radix guard
-IsWithinProfile p (Tcb base) = ⊤
+IsWithinProfile p _ = ⊤
 
 -- a capability other than Null that may stand in a slot of a memory of 2^memory bytes
 pub record IsLawful (p : ProfileName) (memory : ℕ) (cap : Cap) : Type 0 where

@@ -26,13 +26,5 @@ fault_kind GuardMismatch = 4
 
 -- the kind, and 0 where the refusal is no failed lookup
 abbrev pub refusal_kind : Refusal → ℕ
-refusal_kind InvalidArgument = 0
-refusal_kind InvalidCapability = 0
-refusal_kind IllegalOperation = 0
-refusal_kind RangeError = 0
 refusal_kind (FailedLookup fault) = fault_kind fault
-refusal_kind DeleteFirst = 0
-refusal_kind RevokeFirst = 0
-refusal_kind NotEnoughMemory = 0
-refusal_kind NoThread = 0
-refusal_kind NotReady = 0
+refusal_kind _ = 0

@@ -17,6 +17,3 @@ pub use object::{Range, fresh, in_region, kind_of, object_bits, range_of, same_o
 pub use profile::{Narrow, Profile, ProfileName, Wide};
 pub use refusal::{LookupFault, Refusal};
 pub use rights::Rights;
-
-#[cfg(test)]
-mod tests;

@@ -7,14 +7,14 @@ use Rattle.cap_core.specs.declared.capability.Cap.{Cap}
 use Rattle.cap_core.specs.declared.capability.Cap.TheVariants.{CNode}
 use Rattle.cap_core.specs.Numbers.{word_bits}
 use Rattle.cap_core.specs.Objects.{is_null, is_untyped, same_object, contains, are_apart, IsLawful}
-use Rattle.slot_core.specs.Forest.{Forest, none, preorder}
-use Rattle.slot_core.specs.Entries.{Entry, cap_at, is_full}
-use Rattle.slot_core.specs.Derivation.{derived, rooted}
-use Rattle.slot_core.specs.Disjoint.{IsDisjoint}
+use Rattle.derivation.specs.Forest.{Forest, none, preorder}
+use Rattle.derivation.specs.Entries.{Entry, cap_at, is_full}
+use Rattle.derivation.specs.Derivation.{derived, rooted}
+use Rattle.derivation.specs.Disjoint.{IsDisjoint}
 use Rattle.cspace_core.specs.Memory.{memory_bits, root, endpoint, node, in_root, with_root, with_endpoint, with_node, with_guarded, with_copy, with_itself}
-use Rattle.slot_core.proofs.Forests.{each-contained}
-use Rattle.slot_core.proofs.Edits.{each-rooted, each-derived}
-use Rattle.slot_core.proofs.Disjointness.{disjoint-none, disjoint-rooted, disjoint-derived}
+use Rattle.derivation.proofs.Trees.Forests.{each-contained}
+use Rattle.derivation.proofs.Slots.Edits.{each-rooted, each-derived}
+use Rattle.derivation.proofs.Disjoint.Disjointness.{disjoint-none, disjoint-rooted, disjoint-derived}
 
 -- disjoint, and no untyped region in it
 pub record IsTyped (p : ProfileName) (f : Forest Entry) : Type 0 where

@@ -6,15 +6,17 @@ ghost use Rattle.cap_core.specs.declared.limits.TheConstants.{MAX_MEMORY_BITS};
 ghost use Rattle.cap_core.specs.Numbers.{tcb_size};
 ghost use Rattle.cap_core.specs.Objects.{IsLawful};
 ghost use Rattle.mem_core.specs.Plans.{object_at};
-ghost use Rattle.slot_core.specs.Entries.{slots, caps};
-ghost use Rattle.slot_core.specs.Disjoint.{IsDisjoint};
-ghost use Rattle.kernel_core.specs.Regions.{AreRegions};
-ghost use Rattle.kernel_core.specs.Retyping.{with_objects};
-ghost use Rattle.kernel_core.specs.Tasks.{IsRetype};
-ghost use Rattle.kernel_core.specs.Rows.{IsSlotAddress, rows_map, new_row, with_rows};
+ghost use Rattle.derivation.specs.Entries.{slots, caps};
+ghost use Rattle.derivation.specs.Disjoint.{IsDisjoint};
+ghost use Rattle.abstract_kernel.specs.Regions.{AreRegions};
+ghost use Rattle.abstract_kernel.specs.Retyping.{with_objects};
+ghost use Rattle.abstract_kernel.specs.Private.Invocations.{IsRetype};
+ghost use Rattle.abstract_kernel.specs.Memory.{IsSlotAddress};
+ghost use Rattle.kernel_core.specs.Rows.{rows_map};
+ghost use Rattle.kernel_core.specs.Private.NewRows.{new_row, with_rows};
 
 use crate::rows::ThreadRow;
-use crate::task::NewObjects;
+use abstract_kernel::invocation::NewObjects;
 use cap_core::{Cap, Profile, fresh};
 use mem_core::Placed;
 use slot_core::{CapStore, Slot};
@@ -23,7 +25,7 @@ use slot_core::{CapStore, Slot};
 /// slots, each the first child of the untyped.
 pub fn make_objects<P: Profile, S: CapStore<P>>(store: &mut S, new: NewObjects)
     requires most { S.memory_bits store.old ≤ MAX_MEMORY_BITS }
-    requires task { IsRetype P.the (S.forest store.old) new }
+    requires invocation { IsRetype P.the (S.forest store.old) new }
     requires regions { AreRegions P.the (S.forest store.old) }
     requires disjoint { IsDisjoint P.the (S.forest store.old) }
     requires distinct { IsDistinct (λ (a b : ℕ). a == b) (slots (S.forest store.old)) }

@@ -4,7 +4,7 @@ ghost use Rattle.std.specs.FinMap as map;
 ghost use Rattle.cap_core.specs.Numbers.{tcb_size};
 ghost use Rattle.kernel_core.specs.Rows.{rows_map, state_with};
 
-use crate::call::{Inbox, ThreadState};
+use abstract_kernel::call::{Inbox, ThreadState};
 use cap_core::Profile;
 use ipc_core::Role;
 

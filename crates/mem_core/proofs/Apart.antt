@@ -2,11 +2,11 @@
 use Rattle.std.proofs.Common.{◌≡◌, ℕ, ◌+◌, ◌-◌, ◌*◌, ◌/◌, ◌%◌, ◌^◌, ◌<◌, ◌≤◌, sym, ap, arith, ◌∙◌}
 use Rattle.std.proofs.Math.Nat.{mul-le-mul_right, mul-mod_left, mod-add-div', mul_assoc}
 use Rattle.mem_core.specs.declared.objects.Placed.{Placed}
-use Rattle.mem_core.specs.Plans.{IsPlaced, LieInRegion, object_at, room_of}
+use Rattle.mem_core.specs.Plans.{ArePlacedFrom, LieInRegion, object_at, room_of}
 use Rattle.mem_core.proofs.Places.{whole_sizes}
 
 pub lie-apart : (base bits start b count : ℕ) (placed : Placed) → 0 < count → count ≤ room_of bits start b →
-    IsPlaced base bits start b count placed → LieInRegion base bits start b count placed
+    ArePlacedFrom base bits start b count placed → LieInRegion base bits start b count placed
 lie-apart base bits start b count placed some room is =
     let next : (i : ℕ) → (i + 1) * 2 ^ b ≡ i * 2 ^ b + 2 ^ b = λ i. grind arith in
     let at : (i : ℕ) → object_at placed i ≡ placed.first + i * 2 ^ b = λ i. ap (λ k. placed.first + i * k) is.step in

@@ -1,3 +1,4 @@
 pub mod Places
 pub mod Apart
 pub mod Lawful
+pub mod Placing

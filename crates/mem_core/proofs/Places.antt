@@ -3,7 +3,7 @@ use Rattle.std.proofs.Common.{◌≡◌, ℕ, ◌+◌, ◌-◌, ◌*◌, ◌/◌
 use Rattle.std.proofs.Math.Nat.{lt-div-mul-add, mul-le-mul_right, le_of_mul-le-mul_right, add-mul, div-mul-le_self}
 use Rattle.std.proofs.lemmas.Nat.{div_below, pow-add, pow_pos, pow_below}
 use Rattle.std.proofs.lemmas.Bool.{cases_lt}
-use Rattle.mem_core.specs.Plans.{IsLeastMultiple, IsPlaced}
+use Rattle.mem_core.specs.Plans.{IsLeastMultiple, ArePlacedFrom}
 
 -- the multiple that the code computes
 abbrev pub rounded : ℕ → ℕ → ℕ
@@ -56,7 +56,7 @@ rounded_within bits b start count some room =
 
 -- what the code computes is the plan
 pub placed-is : (base bits b start count : ℕ) → 0 < count → count ≤ (2 ^ bits - start) / 2 ^ b →
-    IsPlaced base bits start b count
+    ArePlacedFrom base bits start b count
     (record { first = base + rounded (2 ^ b) start; step = 2 ^ b; free = rounded (2 ^ b) start + count * 2 ^ b })
 placed-is base bits b start count some room =
     let back : base + rounded (2 ^ b) start - base ≡ rounded (2 ^ b) start = omega arith in

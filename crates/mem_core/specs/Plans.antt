@@ -1,8 +1,8 @@
 -- Where the objects of a retype are placed in an untyped region.
-use Rattle.std.specs.Prelude.{ℕ, Bool, true, false, ◌≡◌, ◌+◌, ◌-◌, ◌*◌, ◌/◌, ◌%◌, ◌^◌, ◌<◌, ◌≤◌, Result, Ok, Err}
+use Rattle.std.specs.Prelude.{ℕ, Bool, true, false, ◌≡◌, ◌+◌, ◌-◌, ◌*◌, ◌/◌, ◌%◌, ◌^◌, ◌<◌, ◌≤◌, cond, nat_le, Result, Ok, Err}
 use Rattle.cap_core.specs.declared.profile.ProfileName.TheVariants.{Wide}
 use Rattle.cap_core.specs.declared.capability.Cap.{Cap}
-use Rattle.cap_core.specs.declared.capability.Cap.TheVariants.{Null, Untyped, Endpoint, CNode, Tcb}
+use Rattle.cap_core.specs.declared.capability.Cap.TheVariants.{Untyped}
 use Rattle.cap_core.specs.declared.refusal.Refusal.{Refusal}
 use Rattle.cap_core.specs.declared.refusal.Refusal.TheVariants.{NotEnoughMemory}
 use Rattle.cap_core.specs.Numbers.{max_object_bits}
@@ -16,11 +16,8 @@ pub record IsRegion (base bits free : ℕ) : Type 0 where
 
 -- a capability of such a region
 abbrev pub IsRetypable : Cap → Type 0
-IsRetypable Null = ⊥
 IsRetypable (Untyped base bits free) = IsRegion base bits free
-IsRetypable (Endpoint base badge rights) = ⊥
-IsRetypable (CNode base radix guard) = ⊥
-IsRetypable (Tcb base) = ⊥
+IsRetypable _ = ⊥
 
 -- how much of a region is used: nothing, where it has no children
 abbrev pub start_of : Bool → ℕ → ℕ
@@ -31,6 +28,25 @@ start_of false free = 0
 abbrev pub room_of : ℕ → ℕ → ℕ → ℕ
 room_of bits start b = (2 ^ bits - start) / 2 ^ b
 
+-- the least multiple of a size that is not below an address
+abbrev pub least_multiple : ℕ → ℕ → ℕ
+least_multiple size address = (address + size - 1) / size * size
+
+-- `count` objects of 2^b bytes stand one after another from the first multiple of their size that is not used
+abbrev pub placed_from : ℕ → ℕ → ℕ → ℕ → ℕ → Result Placed Refusal
+placed_from base bits start b count =
+    let first = least_multiple (2 ^ b) start in
+    cond (nat_le count (room_of bits start b))
+    (Ok (record { first = base + first; step = 2 ^ b; free = first + count * 2 ^ b }))
+    (Err NotEnoughMemory)
+
+-- the place of `count` objects of 2^b bytes in an untyped region. No other capability has room for one
+abbrev pub placed_in : Bool → ℕ → ℕ → Cap → Result Placed Refusal
+placed_in has_children b count (Untyped base bits free) = placed_from base bits (start_of has_children free) b count
+placed_in has_children b count _ = Err NotEnoughMemory
+
+-- What a place promises:
+
 -- f is the least multiple of the size that is not below the start
 pub record IsLeastMultiple (size start f : ℕ) : Type 0 where
   pub whole : (k : ℕ) × (f ≡ k * size)
@@ -39,7 +55,7 @@ pub record IsLeastMultiple (size start f : ℕ) : Type 0 where
 
 -- `count` objects of 2^b bytes stand one after another from the least multiple of their size that is not used, within the
 -- region, and it is used up to the end of the last
-pub record IsPlaced (base bits start b count : ℕ) (placed : Placed) : Type 0 where
+pub record ArePlacedFrom (base bits start b count : ℕ) (placed : Placed) : Type 0 where
   pub first : IsLeastMultiple (2 ^ b) start (placed.first - base)
   pub above_base : base ≤ placed.first
   pub step : placed.step ≡ 2 ^ b
@@ -48,15 +64,13 @@ pub record IsPlaced (base bits start b count : ℕ) (placed : Placed) : Type 0 w
 
 -- the objects are placed where there is room for all of them, and otherwise memory is not enough
 abbrev pub IsRegionPlan : ℕ → ℕ → ℕ → ℕ → ℕ → Result Placed Refusal → Type 0
-IsRegionPlan base bits start b count (Ok placed) = (count ≤ room_of bits start b) × IsPlaced base bits start b count placed
+IsRegionPlan base bits start b count (Ok placed) = (count ≤ room_of bits start b) × ArePlacedFrom base bits start b count placed
 IsRegionPlan base bits start b count (Err refusal) = (room_of bits start b < count) × (refusal ≡ NotEnoughMemory)
 
-abbrev pub IsPlan : Cap → Bool → ℕ → ℕ → Result Placed Refusal → Type 0
-IsPlan Null has_children b count result = ⊥
-IsPlan (Untyped base bits free) has_children b count result = IsRegionPlan base bits (start_of has_children free) b count result
-IsPlan (Endpoint base badge rights) has_children b count result = ⊥
-IsPlan (CNode base radix guard) has_children b count result = ⊥
-IsPlan (Tcb base) has_children b count result = ⊥
+abbrev pub IsRetypePlan : Cap → Bool → ℕ → ℕ → Result Placed Refusal → Type 0
+IsRetypePlan (Untyped base bits free) has_children b count result =
+    IsRegionPlan base bits (start_of has_children free) b count result
+IsRetypePlan _ has_children b count result = ⊥
 
 -- object i of those that are placed
 abbrev pub object_at : Placed → ℕ → ℕ
@@ -72,8 +86,6 @@ pub record LieInRegion (base bits start b count : ℕ) (placed : Placed) : Type 
   pub within : base + placed.free ≤ base + 2 ^ bits
 
 abbrev pub LieInUntyped : Cap → Bool → ℕ → ℕ → Placed → Type 0
-LieInUntyped Null has_children b count placed = ⊥
-LieInUntyped (Untyped base bits free) has_children b count placed = LieInRegion base bits (start_of has_children free) b count placed
-LieInUntyped (Endpoint base badge rights) has_children b count placed = ⊥
-LieInUntyped (CNode base radix guard) has_children b count placed = ⊥
-LieInUntyped (Tcb base) has_children b count placed = ⊥
+LieInUntyped (Untyped base bits free) has_children b count placed =
+    LieInRegion base bits (start_of has_children free) b count placed
+LieInUntyped _ has_children b count placed = ⊥

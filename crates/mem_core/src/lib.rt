@@ -3,7 +3,7 @@
 
 ghost use Rattle.std.specs.Prelude.{◌≡◌, ℕ, ◌+◌, ◌-◌, ◌*◌, ◌/◌, ◌%◌, ◌^◌, ◌<◌, ◌≤◌, IfOk};
 ghost use Rattle.mem_core.specs.Shapes.{shape_of, IsShape, IsLawfulShape};
-ghost use Rattle.mem_core.specs.Plans.{IsRetypable, IsPlan, LieInUntyped};
+ghost use Rattle.mem_core.specs.Plans.{IsRetypable, IsRetypePlan, LieInUntyped, placed_in};
 
 pub mod objects;
 
@@ -52,7 +52,8 @@ pub fn plan(cap: Cap, has_children: bool, shape: Shape, count: u64) -> Result<Pl
     requires shape { IsShape shape }
     requires some { 1 ≤ count }
     requires most { count ≤ MAX_RETYPE_COUNT }
-    ensures plan { IsPlan cap has_children shape.bits count result }
+    ensures value { result ≡ placed_in has_children shape.bits count cap }
+    ensures plan { IsRetypePlan cap has_children shape.bits count result }
     ensures objects { IfOk result (LieInUntyped cap has_children shape.bits count) }
 {
     let Cap::Untyped { base, bits, free } = cap else {
@@ -71,6 +72,3 @@ pub fn plan(cap: Cap, has_children: bool, shape: Shape, count: u64) -> Result<Pl
         free: first + count * size,
     })
 }
-
-#[cfg(test)]
-mod tests;

@@ -5,27 +5,15 @@
 //! says what went wrong.
 #![tactic(auto)]
 
-use arguments::{Job, Line, LineFault};
-use command_line::line;
-use engine::{check, write_all};
-use fault::{RunFault, Verdict, status_of};
-use sink::WriterSink;
-use source::ReaderSource;
+use engine::{
+    Job, Line, LineFault, ReaderSource, RunFault, Verdict, WriterSink, check, line, status_of,
+    write_all,
+};
 use std::env::{self, Env};
 use std::fmt::Display;
 use std::fs::{self, Files};
 use std::io::{self, Eprint, ErrorKind, Input};
 use std::process::ExitCode;
-
-mod arguments;
-mod command_line;
-mod device;
-mod engine;
-mod fault;
-mod sink;
-mod source;
-#[cfg(test)]
-mod tests;
 
 /// Runs the set-up of the file, or of standard input where no file is named. A file that cannot be opened is a failed read.
 fn check_file<R: Files + Input + Print + AllocGlobal>(

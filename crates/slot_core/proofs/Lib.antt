@@ -1,54 +1,23 @@
-pub mod Forests
-pub mod Edits
-pub mod Disjointness
-pub mod Distinct
-pub mod Holding
-pub mod DistinctEntries
-pub mod Renamed
-pub mod Retyped
-pub mod Moved
-pub mod Freed
-pub mod Emptied
-pub mod Alike
-pub mod DisjointRenamed
-pub mod Lines
-pub mod DisjointDerived
-pub mod DisjointRetyped
-pub mod FirstChildren
-pub mod Built
-pub mod Nested
-pub mod BuiltRenamed
-pub mod BuiltOut
-mod BuiltRuns
-mod RowLists
-mod RowSteps
-mod RowEdits
-mod RowRemoves
-mod Chains
-mod InRegion
-mod Parents
-mod MarkedPuts
-mod MarkedRenamed
-mod MarkedRemoval
-mod Above
-mod MarkedLines
-mod MarkedRetype
-mod MarkedSteps
-mod DisjointEdits
-mod Linkings
-mod Unlinkings
-mod MarkedEdits
-mod LinkedSteps
-mod LinkedReads
-mod LinkedRows
-mod LinkedMade
-mod Standing
-mod OneObject
-mod Below
-mod Sequences
-mod LinkedLaw
-mod OneEndpoint
-mod LinkedCalls
-mod MarkedKept
-mod Family
-mod Regions
+pub use Rattle.derivation.proofs.Trees.Forests
+pub use Rattle.derivation.proofs.Trees.Built
+pub use Rattle.derivation.proofs.Trees.BuiltOut
+pub use Rattle.derivation.proofs.Trees.BuiltRenamed
+pub use Rattle.derivation.proofs.Trees.Nested
+pub use Rattle.derivation.proofs.Trees.Lines
+pub use Rattle.derivation.proofs.Trees.Renamed
+pub use Rattle.derivation.proofs.Slots.Edits
+pub use Rattle.derivation.proofs.Slots.Holding
+pub use Rattle.derivation.proofs.Slots.Distinct
+pub use Rattle.derivation.proofs.Slots.DistinctEntries
+pub use Rattle.derivation.proofs.Slots.Emptied
+pub use Rattle.derivation.proofs.Slots.Freed
+pub use Rattle.derivation.proofs.Slots.Moved
+pub use Rattle.derivation.proofs.Slots.Retyped
+pub use Rattle.derivation.proofs.Slots.FirstChildren
+pub use Rattle.derivation.proofs.Disjoint.Disjointness
+pub use Rattle.derivation.proofs.Disjoint.DisjointRenamed
+pub use Rattle.derivation.proofs.Disjoint.DisjointDerived
+pub use Rattle.derivation.proofs.Disjoint.DisjointRetyped
+pub use Rattle.derivation.proofs.Disjoint.Alike
+mod RowStores
+mod LinkedStores

@@ -1,10 +1,10 @@
-pub mod Forest
-pub mod Spelled
-pub mod Entries
-pub mod Derivation
-pub mod Disjoint
+pub use Rattle.derivation.specs.Forest
+pub use Rattle.derivation.specs.Spelled
+pub use Rattle.derivation.specs.Entries
+pub use Rattle.derivation.specs.Derivation
+pub use Rattle.derivation.specs.Disjoint
+pub use Rattle.derivation.specs.Marked
+pub use Rattle.derivation.specs.MarkedEdits
 pub mod Places
 pub mod Rows
-pub mod Marked
 pub mod Links
-pub mod Sequences

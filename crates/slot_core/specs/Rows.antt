@@ -7,9 +7,9 @@ use Rattle.cap_core.specs.Objects.{IsLawful, is_untyped, same_object}
 use Rattle.cap_core.specs.Numbers.{slot_size}
 use Rattle.slot_core.specs.declared.slot.Slot.{Slot}
 use Rattle.slot_core.specs.declared.rows.Row.{Row}
-use Rattle.slot_core.specs.Forest.{Forest, renamed, build}
-use Rattle.slot_core.specs.Entries.{Entry, entry}
-use Rattle.slot_core.specs.Derivation.{is_new_original}
+use Rattle.derivation.specs.Forest.{Forest, renamed, build}
+use Rattle.derivation.specs.Entries.{Entry, entry}
+use Rattle.derivation.specs.Derivation.{is_new_original}
 use Rattle.slot_core.specs.Places.{address_of}
 
 abbrev pub is_deeper : Row → Row → Bool

@@ -1,7 +1,7 @@
 //! The capability store: which slot holds which capability, and the forest of their derivation.
 #![tactic(auto)]
 
-mod derivation;
+mod derived;
 pub mod linked;
 pub mod rows;
 pub mod slot;
@@ -11,6 +11,3 @@ pub use linked::{Link, LinkedStore};
 pub use rows::RowStore;
 pub use slot::Slot;
 pub use store::{CapStore, MakeStore};
-
-#[cfg(test)]
-mod tests;

@@ -2,12 +2,10 @@
 ghost use Rattle.std.specs.Prelude.{◌≡◌};
 
 mod table;
-#[cfg(test)]
-mod tests;
 
 pub use self::table::Link;
 use self::table::{EMPTY, append, free_from, insert_after, is_parent, names, replace, row, unlink};
-use crate::derivation::is_new_original;
+use crate::derived::is_new_original;
 use crate::slot::Slot;
 use crate::store::{CapStore, MakeStore};
 use cap_core::{Cap, Profile};
@@ -25,7 +23,7 @@ pub struct LinkedStore<P: Profile> {
 
 impl<P: Profile> Model for LinkedStore<P> {
     ghost use Rattle.std.specs.Prelude.{ℕ, List};
-    ghost use Rattle.slot_core.specs.Marked.{Marked};
+    ghost use Rattle.derivation.specs.Marked.{Marked};
 
     ghost Value = { List Marked × ℕ };
 
@@ -37,7 +35,7 @@ impl<P: Profile> Model for LinkedStore<P> {
 }
 
 impl<P: Profile> CapStore<P> for LinkedStore<P> {
-    ghost use Rattle.slot_core.specs.Marked.{forest_of};
+    ghost use Rattle.derivation.specs.Marked.{forest_of};
 
     ghost forest = { λ s. forest_of P.the s.0 };
 
@@ -67,6 +65,7 @@ impl<P: Profile> CapStore<P> for LinkedStore<P> {
     }
 
     fn put_new(&mut self, parent: Slot, slot: Slot, cap: Cap) {
+        let marks = true;
         insert_after(
             &mut self.links,
             &mut self.first,
@@ -74,7 +73,7 @@ impl<P: Profile> CapStore<P> for LinkedStore<P> {
             parent,
             slot,
             cap,
-            true,
+            marks,
         );
     }
 
@@ -129,12 +128,23 @@ impl<P: Profile> MakeStore<P> for LinkedStore<P> {
     }
 
     fn copy(&self, alloc: Global) -> Result<LinkedStore<P>, AllocError> {
-        let mut links = Vec::with_capacity(alloc, self.links.len())?;
-        links.extend_from_slice(&self.links)?;
-        Ok(LinkedStore {
+        // Each field is named and bound at its type, so a field more, of a tree or of further marks, would not compile.
+        let LinkedStore {
             links,
-            first: self.first,
-            last: self.last,
+            first,
+            last,
+            profile,
+        } = self;
+        let links: &Vec<Link> = links;
+        let first: &Option<Slot> = first;
+        let last: &Option<Slot> = last;
+        let _profile: &PhantomData<P> = profile;
+        let mut copied = Vec::with_capacity(alloc, links.len())?;
+        copied.extend_from_slice(links)?;
+        Ok(LinkedStore {
+            links: copied,
+            first: *first,
+            last: *last,
             profile: PhantomData,
         })
     }
@@ -144,9 +154,9 @@ impl<P: Profile> LinkedStore<P> {
     ghost use Rattle.std.specs.Prelude.{◌≡◌, ◌*◌, ◌<◌, ◌^◌, None, List, ◌∷◌, ◌++◌, map};
     ghost use Rattle.slot_core.specs.Places.{address_of};
     ghost use Rattle.slot_core.specs.Links.{place_in};
-    ghost use Rattle.slot_core.specs.Marked.{Marked, row_in, previous_in, next_in, entry_of, forest_of, run_of, StandsForEntries, HasOthersBelow};
-    ghost use Rattle.slot_core.specs.Forest.{Forest, descendants};
-    ghost use Rattle.slot_core.specs.Entries.{Entry, is_at};
+    ghost use Rattle.derivation.specs.Marked.{Marked, row_in, previous_in, next_in, entry_of, forest_of, run_of, StandsForEntries, HasOthersBelow};
+    ghost use Rattle.derivation.specs.Forest.{Forest, descendants};
+    ghost use Rattle.derivation.specs.Entries.{Entry, is_at};
     ghost use Rattle.cap_core.specs.Numbers.{slot_size};
 
     /// A slot's row in the list; an empty slot's has no capability, no neighbours and no mark.

@@ -3,7 +3,7 @@ ghost use Rattle.std.specs.Prelude.{◌≡◌, ◌+◌, ◌^◌, ◌<◌};
 ghost use Rattle.slot_core.specs.Rows.{place_of as place_in, derived_row, names_elsewhere, raised};
 ghost use Rattle.std.specs.List.{list_any};
 
-use crate::derivation::{is_new_original, with_free};
+use crate::derived::{is_new_original, with_free};
 use crate::slot::Slot;
 use crate::store::{CapStore, MakeStore};
 use cap_core::{Cap, Profile, same_object};

@@ -3,10 +3,10 @@ ghost use Rattle.std.specs.Prelude.{◌≡◌, ℕ, ◌^◌, ◌<◌, ◌≤◌,
 ghost use Rattle.cap_core.specs.Objects.{IsLawful, is_untyped, badge_of, contains};
 ghost use Rattle.cap_core.specs.declared.capability.Cap.TheVariants.{Null};
 ghost use Rattle.slot_core.specs.Places.{address_of};
-ghost use Rattle.slot_core.specs.Forest.{Forest, none};
-ghost use Rattle.slot_core.specs.Entries.{Entry, cap_at, is_full, first_child as first_child_of};
-ghost use Rattle.slot_core.specs.Derivation.{derived, rooted, retyped, moved, freed, with_free, emptied, names_same, is_named, is_last as is_last_of};
-ghost use Rattle.slot_core.specs.Disjoint.{IsDisjoint};
+ghost use Rattle.derivation.specs.Forest.{Forest, none};
+ghost use Rattle.derivation.specs.Entries.{Entry, cap_at, is_full, first_child as first_child_of};
+ghost use Rattle.derivation.specs.Derivation.{derived, rooted, retyped, moved, freed, with_free, emptied, names_same, is_named, is_last as is_last_of};
+ghost use Rattle.derivation.specs.Disjoint.{IsDisjoint};
 
 use crate::slot::Slot;
 use cap_core::limits::{MAX_MEMORY_BITS, MIN_MEMORY_BITS};

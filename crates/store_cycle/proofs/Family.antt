@@ -4,13 +4,13 @@ use Rattle.std.specs.List.{AllByRecursion as Each, Contains}
 use Rattle.std.proofs.lemmas.Bool.Decides.{nat_tests}
 use Rattle.cap_core.specs.declared.profile.ProfileName.TheVariants.{Wide}
 use Rattle.cap_core.specs.Objects.{is_untyped, contains, same_object}
-use Rattle.slot_core.specs.Forest.{Forest, none, tree, join, out, preorder}
-use Rattle.slot_core.specs.Entries.{Entry, entry, is_at, is_full, cap_at}
-use Rattle.slot_core.specs.Derivation.{derived, emptied}
-use Rattle.slot_core.specs.Disjoint.{IsDisjoint}
-use Rattle.slot_core.proofs.Forests.{each-contained}
-use Rattle.slot_core.proofs.Edits.{each-derived, full-derived, cap-derived_other}
-use Rattle.slot_core.proofs.Disjointness.{disjoint-none, disjoint-rooted, disjoint-derived}
+use Rattle.derivation.specs.Forest.{Forest, none, tree, join, out, preorder}
+use Rattle.derivation.specs.Entries.{Entry, entry, is_at, is_full, cap_at}
+use Rattle.derivation.specs.Derivation.{derived, emptied}
+use Rattle.derivation.specs.Disjoint.{IsDisjoint}
+use Rattle.derivation.proofs.Trees.Forests.{each-contained}
+use Rattle.derivation.proofs.Slots.Edits.{each-derived, full-derived, cap-derived_other}
+use Rattle.derivation.proofs.Disjoint.Disjointness.{disjoint-none, disjoint-rooted, disjoint-derived}
 use Rattle.store_cycle.specs.Cycle.{endpoint, at, whole, family}
 
 other_place : (i j : ℕ) → i ≢ j → (at i == at j) ≡ false

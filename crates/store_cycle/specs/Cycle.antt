@@ -5,9 +5,9 @@ use Rattle.cap_core.specs.declared.capability.Cap.{Cap}
 use Rattle.cap_core.specs.declared.capability.Cap.TheVariants.{Endpoint}
 use Rattle.cap_core.specs.Numbers.{slot_size}
 use Rattle.cap_core.specs.Rights.{all_rights}
-use Rattle.slot_core.specs.Forest.{Forest, none}
-use Rattle.slot_core.specs.Entries.{Entry}
-use Rattle.slot_core.specs.Derivation.{derived, rooted}
+use Rattle.derivation.specs.Forest.{Forest, none}
+use Rattle.derivation.specs.Entries.{Entry}
+use Rattle.derivation.specs.Derivation.{derived, rooted}
 
 abbrev pub memory_bits : ℕ
 memory_bits = 16

@@ -4,7 +4,7 @@
 ghost use Rattle.std.specs.Prelude.{◌≡◌, ◌*◌, ◌<◌, ◌≤◌, IfOk};
 ghost use Rattle.cap_core.specs.Numbers.{slot_size};
 ghost use Rattle.cap_core.specs.declared.profile.ProfileName.TheVariants.{Wide as wide};
-ghost use Rattle.slot_core.specs.Forest.{none};
+ghost use Rattle.derivation.specs.Forest.{none};
 ghost use Rattle.slot_core.specs.Places.{address_of};
 ghost use Rattle.store_cycle.specs.Cycle.{memory_bits, endpoint as endpoint_cap, at, whole, family};
 

@@ -2,7 +2,7 @@
 //! 6144 and a CNode of four slots at 16384.
 ghost use Rattle.std.specs.Prelude.{◌≡◌, ◌+◌, ◌*◌, ◌<◌, ◌≤◌, ◌^◌, IfOk};
 ghost use Rattle.cap_core.specs.Numbers.{slot_size, word_bits};
-ghost use Rattle.slot_core.specs.Forest.{none};
+ghost use Rattle.derivation.specs.Forest.{none};
 ghost use Rattle.cap_core.specs.declared.capability.Cap.TheVariants.{CNode};
 ghost use Rattle.slot_core.specs.Places.{address_of};
 ghost use Rattle.cspace_core.specs.Memory.{memory_bits, endpoint as endpoint_cap, node as node_cap, with_root, with_endpoint, with_node, with_guarded, with_copy, with_itself};

@@ -1,5 +1,5 @@
 use super::*;
-use crate::call::ThreadState;
+use abstract_kernel::call::ThreadState;
 use cap_core::{Narrow, Wide};
 use ipc_core::RowWaiters;
 use slot_core::RowStore;

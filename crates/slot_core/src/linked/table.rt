@@ -2,11 +2,11 @@
 ghost use Rattle.std.specs.Prelude.{◌≡◌, ◌≢◌, ℕ, ◌<◌, length, IfSome, Option, Some, None, true, false};
 ghost use Rattle.cap_core.specs.declared.capability.Cap.TheVariants.{Null};
 ghost use Rattle.cap_core.specs.Objects.{same_object as is_same_object};
-ghost use Rattle.slot_core.specs.Derivation.{with_free as freed_cap};
-ghost use Rattle.slot_core.specs.Marked.{marked, at_place, with_cap, with_mark, is_parent as is_parent_in, badge_fits as badge_fits_in};
+ghost use Rattle.derivation.specs.Derivation.{with_free as freed_cap};
+ghost use Rattle.derivation.specs.Marked.{marked, at_place, with_cap, with_mark, is_parent as is_parent_in, badge_fits as badge_fits_in};
 ghost use Rattle.slot_core.specs.Links.{next_of, previous_of, link_at, row_of, place_in};
 
-use crate::derivation::{badge_of, with_free};
+use crate::derived::{badge_of, with_free};
 use crate::slot::Slot;
 use cap_core::object::{in_region, same_object};
 use cap_core::{Cap, Profile};

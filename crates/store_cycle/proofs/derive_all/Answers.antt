@@ -1,6 +1,6 @@
 use Rattle.std.proofs.Common.{◌≡◌, ◌+◌, suc, inr, ap, arith}
 use Rattle.cap_core.specs.Objects.{badge_of}
-use Rattle.slot_core.specs.Derivation.{names_same}
+use Rattle.derivation.specs.Derivation.{names_same}
 use Rattle.store_cycle.specs.Cycle.{endpoint}
 use Rattle.store_cycle.proofs.Family.{first_full, next_empty, first_holds, family_typed}
 use Rattle.store_cycle.proofs.derive_all.Goals as goal

@@ -1,6 +1,6 @@
 use Rattle.std.proofs.Common.{◌≡◌, ℕ, suc, ◌+◌, ◌-◌, true, sym, subst, ap, ◌∙◌, arith}
-use Rattle.slot_core.specs.Derivation.{emptied}
-use Rattle.slot_core.specs.Entries.{is_full}
+use Rattle.derivation.specs.Derivation.{emptied}
+use Rattle.derivation.specs.Entries.{is_full}
 use Rattle.store_cycle.specs.Cycle.{at, family}
 use Rattle.store_cycle.proofs.Family.{last_full, last_out}
 use Rattle.store_cycle.proofs.remove_all.Goals as goal

@@ -1,6 +1,6 @@
 use Rattle.std.proofs.Common.{◌≡◌, ◌≤◌}
 use Rattle.cap_core.specs.declared.profile.ProfileName.TheVariants.{Wide}
-use Rattle.slot_core.specs.Marked.{forest_of}
+use Rattle.derivation.specs.Marked.{forest_of}
 use Rattle.store_cycle.specs.Cycle.{memory_bits, whole}
 use Rattle.store_cycle.proofs.run.Given as goal
 

@@ -1,6 +1,6 @@
 use Rattle.std.proofs.Common.{◌<◌, ◌≤◌, length, refl, sym, ◌∙◌, arith}
 use Rattle.std.proofs.lemmas.List.{set-get_or}
-use Rattle.slot_core.proofs.RowRemoves.{raise_stop, raise_end, raise_step}
+use Rattle.slot_core.proofs.RowStores.RowRemoves.{raise_stop, raise_end, raise_step}
 use Rattle.slot_core.proofs.rows.raise.Goals as goal
 
 pub loop-row-init : goal.loop-row-init

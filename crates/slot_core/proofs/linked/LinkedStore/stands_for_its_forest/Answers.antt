@@ -1,7 +1,7 @@
 use Rattle.std.proofs.Common.{ℕ, List, ap}
-use Rattle.slot_core.specs.Marked.{Marked}
+use Rattle.derivation.specs.Marked.{Marked}
 use Rattle.slot_core.specs.Links.{place_in}
-use Rattle.slot_core.proofs.LinkedLaw.{stands_for, no_other, run_in_store, below_in_store}
+use Rattle.slot_core.proofs.LinkedStores.LinkedLaw.{stands_for, no_other, run_in_store, below_in_store}
 use Rattle.slot_core.proofs.linked.LinkedStore.stands_for_its_forest.Goals as goal
 
 pub returns-clause-stands : goal.returns-clause-stands

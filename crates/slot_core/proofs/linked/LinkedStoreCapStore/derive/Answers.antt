@@ -1,9 +1,9 @@
 use Rattle.std.proofs.Common.{◌∙◌, ap}
 use Rattle.std.proofs.lemmas.List.{with_items_is}
-use Rattle.slot_core.specs.Derivation.{is_new_original}
+use Rattle.derivation.specs.Derivation.{is_new_original}
 use Rattle.slot_core.specs.Links.{link_at}
 use Rattle.slot_core.specs.Links.{place_in}
-use Rattle.slot_core.proofs.LinkedCalls.{found, in_next, in_table, derived_call}
+use Rattle.slot_core.proofs.LinkedStores.LinkedCalls.{found, in_next, in_table, derived_call}
 use Rattle.slot_core.proofs.linked.LinkedStoreCapStore.derive.Goals as goal
 
 pub insert_after-requires-clause-source_in : goal.insert_after-requires-clause-source_in

@@ -1,13 +1,13 @@
 use Rattle.std.proofs.Common.{ℕ, false, not, ◌||◌, List, ◌≡◌, sym, ◌∙◌, ap}
 use Rattle.cap_core.specs.Objects.{is_untyped, same_object}
 use Rattle.slot_core.specs.declared.linked.table.Link.{Link}
-use Rattle.slot_core.specs.Derivation.{is_last}
+use Rattle.derivation.specs.Derivation.{is_last}
 use Rattle.slot_core.specs.Places.{address_of}
-use Rattle.slot_core.specs.Marked.{Marked, forest_of}
+use Rattle.derivation.specs.Marked.{Marked, forest_of}
 use Rattle.slot_core.specs.Links.{place_in, link_at}
-use Rattle.slot_core.proofs.RowLists.{not_untyped}
-use Rattle.slot_core.proofs.LinkedReads.{last_read, last_untyped, last_before}
-use Rattle.slot_core.proofs.LinkedCalls.{found}
+use Rattle.slot_core.proofs.RowStores.RowLists.{not_untyped}
+use Rattle.slot_core.proofs.LinkedStores.LinkedReads.{last_read, last_untyped, last_before}
+use Rattle.slot_core.proofs.LinkedStores.LinkedCalls.{found}
 use Rattle.slot_core.proofs.linked.LinkedStoreCapStore.is_last.Goals as goal
 
 pub returns-in-Untyped : goal.returns-in-Untyped

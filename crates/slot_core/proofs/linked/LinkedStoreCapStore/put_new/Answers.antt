@@ -1,7 +1,7 @@
 use Rattle.std.proofs.Common.{◌∙◌}
 use Rattle.std.proofs.lemmas.List.{with_items_is}
 use Rattle.slot_core.specs.Links.{place_in}
-use Rattle.slot_core.proofs.LinkedCalls.{found, full_untyped, in_next, in_table, retyped_call}
+use Rattle.slot_core.proofs.LinkedStores.LinkedCalls.{found, full_untyped, in_next, in_table, retyped_call}
 use Rattle.slot_core.proofs.linked.LinkedStoreCapStore.put_new.Goals as goal
 
 pub insert_after-requires-clause-source_in : goal.insert_after-requires-clause-source_in

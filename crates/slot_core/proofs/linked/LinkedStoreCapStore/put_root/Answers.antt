@@ -3,8 +3,8 @@ use Rattle.std.proofs.lemmas.List.{with_items_is}
 use Rattle.std.proofs.Common.{List, length, IfSome, subst, ◌<◌}
 use Rattle.slot_core.specs.declared.linked.table.Link.{Link}
 use Rattle.slot_core.specs.Links.{place_in}
-use Rattle.slot_core.proofs.LinkedCalls.{rooted_call}
-use Rattle.slot_core.proofs.LinkedSteps.{last_within}
+use Rattle.slot_core.proofs.LinkedStores.LinkedCalls.{rooted_call}
+use Rattle.slot_core.proofs.LinkedStores.LinkedSteps.{last_within}
 use Rattle.slot_core.proofs.linked.LinkedStoreCapStore.put_root.Goals as goal
 
 pub append-requires-clause-last_in : goal.append-requires-clause-last_in

@@ -1,7 +1,7 @@
 use Rattle.std.proofs.Common.{◌∙◌}
 use Rattle.std.proofs.lemmas.List.{with_items_is}
 use Rattle.slot_core.specs.Links.{place_in}
-use Rattle.slot_core.proofs.LinkedCalls.{found, in_next, in_previous, in_table, moved_call}
+use Rattle.slot_core.proofs.LinkedStores.LinkedCalls.{found, in_next, in_previous, in_table, moved_call}
 use Rattle.slot_core.proofs.linked.LinkedStoreCapStore.relocate.Goals as goal
 
 pub replace-requires-clause-source_in : goal.replace-requires-clause-source_in

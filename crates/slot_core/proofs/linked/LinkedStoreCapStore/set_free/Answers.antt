@@ -1,7 +1,7 @@
 use Rattle.std.proofs.Common.{◌∙◌}
 use Rattle.std.proofs.lemmas.List.{with_items_is}
 use Rattle.slot_core.specs.Links.{place_in}
-use Rattle.slot_core.proofs.LinkedCalls.{found, full_untyped, in_table, freed_call}
+use Rattle.slot_core.proofs.LinkedStores.LinkedCalls.{found, full_untyped, in_table, freed_call}
 use Rattle.slot_core.proofs.linked.LinkedStoreCapStore.set_free.Goals as goal
 
 pub free_from-requires : goal.free_from-requires

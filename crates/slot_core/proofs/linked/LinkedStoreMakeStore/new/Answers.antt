@@ -4,8 +4,8 @@ use Rattle.std.proofs.lemmas.List.{length-replicate}
 use Rattle.cap_core.specs.Numbers.{slot_bits}
 use Rattle.slot_core.specs.declared.linked.table.Link.{Link}
 use Rattle.slot_core.specs.Links.{empty_link}
-use Rattle.slot_core.proofs.RowSteps.{slot_bits-most}
-use Rattle.slot_core.proofs.LinkedMade.{memory_made, store_made, all_empty}
+use Rattle.slot_core.proofs.RowStores.RowSteps.{slot_bits-most}
+use Rattle.slot_core.proofs.LinkedStores.LinkedMade.{memory_made, store_made, all_empty}
 use Rattle.slot_core.proofs.linked.LinkedStoreMakeStore.new.Goals as goal
 
 pub invariant_of-result : goal.invariant_of-result

@@ -3,12 +3,12 @@ use Rattle.std.specs.Prelude.{vec_capacity}
 use Rattle.std.specs.List.{insert}
 use Rattle.slot_core.specs.declared.rows.Row.{Row}
 use Rattle.cap_core.specs.Objects.{IsLawful}
-use Rattle.slot_core.specs.Entries.{is_full}
-use Rattle.slot_core.specs.Derivation.{derived}
+use Rattle.derivation.specs.Entries.{is_full}
+use Rattle.derivation.specs.Derivation.{derived}
 use Rattle.slot_core.specs.Places.{address_of}
 use Rattle.slot_core.specs.Rows.{forest_of, place_of, derived_row, IsRowStore}
-use Rattle.slot_core.proofs.RowLists.{rows_derived}
-use Rattle.slot_core.proofs.RowSteps.{room_left, store_derived, source_row, source_below, source_depth}
+use Rattle.slot_core.proofs.RowStores.RowLists.{rows_derived}
+use Rattle.slot_core.proofs.RowStores.RowSteps.{room_left, store_derived, source_row, source_below, source_depth}
 use Rattle.slot_core.proofs.rows.RowStoreCapStore.derive.Goals as goal
 
 pub index-requires : goal.index-requires

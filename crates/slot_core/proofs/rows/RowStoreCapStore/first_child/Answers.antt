@@ -2,11 +2,11 @@ use Rattle.std.proofs.Common.{◌≡◌, ℕ, ◌+◌, List, length, get_or, sym
 use Rattle.std.specs.Prelude.{option_map}
 use Rattle.std.proofs.lemmas.Bool.Decides.{nat_tests}
 use Rattle.slot_core.specs.declared.rows.Row.{Row}
-use Rattle.slot_core.specs.Entries.{first_child}
+use Rattle.derivation.specs.Entries.{first_child}
 use Rattle.slot_core.specs.Places.{address_of}
 use Rattle.slot_core.specs.Rows.{forest_of, place_of}
-use Rattle.slot_core.proofs.RowLists.{absent_child}
-use Rattle.slot_core.proofs.RowSteps.{found, not_found, child_found, no_child, last_row}
+use Rattle.slot_core.proofs.RowStores.RowLists.{absent_child}
+use Rattle.slot_core.proofs.RowStores.RowSteps.{found, not_found, child_found, no_child, last_row}
 use Rattle.slot_core.proofs.rows.RowStoreCapStore.first_child.Goals as goal
 
 pub returns-in_err-row : goal.returns-in_err-row

@@ -1,11 +1,11 @@
 use Rattle.std.proofs.Common.{◌≡◌, ℕ, ◌^◌, List, length, get_or, sym, ◌∙◌, ap, arith}
 use Rattle.std.proofs.lemmas.Bool.Decides.{nat_tests}
 use Rattle.slot_core.specs.declared.rows.Row.{Row}
-use Rattle.slot_core.specs.Entries.{cap_at}
+use Rattle.derivation.specs.Entries.{cap_at}
 use Rattle.slot_core.specs.Places.{address_of}
 use Rattle.slot_core.specs.Rows.{forest_of, place_of}
-use Rattle.slot_core.proofs.RowLists.{standing_cap, absent_cap}
-use Rattle.slot_core.proofs.RowSteps.{found, not_found, row_within}
+use Rattle.slot_core.proofs.RowStores.RowLists.{standing_cap, absent_cap}
+use Rattle.slot_core.proofs.RowStores.RowSteps.{found, not_found, row_within}
 use Rattle.slot_core.proofs.rows.RowStoreCapStore.get.Goals as goal
 
 pub returns-in-Some-clause-cap : goal.returns-in-Some-clause-cap

@@ -3,14 +3,14 @@ use Rattle.std.specs.Prelude.{vec_capacity}
 use Rattle.std.specs.List.{insert}
 use Rattle.cap_core.specs.Objects.{IsLawful, is_untyped}
 use Rattle.slot_core.specs.declared.rows.Row.{Row}
-use Rattle.slot_core.specs.Forest.{preorder}
-use Rattle.slot_core.specs.Entries.{is_full, cap_at}
-use Rattle.slot_core.specs.Derivation.{retyped}
+use Rattle.derivation.specs.Forest.{preorder}
+use Rattle.derivation.specs.Entries.{is_full, cap_at}
+use Rattle.derivation.specs.Derivation.{retyped}
 use Rattle.slot_core.specs.Places.{address_of}
 use Rattle.slot_core.specs.Rows.{forest_of, place_of, derived_depth, IsRowStore}
-use Rattle.slot_core.proofs.RowLists.{rows_new, standing_cap}
-use Rattle.slot_core.proofs.RowSteps.{source_row, source_below, source_depth, room_left, store_derived}
-use Rattle.slot_core.proofs.RowEdits.{untyped_full, standing_untyped}
+use Rattle.slot_core.proofs.RowStores.RowLists.{rows_new, standing_cap}
+use Rattle.slot_core.proofs.RowStores.RowSteps.{source_row, source_below, source_depth, room_left, store_derived}
+use Rattle.slot_core.proofs.RowStores.RowEdits.{untyped_full, standing_untyped}
 use Rattle.slot_core.proofs.rows.RowStoreCapStore.put_new.Goals as goal
 
 pub index-requires : goal.index-requires

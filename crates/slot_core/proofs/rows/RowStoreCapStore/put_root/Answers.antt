@@ -2,12 +2,12 @@ use Rattle.std.proofs.Common.{◌≡◌, ℕ, ◌<◌, ◌^◌, false, true, Lis
 use Rattle.std.specs.Prelude.{vec_capacity}
 use Rattle.slot_core.specs.declared.rows.Row.{Row}
 use Rattle.cap_core.specs.Objects.{IsLawful}
-use Rattle.slot_core.specs.Entries.{is_full}
-use Rattle.slot_core.specs.Derivation.{rooted}
+use Rattle.derivation.specs.Entries.{is_full}
+use Rattle.derivation.specs.Derivation.{rooted}
 use Rattle.slot_core.specs.Places.{address_of}
 use Rattle.slot_core.specs.Rows.{forest_of, IsRowStore}
-use Rattle.slot_core.proofs.RowLists.{rows_root}
-use Rattle.slot_core.proofs.RowSteps.{room_left, store_pushed}
+use Rattle.slot_core.proofs.RowStores.RowLists.{rows_root}
+use Rattle.slot_core.proofs.RowStores.RowSteps.{room_left, store_pushed}
 use Rattle.slot_core.proofs.rows.RowStoreCapStore.put_root.Goals as goal
 
 pub unreachable-requires : goal.unreachable-requires

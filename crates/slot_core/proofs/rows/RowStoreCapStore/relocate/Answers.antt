@@ -1,12 +1,12 @@
 use Rattle.std.proofs.Common.{◌≡◌, ℕ, ◌<◌, ◌^◌, false, true, List, length, set, sym, ◌∙◌, ap, subst, arith}
 use Rattle.cap_core.specs.Objects.{IsLawful}
 use Rattle.slot_core.specs.declared.rows.Row.{Row}
-use Rattle.slot_core.specs.Entries.{is_full, cap_at}
-use Rattle.slot_core.specs.Derivation.{moved, names_same}
+use Rattle.derivation.specs.Entries.{is_full, cap_at}
+use Rattle.derivation.specs.Derivation.{moved, names_same}
 use Rattle.slot_core.specs.Places.{address_of}
 use Rattle.slot_core.specs.Rows.{forest_of, place_of, IsRowStore}
-use Rattle.slot_core.proofs.RowSteps.{source_row, source_below}
-use Rattle.slot_core.proofs.RowEdits.{moved_row, rows_moved, store_moved}
+use Rattle.slot_core.proofs.RowStores.RowSteps.{source_row, source_below}
+use Rattle.slot_core.proofs.RowStores.RowEdits.{moved_row, rows_moved, store_moved}
 use Rattle.slot_core.proofs.rows.RowStoreCapStore.relocate.Goals as goal
 
 pub index_mut-row-requires : goal.index_mut-row-requires

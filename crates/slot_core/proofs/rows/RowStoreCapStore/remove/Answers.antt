@@ -2,12 +2,12 @@ use Rattle.std.proofs.Common.{◌≡◌, ℕ, ◌-◌, true, List, ◌++◌, len
 use Rattle.std.specs.List.{remove}
 use Rattle.std.proofs.lemmas.List.{with_items_is}
 use Rattle.slot_core.specs.declared.rows.Row.{Row}
-use Rattle.slot_core.specs.Entries.{is_full}
-use Rattle.slot_core.specs.Derivation.{emptied}
+use Rattle.derivation.specs.Entries.{is_full}
+use Rattle.derivation.specs.Derivation.{emptied}
 use Rattle.slot_core.specs.Places.{address_of}
 use Rattle.slot_core.specs.Rows.{forest_of, place_of, IsRowStore}
-use Rattle.slot_core.proofs.RowSteps.{source_row, source_below}
-use Rattle.slot_core.proofs.RowRemoves.{raised_from, length-raised_from, raised_part, rows_removed, store_removed}
+use Rattle.slot_core.proofs.RowStores.RowSteps.{source_row, source_below}
+use Rattle.slot_core.proofs.RowStores.RowRemoves.{raised_from, length-raised_from, raised_part, rows_removed, store_removed}
 use Rattle.slot_core.proofs.rows.RowStoreCapStore.remove.Goals as goal
 
 pub remove-row-requires : goal.remove-row-requires

@@ -2,13 +2,13 @@ use Rattle.std.proofs.Common.{◌≡◌, ℕ, true, List, length, set, sym, ◌�
 use Rattle.std.specs.Prelude.{vec_capacity}
 use Rattle.cap_core.specs.Objects.{IsLawful, is_untyped}
 use Rattle.slot_core.specs.declared.rows.Row.{Row}
-use Rattle.slot_core.specs.Forest.{preorder}
-use Rattle.slot_core.specs.Entries.{is_full, cap_at}
-use Rattle.slot_core.specs.Derivation.{freed, with_free}
+use Rattle.derivation.specs.Forest.{preorder}
+use Rattle.derivation.specs.Entries.{is_full, cap_at}
+use Rattle.derivation.specs.Derivation.{freed, with_free}
 use Rattle.slot_core.specs.Places.{address_of}
 use Rattle.slot_core.specs.Rows.{forest_of, place_of, IsRowStore}
-use Rattle.slot_core.proofs.RowSteps.{source_row, source_below}
-use Rattle.slot_core.proofs.RowEdits.{freed_row, rows_freed, store_freed, untyped_full}
+use Rattle.slot_core.proofs.RowStores.RowSteps.{source_row, source_below}
+use Rattle.slot_core.proofs.RowStores.RowEdits.{freed_row, rows_freed, store_freed, untyped_full}
 use Rattle.slot_core.proofs.rows.RowStoreCapStore.set_free.Goals as goal
 
 pub index_mut-row-requires : goal.index_mut-row-requires

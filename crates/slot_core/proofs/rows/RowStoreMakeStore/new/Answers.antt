@@ -4,7 +4,7 @@ use Rattle.std.proofs.lemmas.Nat.{one_shl}
 use Rattle.cap_core.specs.Numbers.{slot_bits}
 use Rattle.slot_core.specs.declared.rows.Row.{Row}
 use Rattle.slot_core.specs.Rows.{IsRowStore}
-use Rattle.slot_core.proofs.RowSteps.{slot_bits-most, store_made}
+use Rattle.slot_core.proofs.RowStores.RowSteps.{slot_bits-most, store_made}
 use Rattle.slot_core.proofs.rows.RowStoreMakeStore.new.Goals as goal
 
 pub invariant_of-result : goal.invariant_of-result

@@ -1,0 +1,7 @@
+pub mod Lists
+pub mod Messages
+pub mod Checks
+pub mod Capabilities
+pub mod Retype
+pub mod Boot
+pub mod Reached

@@ -1,0 +1,8 @@
+-- Live objects are disjoint, and each edit of the derivation forest keeps them so.
+pub mod Alike
+pub mod DisjointDerived
+pub mod DisjointEdits
+pub mod DisjointRenamed
+pub mod DisjointRetyped
+pub mod Disjointness
+pub mod InRegion

@@ -1,0 +1,4 @@
+pub mod Trees
+pub mod Slots
+pub mod Disjoint
+pub mod Marked

@@ -1,0 +1,11 @@
+-- The marked list: what it keeps through each edit, and what the edit is to the forest that it stands for.
+pub mod MarkedEdits
+pub mod MarkedKept
+pub mod MarkedLines
+pub mod MarkedPuts
+pub mod MarkedRemoval
+pub mod MarkedRenamed
+pub mod MarkedRetype
+pub mod MarkedSteps
+pub mod OneObject
+pub mod Parents

@@ -1,0 +1,48 @@
+-- The newest child of a slot after a put.
+use Rattle.std.proofs.Common.{◌≡◌, ℕ, Bool, true, false, cond, ◌||◌, eqb, List, [], ◌∷◌, ◌++◌, Some, None, refl, sym, ◌∙◌, ap, arith}
+use Rattle.std.specs.List.{Contains, list_any}
+use Rattle.std.proofs.lemmas.List.Folds.{list_any-append}
+use Rattle.cap_core.specs.declared.capability.Cap.{Cap}
+use Rattle.derivation.specs.Forest.{Forest, none, tree, preorder, join, tops, below_those, descendants, below, after}
+use Rattle.derivation.specs.Entries.{Entry, entry, is_at, is_full, is_original, first_child, first_slot}
+use Rattle.derivation.specs.Derivation.{retyped, derived, derived_entry}
+use Rattle.derivation.proofs.Trees.Built.{fixed-below, below_those_none}
+use Rattle.derivation.proofs.Trees.Lines.{any_none}
+
+first_join : (g h : Forest Entry) (s : ℕ) → first_slot (tops g) ≡ Some s → first_slot (tops (join g h)) ≡ Some s
+first_join none h s e = cc
+first_join (tree a k r) h s e = e
+
+one_of : (b c : Bool) → (b || c) ≡ true → b ≡ false → c ≡ true
+one_of true c h k = cc
+one_of false c h k = h
+
+first-below : (is : Entry → Bool) (x : Entry) (f : Forest Entry) → list_any is (preorder f) ≡ true → first_slot (tops (below_those is (below is x f))) ≡ Some x.slot
+first-below is x none h = cc
+first-below is x (tree a k r) h =
+    (elim (is a) as (λ c. is a ≡ c → (c || list_any is (preorder k ++ preorder r)) ≡ true → first_slot (tops (below_those is (cond c (tree a (tree x none k) r) (tree a (below is x k) (below is x r))))) ≡ Some x.slot) [
+      | true ↦ λ t g. rw t refl
+      | false ↦ λ t g. rw t
+          ((elim (list_any is (preorder k)) as (λ c. list_any is (preorder k) ≡ c → first_slot (tops (join (below_those is (below is x k)) (below_those is (below is x r)))) ≡ Some x.slot) [
+            | true ↦ λ e. first_join (below_those is (below is x k)) (below_those is (below is x r)) x.slot (first-below is x k e)
+            | false ↦ λ e. ap (λ (m : Forest Entry). first_slot (tops (join m (below_those is (below is x r)))))
+                (ap (below_those is) (fixed-below is x k (any_none is (preorder k) e)) ∙ below_those_none is k (any_none is (preorder k) e))
+                ∙ first-below is x r (one_of (list_any is (preorder k)) (list_any is (preorder r)) (sym (list_any-append is (preorder k) (preorder r)) ∙ g) e)
+          ]) refl)
+    ]) refl h
+
+pub first_child-retyped : (parent slot : ℕ) (cap : Cap) (f : Forest Entry) → is_full parent f ≡ true → first_child parent (retyped parent slot cap f) ≡ Some slot
+first_child-retyped parent slot cap f h = first-below (is_at parent) (entry slot cap true) f h
+
+pub first_child-derived : (source slot : ℕ) (cap : Cap) (f : Forest Entry) → is_full source f ≡ true → is_original source f ≡ true → first_child source (derived source slot cap f) ≡ Some slot
+first_child-derived source slot cap f h o =
+    ap (λ b. first_slot (tops (below_those (is_at source) (cond b (below (is_at source) (derived_entry source slot cap f) f) (after (is_at source) (derived_entry source slot cap f) f))))) o
+    ∙ first-below (is_at source) (derived_entry source slot cap f) f h
+
+-- below a slot that has no child there is nothing
+pub childless-bare : (a : ℕ) (f : Forest Entry) → first_child a f ≡ None → (u : Entry) → Contains (descendants (is_at a) f) u → ⊥
+childless-bare a f h u m = go (below_those (is_at a) f) h m
+  where
+    go : (g : Forest Entry) → first_slot (tops g) ≡ None → Contains (preorder g) u → ⊥
+    go none e n = omega (arith, n.1)
+    go (tree b k r) e n = cc

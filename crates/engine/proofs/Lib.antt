@@ -1,0 +1,3 @@
+pub mod CommandLines
+pub mod Progress
+pub mod Runs

@@ -1,0 +1,54 @@
+-- The program's command as clap's definition, and what clap's matches for the words say.
+use Rattle.std.specs.Prelude.{◌≡◌, ◌≢◌, ⊤, true, false, codes, List, Option, Some, None, if◌then◌else◌, option_map}
+use Rattle.std.specs.Str.{bytes_eq}
+use Rattle.clap.specs.Words.{App, Kinds, Row, Text, first_of, new_app, new_rule, with_rule, with_subcommand, subcommand_of, takes, fault_of, IsAmong}
+use Rattle.clap.specs.Simple.{on_top}
+use Rattle.clap.specs.declared.error.kind.ErrorKind.{ErrorKind}
+use Rattle.clap.specs.declared.error.kind.ErrorKind.TheVariants.{DisplayHelp, OutOfMemory}
+use Rattle.engine.specs.declared.arguments.Job.{Job}
+use Rattle.engine.specs.declared.arguments.Job.TheVariants.{Check}
+use Rattle.engine.specs.declared.arguments.LineFault.{LineFault}
+use Rattle.engine.specs.declared.arguments.LineFault.TheVariants.{Help, Refused, Memory}
+
+-- `sel4sim`, with the subcommand `check`, which has the argument FILE, and without clap's subcommand `help`
+unfoldable pub command : App
+command = with_subcommand
+    (on_top (λ s. record s { disable_help_subcommand = true }) (new_app (codes "sel4sim")))
+    (with_rule (new_app (codes "check")) (new_rule (codes "FILE"))).top
+
+-- the job of a subcommand's name
+abbrev pub job_named : Text → Option Job
+job_named name = if bytes_eq name (codes "check") then Some Check else None
+
+-- the job where a subcommand of that name is met, and where none is
+abbrev pub job_of : Option Text → Option Job
+job_of None = Some Check
+job_of (Some name) = job_named name
+
+-- the file that clap's matches of the subcommand have
+abbrev pub file_of : Option (List Row) → Option Text
+file_of None = None
+file_of (Some rows) = first_of (codes "FILE") rows
+
+-- the job that clap's matches for the words give, and the file
+abbrev pub job_asked : List Text → Option Job
+job_asked words = job_of (option_map (λ met. met.0) (subcommand_of command words))
+
+abbrev pub file_asked : List Text → Option Text
+file_asked words = file_of (option_map (λ met. met.1) (subcommand_of command words))
+
+-- clap has another fault than a call for help for the words
+abbrev pub HasOtherFault : Kinds → Type 0
+HasOtherFault kinds = (kind : ErrorKind) × IsAmong kind kinds × (kind ≢ DisplayHelp)
+
+-- the command doesn't take the words, and their fault by clap's definition can be a call for help, or can be another
+abbrev pub Explains : List Text → LineFault → Type 0
+Explains words (Help text) = (takes command words ≡ false) × IsAmong DisplayHelp (fault_of command words)
+Explains words Refused = (takes command words ≡ false) × HasOtherFault (fault_of command words)
+Explains words Memory = ⊤
+
+-- the fault that stands for an error of clap
+abbrev pub StandsFor : ErrorKind → LineFault → Type 0
+StandsFor kind (Help text) = kind ≡ DisplayHelp
+StandsFor kind Refused = (kind ≢ DisplayHelp) × (kind ≢ OutOfMemory)
+StandsFor kind Memory = ⊤

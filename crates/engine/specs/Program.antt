@@ -1,0 +1,48 @@
+-- What the program writes for the bytes that it reads, and its verdict.
+use Rattle.std.specs.Prelude.{ℕ, ◌==◌, cond, List, map, Result, Ok, Err}
+use Rattle.cap_core.specs.declared.profile.ProfileName.{ProfileName}
+use Rattle.cap_core.specs.declared.profile.ProfileName.TheVariants.{Wide}
+use Rattle.abstract_kernel.specs.declared.call.Call.{Call}
+use Rattle.abstract_kernel.specs.declared.call.Reply.{Reply}
+use Rattle.abstract_kernel.specs.Boot.{boot}
+use Rattle.abstract_kernel.specs.State.{State, shown}
+use Rattle.abstract_kernel.specs.Step.{replies_of, state_after}
+use Rattle.setup_read.specs.Views.{SetupView, CallView}
+use Rattle.setup_read.specs.Faults.{Fault}
+use Rattle.setup_read.specs.Setups.{setup_of_bytes}
+use Rattle.setup_read.specs.Refusal.{refusal_line}
+use Rattle.setup_read.specs.Report.{report_of, met_count, expectation_count}
+use Rattle.engine.specs.declared.fault.Verdict.{Verdict}
+use Rattle.engine.specs.declared.fault.Verdict.TheVariants.{AllMet, NotMet, Refused}
+
+-- the calls of a set-up, in order
+abbrev pub calls_of : SetupView → List Call
+calls_of setup = map (λ (c : CallView). c.call) setup.calls
+
+-- what the abstract kernel answers to the calls of a set-up, from its boot on
+unfoldable pub replies_to : ProfileName → SetupView → List Reply
+replies_to p setup = replies_of p (boot p setup.plan) (calls_of setup)
+
+-- the state of the abstract kernel after the calls of a set-up
+unfoldable pub end_of : ProfileName → SetupView → State
+end_of p setup = state_after p (boot p setup.plan) (calls_of setup)
+
+-- all expectations are met, or one is not
+abbrev pub verdict_on : ℕ → ℕ → Verdict
+verdict_on met expected = cond (met == expected) AllMet NotMet
+
+abbrev pub verdict_of : List CallView → List Reply → Verdict
+verdict_of calls replies = verdict_on (met_count calls replies) (expectation_count calls replies)
+
+-- the report of a set-up's run, and its verdict
+unfoldable pub outcome_of : ProfileName → SetupView → List ℕ × Verdict
+outcome_of p setup =
+    (report_of p setup.calls (replies_to p setup) (shown (end_of p setup)), verdict_of setup.calls (replies_to p setup))
+
+abbrev pub outcome_in : Result SetupView Fault → List ℕ × Verdict
+outcome_in (Ok setup) = outcome_of Wide setup
+outcome_in (Err fault) = (refusal_line fault, Refused)
+
+-- the report of the set-up that the bytes are, or the line by which it is refused
+unfoldable pub program : List ℕ → List ℕ × Verdict
+program bytes = outcome_in (setup_of_bytes bytes)

@@ -1,0 +1,81 @@
+//! The words of the command line.
+ghost use Rattle.std.specs.Prelude.{◌≡◌, [], option_map, IfOk, IfErr, IsSome, OnOk};
+ghost use Rattle.clap.specs.Words.{app_of, fault_of, subcommand_name_of, subcommand_rows_of};
+ghost use Rattle.clap.specs.Values.{kind_of};
+ghost use Rattle.clap.specs.Walk.{texts};
+ghost use Rattle.engine.specs.CommandLine.{Explains, StandsFor, command as definition, file_asked, file_of, job_asked, job_of};
+
+use crate::arguments::{Job, Line, LineFault};
+use clap::error::ErrorKind;
+use clap::{Arg, ArgMatches, Command, Error};
+use std::alloc::{AllocError, Global};
+
+/// The command as clap reads it.
+fn command<'a>(alloc: Global) -> Result<Command<'a>, AllocError>
+    ensures { IfOk result (λ c. app_of c ≡ definition) }
+{
+    let file = Arg::new(alloc, "FILE").help("The set-up; without it, standard input");
+    let check = Command::new(alloc, "check")
+        .about("Runs a set-up and writes its report")
+        .arg(file)?;
+    let whole = Command::new(alloc, "sel4sim")
+        .about("Simulates the capability part of the seL4 microkernel")
+        .disable_help_subcommand(true)
+        .subcommand(check)?;
+    Ok(whole)
+}
+
+/// What the matches ask for.
+fn line_in<'a>(matches: &ArgMatches<'a>) -> Line<'a>
+    requires { IsSome (job_of (subcommand_name_of matches.now)) }
+    ensures job { job_of (subcommand_name_of matches.now) ≡ Some result.job }
+    ensures file { file_of (option_map (λ met. met.1) (subcommand_rows_of matches.now)) ≡ option_map (λ s. s.now) result.file }
+{
+    let Some((name, inner)) = matches.subcommand() else {
+        return Line {
+            job: Job::Check,
+            file: None,
+        };
+    };
+    let Some(job) = Job::named(name) else {
+        unreachable!();
+    };
+    let file = inner.get_str("FILE");
+    Line { job, file }
+}
+
+/// The fault that stands for an error of clap.
+fn fault_for(alloc: Global, error: &Error) -> LineFault
+    ensures { StandsFor (kind_of error.now) result }
+{
+    let kind = error.kind();
+    if kind == ErrorKind::OutOfMemory {
+        return LineFault::Memory;
+    }
+    if kind != ErrorKind::DisplayHelp {
+        return LineFault::Refused;
+    }
+    match format!(in alloc; "{error}") {
+        Ok(text) => LineFault::Help(text),
+        Err(_) => LineFault::Memory,
+    }
+}
+
+/// Reads the words of a command line, of which the first is the program's name.
+///
+/// # Errors
+/// `Help` where the words call for help, `Refused` where they are none that the command takes, and `Memory` where memory ran out.
+pub fn line<'a>(alloc: Global, words: &'a [&'a str]) -> Result<Line<'a>, LineFault>
+    ensures job { IfOk result (λ l. job_asked (texts words.now) ≡ Some l.job) }
+    ensures file { IfOk result (λ l. file_asked (texts words.now) ≡ option_map (λ s. s.now) l.file) }
+    ensures taken { OnOk result (fault_of definition (texts words.now) ≡ []) }
+    ensures fault { IfErr result (Explains (texts words.now)) }
+{
+    let Ok(command) = command(alloc) else {
+        return Err(LineFault::Memory);
+    };
+    match command.try_get_matches_from(words) {
+        Ok(matches) => Ok(line_in(&matches)),
+        Err(error) => Err(fault_for(alloc, &error)),
+    }
+}

@@ -1,0 +1,11 @@
+//! Tests of `engine`: reads and writes that fail, a source without an end, the command line and the exit statuses.
+#![tactic(auto)]
+
+#[cfg(test)]
+mod command_line;
+#[cfg(test)]
+mod devices;
+#[cfg(test)]
+mod fakes;
+#[cfg(test)]
+mod stored_run;

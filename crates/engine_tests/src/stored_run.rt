@@ -1,0 +1,65 @@
+//! The stored run of the program, with reads and writes that fail at each place.
+use crate::fakes::{PieceWriter, reader, writer};
+use engine::{ReaderSource, RunFault, Verdict, WriterSink, check};
+use std::alloc::Global;
+use std::test::Fail;
+
+/// The set-up of the stored run.
+const STORED: &[u8] =
+    b"format = 1\nmemory_bits = 16\nroot_radix = 4\nthreads = 2\nendpoints = 1\n[[untyped]]\nbase = 16384\nbits = 12\n[[call]]\nthread = 2048\nop = \"send\"\ncap = 4\nlabel = 7\nwords = [1, 2]\n[[call]]\nthread = 4096\nop = \"recv\"\ncap = 4\nexpect = \"delivered 6144 from 2048\"\n";
+
+/// The stored run, read in pieces of so many bytes until a read fails, and written to this writer.
+fn run(
+    alloc: Global,
+    piece: usize,
+    reads: usize,
+    out: &mut PieceWriter,
+) -> Result<Verdict, RunFault> {
+    let mut source = ReaderSource::new(reader(STORED, piece, reads));
+    check(alloc, &mut source, &mut WriterSink::new(out))
+}
+
+/// Whether nothing is written where a read fails after so many.
+fn fails_reading(alloc: Global, reads: usize) -> bool {
+    let mut out = writer(alloc, usize::MAX, usize::MAX, false);
+    let answer = run(alloc, 16, reads, &mut out);
+    matches!(answer, Err(RunFault::Reading)) && out.taken.is_empty()
+}
+
+#[test]
+fn each_read_of_the_stored_run_fails_in_turn(rt: HostRuntime) {
+    let reads = STORED.len() / 16 + 2;
+    for k in 0..reads {
+        assert!(rt; fails_reading(rt.alloc(), k), "at read {k}");
+    }
+    let mut out = writer(rt.alloc(), usize::MAX, usize::MAX, false);
+    let answer = run(rt.alloc(), 16, reads, &mut out);
+    assert!(rt; matches!(answer, Ok(Verdict::AllMet)));
+}
+
+/// Whether a beginning of the report of just that length is written where a write fails there.
+fn fails_writing(alloc: Global, room: usize, shy: bool, whole: &[u8]) -> bool {
+    let mut out = writer(alloc, 1, room, shy);
+    let answer = run(alloc, 4096, usize::MAX, &mut out);
+    let is_writing = matches!(answer, Err(RunFault::Writing));
+    is_writing && out.taken.len() == room && whole.starts_with(out.taken.as_slice())
+}
+
+#[test]
+fn each_write_of_the_stored_run_fails_in_turn(rt: HostRuntime) -> Result<(), Fail> {
+    let mut whole = writer(rt.alloc(), 1, usize::MAX, false);
+    let answer = run(rt.alloc(), 4096, usize::MAX, &mut whole);
+    assert!(rt; matches!(answer, Ok(Verdict::AllMet)), "a byte at a time");
+    let report = whole.taken.as_slice();
+    for room in 0..report.len() {
+        assert!(rt;
+            fails_writing(rt.alloc(), room, false, report),
+            "at byte {room}"
+        );
+        assert!(rt;
+            fails_writing(rt.alloc(), room, true, report),
+            "shy at byte {room}"
+        );
+    }
+    Ok(())
+}

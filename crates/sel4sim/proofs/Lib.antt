@@ -1,3 +1,0 @@
-pub mod CommandLines
-pub mod Streams
-pub mod Runs

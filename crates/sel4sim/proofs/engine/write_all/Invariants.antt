@@ -1,9 +1,0 @@
-use Rattle.std.proofs.Common.{length}
-use Rattle.sel4sim.proofs.Streams.{HasWritten}
-use Rattle.sel4sim.proofs.engine.write_all.Given as goal
-
-abbrev pub invariant-loop-rest : goal.invariant-loop-rest
-invariant-loop-rest g l = HasWritten l.text l.rest (g.K.Sink.taken l.fn.sink) (g.K.Sink.taken l.sink) (g.K.Sink.failed l.fn.sink) (g.K.Sink.failed l.sink)
-
-abbrev pub decreases-loop-rest : goal.decreases-loop-rest
-decreases-loop-rest g l = length l.rest

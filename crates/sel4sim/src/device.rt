@@ -1,5 +1,0 @@
-//! Devices: where bytes come from and where they go.
-
-/// A read or a write failed.
-#[derive(Clone, Copy, Debug, PartialEq, Eq, Drop)]
-pub struct DeviceFault;

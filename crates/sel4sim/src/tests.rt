@@ -1,9 +1,0 @@
-mod command_line;
-mod devices;
-mod examples;
-mod fakes;
-mod faults;
-mod retyping;
-mod rows;
-mod stores;
-mod transfers;
