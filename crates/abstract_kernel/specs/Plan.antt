@@ -5,6 +5,7 @@ use Rattle.std.specs.List.{list_any, range_with_len}
 use Rattle.cap_core.specs.declared.profile.ProfileName.{ProfileName}
 use Rattle.cap_core.specs.declared.limits.TheConstants.{MIN_MEMORY_BITS, MAX_MEMORY_BITS, MIN_ROOT_RADIX, MAX_ROOT_RADIX, MIN_BOOT_THREADS, MAX_BOOT_THREADS, MAX_BOOT_ENDPOINTS, MAX_BOOT_UNTYPEDS}
 use Rattle.cap_core.specs.Numbers.{slot_bits, tcb_bits, endpoint_bits, tcb_size, endpoint_size, min_untyped_bits, max_object_bits}
+use Rattle.mem_core.specs.Plans.{least_multiple}
 use Rattle.abstract_kernel.specs.declared.plan.Extent.{Extent}
 use Rattle.abstract_kernel.specs.declared.plan.PlanDefect.{PlanDefect}
 use Rattle.abstract_kernel.specs.declared.plan.PlanDefect.TheVariants.{Outside, Unaligned, UntypedOutside, Overlap, Slots}
@@ -21,10 +22,6 @@ pub record Plan : Type 0 where
 abbrev pub planned : ℕ → ℕ → ℕ → ℕ → List (ℕ × ℕ) → Plan
 planned memory_bits root_radix threads endpoints untypeds =
     record { memory_bits = memory_bits; root_radix = root_radix; threads = threads; endpoints = endpoints; untypeds = untypeds }
-
--- the least multiple of a size that is not below an address
-abbrev pub least_multiple : ℕ → ℕ → ℕ
-least_multiple size address = (address + size - 1) / size * size
 
 -- the address of the first thread control block: past the root CNode, which stands at 0
 abbrev pub first_tcb : ProfileName → Plan → ℕ

@@ -1,5 +1,5 @@
 -- What a retype checks, and the capabilities that it puts (seL4 Reference Manual, on `seL4_Untyped_Retype`).
-use Rattle.std.specs.Prelude.{ℕ, ◌+◌, ◌-◌, ◌*◌, ◌^◌, Bool, not, cond, ◌==◌, ◌&&◌, nat_le, nat_lt, List, [], ◌∷◌, map, Option, Result, Ok, Err}
+use Rattle.std.specs.Prelude.{ℕ, ◌-◌, ◌^◌, Bool, not, cond, ◌==◌, ◌&&◌, nat_le, nat_lt, List, [], ◌∷◌, map, Option, Result, Ok, Err}
 use Rattle.std.specs.List.{list_any, range_with_len, filter_map}
 use Rattle.cap_core.specs.declared.limits.TheConstants.{MAX_RETYPE_COUNT}
 use Rattle.cap_core.specs.declared.profile.ProfileName.{ProfileName}
@@ -7,12 +7,11 @@ use Rattle.cap_core.specs.declared.capability.Cap.{Cap}
 use Rattle.cap_core.specs.declared.capability.Cap.TheVariants.{Untyped, CNode}
 use Rattle.cap_core.specs.declared.refusal.LookupFault.TheVariants.{MissingCapability}
 use Rattle.cap_core.specs.declared.refusal.Refusal.{Refusal}
-use Rattle.cap_core.specs.declared.refusal.Refusal.TheVariants.{RangeError, FailedLookup, DeleteFirst, NotEnoughMemory}
+use Rattle.cap_core.specs.declared.refusal.Refusal.TheVariants.{RangeError, FailedLookup, DeleteFirst}
 use Rattle.cap_core.specs.Objects.{is_null, is_untyped}
 use Rattle.cap_core.specs.Kinds.{new_cap}
-use Rattle.mem_core.specs.declared.objects.Placed.{Placed}
 use Rattle.mem_core.specs.Shapes.{shape_of}
-use Rattle.mem_core.specs.Plans.{start_of, room_of, object_at}
+use Rattle.mem_core.specs.Plans.{placed_in, object_at}
 use Rattle.derivation.specs.Forest.{Forest}
 use Rattle.derivation.specs.Entries.{Entry, cap_at}
 use Rattle.derivation.specs.Derivation.{retyped, freed}
@@ -20,7 +19,6 @@ use Rattle.cspace_core.specs.Resolution.{slot_of}
 use Rattle.cspace_core.specs.Target.{target_slot}
 use Rattle.abstract_kernel.specs.declared.invocation.NewObjects.{NewObjects}
 use Rattle.abstract_kernel.specs.declared.invocation.RetypeArguments.{RetypeArguments}
-use Rattle.abstract_kernel.specs.Plan.{least_multiple}
 use Rattle.abstract_kernel.specs.Checks.{◌>>=◌}
 use Rattle.abstract_kernel.specs.Lookups.{held_in, extra_cap, where_kind}
 use Rattle.abstract_kernel.specs.Shown.{has_child}
@@ -46,19 +44,6 @@ abbrev pub first_slot : ProfileName → Forest Entry → ℕ → ℕ → Cap →
 first_slot p f offset count (CNode base radix guard) =
     cond (are_slots radix offset count) (where_all_empty p f (slot_of p base offset) count) (Err RangeError)
 first_slot p f offset count cap = Err (FailedLookup MissingCapability)
-
--- the objects stand one after another from the first multiple of their size, 2^b bytes, that is not used
-abbrev pub placed_from : ℕ → ℕ → ℕ → ℕ → ℕ → Result Placed Refusal
-placed_from base bits start b count =
-    let first = least_multiple (2 ^ b) start in
-    cond (nat_le count (room_of bits start b))
-    (Ok (record { first = base + first; step = 2 ^ b; free = first + count * 2 ^ b }))
-    (Err NotEnoughMemory)
-
--- the place of `count` objects of 2^b bytes in an untyped region. No other capability has room for one
-abbrev pub placed_in : Bool → ℕ → ℕ → Cap → Result Placed Refusal
-placed_in has_children b count (Untyped base bits free) = placed_from base bits (start_of has_children free) b count
-placed_in has_children b count cap = Err NotEnoughMemory
 
 -- the checks in their order, of a retype by the untyped capability in a slot
 abbrev pub decoded_retype : ProfileName → Forest Entry → ℕ → ℕ → Cap → RetypeArguments → Result NewObjects Refusal

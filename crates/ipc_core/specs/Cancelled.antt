@@ -4,7 +4,7 @@ use Rattle.std.specs.List.{list_any}
 use Rattle.cap_core.specs.declared.capability.Badge.{Badge}
 use Rattle.ipc_core.specs.declared.waiter.Waiter.{Waiter}
 use Rattle.ipc_core.specs.declared.waiter.Waiter.TheVariants.{Sender, Receiver}
-use Rattle.ipc_core.specs.Records.{SendRecord, AskRecord, waiting_list}
+use Rattle.ipc_core.specs.Records.{SendRecord, ReceiveRecord, waiting_list}
 use Rattle.ipc_core.specs.Waits.{Waits, changed, thread_of}
 
 -- what waits is of this thread
@@ -52,22 +52,22 @@ abbrev pub standing_less : {X : Type 0} → (X → Bool) → ℕ → List X → 
 standing_less names delivered records = take delivered records ++ filter (λ r. not (names r)) (drop delivered records)
 
 -- the sends that stand after a cancellation, and the receives
-abbrev pub sends_less : (SendRecord → Bool) → List SendRecord → List AskRecord → List SendRecord
-sends_less names sends asks = standing_less names (length asks) sends
+abbrev pub sends_less : (SendRecord → Bool) → List SendRecord → List ReceiveRecord → List SendRecord
+sends_less names sends receives = standing_less names (length receives) sends
 
-abbrev pub asks_less : (AskRecord → Bool) → List SendRecord → List AskRecord → List AskRecord
-asks_less names sends asks = standing_less names (length sends) asks
+abbrev pub receives_less : (ReceiveRecord → Bool) → List SendRecord → List ReceiveRecord → List ReceiveRecord
+receives_less names sends receives = standing_less names (length sends) receives
 
 -- who waits by the histories, less the sends and the receives that the tests name
-abbrev pub waiting_less : (SendRecord → Bool) → (AskRecord → Bool) → List SendRecord → List AskRecord → List Waiter
-waiting_less of_sends of_asks sends asks = waiting_list (sends_less of_sends sends asks) (asks_less of_asks sends asks)
+abbrev pub waiting_less : (SendRecord → Bool) → (ReceiveRecord → Bool) → List SendRecord → List ReceiveRecord → List Waiter
+waiting_less of_sends of_receives sends receives = waiting_list (sends_less of_sends sends receives) (receives_less of_receives sends receives)
 
 -- the records of a thread
 abbrev pub is_sent_by : ℕ → SendRecord → Bool
 is_sent_by thread s = s.thread.base == thread
 
-abbrev pub is_asked_by : ℕ → AskRecord → Bool
-is_asked_by thread a = a.thread.base == thread
+abbrev pub is_received_by : ℕ → ReceiveRecord → Bool
+is_received_by thread a = a.thread.base == thread
 
 -- the sends with a badge
 abbrev pub is_sent_with : Badge → SendRecord → Bool

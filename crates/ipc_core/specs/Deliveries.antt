@@ -6,15 +6,15 @@ use Rattle.ipc_core.specs.declared.waiter.Sent.{Sent}
 use Rattle.ipc_core.specs.declared.waiter.Sent.TheVariants as S
 use Rattle.ipc_core.specs.declared.waiter.Received.{Received}
 use Rattle.ipc_core.specs.declared.waiter.Received.TheVariants as R
-use Rattle.ipc_core.specs.Records.{SendRecord, AskRecord}
+use Rattle.ipc_core.specs.Records.{SendRecord, ReceiveRecord}
 use Rattle.ipc_core.specs.Waits.{Waits, sent, after_send, received, after_receive}
-use Rattle.ipc_core.specs.Pairing.{sends_with, asks_with}
-use Rattle.ipc_core.specs.Cancelled.{after_cancel_thread, after_cancel_badge, after_cancel_endpoint, sends_less, asks_less, is_sent_by, is_asked_by, is_sent_with}
+use Rattle.ipc_core.specs.Pairing.{sends_with, receives_with}
+use Rattle.ipc_core.specs.Cancelled.{after_cancel_thread, after_cancel_badge, after_cancel_endpoint, sends_less, receives_less, is_sent_by, is_received_by, is_sent_with}
 
 -- a send or a receive on the endpoint of its record, and whether it waits where it meets none; and the calls that cancel
 pub data Request : Type 0 where
   Sends : (block : Bool) (s : SendRecord) → Request
-  Receives : (block : Bool) (a : AskRecord) → Request
+  Receives : (block : Bool) (a : ReceiveRecord) → Request
   CancelsThread : (thread : ℕ) → Request
   CancelsBadge : (endpoint : ℕ) (badge : Badge) → Request
   CancelsEndpoint : (endpoint : ℕ) → Request
@@ -27,8 +27,8 @@ pub record Delivery : Type 0 where
   pub to : ℕ
 
 -- what a send and a receive that are paired deliver
-abbrev pub delivery : SendRecord × AskRecord → Delivery
-delivery pair =
+abbrev pub delivery_of_pair : SendRecord × ReceiveRecord → Delivery
+delivery_of_pair pair =
     record { from = pair.0.thread.base; badge = pair.0.badge; message = pair.0.message; to = pair.1.thread.base }
 
 -- what was delivered, where a send or a receive was answered so
@@ -38,7 +38,7 @@ delivered_by s (S.Delivered to) =
 delivered_by s S.Waiting = []
 delivered_by s S.Dropped = []
 
-abbrev pub delivered_to : AskRecord → Received → List Delivery
+abbrev pub delivered_to : ReceiveRecord → Received → List Delivery
 delivered_to a (R.Delivered from badge message) =
     record { from = from; badge = badge; message = message; to = a.thread.base } ∷ []
 delivered_to a R.Waiting = []
@@ -68,23 +68,23 @@ deliveries e w (request ∷ requests) = delivered_on e w request ++ deliveries e
 -- the sends and the receives that stand on an endpoint
 pub record History : Type 0 where
   pub sends : List SendRecord
-  pub asks : List AskRecord
+  pub receives : List ReceiveRecord
 
 abbrev pub no_history : History
-no_history = record { sends = []; asks = [] }
+no_history = record { sends = []; receives = [] }
 
 -- what is cancelled of a history: those that wait and that the tests name
-abbrev pub history_less : (SendRecord → Bool) → (AskRecord → Bool) → History → History
-history_less of_sends of_asks h =
-    record { sends = sends_less of_sends h.sends h.asks; asks = asks_less of_asks h.sends h.asks }
+abbrev pub history_less : (SendRecord → Bool) → (ReceiveRecord → Bool) → History → History
+history_less of_sends of_receives h =
+    record { sends = sends_less of_sends h.sends h.receives; receives = receives_less of_receives h.sends h.receives }
 
 -- the history of an endpoint after a request
 abbrev pub grown : ℕ → History → Request → History
 grown e h (Sends block s) =
-    cond (s.endpoint.base == e) (record { sends = sends_with block s h.sends h.asks; asks = h.asks }) h
+    cond (s.endpoint.base == e) (record { sends = sends_with block s h.sends h.receives; receives = h.receives }) h
 grown e h (Receives block a) =
-    cond (a.endpoint.base == e) (record { sends = h.sends; asks = asks_with block a h.sends h.asks }) h
-grown e h (CancelsThread thread) = history_less (is_sent_by thread) (is_asked_by thread) h
+    cond (a.endpoint.base == e) (record { sends = h.sends; receives = receives_with block a h.sends h.receives }) h
+grown e h (CancelsThread thread) = history_less (is_sent_by thread) (is_received_by thread) h
 grown e h (CancelsBadge endpoint badge) = cond (endpoint == e) (history_less (is_sent_with badge) (λ _. false) h) h
 grown e h (CancelsEndpoint endpoint) = cond (endpoint == e) (history_less (λ _. true) (λ _. true) h) h
 

@@ -2,8 +2,6 @@ pub mod Records
 pub mod Waits
 pub mod Pairing
 pub mod Cancelled
-pub mod Rows
 pub mod Deliveries
-pub mod Chains
-pub mod Linked
-pub mod Alike
+pub mod Agreement
+pub mod Representation

@@ -5,24 +5,24 @@ use Rattle.ipc_core.specs.declared.waiter.Sent.{Sent}
 use Rattle.ipc_core.specs.declared.waiter.Sent.TheVariants as S
 use Rattle.ipc_core.specs.declared.waiter.Received.{Received}
 use Rattle.ipc_core.specs.declared.waiter.Received.TheVariants as R
-use Rattle.ipc_core.specs.Records.{SendRecord, AskRecord, waiting_list}
+use Rattle.ipc_core.specs.Records.{SendRecord, ReceiveRecord, waiting_list}
 
 -- a send is accepted where it waits or where more receives than sends stand; a receive likewise
-abbrev pub is_send_accepted : Bool → List SendRecord → List AskRecord → Bool
-is_send_accepted block sends asks = block || nat_lt (length sends) (length asks)
+abbrev pub is_send_accepted : Bool → List SendRecord → List ReceiveRecord → Bool
+is_send_accepted block sends receives = block || nat_lt (length sends) (length receives)
 
-abbrev pub is_receive_accepted : Bool → List SendRecord → List AskRecord → Bool
-is_receive_accepted block sends asks = block || nat_lt (length asks) (length sends)
+abbrev pub is_receive_accepted : Bool → List SendRecord → List ReceiveRecord → Bool
+is_receive_accepted block sends receives = block || nat_lt (length receives) (length sends)
 
 -- the sends, with one more where it is accepted; the receives likewise
-abbrev pub sends_with : Bool → SendRecord → List SendRecord → List AskRecord → List SendRecord
-sends_with block s sends asks = cond (is_send_accepted block sends asks) (sends ++ s ∷ []) sends
+abbrev pub sends_with : Bool → SendRecord → List SendRecord → List ReceiveRecord → List SendRecord
+sends_with block s sends receives = cond (is_send_accepted block sends receives) (sends ++ s ∷ []) sends
 
-abbrev pub asks_with : Bool → AskRecord → List SendRecord → List AskRecord → List AskRecord
-asks_with block a sends asks = cond (is_receive_accepted block sends asks) (asks ++ a ∷ []) asks
+abbrev pub receives_with : Bool → ReceiveRecord → List SendRecord → List ReceiveRecord → List ReceiveRecord
+receives_with block a sends receives = cond (is_receive_accepted block sends receives) (receives ++ a ∷ []) receives
 
 -- the receive that a new send would meet: the one at its place
-abbrev pub answer_to_send : Bool → Option AskRecord → Sent
+abbrev pub answer_to_send : Bool → Option ReceiveRecord → Sent
 answer_to_send block (Some a) = S.Delivered a.thread.base
 answer_to_send block None = cond block S.Waiting S.Dropped
 
@@ -32,11 +32,11 @@ answer_to_receive block (Some s) = R.Delivered s.thread.base s.badge s.message
 answer_to_receive block None = cond block R.Waiting R.Empty
 
 -- the answer is that of the histories, and the waiting list is that of the histories with the send
-pub record SendsBy (block : Bool) (s : SendRecord) (sends : List SendRecord) (asks : List AskRecord) (answer : Sent) (after : List Waiter) : Type 0 where
-  pub answer_is : answer ≡ answer_to_send block (slice_get asks (length sends))
-  pub after_is : after ≡ waiting_list (sends_with block s sends asks) asks
+pub record SendsBy (block : Bool) (s : SendRecord) (sends : List SendRecord) (receives : List ReceiveRecord) (answer : Sent) (after : List Waiter) : Type 0 where
+  pub answer_is : answer ≡ answer_to_send block (slice_get receives (length sends))
+  pub after_is : after ≡ waiting_list (sends_with block s sends receives) receives
 
 -- the answer is that of the histories, and the waiting list is that of the histories with the receive
-pub record ReceivesBy (block : Bool) (a : AskRecord) (sends : List SendRecord) (asks : List AskRecord) (answer : Received) (after : List Waiter) : Type 0 where
-  pub answer_is : answer ≡ answer_to_receive block (slice_get sends (length asks))
-  pub after_is : after ≡ waiting_list sends (asks_with block a sends asks)
+pub record ReceivesBy (block : Bool) (a : ReceiveRecord) (sends : List SendRecord) (receives : List ReceiveRecord) (answer : Received) (after : List Waiter) : Type 0 where
+  pub answer_is : answer ≡ answer_to_receive block (slice_get sends (length receives))
+  pub after_is : after ≡ waiting_list sends (receives_with block a sends receives)

@@ -23,21 +23,21 @@ pub record SendRecord : Type 0 where
   pub message : Message
 
 -- an accepted receive, by the number of its call
-pub record AskRecord : Type 0 where
+pub record ReceiveRecord : Type 0 where
   pub number : ℕ
   pub endpoint : Instance
   pub thread : Instance
 
 -- what an endpoint delivered, given the sends and the receives that stand on it: each with the one at its place
-abbrev pub paired : List SendRecord → List AskRecord → List (SendRecord × AskRecord)
-paired sends asks = zip sends asks
+abbrev pub paired : List SendRecord → List ReceiveRecord → List (SendRecord × ReceiveRecord)
+paired sends receives = zip sends receives
 
 abbrev pub sender : SendRecord → Waiter
 sender s = Sender s.thread.base s.badge s.message
 
-abbrev pub receiver : AskRecord → Waiter
+abbrev pub receiver : ReceiveRecord → Waiter
 receiver a = Receiver a.thread.base
 
 -- who waits: the part of the longer list past the length of the other
-abbrev pub waiting_list : List SendRecord → List AskRecord → List Waiter
-waiting_list sends asks = map sender (drop (length asks) sends) ++ map receiver (drop (length sends) asks)
+abbrev pub waiting_list : List SendRecord → List ReceiveRecord → List Waiter
+waiting_list sends receives = map sender (drop (length receives) sends) ++ map receiver (drop (length sends) receives)

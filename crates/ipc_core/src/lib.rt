@@ -13,6 +13,3 @@ pub use linked::LinkedWaiters;
 pub use rows::RowWaiters;
 pub use waiter::{Offer, Received, Role, Sent, Waiter};
 pub use waiters::{MakeWaiters, Waiters};
-
-#[cfg(test)]
-mod tests;

@@ -1,8 +1,9 @@
 //! Waiting threads as queues inside tables.
 ghost use Rattle.std.specs.Prelude.{◌*◌, ◌^◌, ◌≤◌, length};
 ghost use Rattle.cap_core.specs.Numbers.{tcb_size, endpoint_size};
-ghost use Rattle.ipc_core.specs.Linked.{IsLinked, waits_in};
-ghost use Rattle.ipc_core.specs.Alike.{linked-prop};
+ghost use Rattle.ipc_core.specs.Representation.Linked.{IsLinked, waits_in};
+ghost use Rattle.ipc_core.specs.Representation.TablesAgree.{tables_agree};
+ghost use Rattle.ipc_core.specs.Representation.Alike.{linked-prop};
 
 use crate::tables::{EndpointRow, Tables, ThreadRow};
 use crate::waiter::{Received, Role, Sent};
@@ -29,6 +30,8 @@ impl<P: Profile> Waiters<P> for LinkedWaiters<P> {
     ghost waits = { λ w. waits_in P.the w.tables };
 
     ghost memory_bits = { λ w. w.memory_bits };
+
+    ghost agree = { λ w. tables_agree P.the w.tables w.linked };
 
     #[inline]
     fn send(

@@ -2,7 +2,7 @@
 ghost use Rattle.std.specs.Prelude.{◌≡◌, ◌∷◌, ◌++◌, [], ℕ, ◌<◌, ◌≤◌, List, position, slice_get, vec_len, vec_capacity, None};
 ghost use Rattle.cap_core.specs.declared.profile.ProfileName.{ProfileName};
 ghost use Rattle.ipc_core.specs.declared.waiter.Waiter.{Waiter};
-ghost use Rattle.ipc_core.specs.Rows.{row_thread, row_role, is_at, waiting_at, waits_of, AreDistinct, ArePlaced};
+ghost use Rattle.ipc_core.specs.Representation.Rows.{row_thread, row_role, is_at, waiting_at, waits_of, AreDistinct, ArePlaced};
 ghost use Rattle.ipc_core.specs.Waits.{first_receiver as receiver_first, first_sender as sender_first, thread_of, served, queued};
 
 use crate::waiter::{Offer, Waiter};

@@ -1,7 +1,8 @@
 //! Waiting threads as rows.
 ghost use Rattle.std.specs.Prelude.{◌*◌, ◌^◌, ◌≤◌, vec_capacity};
 ghost use Rattle.cap_core.specs.Numbers.{tcb_size};
-ghost use Rattle.ipc_core.specs.Rows.{waits_of, AreDistinct, ArePlaced};
+ghost use Rattle.ipc_core.specs.Representation.Rows.{waits_of, AreDistinct, ArePlaced};
+ghost use Rattle.ipc_core.specs.Representation.RowsAgree.{rows_agree};
 
 use crate::row::{WaitRow, first_receiver, first_sender, push_row, remove_first, waiter_at};
 use crate::waiter::{Received, Role, Sent, Waiter};
@@ -27,6 +28,8 @@ impl<P: Profile> Waiters<P> for RowWaiters<P> {
     ghost waits = { λ w. waits_of w.rows.items };
 
     ghost memory_bits = { λ w. w.memory_bits };
+
+    ghost agree = { λ w. rows_agree w.rows.items w.distinct };
 
     fn send(
         &mut self,

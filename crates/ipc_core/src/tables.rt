@@ -2,8 +2,8 @@
 ghost use Rattle.std.specs.Prelude.{◌≡◌, ◌≢◌, ℕ, ◌/◌, Option, None, Some, IfSome, length, option_map, slice_get};
 ghost use Rattle.cap_core.specs.Numbers.{tcb_size, endpoint_size};
 ghost use Rattle.ipc_core.specs.declared.waiter.Role.{Role};
-ghost use Rattle.ipc_core.specs.Chains.{removed};
-ghost use Rattle.ipc_core.specs.Linked.{HasRow, links_of, set_row, set_endpoint_row, led, led_back, with_next, with_previous, with_role, IsLinked, waits_in, orders_in, waiter_of, free_row, sending_row, receiving_row, receiver_in, offer_in};
+ghost use Rattle.ipc_core.specs.Representation.Chains.{removed};
+ghost use Rattle.ipc_core.specs.Representation.Linked.{HasRow, links_of, set_row, set_endpoint_row, led, led_back, with_next, with_previous, with_role, IsLinked, waits_in, orders_in, waiter_of, free_row, sending_row, receiving_row, receiver_in, offer_in};
 ghost use Rattle.ipc_core.specs.Waits.{endpoint_of, queued, first_receiver as receiver_first, first_sender as sender_first};
 ghost use Rattle.ipc_core.specs.Cancelled.{after_cancel_thread, after_cancel_badge, after_cancel_endpoint, is_sender_with};
 

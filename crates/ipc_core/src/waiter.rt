@@ -6,7 +6,7 @@ ghost use Rattle.ipc_core.specs.Cancelled.{is_sender_with};
 use cap_core::{Badge, Message};
 
 /// A thread that waits on an endpoint, by the address of its thread control block.
-#[derive(Clone, Copy, Debug, PartialEq, Eq)]
+#[derive(Clone, Copy)]
 pub enum Waiter {
     /// It sends a message, with the badge of the capability that it used.
     Sender {
@@ -53,7 +53,7 @@ impl Waiter {
 }
 
 /// A waiting sender, and what it sends.
-#[derive(Clone, Copy, Debug, PartialEq, Eq)]
+#[derive(Clone, Copy)]
 pub struct Offer {
     pub thread: u64,
     pub badge: Badge,

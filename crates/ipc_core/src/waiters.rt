@@ -1,9 +1,10 @@
 //! What holds the threads that wait.
 ghost use Rattle.std.specs.Prelude.{◌≡◌, ℕ, Bool, true, false, List, ◌≤◌, None, IfOk, option_map, slice_get};
-ghost use Rattle.ipc_core.specs.Records.{SendRecord, AskRecord, waiting_list};
+ghost use Rattle.ipc_core.specs.Records.{SendRecord, ReceiveRecord, waiting_list};
 ghost use Rattle.ipc_core.specs.Waits.{Waits, no_waits, IsEndpointAddress, IsThreadAddress, sent, after_send, received, after_receive, thread_of};
+ghost use Rattle.ipc_core.specs.Agreement.{AreRolesAndQueues};
 ghost use Rattle.ipc_core.specs.Pairing.{SendsBy, ReceivesBy};
-ghost use Rattle.ipc_core.specs.Cancelled.{after_cancel_thread, after_cancel_badge, after_cancel_endpoint, waiting_less, is_sent_by, is_asked_by, is_sent_with};
+ghost use Rattle.ipc_core.specs.Cancelled.{after_cancel_thread, after_cancel_badge, after_cancel_endpoint, waiting_less, is_sent_by, is_received_by, is_sent_with};
 
 use crate::waiter::{Received, Role, Sent};
 use cap_core::limits::{MAX_MEMORY_BITS, MIN_MEMORY_BITS};
@@ -12,7 +13,8 @@ use std::alloc::{AllocError, Global};
 
 /// The threads that wait on endpoints (seL4 Reference Manual, on endpoints), by the addresses of both.
 ///
-/// Contracts see who waits where, in what order, and the bits of the memory's size. No call takes memory.
+/// Contracts see who waits where, in what order, and the bits of the memory's size. No call takes memory. Whoever waits on an
+/// endpoint has the role of waiting there, once, and a thread with a role waits where the role says.
 /// An endpoint's address is a multiple of its size within the memory, and a thread's likewise.
 pub trait Waiters<P: Profile> {
     ghost waits: { Self → Waits };
@@ -34,7 +36,7 @@ pub trait Waiters<P: Profile> {
         requires free { (waits self.old).role thread ≡ None }
         ensures answer { result ≡ sent block endpoint (waits self.old) }
         ensures waits { waits self.new ≡ after_send block endpoint thread badge message (waits self.old) }
-        ensures histories { (s : SendRecord) (sends : List SendRecord) (asks : List AskRecord) → s.thread.base ≡ thread → s.badge ≡ badge → s.message ≡ message → (waits self.old).queue endpoint ≡ waiting_list sends asks → SendsBy block s sends asks result ((waits self.new).queue endpoint) }
+        ensures histories { (s : SendRecord) (sends : List SendRecord) (receives : List ReceiveRecord) → s.thread.base ≡ thread → s.badge ≡ badge → s.message ≡ message → (waits self.old).queue endpoint ≡ waiting_list sends receives → SendsBy block s sends receives result ((waits self.new).queue endpoint) }
         ensures memory { memory_bits self.new ≡ memory_bits self.old };
 
     /// Receives by a thread that waits nowhere: from the sender that waited first, and where none does the receiver
@@ -45,14 +47,14 @@ pub trait Waiters<P: Profile> {
         requires free { (waits self.old).role thread ≡ None }
         ensures answer { result ≡ received block endpoint (waits self.old) }
         ensures waits { waits self.new ≡ after_receive block endpoint thread (waits self.old) }
-        ensures histories { (a : AskRecord) (sends : List SendRecord) (asks : List AskRecord) → a.thread.base ≡ thread → (waits self.old).queue endpoint ≡ waiting_list sends asks → ReceivesBy block a sends asks result ((waits self.new).queue endpoint) }
+        ensures histories { (a : ReceiveRecord) (sends : List SendRecord) (receives : List ReceiveRecord) → a.thread.base ≡ thread → (waits self.old).queue endpoint ≡ waiting_list sends receives → ReceivesBy block a sends receives result ((waits self.new).queue endpoint) }
         ensures memory { memory_bits self.new ≡ memory_bits self.old };
 
     /// A thread waits no more, wherever it did; one that waits nowhere is no error.
     fn cancel_thread(&mut self, thread: u64)
         requires { IsThreadAddress P.the (memory_bits self.old) thread }
         ensures waits { waits self.new ≡ after_cancel_thread thread (waits self.old) }
-        ensures histories { (endpoint : ℕ) (sends : List SendRecord) (asks : List AskRecord) → (waits self.old).queue endpoint ≡ waiting_list sends asks → (waits self.new).queue endpoint ≡ waiting_less (is_sent_by thread) (is_asked_by thread) sends asks }
+        ensures histories { (endpoint : ℕ) (sends : List SendRecord) (receives : List ReceiveRecord) → (waits self.old).queue endpoint ≡ waiting_list sends receives → (waits self.new).queue endpoint ≡ waiting_less (is_sent_by thread) (is_received_by thread) sends receives }
         ensures memory { memory_bits self.new ≡ memory_bits self.old };
 
     /// The senders that wait on an endpoint with a badge, whichever that is, wait no more. The others keep their order, and
@@ -60,14 +62,14 @@ pub trait Waiters<P: Profile> {
     fn cancel_badge(&mut self, endpoint: u64, badge: Badge)
         requires { IsEndpointAddress P.the (memory_bits self.old) endpoint }
         ensures waits { waits self.new ≡ after_cancel_badge endpoint badge (waits self.old) }
-        ensures histories { (sends : List SendRecord) (asks : List AskRecord) → (waits self.old).queue endpoint ≡ waiting_list sends asks → (waits self.new).queue endpoint ≡ waiting_less (is_sent_with badge) (λ _. false) sends asks }
+        ensures histories { (sends : List SendRecord) (receives : List ReceiveRecord) → (waits self.old).queue endpoint ≡ waiting_list sends receives → (waits self.new).queue endpoint ≡ waiting_less (is_sent_with badge) (λ _. false) sends receives }
         ensures memory { memory_bits self.new ≡ memory_bits self.old };
 
     /// Nobody waits on an endpoint any more.
     fn cancel_endpoint(&mut self, endpoint: u64)
         requires { IsEndpointAddress P.the (memory_bits self.old) endpoint }
         ensures waits { waits self.new ≡ after_cancel_endpoint endpoint (waits self.old) }
-        ensures histories { (sends : List SendRecord) (asks : List AskRecord) → (waits self.old).queue endpoint ≡ waiting_list sends asks → (waits self.new).queue endpoint ≡ waiting_less (λ _. true) (λ _. true) sends asks }
+        ensures histories { (sends : List SendRecord) (receives : List ReceiveRecord) → (waits self.old).queue endpoint ≡ waiting_list sends receives → (waits self.new).queue endpoint ≡ waiting_less (λ _. true) (λ _. true) sends receives }
         ensures memory { memory_bits self.new ≡ memory_bits self.old };
 
     /// How a thread waits, if it does.
@@ -79,6 +81,8 @@ pub trait Waiters<P: Profile> {
     fn waiting(&self, endpoint: u64, place: u64) -> Option<u64>
         requires { IsEndpointAddress P.the (memory_bits self.now) endpoint }
         ensures { result ≡ option_map thread_of (slice_get ((waits self.now).queue endpoint) place) };
+
+    ghost agree: { (w : Self) → AreRolesAndQueues (waits w) };
 }
 
 /// Waiting threads that can be made.

@@ -1,18 +1,7 @@
-//! Set-ups, and the report of a run.
+//! Set-ups and the report of a run: what `setup_format` reads and what `setup_report` writes, under one name.
 #![tactic(auto)]
 
-pub mod fault;
-mod kinds;
-pub mod limits;
-mod names;
-mod operations;
-mod read;
-mod refusal;
-mod reporting;
-pub mod setup;
-mod tables;
-
-pub use fault::{Key, Place, SetupFault, Wrong};
-pub use read::{read_setup, read_table};
-pub use reporting::{ExpectationCount, expectations, report};
-pub use setup::Setup;
+pub use setup_format::{
+    Key, Place, Setup, SetupFault, Wrong, fault, limits, read_setup, read_table, setup,
+};
+pub use setup_report::{ExpectationCount, expectations, report};

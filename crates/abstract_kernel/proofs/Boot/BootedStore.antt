@@ -17,7 +17,8 @@ use Rattle.derivation.specs.Disjoint.{IsDisjoint}
 use Rattle.derivation.proofs.Trees.Forests.{each-weaker}
 use Rattle.derivation.proofs.Slots.Edits.{each-derived}
 use Rattle.derivation.proofs.Slots.Distinct.{distinct-rooted, distinct-derived}
-use Rattle.abstract_kernel.specs.Plan.{Plan, IsPlan, tcb_place, least_multiple}
+use Rattle.mem_core.specs.Plans.{least_multiple}
+use Rattle.abstract_kernel.specs.Plan.{Plan, IsPlan, tcb_place}
 use Rattle.abstract_kernel.specs.Memory.{IsSlotAddress}
 use Rattle.abstract_kernel.specs.Regions.{AreRegions}
 use Rattle.abstract_kernel.specs.Boot.{root_cap, boot_caps, boot_tcbs, boot_forest, with_roots, with_spaces}

@@ -14,7 +14,8 @@ use Rattle.cap_core.specs.declared.limits.TheConstants.{MAX_MEMORY_BITS}
 use Rattle.cap_core.specs.Numbers.{word_bits, slot_bits, slot_size, tcb_bits, tcb_size, endpoint_bits, endpoint_size}
 use Rattle.cap_core.specs.Objects.{IsLawful, IsPlaced, base_of, bits_of, end_of, are_apart, is_untyped, contains}
 use Rattle.derivation.proofs.Trees.Forests.{each-append, each-weaker}
-use Rattle.abstract_kernel.specs.Plan.{Plan, IsPlan, overlap, extent, untyped_extent, least_multiple, first_tcb, tcb_place, endpoint_place, boot_end, slots_taken}
+use Rattle.mem_core.specs.Plans.{least_multiple}
+use Rattle.abstract_kernel.specs.Plan.{Plan, IsPlan, overlap, extent, untyped_extent, first_tcb, tcb_place, endpoint_place, boot_end, slots_taken}
 use Rattle.abstract_kernel.specs.Boot.{root_cap, tcb_caps, endpoint_caps, untyped_caps, boot_caps, whole_endpoint, boot_tcbs, with_roots}
 use Rattle.derivation.specs.Forest.{Forest, none}
 use Rattle.derivation.specs.Entries.{Entry, cap_at}

@@ -30,11 +30,12 @@ use Rattle.cap_core.specs.Rights.{write_bit, read_bit}
 use Rattle.abstract_kernel.specs.Shown.{has_child}
 use Rattle.abstract_kernel.specs.Decode.{service_word, objects_asked, slots_named}
 use Rattle.abstract_kernel.specs.Lookups.{invoked_slot, extra_cap, held_in, where_kind}
-use Rattle.abstract_kernel.specs.Retyping.{node_cap, are_slots, some_full, where_all_empty, first_slot, placed_in, decoded_retype}
+use Rattle.abstract_kernel.specs.Retyping.{node_cap, are_slots, some_full, where_all_empty, first_slot, decoded_retype}
+use Rattle.mem_core.specs.Plans.{placed_in}
 use Rattle.abstract_kernel.specs.Decode.{decoded_invocation, service_of, retypes, derives, moves, decoded_op}
 use Rattle.abstract_kernel.specs.Private.Invocations.{IsRetype, IsDerivation, IsMove}
 use Rattle.abstract_kernel.proofs.Checks.FoundSlots.{passed, cond_passed, cond_failed, ok_same, kind_passed, lawful_at, empty_at, held_passed, none_of_range, not_false}
-use Rattle.abstract_kernel.proofs.Checks.Placement.{placed_lie}
+use Rattle.mem_core.proofs.Placing.{placed_lie}
 use Rattle.abstract_kernel.proofs.Checks.FilledSlots.{slots_there, slot_address}
 use Rattle.abstract_kernel.proofs.Checks.PassedCNodeChecks.{copy_derives, mint_derives, move_moves, mutate_moves}
 

@@ -18,7 +18,8 @@ use Rattle.derivation.specs.Derivation.{rooted, derived, derived_entry}
 use Rattle.derivation.proofs.Trees.Forests.{preorder-root}
 use Rattle.ipc_core.specs.Waits.{no_waits}
 use Rattle.kernel_core.specs.declared.rows.ThreadRow.{ThreadRow}
-use Rattle.abstract_kernel.specs.Plan.{Plan, first_tcb, tcb_place, endpoint_place, least_multiple}
+use Rattle.mem_core.specs.Plans.{least_multiple}
+use Rattle.abstract_kernel.specs.Plan.{Plan, first_tcb, tcb_place, endpoint_place}
 use Rattle.abstract_kernel.specs.Shown.{ThreadView, tcb_base, threads_of, endpoints_of, table}
 use Rattle.abstract_kernel.specs.State.{shown, thread_view}
 use Rattle.kernel_core.specs.Rows.{keyed, rows_map, view_of, threads_shown, kernel_shown}

@@ -12,7 +12,8 @@ ghost use Rattle.mem_core.specs.Shapes.{IsShape};
 ghost use Rattle.mem_core.specs.Plans.{IsRetypable};
 ghost use Rattle.abstract_kernel.specs.Lookups.{where_kind};
 ghost use Rattle.abstract_kernel.specs.Shown.{has_child};
-ghost use Rattle.abstract_kernel.specs.Retyping.{decoded_retype, node_cap, first_slot as first_slot_of, placed_in, are_slots, some_full};
+ghost use Rattle.abstract_kernel.specs.Retyping.{decoded_retype, node_cap, first_slot as first_slot_of, are_slots, some_full};
+ghost use Rattle.mem_core.specs.Plans.{placed_in};
 
 use crate::decode::lookup::extra_capability;
 use abstract_kernel::invocation::{NewObjects, RetypeArguments};

@@ -1,7 +1,7 @@
 use Rattle.std.proofs.Common.{◌≡◌, ◌≤◌}
 use Rattle.cap_core.specs.declared.profile.ProfileName.TheVariants.{Wide}
 use Rattle.ipc_core.specs.Waits.{no_waits}
-use Rattle.ipc_core.specs.Linked.{waits_in}
+use Rattle.ipc_core.specs.Representation.Linked.{waits_in}
 use Rattle.ping_pong.proofs.run.Given as goal
 
 abbrev pub invariant-loop-round : goal.invariant-loop-round

@@ -1,4 +1,4 @@
-use Rattle.ipc_core.proofs.Deliveries.{pairs_are_delivered}
+use Rattle.ipc_core.proofs.Histories.Deliveries.{pairs_are_delivered}
 use Rattle.ipc_core.proofs.law.each_pair_is_delivered_once.Goals as goal
 
 pub returns : goal.returns

@@ -1,4 +1,4 @@
-use Rattle.ipc_core.proofs.Deliveries.{pairs_go_on}
+use Rattle.ipc_core.proofs.Histories.Deliveries.{pairs_go_on}
 use Rattle.ipc_core.proofs.law.pairs_go_on_standing.Goals as goal
 
 pub returns : goal.returns

@@ -1,6 +1,6 @@
 use Rattle.std.proofs.Common.{◌≡◌, ◌++◌, ◌∷◌, [], sym, ap, subst, ◌∙◌}
-use Rattle.ipc_core.specs.Rows.{AreDistinct, waits_of}
-use Rattle.ipc_core.proofs.Served.{waits_queued, distinct_push}
+use Rattle.ipc_core.specs.Representation.Rows.{AreDistinct, waits_of}
+use Rattle.ipc_core.proofs.RowForm.Served.{waits_queued, distinct_push}
 use Rattle.ipc_core.proofs.row.push_row.Goals as goal
 
 pub returns-clause-waits : goal.returns-clause-waits

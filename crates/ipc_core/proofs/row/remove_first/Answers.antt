@@ -1,8 +1,8 @@
 use Rattle.std.proofs.Common.{◌≡◌, Some, None, position, sym, ap, subst, ◌∙◌}
-use Rattle.ipc_core.specs.Rows.{is_at, row_thread, waits_of, ArePlaced}
+use Rattle.ipc_core.specs.Representation.Rows.{is_at, row_thread, waits_of, ArePlaced}
 use Rattle.ipc_core.specs.Waits.{IsThreadAddress}
-use Rattle.ipc_core.proofs.Queue.{nobody_waits}
-use Rattle.ipc_core.proofs.Served.{waits_served, all_left}
+use Rattle.ipc_core.proofs.RowForm.Queue.{nobody_waits}
+use Rattle.ipc_core.proofs.RowForm.Served.{waits_served, all_left}
 use Rattle.ipc_core.proofs.row.remove_first.Goals as goal
 
 pub returns-in-Some-clause-waits : goal.returns-in-Some-clause-waits

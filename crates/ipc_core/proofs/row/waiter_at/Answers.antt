@@ -3,7 +3,7 @@ use Rattle.std.proofs.lemmas.Iterator.{YieldsList-from_slice, YieldsList-from_ma
 use Rattle.std.proofs.lemmas.Iterator.Adapters.{option_map_id}
 use Rattle.std.proofs.lemmas.Iterator.Consumers.{YieldsList-at, YieldsList-from_filter, nth_from_yields_List}
 use Rattle.ipc_core.specs.declared.row.WaitRow.{WaitRow}
-use Rattle.ipc_core.specs.Rows.{is_at}
+use Rattle.ipc_core.specs.Representation.Rows.{is_at}
 use Rattle.ipc_core.proofs.row.waiter_at.Goals as goal
 
 pub returns : goal.returns

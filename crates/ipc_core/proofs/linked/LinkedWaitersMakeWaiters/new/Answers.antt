@@ -1,8 +1,8 @@
 use Rattle.std.proofs.Common.{◌≡◌, ◌-◌, ◌≤◌, length, replicate, vec_len, ap, ◌∙◌, arith, rules}
 use Rattle.std.proofs.lemmas.Nat.{one_shl}
 use Rattle.cap_core.specs.Numbers.{tcb_bits, endpoint_bits}
-use Rattle.ipc_core.proofs.FirstOut.{nobody_in}
-use Rattle.ipc_core.proofs.Room.{tcb_bits-most, endpoint_bits-most, enough_room}
+use Rattle.ipc_core.proofs.QueueForm.FirstOut.{nobody_in}
+use Rattle.ipc_core.proofs.RowForm.Room.{tcb_bits-most, endpoint_bits-most, enough_room}
 use Rattle.ipc_core.proofs.linked.LinkedWaitersMakeWaiters.new.Goals as goal
 
 pub invariant_of-result-clause-linked : goal.invariant_of-result-clause-linked

@@ -1,5 +1,5 @@
-use Rattle.ipc_core.specs.Linked.{waits_in}
-use Rattle.ipc_core.proofs.Cancelling.{badge_by_histories}
+use Rattle.ipc_core.specs.Representation.Linked.{waits_in}
+use Rattle.ipc_core.proofs.Histories.Cancelling.{badge_by_histories}
 use Rattle.ipc_core.proofs.linked.LinkedWaitersWaiters.cancel_badge.Goals as goal
 
 pub returns-clause-histories : goal.returns-clause-histories

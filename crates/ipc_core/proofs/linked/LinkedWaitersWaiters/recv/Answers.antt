@@ -2,11 +2,11 @@ use Rattle.std.proofs.Common.{sym, ap, ◌∙◌, cond}
 use Rattle.ipc_core.specs.declared.tables.ThreadRow.{ThreadRow}
 use Rattle.ipc_core.specs.declared.waiter.Role.TheVariants.{Receiving}
 use Rattle.ipc_core.specs.declared.waiter.Received.TheVariants.{Waiting, Empty}
-use Rattle.ipc_core.specs.Linked.{waits_in, waiter_of}
+use Rattle.ipc_core.specs.Representation.Linked.{waits_in, waiter_of}
 use Rattle.ipc_core.specs.Waits.{first_sender, queued, received_from}
-use Rattle.ipc_core.proofs.First.{receive_serves, receive_queues, receive_leaves}
-use Rattle.ipc_core.proofs.FirstOut.{first_served, sender_row, sender_thread}
-use Rattle.ipc_core.proofs.Pairs.{receive_by_histories}
+use Rattle.ipc_core.proofs.RowForm.First.{receive_serves, receive_queues, receive_leaves}
+use Rattle.ipc_core.proofs.QueueForm.FirstOut.{first_served, sender_row, sender_thread}
+use Rattle.ipc_core.proofs.Histories.Pairs.{receive_by_histories}
 use Rattle.ipc_core.proofs.linked.LinkedWaitersWaiters.recv.Goals as goal
 
 pub take_out-requires-clause-row : goal.take_out-requires-clause-row

@@ -2,11 +2,11 @@ use Rattle.std.proofs.Common.{sym, ap, ◌∙◌, cond}
 use Rattle.ipc_core.specs.declared.tables.ThreadRow.{ThreadRow}
 use Rattle.ipc_core.specs.declared.waiter.Role.TheVariants.{Sending}
 use Rattle.ipc_core.specs.declared.waiter.Sent.TheVariants.{Waiting, Dropped}
-use Rattle.ipc_core.specs.Linked.{waits_in, waiter_of}
+use Rattle.ipc_core.specs.Representation.Linked.{waits_in, waiter_of}
 use Rattle.ipc_core.specs.Waits.{first_receiver, queued, sent_to}
-use Rattle.ipc_core.proofs.First.{send_serves, send_queues, send_leaves}
-use Rattle.ipc_core.proofs.FirstOut.{first_served, receiver_row, receiver_thread}
-use Rattle.ipc_core.proofs.Pairs.{send_by_histories}
+use Rattle.ipc_core.proofs.RowForm.First.{send_serves, send_queues, send_leaves}
+use Rattle.ipc_core.proofs.QueueForm.FirstOut.{first_served, receiver_row, receiver_thread}
+use Rattle.ipc_core.proofs.Histories.Pairs.{send_by_histories}
 use Rattle.ipc_core.proofs.linked.LinkedWaitersWaiters.send.Goals as goal
 
 pub take_out-requires-clause-row : goal.take_out-requires-clause-row

@@ -1,7 +1,7 @@
 use Rattle.std.proofs.Common.{◌≡◌, ◌-◌, ◌≤◌, ◌∙◌, arith}
 use Rattle.std.proofs.lemmas.Nat.{one_shl}
 use Rattle.cap_core.specs.Numbers.{tcb_bits}
-use Rattle.ipc_core.proofs.Room.{tcb_bits-most, enough_room}
+use Rattle.ipc_core.proofs.RowForm.Room.{tcb_bits-most, enough_room}
 use Rattle.ipc_core.proofs.rows.RowWaitersMakeWaiters.new.Goals as goal
 
 pub invariant_of-result-clause-room : goal.invariant_of-result-clause-room

@@ -4,12 +4,12 @@ use Rattle.std.proofs.lemmas.List.Kept.{AllPairs-filter}
 use Rattle.std.proofs.lemmas.List.Elements.{All-filter}
 use Rattle.cap_core.specs.Numbers.{tcb_size}
 use Rattle.cap_core.specs.declared.capability.Badge.{Badge}
-use Rattle.ipc_core.specs.Rows.{row_thread, is_at, waits_of, AreDistinct, ArePlaced}
+use Rattle.ipc_core.specs.Representation.Rows.{row_thread, is_at, waits_of, AreDistinct, ArePlaced}
 use Rattle.ipc_core.specs.Waits.{IsThreadAddress}
 use Rattle.ipc_core.specs.Cancelled.{is_sender_with}
 use Rattle.ipc_core.specs.declared.row.WaitRow.{WaitRow}
-use Rattle.ipc_core.proofs.Cancelling.{badge_by_histories}
-use Rattle.ipc_core.proofs.Kept.{rows_cancelled, badge_tests}
+use Rattle.ipc_core.proofs.Histories.Cancelling.{badge_by_histories}
+use Rattle.ipc_core.proofs.RowForm.Kept.{rows_cancelled, badge_tests}
 use Rattle.ipc_core.proofs.rows.RowWaitersWaiters.cancel_badge.Goals as goal
 
 abbrev keeps : ℕ → Badge → WaitRow → Bool

@@ -3,11 +3,11 @@ use Rattle.std.proofs.lemmas.Fn.{filter_same}
 use Rattle.std.proofs.lemmas.List.Kept.{AllPairs-filter}
 use Rattle.std.proofs.lemmas.List.Elements.{All-filter}
 use Rattle.cap_core.specs.Numbers.{tcb_size}
-use Rattle.ipc_core.specs.Rows.{row_thread, is_at, waits_of, AreDistinct, ArePlaced}
+use Rattle.ipc_core.specs.Representation.Rows.{row_thread, is_at, waits_of, AreDistinct, ArePlaced}
 use Rattle.ipc_core.specs.Waits.{IsThreadAddress}
 use Rattle.ipc_core.specs.declared.row.WaitRow.{WaitRow}
-use Rattle.ipc_core.proofs.Cancelling.{endpoint_by_histories}
-use Rattle.ipc_core.proofs.Kept.{rows_cancelled, all_leave, endpoint_tests}
+use Rattle.ipc_core.proofs.Histories.Cancelling.{endpoint_by_histories}
+use Rattle.ipc_core.proofs.RowForm.Kept.{rows_cancelled, all_leave, endpoint_tests}
 use Rattle.ipc_core.proofs.rows.RowWaitersWaiters.cancel_endpoint.Goals as goal
 
 abbrev keeps : ℕ → WaitRow → Bool

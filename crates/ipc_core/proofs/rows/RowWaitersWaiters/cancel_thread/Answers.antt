@@ -3,11 +3,11 @@ use Rattle.std.proofs.lemmas.Fn.{filter_same}
 use Rattle.std.proofs.lemmas.List.Kept.{AllPairs-filter}
 use Rattle.std.proofs.lemmas.List.Elements.{All-filter}
 use Rattle.cap_core.specs.Numbers.{tcb_size}
-use Rattle.ipc_core.specs.Rows.{row_thread, is_of, waits_of, AreDistinct, ArePlaced}
+use Rattle.ipc_core.specs.Representation.Rows.{row_thread, is_of, waits_of, AreDistinct, ArePlaced}
 use Rattle.ipc_core.specs.Waits.{IsThreadAddress}
 use Rattle.ipc_core.specs.declared.row.WaitRow.{WaitRow}
-use Rattle.ipc_core.proofs.Cancelling.{thread_by_histories}
-use Rattle.ipc_core.proofs.Kept.{row_cancelled}
+use Rattle.ipc_core.proofs.Histories.Cancelling.{thread_by_histories}
+use Rattle.ipc_core.proofs.RowForm.Kept.{row_cancelled}
 use Rattle.ipc_core.proofs.rows.RowWaitersWaiters.cancel_thread.Goals as goal
 
 abbrev keeps : ℕ → WaitRow → Bool

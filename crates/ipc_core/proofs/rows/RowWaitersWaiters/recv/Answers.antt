@@ -2,11 +2,11 @@ use Rattle.std.proofs.Common.{◌≡◌, ◌≤◌, ◌*◌, ◌^◌, ℕ, Some,
 use Rattle.cap_core.specs.Numbers.{tcb_size}
 use Rattle.ipc_core.specs.declared.waiter.Waiter.TheVariants.{Receiver}
 use Rattle.ipc_core.specs.declared.waiter.Received.TheVariants.{Waiting, Empty}
-use Rattle.ipc_core.specs.Rows.{waiting_at, waits_of}
+use Rattle.ipc_core.specs.Representation.Rows.{waiting_at, waits_of}
 use Rattle.ipc_core.specs.Waits.{first_sender, received_from}
-use Rattle.ipc_core.proofs.First.{receive_serves, receive_queues, receive_leaves}
-use Rattle.ipc_core.proofs.Pairs.{receive_by_histories}
-use Rattle.ipc_core.proofs.Room.{room_left}
+use Rattle.ipc_core.proofs.RowForm.First.{receive_serves, receive_queues, receive_leaves}
+use Rattle.ipc_core.proofs.Histories.Pairs.{receive_by_histories}
+use Rattle.ipc_core.proofs.RowForm.Room.{room_left}
 use Rattle.ipc_core.proofs.rows.RowWaitersWaiters.recv.Goals as goal
 
 pub push_row-requires-clause-room : goal.push_row-requires-clause-room

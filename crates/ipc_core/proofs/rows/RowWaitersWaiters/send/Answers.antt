@@ -2,11 +2,11 @@ use Rattle.std.proofs.Common.{◌≡◌, ◌≤◌, ◌*◌, ◌^◌, ℕ, Some,
 use Rattle.cap_core.specs.Numbers.{tcb_size}
 use Rattle.ipc_core.specs.declared.waiter.Waiter.TheVariants.{Sender}
 use Rattle.ipc_core.specs.declared.waiter.Sent.TheVariants.{Waiting, Dropped}
-use Rattle.ipc_core.specs.Rows.{waiting_at, waits_of}
+use Rattle.ipc_core.specs.Representation.Rows.{waiting_at, waits_of}
 use Rattle.ipc_core.specs.Waits.{first_receiver, sent_to}
-use Rattle.ipc_core.proofs.First.{send_serves, send_queues, send_leaves}
-use Rattle.ipc_core.proofs.Pairs.{send_by_histories}
-use Rattle.ipc_core.proofs.Room.{room_left}
+use Rattle.ipc_core.proofs.RowForm.First.{send_serves, send_queues, send_leaves}
+use Rattle.ipc_core.proofs.Histories.Pairs.{send_by_histories}
+use Rattle.ipc_core.proofs.RowForm.Room.{room_left}
 use Rattle.ipc_core.proofs.rows.RowWaitersWaiters.send.Goals as goal
 
 pub push_row-requires-clause-room : goal.push_row-requires-clause-room

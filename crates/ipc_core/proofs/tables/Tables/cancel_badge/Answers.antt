@@ -1,9 +1,9 @@
 use Rattle.std.proofs.Common.{sym, ap, ◌∙◌}
 use Rattle.ipc_core.specs.declared.tables.ThreadRow.{ThreadRow}
-use Rattle.ipc_core.specs.Linked.{waiter_of}
+use Rattle.ipc_core.specs.Representation.Linked.{waiter_of}
 use Rattle.ipc_core.specs.Cancelled.{is_sender_with}
-use Rattle.ipc_core.proofs.Drained.{here_row, stands_past, stands_out, shorter_past, shorter_out, named_leaves, at_end}
-use Rattle.ipc_core.proofs.InTables.{none_of}
+use Rattle.ipc_core.proofs.QueueForm.Drained.{here_row, stands_past, stands_out, shorter_past, shorter_out, named_leaves, at_end}
+use Rattle.ipc_core.proofs.QueueForm.InTables.{none_of}
 use Rattle.ipc_core.proofs.tables.Tables.cancel_badge.Goals as goal
 
 pub thread-row-requires : goal.thread-row-requires

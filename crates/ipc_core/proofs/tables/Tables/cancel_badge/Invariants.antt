@@ -1,8 +1,8 @@
 use Rattle.std.proofs.Common.{◌≡◌, length}
-use Rattle.ipc_core.specs.Chains.{walk}
-use Rattle.ipc_core.specs.Linked.{IsLinked, links_of, waits_in}
+use Rattle.ipc_core.specs.Representation.Chains.{walk}
+use Rattle.ipc_core.specs.Representation.Linked.{IsLinked, links_of, waits_in}
 use Rattle.ipc_core.specs.Cancelled.{after_cancel_badge, is_sender_with}
-use Rattle.ipc_core.proofs.Drained.{StandsBefore}
+use Rattle.ipc_core.proofs.QueueForm.Drained.{StandsBefore}
 use Rattle.ipc_core.proofs.tables.Tables.cancel_badge.Given as goal
 
 abbrev pub invariant-loop-here : goal.invariant-loop-here

@@ -1,8 +1,8 @@
 use Rattle.std.proofs.Common.{sym, ap, ◌∙◌}
 use Rattle.ipc_core.specs.declared.tables.EndpointRow.{EndpointRow}
-use Rattle.ipc_core.proofs.QueueReads.{first_is, member_row}
-use Rattle.ipc_core.proofs.Drained.{first_leaves, nobody_leaves, shorter_queue}
-use Rattle.ipc_core.proofs.InTables.{none_of}
+use Rattle.ipc_core.proofs.QueueForm.QueueReads.{first_is, member_row}
+use Rattle.ipc_core.proofs.QueueForm.Drained.{first_leaves, nobody_leaves, shorter_queue}
+use Rattle.ipc_core.proofs.QueueForm.InTables.{none_of}
 use Rattle.ipc_core.proofs.tables.Tables.cancel_endpoint.Goals as goal
 
 pub take_out-requires-clause-row : goal.take_out-requires-clause-row

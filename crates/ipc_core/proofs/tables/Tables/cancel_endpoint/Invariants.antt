@@ -1,5 +1,5 @@
 use Rattle.std.proofs.Common.{◌≡◌, length}
-use Rattle.ipc_core.specs.Linked.{IsLinked, waits_in, orders_in}
+use Rattle.ipc_core.specs.Representation.Linked.{IsLinked, waits_in, orders_in}
 use Rattle.ipc_core.specs.Cancelled.{after_cancel_endpoint}
 use Rattle.ipc_core.proofs.tables.Tables.cancel_endpoint.Given as goal
 

@@ -1,6 +1,6 @@
 use Rattle.std.proofs.Common.{sym, ap, ◌∙◌}
 use Rattle.ipc_core.specs.declared.tables.EndpointRow.{EndpointRow}
-use Rattle.ipc_core.proofs.QueueReads.{first_is, member_row}
+use Rattle.ipc_core.proofs.QueueForm.QueueReads.{first_is, member_row}
 use Rattle.ipc_core.proofs.tables.Tables.first_receiver.Goals as goal
 
 pub thread-requires : goal.thread-requires

@@ -1,8 +1,8 @@
 use Rattle.std.proofs.Common.{IfSome, sym, ap, subst, ◌∙◌}
 use Rattle.cap_core.specs.Numbers.{tcb_size, endpoint_size}
 use Rattle.ipc_core.specs.declared.tables.ThreadRow.{ThreadRow}
-use Rattle.ipc_core.specs.Linked.{HasRow}
-use Rattle.ipc_core.proofs.InTables.{endpoint_there, previous_there, next_there, out_links, out, out_others, orders_free, waits_free, still_has, still_if, none_of}
+use Rattle.ipc_core.specs.Representation.Linked.{HasRow}
+use Rattle.ipc_core.proofs.QueueForm.InTables.{endpoint_there, previous_there, next_there, out_links, out, out_others, orders_free, waits_free, still_has, still_if, none_of}
 use Rattle.ipc_core.proofs.tables.Tables.take_out.Goals as goal
 
 pub lead-requires-clause-endpoint : goal.lead-requires-clause-endpoint

@@ -1,8 +1,8 @@
 use Rattle.std.proofs.Common.{IfSome, sym, ap, subst, ◌∙◌}
 use Rattle.cap_core.specs.Numbers.{tcb_size}
 use Rattle.ipc_core.specs.declared.tables.EndpointRow.{EndpointRow}
-use Rattle.ipc_core.specs.Linked.{HasRow}
-use Rattle.ipc_core.proofs.InTables.{last_there, last_links, put_in, still_if}
+use Rattle.ipc_core.specs.Representation.Linked.{HasRow}
+use Rattle.ipc_core.proofs.QueueForm.InTables.{last_there, last_links, put_in, still_if}
 use Rattle.ipc_core.proofs.tables.Tables.wait_last.Goals as goal
 
 pub lead-requires-clause-previous : goal.lead-requires-clause-previous

@@ -1,7 +1,7 @@
 use Rattle.std.proofs.Common.{◌≡◌, ◌+◌, suc, slice_get, sym, ap, ◌∙◌, arith}
 use Rattle.ipc_core.specs.declared.tables.ThreadRow.{ThreadRow}
-use Rattle.ipc_core.specs.Linked.{orders_in}
-use Rattle.ipc_core.proofs.QueueReads.{next_is}
+use Rattle.ipc_core.specs.Representation.Linked.{orders_in}
+use Rattle.ipc_core.proofs.QueueForm.QueueReads.{next_is}
 use Rattle.ipc_core.proofs.tables.Tables.waiting_at.Goals as goal
 
 pub loop-preserved : goal.loop-preserved

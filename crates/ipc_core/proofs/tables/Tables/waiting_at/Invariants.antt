@@ -1,5 +1,5 @@
 use Rattle.std.proofs.Common.{◌≡◌, slice_get}
-use Rattle.ipc_core.specs.Linked.{orders_in}
+use Rattle.ipc_core.specs.Representation.Linked.{orders_in}
 use Rattle.ipc_core.proofs.tables.Tables.waiting_at.Given as goal
 
 abbrev pub invariant-loop : goal.invariant-loop

@@ -1,0 +1,11 @@
+-- Waiting threads as queues inside tables.
+pub mod Chains
+pub mod Led
+pub mod Queues
+pub mod QueueReads
+pub mod TakenOut
+pub mod PutLast
+pub mod InTables
+pub mod Emptied
+pub mod Drained
+pub mod FirstOut

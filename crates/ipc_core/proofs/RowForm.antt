@@ -1,0 +1,6 @@
+-- Waiting threads as rows.
+pub mod First
+pub mod Queue
+pub mod Served
+pub mod Room
+pub mod Kept

@@ -1,0 +1,2 @@
+-- What holds of every set-up that is read.
+pub mod Messages

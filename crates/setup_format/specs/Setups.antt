@@ -1,0 +1,108 @@
+-- The set-up that a table or a text is read as, or its first fault.
+use Rattle.std.specs.Prelude.{codes, ℕ, ◌-◌, max, List, [], ◌∷◌, length, ◌==◌, if◌then◌else◌, Option, Some, None, Result, Ok, Err}
+use Rattle.std.specs.Str.{is_utf8}
+use Rattle.toml.specs.Data.{Members}
+use Rattle.toml.specs.Parse.{parse_document}
+use Rattle.cap_core.specs.declared.profile.ProfileName.{ProfileName}
+use Rattle.cap_core.specs.declared.profile.ProfileName.TheVariants.{Wide}
+use Rattle.cap_core.specs.declared.limits.TheConstants.{MIN_MEMORY_BITS, MAX_MEMORY_BITS, MIN_ROOT_RADIX, MAX_ROOT_RADIX, MIN_BOOT_THREADS, MAX_BOOT_THREADS, MAX_BOOT_ENDPOINTS, MAX_BOOT_UNTYPEDS, MAX_CLIENTS, MAX_HISTORY_LIMIT}
+use Rattle.cap_core.specs.Numbers.{min_untyped_bits, max_object_bits}
+use Rattle.abstract_kernel.specs.declared.plan.PlanDefect.{PlanDefect}
+use Rattle.abstract_kernel.specs.Plan.{Plan, planned, first_defect}
+use Rattle.setup_format.specs.declared.limits.TheConstants.{FORMAT, MAX_CALLS}
+use Rattle.setup_format.specs.declared.fault.Place.TheVariants as places
+use Rattle.setup_format.specs.declared.setup.Sizes.{Sizes}
+use Rattle.setup_format.specs.Names.{Names}
+use Rattle.setup_format.specs.Kinds.{◌>>=◌, number, word, expect, op, tables, each}
+use Rattle.setup_format.specs.Faults.{Fault, text, layout}
+use Rattle.setup_format.specs.Tables.{required, optional, known_only}
+use Rattle.setup_format.specs.Operations.{call_keys, operation_at}
+use Rattle.setup_format.specs.Views.{CallView, SetupView}
+
+-- ---- untyped tables
+
+abbrev pub untyped_keys : List (List ℕ)
+untyped_keys = codes "base" ∷ codes "bits" ∷ []
+
+unfoldable pub untyped_at : ProfileName → ℕ → Members → Result (ℕ × ℕ) Fault
+untyped_at p n table = do
+  known ← known_only (places.Untyped n) table untyped_keys
+  base ← required (places.Untyped n) table (codes "base") (word p [])
+  bits ← required (places.Untyped n) table (codes "bits") (number (min_untyped_bits p) (max_object_bits p))
+  Ok (base, bits)
+
+-- ---- call tables
+
+unfoldable pub call_at : ProfileName → Names → ℕ → ℕ → Members → Result CallView Fault
+call_at p names clients n table = do
+  op ← required (places.Call n) table (codes "op") op
+  known ← known_only (places.Call n) table (call_keys op)
+  thread ← required (places.Call n) table (codes "thread") (word p names)
+  client ← optional (places.Call n) table (codes "client") 0 (number 0 (clients - 1))
+  expect ← optional (places.Call n) table (codes "expect") None expect
+  operation ← operation_at p op names (places.Call n) table
+  Ok (record { call = record { thread = thread; op = operation }; client = client; expect = expect })
+
+-- ---- the top table
+
+abbrev pub top_keys : List (List ℕ)
+top_keys =
+    codes "format" ∷ codes "memory_bits" ∷ codes "root_radix" ∷ codes "threads" ∷ codes "endpoints" ∷ codes "clients" ∷ codes "limit" ∷ codes "untyped"
+    ∷ codes "call" ∷ []
+
+unfoldable pub sizes_of : Members → Result Sizes Fault
+sizes_of table = do
+  memory_bits ← required places.Top table (codes "memory_bits") (number MIN_MEMORY_BITS MAX_MEMORY_BITS)
+  root_radix ← required places.Top table (codes "root_radix") (number MIN_ROOT_RADIX MAX_ROOT_RADIX)
+  threads ← required places.Top table (codes "threads") (number MIN_BOOT_THREADS MAX_BOOT_THREADS)
+  endpoints ← required places.Top table (codes "endpoints") (number 0 MAX_BOOT_ENDPOINTS)
+  Ok (record { memory_bits = memory_bits; root_radix = root_radix; threads = threads; endpoints = endpoints })
+
+-- the plan of a boot, and the fault where it has a defect
+abbrev pub planned_with : Sizes → List (ℕ × ℕ) → Plan
+planned_with sizes untypeds = planned sizes.memory_bits sizes.root_radix sizes.threads sizes.endpoints untypeds
+
+abbrev pub laid_out_unless : Option PlanDefect → Plan → Result Plan Fault
+laid_out_unless None plan = Ok plan
+laid_out_unless (Some defect) plan = Err (layout defect)
+
+abbrev pub laid_out : ProfileName → Plan → Result Plan Fault
+laid_out p plan = laid_out_unless (first_defect p plan) plan
+
+-- the number of calls, at least 1, where no limit is given
+abbrev pub limit_of : ℕ → ℕ → ℕ
+limit_of given calls = if given == 0 then max 1 calls else given
+
+-- the set-up of these sizes, with these tables of untyped regions and of calls; a limit of 0 is none that a table can give
+unfoldable pub setup_with : ProfileName → Sizes → ℕ → ℕ → List Members → List Members → Result SetupView Fault
+setup_with p sizes clients limit untyped call = do
+  untypeds ← each (untyped_at p) 1 untyped
+  plan ← laid_out p (planned_with sizes untypeds)
+  calls ← each (call_at p [] clients) 1 call
+  Ok (record { plan = plan; clients = clients; limit = limit_of limit (length calls); calls = calls })
+
+-- a table whose format and keys are known
+unfoldable pub setup_at : ProfileName → Members → Result SetupView Fault
+setup_at p table = do
+  sizes ← sizes_of table
+  clients ← optional places.Top table (codes "clients") 1 (number 1 MAX_CLIENTS)
+  limit ← optional places.Top table (codes "limit") 0 (number 1 MAX_HISTORY_LIMIT)
+  untyped ← optional places.Top table (codes "untyped") [] (tables 0 MAX_BOOT_UNTYPEDS)
+  call ← optional places.Top table (codes "call") [] (tables 0 MAX_CALLS)
+  setup_with p sizes clients limit untyped call
+
+unfoldable pub setup_of : Members → Result SetupView Fault
+setup_of table = do
+  format ← required places.Top table (codes "format") (number FORMAT FORMAT)
+  known ← known_only places.Top table top_keys
+  setup_at Wide table
+
+-- ---- bytes
+
+-- the set-up of the bytes' table, where they are a TOML document
+abbrev pub setup_in : Option Members → Result SetupView Fault
+setup_in None = Err text
+setup_in (Some table) = setup_of table
+
+unfoldable pub setup_of_bytes : List ℕ → Result SetupView Fault
+setup_of_bytes bytes = setup_in (if is_utf8 bytes then parse_document bytes else None)

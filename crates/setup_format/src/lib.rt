@@ -1,0 +1,16 @@
+//! Set-ups: the grammar by which a text or a table is read, and the line by which another is refused.
+#![tactic(auto)]
+
+pub mod fault;
+mod kinds;
+pub mod limits;
+mod names;
+mod operations;
+mod read;
+mod refusal;
+pub mod setup;
+mod tables;
+
+pub use fault::{Key, Place, SetupFault, Wrong};
+pub use read::{read_setup, read_table};
+pub use setup::Setup;

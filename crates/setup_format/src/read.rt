@@ -1,0 +1,279 @@
+//! A whole set-up, from its text or from the table of it.
+ghost use Rattle.std.specs.Prelude.{◌≡◌, ◌≢◌, ◌≤◌, map, length, All, IfOk, IfErr};
+ghost use Rattle.toml.specs.View.{table_view};
+ghost use Rattle.cap_core.specs.declared.profile.ProfileName.TheVariants as profile;
+ghost use Rattle.abstract_kernel.specs.Plan.{IsUntypedSize, IsWithinLimits, IsPlan};
+ghost use Rattle.setup_format.specs.Private.Seen.{names_view};
+ghost use Rattle.setup_format.specs.Faults.{Gives};
+ghost use Rattle.setup_format.specs.Kinds.{each};
+ghost use Rattle.setup_format.specs.Messages.{HasMessage};
+ghost use Rattle.setup_format.specs.Private.Seen.{call_view};
+ghost use Rattle.setup_format.specs.Private.Sizes.{IsSizes};
+ghost use Rattle.setup_format.specs.Setups as spec;
+
+use crate::fault::{Place, SetupFault};
+use crate::limits::{FORMAT, MAX_CALLS};
+use crate::names::Name;
+use crate::operations::{call_keys, operation_at};
+use crate::setup::{Setup, SetupCall, Sizes};
+use crate::tables::{
+    expect_or_none, known_only, number_at, number_or, op_at, tables_or_none, word_at,
+};
+use cap_core::limits::{
+    MAX_BOOT_ENDPOINTS, MAX_BOOT_THREADS, MAX_BOOT_UNTYPEDS, MAX_CLIENTS, MAX_HISTORY_LIMIT,
+    MAX_MEMORY_BITS, MAX_ROOT_RADIX, MIN_BOOT_THREADS, MIN_MEMORY_BITS, MIN_ROOT_RADIX,
+};
+use cap_core::{Profile, Wide};
+use kernel_core::{BootPlan, Call};
+use std::alloc::Global;
+use toml::Table;
+
+#[tactic(auto, unfolding(crate::specs::Setups::untyped_at))]
+fn untyped_at<P: Profile>(table: &Table, n: usize) -> Result<(u64, u32), SetupFault>
+    ensures region { Gives (λ r. r) result (spec.untyped_at P.the n (table_view table.now)) }
+    ensures sized { IfOk result (IsUntypedSize P.the) }
+{
+    let place = Place::Untyped(n);
+    known_only(table, place, &["base", "bits"])?;
+    let base = word_at::<P>(&[], table, place, "base")?;
+    let bits = number_at(
+        table,
+        place,
+        "bits",
+        P::MIN_UNTYPED_BITS,
+        P::MAX_OBJECT_BITS,
+    )?;
+    Ok((base, bits))
+}
+
+fn untypeds_of<P: Profile>(alloc: Global, tables: &[&Table]) -> Result<Vec<(u64, u32)>, SetupFault>
+    ensures regions { Gives (λ v. v.items) result (each (spec.untyped_at P.the) 1 (map (λ t. table_view t.now) tables.now)) }
+    ensures length { IfOk result (λ v. length v.items ≡ length tables.now) }
+    ensures sized { IfOk result (λ v. All (IsUntypedSize P.the) v.items) }
+{
+    let mut regions = Vec::new(alloc);
+    for (i, table) in tables.iter().enumerate() {
+        let region = untyped_at::<P>(table, 1 + i)?;
+        regions.push(region)?;
+    }
+    Ok(regions)
+}
+
+#[tactic(auto, unfolding(crate::specs::Setups::call_at))]
+fn call_at<P: Profile>(
+    alloc: Global,
+    names: &[Name],
+    clients: u32,
+    n: usize,
+    table: &Table,
+) -> Result<SetupCall, SetupFault>
+    ensures { Gives call_view result (spec.call_at P.the (names_view names.now) clients n (table_view table.now)) }
+{
+    let place = Place::Call(n);
+    let op = op_at(table, place, "op")?;
+    known_only(table, place, call_keys(op))?;
+    let thread = word_at::<P>(names, table, place, "thread")?;
+    let client = number_or(table, place, "client", 0, 0, clients.saturating_sub(1))?;
+    let expect = expect_or_none(alloc, table, place, "expect")?;
+    let op = operation_at::<P>(op, names, place, table)?;
+    Ok(SetupCall {
+        call: Call { thread, op },
+        client,
+        expect,
+    })
+}
+
+fn calls_of<P: Profile>(
+    alloc: Global,
+    names: &[Name],
+    clients: u32,
+    tables: &[&Table],
+) -> Result<Vec<SetupCall>, SetupFault>
+    ensures calls { Gives (λ v. map call_view v.items) result (each (spec.call_at P.the (names_view names.now) clients) 1 (map (λ t. table_view t.now) tables.now)) }
+    ensures length { IfOk result (λ v. length v.items ≡ length tables.now) }
+{
+    let mut calls = Vec::new(alloc);
+    for (i, table) in tables.iter().enumerate() {
+        let call = call_at::<P>(alloc, names, clients, 1 + i, table)?;
+        calls.push(call)?;
+    }
+    Ok(calls)
+}
+
+#[tactic(auto, unfolding(crate::specs::Setups::sizes_of))]
+fn sizes_of(table: &Table) -> Result<Sizes, SetupFault>
+    ensures sizes { Gives (λ s. s) result (spec.sizes_of (table_view table.now)) }
+    ensures within { IfOk result IsSizes }
+{
+    let memory_bits = number_at(
+        table,
+        Place::Top,
+        "memory_bits",
+        MIN_MEMORY_BITS,
+        MAX_MEMORY_BITS,
+    )?;
+    let root_radix = number_at(
+        table,
+        Place::Top,
+        "root_radix",
+        MIN_ROOT_RADIX,
+        MAX_ROOT_RADIX,
+    )?;
+    let threads = number_at(
+        table,
+        Place::Top,
+        "threads",
+        MIN_BOOT_THREADS,
+        MAX_BOOT_THREADS,
+    )?;
+    let endpoints = number_at(table, Place::Top, "endpoints", 0, MAX_BOOT_ENDPOINTS)?;
+    Ok(Sizes {
+        memory_bits,
+        root_radix,
+        threads,
+        endpoints,
+    })
+}
+
+/// The plan of a boot, or its first defect.
+fn plan_of<P: Profile>(sizes: Sizes, untypeds: Vec<(u64, u32)>) -> Result<BootPlan, SetupFault>
+    requires { IsWithinLimits P.the (spec.planned_with sizes untypeds.items) }
+    ensures plan { Gives (λ plan. plan) result (spec.laid_out P.the (spec.planned_with sizes untypeds.items)) }
+    ensures sound { IfOk result (IsPlan P.the) }
+{
+    match BootPlan::new::<P>(
+        sizes.memory_bits,
+        sizes.root_radix,
+        sizes.threads,
+        sizes.endpoints,
+        untypeds,
+    ) {
+        Ok(plan) => Ok(plan),
+        Err(defect) => Err(SetupFault::Layout(defect)),
+    }
+}
+
+/// The most entries of a history: the number of calls, at least 1, where the set-up gives none.
+fn limit_of(given: u32, calls: usize) -> u32
+    requires { calls ≤ MAX_CALLS }
+    ensures { result ≡ spec.limit_of given calls }
+{
+    if given == 0 {
+        (calls as u32).max(1)
+    } else {
+        given
+    }
+}
+
+/// The set-up of these sizes, with these tables of untyped regions and of calls. A limit of 0 is none.
+#[tactic(auto, unfolding(crate::specs::Setups::setup_with))]
+fn setup_with<P: Profile>(
+    alloc: Global,
+    sizes: Sizes,
+    clients: u32,
+    limit: u32,
+    untyped: &[&Table],
+    call: &[&Table],
+) -> Result<Setup, SetupFault>
+    requires sizes { IsSizes sizes }
+    requires untyped { length untyped.now ≤ MAX_BOOT_UNTYPEDS }
+    requires call { length call.now ≤ MAX_CALLS }
+    ensures setup { Gives (λ s. s) result (spec.setup_with P.the sizes clients limit (map (λ t. table_view t.now) untyped.now) (map (λ t. table_view t.now) call.now)) }
+    ensures plan { IfOk result (λ s. IsPlan P.the s.plan) }
+{
+    let untypeds = untypeds_of::<P>(alloc, untyped)?;
+    let plan = plan_of::<P>(sizes, untypeds)?;
+    let calls = calls_of::<P>(alloc, &[], clients, call)?;
+    let limit = limit_of(limit, calls.len());
+    Ok(Setup::new(alloc, plan, clients, limit, calls)?)
+}
+
+/// What a table is read as whose format and keys are known.
+#[tactic(auto, unfolding(crate::specs::Setups::setup_at))]
+fn setup_at<P: Profile>(alloc: Global, table: &Table) -> Result<Setup, SetupFault>
+    ensures setup { Gives (λ s. s) result (spec.setup_at P.the (table_view table.now)) }
+    ensures plan { IfOk result (λ s. IsPlan P.the s.plan) }
+{
+    let sizes = sizes_of(table)?;
+    let clients = number_or(table, Place::Top, "clients", 1, 1, MAX_CLIENTS)?;
+    let limit = number_or(table, Place::Top, "limit", 0, 1, MAX_HISTORY_LIMIT)?;
+    let most = MAX_BOOT_UNTYPEDS as usize;
+    let untyped = tables_or_none(alloc, table, Place::Top, "untyped", 0, most)?;
+    let call = tables_or_none(alloc, table, Place::Top, "call", 0, MAX_CALLS)?;
+    setup_with::<P>(
+        alloc,
+        sizes,
+        clients,
+        limit,
+        untyped.as_slice(),
+        call.as_slice(),
+    )
+}
+
+/// What a table is read as, in the format that is read.
+#[tactic(auto, unfolding(crate::specs::Setups::setup_of))]
+fn setup_of(alloc: Global, table: &Table) -> Result<Setup, SetupFault>
+    ensures setup { Gives (λ s. s) result (spec.setup_of (table_view table.now)) }
+    ensures plan { IfOk result (λ s. IsPlan profile.Wide s.plan) }
+{
+    let _format = number_at(table, Place::Top, "format", FORMAT, FORMAT)?;
+    known_only(
+        table,
+        Place::Top,
+        &[
+            "format",
+            "memory_bits",
+            "root_radix",
+            "threads",
+            "endpoints",
+            "clients",
+            "limit",
+            "untyped",
+            "call",
+        ],
+    )?;
+    setup_at::<Wide>(alloc, table)
+}
+
+/// The set-up that a table is read as, or its first fault.
+///
+/// # Errors
+///
+/// The first fault in this order, or `Memory` in place of any answer where memory was refused: the key `format`; an unknown key
+/// of the table, the least by its bytes; its other keys; each table of `untyped`; the plan of the boot; each table of `call`.
+/// `Text` is never answered. The format is this project's profile.
+#[tactic(auto, using(crate::proofs::Promises::Messages::messages_read, crate::proofs::Promises::Messages::never_text))]
+pub fn read_table(alloc: Global, table: &Table) -> Result<Setup, SetupFault>
+    ensures setup { Gives (λ s. s) result (spec.setup_of (table_view table.now)) }
+    ensures plan { IfOk result (λ s. IsPlan profile.Wide s.plan) }
+    ensures messages { IfOk result (λ s. All (HasMessage profile.Wide) s.calls) }
+    ensures never_text { IfErr result (λ e. e ≢ SetupFault.Text) }
+{
+    setup_of(alloc, table)
+}
+
+/// The set-up that a text is read as, or its first fault.
+///
+/// # Errors
+///
+/// `Text` where the bytes are no TOML document; else as `read_table` of the document's table.
+#[tactic(auto, using(crate::proofs::Grammar::Bytes::bytes_of_text, crate::proofs::Grammar::Bytes::bytes_of_no_text))]
+pub fn read_setup(alloc: Global, bytes: &[u8]) -> Result<Setup, SetupFault>
+    ensures setup { Gives (λ s. s) result (spec.setup_of_bytes bytes.now) }
+    ensures plan { IfOk result (λ s. IsPlan profile.Wide s.plan) }
+    ensures messages { IfOk result (λ s. All (HasMessage profile.Wide) s.calls) }
+{
+    let Ok(text) = std::str::from_utf8(bytes) else {
+        return Err(SetupFault::Text);
+    };
+    match toml::table_from_str(alloc, text) {
+        Ok(table) => read_table(alloc, &table),
+        Err(e) => {
+            if e.is_memory() {
+                Err(SetupFault::Memory)
+            } else {
+                Err(SetupFault::Text)
+            }
+        }
+    }
+}

@@ -1,8 +1,0 @@
-use Rattle.std.proofs.Common.{◌≡◌, ◌++◌, ◌+◌, drop, string_bytes}
-use Rattle.setup_read.specs.Report.{call_lines}
-use Rattle.setup_read.proofs.reporting.calls.add_calls.Given as goal
-
-abbrev pub invariant-loop-i : goal.invariant-loop-i
-invariant-loop-i l =
-    string_bytes l.out ++ call_lines (l.i + 1) (drop l.i l.setup.calls) (drop l.i l.replies)
-    ≡ string_bytes l.initial.out ++ call_lines 1 l.setup.calls l.replies

@@ -1,7 +1,0 @@
-use Rattle.std.proofs.Common.{◌≡◌, filter_map, map}
-use Rattle.std.specs.Map.Iter.{deref}
-use Rattle.setup_read.specs.Report.{rising, base_at}
-use Rattle.setup_read.proofs.reporting.naming.bases_named.Given as goal
-
-abbrev pub invariant-loop-slot : goal.invariant-loop-slot
-invariant-loop-slot g l = l.bases.keys ≡ rising (filter_map (base_at g.P.Profile.the l.naming (g.K.Readable.shown l.kernel)) (map deref l.yielded))

@@ -1,0 +1,11 @@
+//! Tests of set-ups and of their reports.
+#![tactic(auto)]
+
+#[cfg(test)]
+mod operations;
+#[cfg(test)]
+mod refusals;
+#[cfg(test)]
+mod reports;
+#[cfg(test)]
+mod setups;

@@ -1,0 +1,394 @@
+//! What is accepted, and the line by which each other set-up is refused.
+use setup_read::read_setup;
+use std::alloc::Global;
+use std::test::Fail;
+
+/// A set-up with no untyped region and no call.
+const SIZES: &str = "format = 1\nmemory_bits = 16\nroot_radix = 4\nthreads = 2\nendpoints = 1\n";
+
+/// The code of the fault and the line of the refusal, or `accepted`.
+fn answer(alloc: Global, text: &[u8]) -> Result<String, Fail> {
+    let Err(fault) = read_setup(alloc, text) else {
+        return Ok(String::from_str(alloc, "accepted")?);
+    };
+    let code = fault.code();
+    Ok(format!(in alloc; "{code}: {fault}")?)
+}
+
+/// What is answered where lines stand below the sizes.
+fn below_sizes(alloc: Global, lines: &str) -> Result<String, Fail> {
+    let text = format!(in alloc; "{SIZES}{lines}")?;
+    answer(alloc, text.as_bytes())
+}
+
+#[test]
+fn first_fault_of_the_top_table(rt: HostRuntime) -> Result<(), Fail> {
+    for (text, want) in [
+        ("", "202: set-up refused 202 at top key format"),
+        (
+            "format = 1\nmemory_bits = 16\nroot_rad\n",
+            "200: set-up refused 200 at text",
+        ),
+        ("format = 2\n", "204: set-up refused 204 at top key format"),
+        (
+            "format = 3\nx = 1\n",
+            "204: set-up refused 204 at top key format",
+        ),
+        (
+            "format = \"1\"\n",
+            "203: set-up refused 203 at top key format",
+        ),
+        (
+            "format = 1\n\"a b\" = 1\n",
+            "201: set-up refused 201 at top key ?",
+        ),
+        (
+            "format = 1\n\"\" = 1\n",
+            "201: set-up refused 201 at top key ?",
+        ),
+        (
+            "format = 1\nzeta = 1\nalpha_-9 = 1\n",
+            "201: set-up refused 201 at top key alpha_-9",
+        ),
+        (
+            "format = 1\nprofile = \"wide\"\n",
+            "201: set-up refused 201 at top key profile",
+        ),
+        (
+            "format = 1\nnames = {}\n",
+            "201: set-up refused 201 at top key names",
+        ),
+        (
+            "format = 1\nmemory_bits = 16\n",
+            "202: set-up refused 202 at top key root_radix",
+        ),
+        (
+            "format = 1\nmemory_bits = 21\n",
+            "204: set-up refused 204 at top key memory_bits",
+        ),
+        (
+            "format = 1\nmemory_bits = 16.0\n",
+            "203: set-up refused 203 at top key memory_bits",
+        ),
+    ] {
+        let got = answer(rt.alloc(), text.as_bytes())?;
+        assert_eq!(rt; got.as_str(), want, "of {text}");
+    }
+    let got = answer(rt.alloc(), b"\xff")?;
+    assert_eq!(rt; got.as_str(), "200: set-up refused 200 at text");
+    Ok(())
+}
+
+#[test]
+fn edges_of_the_other_top_keys(rt: HostRuntime) -> Result<(), Fail> {
+    for (lines, want) in [
+        ("", "accepted"),
+        ("limit = 0", "204: set-up refused 204 at top key limit"),
+        ("limit = 65536", "accepted"),
+        ("limit = 65537", "204: set-up refused 204 at top key limit"),
+        ("clients = 0", "204: set-up refused 204 at top key clients"),
+        ("clients = 8", "accepted"),
+        ("clients = 9", "204: set-up refused 204 at top key clients"),
+        ("untyped = 1", "203: set-up refused 203 at top key untyped"),
+        (
+            "untyped = [1]",
+            "203: set-up refused 203 at top key untyped",
+        ),
+        (
+            "call = [{}, 1]\nuntyped = [{}]",
+            "203: set-up refused 203 at top key call",
+        ),
+    ] {
+        let got = below_sizes(rt.alloc(), lines)?;
+        assert_eq!(rt; got.as_str(), want, "of {lines}");
+    }
+    Ok(())
+}
+
+#[test]
+fn untyped_tables_and_the_plan(rt: HostRuntime) -> Result<(), Fail> {
+    for (lines, want) in [
+        ("untyped = [{ base = 16384, bits = 12 }]", "accepted"),
+        ("untyped = [{ base = \"0x4000\", bits = 12 }]", "accepted"),
+        (
+            "untyped = [{ bits = 3, size = 1 }]",
+            "201: set-up refused 201 at untyped 1 key size",
+        ),
+        (
+            "untyped = [{ bits = 3 }]",
+            "202: set-up refused 202 at untyped 1 key base",
+        ),
+        (
+            "untyped = [{ base = -1, bits = 3 }]",
+            "204: set-up refused 204 at untyped 1 key base",
+        ),
+        (
+            "untyped = [{ base = \"@a\", bits = 3 }]",
+            "204: set-up refused 204 at untyped 1 key base",
+        ),
+        (
+            "untyped = [{ base = \"0xffffffffffffff000\", bits = 12 }]",
+            "204: set-up refused 204 at untyped 1 key base",
+        ),
+        (
+            "untyped = [{ base = 16384, bits = 3 }]",
+            "204: set-up refused 204 at untyped 1 key bits",
+        ),
+        (
+            "untyped = [{ base = 16384, bits = 48 }]",
+            "204: set-up refused 204 at untyped 1 key bits",
+        ),
+        (
+            "untyped = [{ base = 65536, bits = 12 }]",
+            "205: set-up refused 205 at untyped 1 outside",
+        ),
+        (
+            "untyped = [{ base = \"0xfffffffffffff000\", bits = 12 }]",
+            "205: set-up refused 205 at untyped 1 outside",
+        ),
+        (
+            "untyped = [{ base = 0, bits = 12 }]",
+            "205: set-up refused 205 at untyped 1 overlap",
+        ),
+        (
+            "untyped = [{ base = 16384, bits = 15 }]",
+            "205: set-up refused 205 at untyped 1 unaligned",
+        ),
+        (
+            "untyped = [{ base = 16384, bits = 12 }, { base = 16384, bits = 4 }]",
+            "205: set-up refused 205 at untyped 2 overlap",
+        ),
+        (
+            "untyped = [{ base = 0, bits = 12 }]\ncall = [{}]",
+            "205: set-up refused 205 at untyped 1 overlap",
+        ),
+    ] {
+        let got = below_sizes(rt.alloc(), lines)?;
+        assert_eq!(rt; got.as_str(), want, "of {lines}");
+    }
+    Ok(())
+}
+
+#[test]
+fn layout_of_the_boot_objects(rt: HostRuntime) -> Result<(), Fail> {
+    for (sizes, want) in [
+        (
+            "memory_bits = 12\nroot_radix = 4\nthreads = 64\nendpoints = 1\n",
+            "205: set-up refused 205 at layout outside",
+        ),
+        (
+            "memory_bits = 16\nroot_radix = 4\nthreads = 2\nendpoints = 13\n",
+            "205: set-up refused 205 at layout slots",
+        ),
+        (
+            "memory_bits = 16\nroot_radix = 4\nthreads = 2\nendpoints = 12\n",
+            "accepted",
+        ),
+        (
+            "memory_bits = 16\nroot_radix = 13\nthreads = 2\nendpoints = 12\n",
+            "204: set-up refused 204 at top key root_radix",
+        ),
+        (
+            "memory_bits = 16\nroot_radix = 4\nthreads = 65\nendpoints = 12\n",
+            "204: set-up refused 204 at top key threads",
+        ),
+        (
+            "memory_bits = 16\nroot_radix = 4\nthreads = 2\nendpoints = 257\n",
+            "204: set-up refused 204 at top key endpoints",
+        ),
+    ] {
+        let text = format!(in rt.alloc(); "format = 1\n{sizes}")?;
+        let got = answer(rt.alloc(), text.as_bytes())?;
+        assert_eq!(rt; got.as_str(), want, "of {sizes}");
+    }
+    Ok(())
+}
+
+#[test]
+fn edges_of_the_keys_of_a_call(rt: HostRuntime) -> Result<(), Fail> {
+    for (call, want) in [
+        ("", "202: set-up refused 202 at call 1 key op"),
+        ("op = 1", "203: set-up refused 203 at call 1 key op"),
+        ("op = \"call\"", "204: set-up refused 204 at call 1 key op"),
+        (
+            "op = \"nbsend\", thread = 2048",
+            "202: set-up refused 202 at call 1 key cap",
+        ),
+        (
+            "op = \"nbrecv\", words = []",
+            "201: set-up refused 201 at call 1 key words",
+        ),
+        (
+            "op = \"recv\", label = 1",
+            "201: set-up refused 201 at call 1 key label",
+        ),
+        (
+            "op = \"send\", z = 1, rights = 1",
+            "201: set-up refused 201 at call 1 key rights",
+        ),
+        (
+            "op = \"send\"",
+            "202: set-up refused 202 at call 1 key thread",
+        ),
+        (
+            "op = \"send\", thread = 2048",
+            "202: set-up refused 202 at call 1 key cap",
+        ),
+        (
+            "op = \"send\", thread = 2048, cap = 4, client = 1",
+            "204: set-up refused 204 at call 1 key client",
+        ),
+        (
+            "op = \"send\", thread = 2048, cap = 4, expect = \"\"",
+            "204: set-up refused 204 at call 1 key expect",
+        ),
+        (
+            "op = \"send\", thread = 2048, cap = 4, expect = 1",
+            "203: set-up refused 203 at call 1 key expect",
+        ),
+        (
+            "op = \"send\", thread = 2048, cap = 4, expect = \"a\\u007f\"",
+            "204: set-up refused 204 at call 1 key expect",
+        ),
+        (
+            "op = \"send\", thread = \"@a\", cap = 4",
+            "204: set-up refused 204 at call 1 key thread",
+        ),
+        (
+            "op = \"send\", thread = \"0x\", cap = 4",
+            "204: set-up refused 204 at call 1 key thread",
+        ),
+        (
+            "op = \"send\", thread = \"0X800\", cap = 4",
+            "204: set-up refused 204 at call 1 key thread",
+        ),
+        (
+            "op = \"send\", thread = \"0x80g\", cap = 4",
+            "204: set-up refused 204 at call 1 key thread",
+        ),
+        (
+            "op = \"send\", thread = true, cap = 4",
+            "203: set-up refused 203 at call 1 key thread",
+        ),
+        (
+            "op = \"send\", thread = 2048, cap = 4, label = 4503599627370495",
+            "accepted",
+        ),
+        (
+            "op = \"send\", thread = 2048, cap = 4, label = 4503599627370496",
+            "204: set-up refused 204 at call 1 key label",
+        ),
+        (
+            "op = \"send\", thread = 2048, cap = 4, words = [0, 0, 0, 0]",
+            "accepted",
+        ),
+        (
+            "op = \"send\", thread = 2048, cap = 4, words = [0, 0, 0, 0, 0]",
+            "204: set-up refused 204 at call 1 key words",
+        ),
+        (
+            "op = \"send\", thread = 2048, cap = 4, words = [0, -1]",
+            "204: set-up refused 204 at call 1 key words",
+        ),
+        (
+            "op = \"send\", thread = 2048, cap = 4, words = [0, 1.5]",
+            "203: set-up refused 203 at call 1 key words",
+        ),
+        (
+            "op = \"send\", thread = 2048, cap = 4, words = 0",
+            "203: set-up refused 203 at call 1 key words",
+        ),
+    ] {
+        let lines = format!(in rt.alloc(); "call = [{{{call}}}]")?;
+        let got = below_sizes(rt.alloc(), lines.as_str())?;
+        assert_eq!(rt; got.as_str(), want, "of {call}");
+    }
+    Ok(())
+}
+
+#[test]
+fn edges_of_the_keys_of_a_retype_and_a_copy(rt: HostRuntime) -> Result<(), Fail> {
+    for (call, want) in [
+        (
+            "op = \"retype\", thread = 2048",
+            "202: set-up refused 202 at call 1 key cap",
+        ),
+        (
+            "op = \"retype\", thread = 2048, cap = 5, rights = 1",
+            "201: set-up refused 201 at call 1 key rights",
+        ),
+        (
+            "op = \"retype\", thread = 2048, cap = 5, root = 1, offset = 8, count = 1",
+            "202: set-up refused 202 at call 1 key kind",
+        ),
+        (
+            "op = \"retype\", thread = 2048, cap = 5, kind = 2, size_bits = -1, root = true",
+            "204: set-up refused 204 at call 1 key size_bits",
+        ),
+        (
+            "op = \"retype\", thread = 2048, cap = 5, kind = 2, root = 1, depth = 1.0, offset = -1",
+            "203: set-up refused 203 at call 1 key depth",
+        ),
+        (
+            "op = \"retype\", thread = 2048, cap = 5, kind = 2, root = 1, offset = 8",
+            "202: set-up refused 202 at call 1 key count",
+        ),
+        (
+            "op = \"copy\", thread = 2048, cap = 1, src_index = 4",
+            "202: set-up refused 202 at call 1 key index",
+        ),
+        (
+            "op = \"copy\", thread = 2048, cap = 1, index = 8, depth = true",
+            "203: set-up refused 203 at call 1 key depth",
+        ),
+        (
+            "op = \"copy\", thread = 2048, cap = 1, index = 8, src_root = \"0x\"",
+            "204: set-up refused 204 at call 1 key src_root",
+        ),
+        (
+            "op = \"copy\", thread = 2048, cap = 1, index = 8, src_depth = -1",
+            "202: set-up refused 202 at call 1 key src_index",
+        ),
+        (
+            "op = \"copy\", thread = 2048, cap = 1, index = 8, src_index = 4, word = 5",
+            "201: set-up refused 201 at call 1 key word",
+        ),
+        (
+            "op = \"copy\", thread = 2048, cap = 1, index = 8, src_index = 4, rights = 16",
+            "204: set-up refused 204 at call 1 key rights",
+        ),
+        (
+            "op = \"copy\", thread = 2048, cap = 1, index = 8, src_index = 4, rights = \"0x1\"",
+            "203: set-up refused 203 at call 1 key rights",
+        ),
+        (
+            "op = \"mint\", thread = 2048, cap = 1, index = 8, src_index = 4, rights = -1",
+            "204: set-up refused 204 at call 1 key rights",
+        ),
+        (
+            "op = \"mint\", thread = 2048, cap = 1, index = 8, src_index = 4",
+            "202: set-up refused 202 at call 1 key word",
+        ),
+        (
+            "op = \"move\", thread = 2048, cap = 1, index = 8, src_index = 4, rights = 15",
+            "201: set-up refused 201 at call 1 key rights",
+        ),
+        (
+            "op = \"move\", thread = 2048, cap = 1, index = 8",
+            "202: set-up refused 202 at call 1 key src_index",
+        ),
+        (
+            "op = \"mutate\", thread = 2048, cap = 1, index = 8, src_index = 4, rights = 15",
+            "201: set-up refused 201 at call 1 key rights",
+        ),
+        (
+            "op = \"mutate\", thread = 2048, cap = 1, index = 8, src_index = 4",
+            "202: set-up refused 202 at call 1 key word",
+        ),
+    ] {
+        let lines = format!(in rt.alloc(); "call = [{{{call}}}]")?;
+        let got = below_sizes(rt.alloc(), lines.as_str())?;
+        assert_eq!(rt; got.as_str(), want, "of {call}");
+    }
+    Ok(())
+}

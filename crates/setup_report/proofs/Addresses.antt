@@ -1,0 +1,4 @@
+-- Addresses in rising order, and where slots lie.
+pub mod Booted
+pub mod Rising
+pub mod Slots

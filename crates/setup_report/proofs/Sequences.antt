@@ -1,0 +1,3 @@
+-- Lists that are read from their front.
+pub mod Calls
+pub mod Fronts

@@ -1,0 +1,8 @@
+use Rattle.std.proofs.Common.{◌≡◌, ◌++◌, ◌+◌, drop, string_bytes}
+use Rattle.setup_report.specs.Report.{call_lines}
+use Rattle.setup_report.proofs.calls.add_calls.Given as goal
+
+abbrev pub invariant-loop-i : goal.invariant-loop-i
+invariant-loop-i l =
+    string_bytes l.out ++ call_lines (l.i + 1) (drop l.i l.setup.calls) (drop l.i l.replies)
+    ≡ string_bytes l.initial.out ++ call_lines 1 l.setup.calls l.replies

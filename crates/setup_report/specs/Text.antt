@@ -1,0 +1,97 @@
+-- The text of each part of a report. Numbers are decimal.
+use Rattle.std.specs.Prelude.{codes, ℕ, List, [], ◌++◌, take, Bool, ◌==◌, ◌||◌, if◌then◌else◌, bit_and, nat_eq, Option, Some, None}
+use Rattle.std.specs.List.{flat_map, starts_with}
+use Rattle.std.specs.Fmt.{decimal}
+use lib.Pointwise.{pointwise}
+use Rattle.cap_core.specs.declared.rights.Rights.{Rights}
+use Rattle.cap_core.specs.declared.message.Message.{Message}
+use Rattle.cap_core.specs.declared.capability.Cap.{Cap}
+use Rattle.cap_core.specs.declared.capability.Cap.TheVariants.{Null, Untyped, Endpoint, CNode, Tcb}
+use Rattle.cap_core.specs.declared.refusal.Refusal.{Refusal}
+use Rattle.cap_core.specs.Refusals.{refusal_code, refusal_kind}
+use Rattle.abstract_kernel.specs.declared.call.Op.{Op}
+use Rattle.abstract_kernel.specs.declared.call.Op.TheVariants.{Retype, CapCopy, CapMint, CapMove, CapMutate, Send, NbSend, Recv, NbRecv}
+use Rattle.abstract_kernel.specs.declared.call.Reply.{Reply}
+use Rattle.abstract_kernel.specs.declared.call.Reply.TheVariants.{Done, Delivered, Waiting, Dropped, Empty, Refused}
+use Rattle.abstract_kernel.specs.declared.call.ThreadState.{ThreadState}
+use Rattle.abstract_kernel.specs.declared.call.ThreadState.TheVariants.{Ready, Inactive, Sending, Receiving}
+use Rattle.abstract_kernel.specs.declared.call.Inbox.{Inbox}
+
+-- ---- capabilities and messages
+
+-- the letter of a right that is there, and '-' for one that is missing
+abbrev pub right_text : Rights → ℕ → List ℕ → List ℕ
+right_text rights right letter = if bit_and rights.0 right == right then letter else codes "-"
+
+abbrev pub rights_text : Rights → List ℕ
+rights_text rights =
+    right_text rights 1 (codes "w") ++ (right_text rights 2 (codes "r") ++ (right_text rights 4 (codes "g") ++ right_text rights 8 (codes "p")))
+
+-- each number after a space
+abbrev pub numbers_text : List ℕ → List ℕ
+numbers_text numbers = flat_map (λ n. codes " " ++ decimal n) numbers
+
+abbrev pub message_text : Message → List ℕ
+message_text m = codes "label " ++ (decimal m.label ++ (codes " words" ++ numbers_text (take m.count m.words)))
+
+abbrev pub cap_text : Cap → List ℕ
+cap_text Null = codes "null"
+cap_text (Untyped base bits free) =
+    codes "untyped " ++ (decimal base ++ (codes " bits " ++ (decimal bits ++ (codes " free " ++ decimal free))))
+cap_text (Endpoint base badge rights) =
+    codes "endpoint " ++ (decimal base ++ (codes " badge " ++ (decimal badge.0 ++ (codes " rights " ++ rights_text rights))))
+cap_text (CNode base radix guard) =
+    codes "cnode " ++ (decimal base ++ (codes " radix " ++ (decimal radix ++ (codes " guard " ++ (decimal guard.value ++ (codes " size " ++ decimal guard.size))))))
+cap_text (Tcb base) = codes "tcb " ++ decimal base
+
+-- ---- calls and replies
+
+abbrev pub op_text : Op → List ℕ
+op_text (Retype cap kind size_bits root index depth offset count) = codes "retype"
+op_text (CapCopy cap index depth src_root src_index src_depth rights) = codes "copy"
+op_text (CapMint cap index depth src_root src_index src_depth rights word) = codes "mint"
+op_text (CapMove cap index depth src_root src_index src_depth) = codes "move"
+op_text (CapMutate cap index depth src_root src_index src_depth word) = codes "mutate"
+op_text (Send cap message) = codes "send"
+op_text (NbSend cap message) = codes "nbsend"
+op_text (Recv cap) = codes "recv"
+op_text (NbRecv cap) = codes "nbrecv"
+
+-- the number of a refusal, and after a stroke the number of a lookup failure's kind
+abbrev pub refusal_text : Refusal → List ℕ
+refusal_text r = decimal (refusal_code r) ++ (if refusal_kind r == 0 then [] else codes "/" ++ decimal (refusal_kind r))
+
+abbrev pub reply_text : Reply → List ℕ
+reply_text Done = codes "done"
+reply_text Waiting = codes "waiting"
+reply_text Dropped = codes "dropped"
+reply_text Empty = codes "empty"
+reply_text (Refused refusal) = codes "refused " ++ refusal_text refusal
+reply_text (Delivered endpoint from to badge message) =
+    codes "delivered " ++ (decimal endpoint ++ (codes " from " ++ (decimal from ++ (codes " to " ++ (decimal to ++ (codes " badge " ++ (decimal badge.0 ++ (codes " " ++ message_text message))))))))
+
+-- a text equals the expected one, or begins with it followed by a space
+abbrev pub begins_as : List ℕ → List ℕ → Bool
+begins_as text expected = pointwise nat_eq text expected || starts_with nat_eq text (expected ++ codes " ")
+
+abbrev pub is_met : List ℕ → Reply → Bool
+is_met expected reply = begins_as (reply_text reply) expected
+
+-- what is said of an expectation, where a call has one
+abbrev pub verdict_text : Option (List ℕ) → Reply → List ℕ
+verdict_text None reply = []
+verdict_text (Some expected) reply =
+    if is_met expected reply then codes " [met]" else codes " [not met: " ++ (expected ++ codes "]")
+
+-- ---- threads
+
+abbrev pub state_text : ThreadState → List ℕ
+state_text Ready = codes "ready"
+state_text Inactive = codes "inactive"
+state_text (Sending endpoint) = codes "sending " ++ decimal endpoint
+state_text (Receiving endpoint) = codes "receiving " ++ decimal endpoint
+
+-- the last message that was delivered to a thread, where there is one
+abbrev pub inbox_text : Option Inbox → List ℕ
+inbox_text None = []
+inbox_text (Some inbox) = codes " inbox badge " ++ (decimal inbox.badge.0 ++ (codes " " ++ message_text inbox.message))

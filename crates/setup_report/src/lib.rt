@@ -1,0 +1,53 @@
+//! The report of a run: each call with its reply, what the kernel shows at the end, and how many expectations are met.
+#![tactic(auto)]
+
+ghost use Rattle.std.specs.Prelude.{◌≡◌, ◌<◌, ◌^◌, All, length, IfOk};
+ghost use Rattle.derivation.specs.Entries.{slots as slots_of};
+ghost use Rattle.setup_report.specs.Report.{report_of};
+
+mod calls;
+mod lines;
+mod memory;
+mod naming;
+mod readable;
+mod slots;
+mod text;
+
+pub use calls::{ExpectationCount, expectations};
+use cap_core::Profile;
+use ipc_core::Waiters;
+use kernel_core::{Kernel, Reply};
+use setup_format::Setup;
+use slot_core::CapStore;
+use std::alloc::{AllocError, Global};
+use std::fmt::Write;
+
+/// The report of a run as text: a line for each call of the set-up with its reply; of the memory, as `kernel` shows it, a
+/// line for each live thread, each live endpoint, each full slot and each CNode that only slots of its own name, each by
+/// rising address; and how many of the expectations are met.
+///
+/// `replies` has the reply to each call, in order, and the full slots of `kernel` lie in the set-up's memory. The lines, and what is read of a kernel, are this project's profile.
+///
+/// # Errors
+///
+/// Memory was refused.
+#[tactic(auto, unfolding(crate::specs::Report::report_of))]
+pub fn report<P: Profile, S: CapStore<P> + Drop, W: Waiters<P> + Drop>(
+    alloc: Global,
+    setup: &Setup,
+    replies: &[Reply],
+    kernel: &Kernel<P, S, W>,
+) -> Result<Vec<u8>, AllocError>
+    requires replies { length replies.now ≡ length setup.now.calls }
+    requires slots { All (λ a. a < 2 ^ setup.now.plan.memory_bits) (slots_of kernel.now.derivations) }
+    ensures { IfOk result (λ v. v.items ≡ report_of P.the setup.now.calls replies.now kernel.now) }
+{
+    let mut out = String::new(alloc);
+    calls::add_calls(alloc, &mut out, setup, replies)?;
+    memory::add_state::<P, Kernel<P, S, W>>(alloc, &mut out, setup.plan().memory_bits(), kernel)?;
+    let count = expectations(alloc, setup, replies)?;
+    let met = count.met;
+    let expected = count.expected;
+    writeln!(out, "expected {met} of {expected}")?;
+    Ok(out.into_bytes())
+}
