@@ -2,14 +2,15 @@
 use Rattle.std.proofs.Common.{◌≡◌, ℕ, ◌+◌, ◌-◌, ◌*◌, ◌/◌, ◌%◌, ◌^◌, ◌<◌, ◌≤◌, ◌⊎◌, inl, inr, refl, sym, ap, ◌∙◌, arith, false, ◌++◌, length, Ok, Err}
 use Rattle.std.proofs.Math.Nat.{mul-le-mul_right}
 use Rattle.std.proofs.Math.Pow.{mod-mod-pow}
-use Rattle.std.proofs.lemmas.Nat.{pow-add, pow_pos}
+use Rattle.std.proofs.lemmas.Nat.{pow-add, pow_pos, pow_below}
 use Rattle.cap_core.specs.declared.profile.ProfileName.{ProfileName}
+use Rattle.cap_core.specs.declared.profile.ProfileName.TheVariants.{Wide, Narrow}
 use Rattle.cap_core.specs.declared.capability.Guard.{Guard}
 use Rattle.cap_core.specs.declared.capability.Cap.{Cap}
 use Rattle.cap_core.specs.declared.capability.Cap.TheVariants.{Null, Untyped, Endpoint, CNode, Tcb}
 use Rattle.cap_core.specs.declared.refusal.LookupFault.TheVariants.{GuardMismatch, DepthMismatch}
 use Rattle.cap_core.specs.Numbers.{word_bits, slot_bits, slot_size}
-use Rattle.std.proofs.lemmas.Bool.{false≢true}
+use Rattle.std.proofs.lemmas.Bool.{false≢true, cases_lt}
 use Rattle.cap_core.specs.Objects.{is_null, IsLawful}
 use Rattle.cspace_core.specs.Bits.{low_bits}
 use Rattle.cspace_core.specs.Resolution.{is_cnode, guard_bits, slot_of}
@@ -79,6 +80,27 @@ slot_aligned p memory base radix guard lawful =
     let turned : slot_bits p + radix ≡ radix + slot_bits p = omega arith in
     let whole : base % 2 ^ (radix + slot_bits p) ≡ 0 = rw turned at lawful.placed.aligned in
     sym (mod-mod-pow base radix (slot_bits p)) ∙ rw whole (omega arith)
+
+words_most : (p : ProfileName) → word_bits p ≤ 64
+words_most Wide = omega arith
+words_most Narrow = omega arith
+
+slot_some : (p : ProfileName) → 1 ≤ slot_bits p
+slot_some Wide = omega arith
+slot_some Narrow = omega arith
+
+-- the radix is below the bits of the largest word
+pub radix_small : (p : ProfileName) (memory base radix : ℕ) (guard : Guard) → IsLawful p memory (CNode base radix guard) → radix < 64
+radix_small p memory base radix guard lawful = elim (cases_lt (word_bits p) (slot_bits p + radix)) [
+  | inl more ↦
+      let large : 2 ^ word_bits p < 2 ^ (slot_bits p + radix) = pow_below (word_bits p) (slot_bits p + radix) more in
+      absurd (let end = lawful.placed.addressed in omega (arith, end, large))
+  | inr fits ↦ omega (arith, fits, words_most p, slot_some p)
+]
+
+-- and so is the size of the guard
+pub guard_small : (p : ProfileName) (memory base radix : ℕ) (guard : Guard) → IsLawful p memory (CNode base radix guard) → guard.size < 64
+guard_small p memory base radix guard lawful = omega (arith, lawful.holds.some, lawful.holds.both, words_most p)
 
 -- each slot of a CNode ends within the memory
 pub slot_within : (p : ProfileName) (memory base radix i : ℕ) (guard : Guard) → IsLawful p memory (CNode base radix guard) →

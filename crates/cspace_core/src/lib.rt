@@ -118,16 +118,10 @@ fn choose<P: Profile>(cap: Cap, address: u64, bits: u32) -> Result<(Slot, u32), 
 /// The `count` bits of a word that stand above its low `from` bits.
 #[inline(always)]
 fn field(word: u64, from: u32, count: u32) -> u64
-    requires { from + count ≤ 64 }
+    requires count { count < 64 }
+    requires within { from + count ≤ 64 }
     ensures { result ≡ word / 2 ^ from % 2 ^ count }
 {
-    if count == 0 {
-        return 0;
-    }
-    let high = word >> from;
-    if count == u64::BITS {
-        high
-    } else {
-        high % (1 << count)
-    }
+    // The shift wraps at 64 bits alone, where the count is 0.
+    word.wrapping_shr(from) % (1 << count)
 }

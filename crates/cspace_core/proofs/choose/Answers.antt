@@ -2,7 +2,7 @@ use Rattle.std.proofs.Common.{◌^◌, ◌<◌, sym, ◌∙◌}
 use Rattle.std.proofs.lemmas.Nat.{mod_below, pow_pos}
 use Rattle.cap_core.specs.Numbers.{word_bits}
 use Rattle.cspace_core.specs.Resolves.{invalid_root}
-use Rattle.cspace_core.proofs.Nodes.{no_cnode, too_short_for_guard, other_guard, too_short_for_radix, slot_chosen, lawful_node, slot_aligned, slot_within, starts_within}
+use Rattle.cspace_core.proofs.Nodes.{no_cnode, too_short_for_guard, other_guard, too_short_for_radix, slot_chosen, lawful_node, radix_small, guard_small, slot_aligned, slot_within, starts_within}
 use Rattle.cspace_core.proofs.choose.Goals as goal
 
 pub returns-in_default : goal.returns-in_default
@@ -25,6 +25,16 @@ returns-then-radix-rest-clause-is g c =
     rw c.in-CNode.is
     (too_short_for_radix g.P.Profile.the c.in-CNode.base c.in-CNode.radix c.in-CNode.guard c.args.bits c.args.address
     c.if-guard-bits.false (sym c.field.ensures ∙ c.if-field-guard.false) c.if-radix-rest.true)
+
+pub field-requires-clause-count : goal.field-requires-clause-count
+field-requires-clause-count g c =
+    guard_small g.P.Profile.the (word_bits g.P.Profile.the) c.in-CNode.base c.in-CNode.radix c.in-CNode.guard
+    (lawful_node g.P.Profile.the (word_bits g.P.Profile.the) c.in-CNode.base c.in-CNode.radix c.in-CNode.guard (rw c.in-CNode.is at c.requires.lawful))
+
+pub field-index-requires-clause-count : goal.field-index-requires-clause-count
+field-index-requires-clause-count g c =
+    radix_small g.P.Profile.the (word_bits g.P.Profile.the) c.in-CNode.base c.in-CNode.radix c.in-CNode.guard
+    (lawful_node g.P.Profile.the (word_bits g.P.Profile.the) c.in-CNode.base c.in-CNode.radix c.in-CNode.guard (rw c.in-CNode.is at c.requires.lawful))
 
 pub of_node-requires-clause-aligned : goal.of_node-requires-clause-aligned
 of_node-requires-clause-aligned g c =
