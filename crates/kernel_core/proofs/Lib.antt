@@ -52,3 +52,4 @@ pub mod RegionsDerived
 pub mod RegionsMoved
 pub mod KernelStore
 pub mod TransferSteps
+pub mod Cancelling

@@ -1,0 +1,3 @@
+-- Cancellation of records that wait, and the ending of objects.
+pub mod Numbers
+pub mod Records
