@@ -1,3 +1,4 @@
 -- Cancellation of records that wait, and the ending of objects.
 pub mod Numbers
 pub mod Records
+pub mod Invariant
