@@ -3,3 +3,5 @@ pub mod Numbers
 pub mod Records
 pub mod Invariant
 pub mod Waiting
+pub mod States
+pub mod Ended

@@ -38,17 +38,29 @@ is_thread_live A g t = list_any (λ k. t.base == k) (threads_of g) && A.thread_b
 abbrev pub is_ended : State → Forest Entry → Instance → Instance → Bool
 is_ended A g endpoint thread = not (is_endpoint_live A g endpoint && is_thread_live A g thread)
 
+abbrev pub is_send_ended : State → Forest Entry → SendRecord → Bool
+is_send_ended A g s = is_ended A g s.endpoint s.thread
+
+abbrev pub is_receive_ended : State → Forest Entry → AskRecord → Bool
+is_receive_ended A g a = is_ended A g a.endpoint a.thread
+
 -- the capabilities become those of a forest, and each open record whose endpoint or thread is then not live is cancelled
 abbrev pub ending : State → Forest Entry → State
-ending A g =
-    record (cancelling A (λ (s : SendRecord). is_ended A g s.endpoint s.thread) (λ (a : AskRecord). is_ended A g a.endpoint a.thread)) {
-      derivations = g
-    }
+ending A g = record (cancelling A (is_send_ended A g) (is_receive_ended A g)) { derivations = g }
+
+-- the records of a thread, and the sends to an endpoint that have a badge; badge 0 names none
+abbrev pub is_sent_by : Instance → SendRecord → Bool
+is_sent_by t s = same_instance s.thread t
+
+abbrev pub is_received_by : Instance → AskRecord → Bool
+is_received_by t a = same_instance a.thread t
+
+abbrev pub is_badged_send : Instance → Badge → SendRecord → Bool
+is_badged_send e badge s = not (badge.0 == 0) && (same_instance s.endpoint e && s.badge.0 == badge.0)
 
 -- what is open of a thread is cancelled
 abbrev pub cancelling_thread : State → Instance → State
-cancelling_thread A t =
-    cancelling A (λ (s : SendRecord). same_instance s.thread t) (λ (a : AskRecord). same_instance a.thread t)
+cancelling_thread A t = cancelling A (is_sent_by t) (is_received_by t)
 
 -- a thread waits no more, and is idle or not: suspended it is, resumed it is not
 abbrev pub stopping : State → Instance → Bool → State
@@ -61,7 +73,6 @@ suspending A t = stopping A t true
 abbrev pub resuming : State → Instance → State
 resuming A t = stopping A t false
 
--- the open sends to an endpoint that have a badge are cancelled; badge 0 names none
+-- the open sends to an endpoint that have a badge are cancelled
 abbrev pub cancelling_badged : State → Instance → Badge → State
-cancelling_badged A e badge =
-    cancelling A (λ (s : SendRecord). not (badge.0 == 0) && (same_instance s.endpoint e && s.badge.0 == badge.0)) (λ _. false)
+cancelling_badged A e badge = cancelling A (is_badged_send e badge) (λ _. false)

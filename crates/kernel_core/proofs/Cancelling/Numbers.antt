@@ -190,9 +190,9 @@ module _ {X Y : Type 0} (named : X → Bool) (others : Y → Bool) where
   drop_less (x ∷ xs) (y ∷ ys) = drop_less xs ys
 
 -- each element is there, by what a test tells alike of it and itself
-pub each_thread : {X Y : Type 0} (f : X → Y) (same : Y → Y → Bool) → ((y : Y) → same y y ≡ true) → (xs ys : List X) → ((y : Y) → list_any (λ r. same (f r) y) xs ≡ true → list_any (λ r. same (f r) y) ys ≡ true) →
+pub each_named : {X Y : Type 0} (f : X → Y) (same : Y → Y → Bool) → ((y : Y) → same y y ≡ true) → (xs ys : List X) → ((y : Y) → list_any (λ r. same (f r) y) xs ≡ true → list_any (λ r. same (f r) y) ys ≡ true) →
     AllByRecursion (λ (x : X). list_any (λ r. same (f r) (f x)) ys ≡ true) xs
-each_thread f same itself [] ys h = tt
-each_thread f same itself (x ∷ xs) ys h =
+each_named f same itself [] ys h = tt
+each_named f same itself (x ∷ xs) ys h =
     (h (f x) (ap (λ (b : Bool). b || list_any (λ r. same (f r) (f x)) xs) (itself (f x))),
-    each_thread f same itself xs ys (λ y there. h y (ap (λ (b : Bool). same (f x) y || b) there ∙ or_true (same (f x) y))))
+    each_named f same itself xs ys (λ y there. h y (ap (λ (b : Bool). same (f x) y || b) there ∙ or_true (same (f x) y))))

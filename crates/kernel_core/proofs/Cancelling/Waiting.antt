@@ -16,7 +16,7 @@ use Rattle.kernel_core.proofs.Delivering.{pending}
 use Rattle.kernel_core.proofs.Rising.{tally, find_nothing}
 use Rattle.kernel_core.proofs.Once.{find_fails}
 use Rattle.kernel_core.proofs.Searches.{find_found, some_tally}
-use Rattle.kernel_core.proofs.Cancelling.Numbers.{all_weaker, all_joined, all_dropped, passes_not, and_false, each_thread}
+use Rattle.kernel_core.proofs.Cancelling.Numbers.{all_weaker, all_joined, all_dropped, passes_not, and_false, each_named}
 use Rattle.kernel_core.proofs.Cancelling.Records.{own_sends, own_asks}
 use Rattle.kernel_core.proofs.Cancelling.Invariant.{Invariant, IsOpen, SendIsOpen, AskIsOpen}
 
@@ -179,7 +179,7 @@ module _ (A : State) (inv : Invariant A) where
       facts : AllByRecursion (λ (s : SendRecord). SendIsOpen A s × (s.endpoint ≡ e) × (list_any (λ (r : SendRecord). same_instance r.thread s.thread) (waiting_sends A e) ≡ true)) (waiting_sends A e)
       facts = all_joined (λ (s : SendRecord). SendIsOpen A s × (s.endpoint ≡ e)) (λ (s : SendRecord). list_any (λ (r : SendRecord). same_instance r.thread s.thread) (waiting_sends A e) ≡ true) _ (λ s w there. (w.0, w.1, there)) (waiting_sends A e)
           (all_joined (SendIsOpen A) (λ (s : SendRecord). s.endpoint ≡ e) _ (λ s o own. (o, own)) (waiting_sends A e) (inv.sends_open e) (own_waiting_sends A e))
-          (each_thread (λ (s : SendRecord). s.thread) same_instance same_itself (waiting_sends A e) (waiting_sends A e) (λ m there. there))
+          (each_named (λ (s : SendRecord). s.thread) same_instance same_itself (waiting_sends A e) (waiting_sends A e) (λ m there. there))
 
   pub receivers_told : (e : Instance) → AllByRecursion (λ (a : AskRecord). state_of A a.thread ≡ Receiving e.base) (waiting_asks A e)
   receivers_told e = all_weaker _ _ (λ (a : AskRecord) w. receives_there a.thread e.base (subst (λ (x : Instance). list_any (λ (r : AskRecord). same_instance r.thread a.thread) (waiting_asks A x) ≡ true) (sym (w.1) ∙ w.0.endpoint_is ∙ ap (λ (x : Instance). endpoint_at A x.base) w.1) w.2)) (waiting_asks A e) facts
@@ -187,7 +187,7 @@ module _ (A : State) (inv : Invariant A) where
       facts : AllByRecursion (λ (a : AskRecord). AskIsOpen A a × (a.endpoint ≡ e) × (list_any (λ (r : AskRecord). same_instance r.thread a.thread) (waiting_asks A e) ≡ true)) (waiting_asks A e)
       facts = all_joined (λ (a : AskRecord). AskIsOpen A a × (a.endpoint ≡ e)) (λ (a : AskRecord). list_any (λ (r : AskRecord). same_instance r.thread a.thread) (waiting_asks A e) ≡ true) _ (λ a w there. (w.0, w.1, there)) (waiting_asks A e)
           (all_joined (AskIsOpen A) (λ (a : AskRecord). a.endpoint ≡ e) _ (λ a o own. (o, own)) (waiting_asks A e) (inv.asks_open e) (own_waiting_asks A e))
-          (each_thread (λ (a : AskRecord). a.thread) same_instance same_itself (waiting_asks A e) (waiting_asks A e) (λ m there. there))
+          (each_named (λ (a : AskRecord). a.thread) same_instance same_itself (waiting_asks A e) (waiting_asks A e) (λ m there. there))
 
 -- an endpoint that is not live is not live after objects end
 pub stays_ended : (A : State) (g : Forest Entry) (e : Instance) → ((q : ℕ) → list_any (λ k. q == k) (endpoints_of g) ≡ true → list_any (λ k. q == k) (endpoints_of A.derivations) ≡ true) →
