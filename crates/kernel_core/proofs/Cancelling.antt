@@ -5,3 +5,5 @@ pub mod Invariant
 pub mod Waiting
 pub mod States
 pub mod Ended
+pub mod Stopped
+pub mod Badged

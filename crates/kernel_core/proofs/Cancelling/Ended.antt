@@ -17,7 +17,7 @@ use Rattle.kernel_core.specs.Endings.{rearranged, view_among, waiting_among, sta
 use Rattle.kernel_core.proofs.Keyed.{get_table}
 use Rattle.kernel_core.proofs.Searches.{find_found, table_agrees}
 use Rattle.kernel_core.proofs.ReachedStates.{list_shown}
-use Rattle.kernel_core.proofs.Cancelling.Numbers.{all_weaker, all_joined, any_left, filter_same}
+use Rattle.kernel_core.proofs.Cancelling.Numbers.{all_weaker, all_joined, all_of, all_passing, any_left, filter_same}
 use Rattle.kernel_core.proofs.Cancelling.Records.{inbox_same}
 use Rattle.kernel_core.proofs.Cancelling.Invariant.{Invariant, SendIsOpen, AskIsOpen, sends_waiting, asks_waiting}
 use Rattle.kernel_core.proofs.Cancelling.Waiting.{own_waiting_sends, own_waiting_asks, same_is, sender_open, asker_open, sends_on_one, asks_on_one, sends_alone}
@@ -45,6 +45,15 @@ module _ (A : State) (g : Forest Entry) (inv : Invariant A)
     (threads : (q : ℕ) → list_any (λ k. q == k) (threads_of g) ≡ true → list_any (λ k. q == k) (threads_of A.derivations) ≡ true) where
   abbrev left : State
   left = ending A g
+
+  -- what is open after has an endpoint and a thread that are live
+  pub sends_not_ended : (e : Instance) → AllByRecursion (λ (s : SendRecord). not (is_send_ended A g s) ≡ true) (waiting_sends (ending A g) e)
+  sends_not_ended e = subst (AllByRecursion (λ (s : SendRecord). not (is_send_ended A g s) ≡ true)) (sym (sends_waiting A (is_send_ended A g) (is_receive_ended A g) inv e))
+      (all_weaker (λ (s : SendRecord). (s ≡ s) × (not (is_send_ended A g s) ≡ true)) (λ (s : SendRecord). not (is_send_ended A g s) ≡ true) (λ s w. w.1) _ (all_passing (λ (s : SendRecord). s ≡ s) (λ (s : SendRecord). not (is_send_ended A g s)) (waiting_sends A e) (all_of (λ (s : SendRecord). s ≡ s) (λ s. refl) (waiting_sends A e))))
+
+  pub asks_not_ended : (e : Instance) → AllByRecursion (λ (a : AskRecord). not (is_receive_ended A g a) ≡ true) (waiting_asks (ending A g) e)
+  asks_not_ended e = subst (AllByRecursion (λ (a : AskRecord). not (is_receive_ended A g a) ≡ true)) (sym (asks_waiting A (is_send_ended A g) (is_receive_ended A g) inv e))
+      (all_weaker (λ (a : AskRecord). (a ≡ a) × (not (is_receive_ended A g a) ≡ true)) (λ (a : AskRecord). not (is_receive_ended A g a) ≡ true) (λ a w. w.1) _ (all_passing (λ (a : AskRecord). a ≡ a) (λ (a : AskRecord). not (is_receive_ended A g a)) (waiting_asks A e) (all_of (λ (a : AskRecord). a ≡ a) (λ a. refl) (waiting_asks A e))))
 
   -- at an endpoint that stays, what ends is what threads that end sent and asked
   ended_by_thread : (b t : ℕ) → list_any (λ k. b == k) (endpoints_of g) ≡ true → is_ended A g (endpoint_at A b) (thread_at A t) ≡ not (list_any (λ k. t == k) (threads_of g))

@@ -171,6 +171,16 @@ module _ {X : Type 0} (number : X → ℕ) where
           (numbers_above (number x) (drop k xs) (all_dropped (λ (y : X). number x < number y) k xs h.0))
       ∙ ap (λ (rest : List X). x ∷ rest) (filter_open named k xs h.1)
 
+  -- of records that rise, those whose number is past a place are those past it
+  pub filter_past : (k : ℕ) (xs : List X) → Rises xs → filter (λ x. has_number (drop k xs) (number x)) xs ≡ drop k xs
+  filter_past zero [] h = refl
+  filter_past (suc k) [] h = refl
+  filter_past zero (x ∷ xs) h = filter_all (λ y. has_number (x ∷ xs) (number y)) (x ∷ xs) (each_there (x ∷ xs) (x ∷ xs) (λ n there. there))
+  filter_past (suc k) (x ∷ xs) h =
+      ap (λ (b : Bool). cond b (x ∷ filter (λ y. has_number (drop k xs) (number y)) xs) (filter (λ y. has_number (drop k xs) (number y)) xs))
+          (numbers_above (number x) (drop k xs) (all_dropped (λ (y : X). number x < number y) k xs h.0))
+      ∙ filter_past k xs h.1
+
 module _ {X Y : Type 0} (named : X → Bool) (others : Y → Bool) where
   less_none : (n : ℕ) → standing_less named n [] ≡ []
   less_none zero = refl

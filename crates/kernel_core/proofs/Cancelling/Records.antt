@@ -8,7 +8,7 @@ use Rattle.ipc_core.proofs.Cancelling.{pairs_stay}
 use Rattle.kernel_core.specs.State.{State, sends_to, asks_of, pairs, waiting_sends, waiting_asks, inbox_of, inbox_with, last_completed}
 use Rattle.kernel_core.specs.Cancelling.{cancelling, cancels_send, cancels_receive, is_open_send, is_open_receive}
 use Rattle.kernel_core.proofs.Sending.{same_tells}
-use Rattle.kernel_core.proofs.Cancelling.Numbers.{Rises, has_number, all_weaker, all_passing, all_of, all_joined, filter_same, filter_both, rises_filter, by_number, no_number, filter_open, drop_less, passes_not, each_there}
+use Rattle.kernel_core.proofs.Cancelling.Numbers.{Rises, has_number, all_weaker, all_passing, all_of, all_joined, filter_same, filter_both, rises_filter, by_number, no_number, filter_open, filter_past, drop_less, passes_not, each_there}
 
 abbrev pub send_number : SendRecord → ℕ
 send_number s = s.number
@@ -39,6 +39,19 @@ own_sends A e = all_weaker _ (λ (s : SendRecord). s.endpoint ≡ e) (λ s w. is
 pub own_asks : (A : State) (e : Instance) → AllByRecursion (λ (a : AskRecord). a.endpoint ≡ e) (asks_of A e)
 own_asks A e = all_weaker _ (λ (a : AskRecord). a.endpoint ≡ e) (λ a w. is_there a.endpoint e (not (A.is_cancelled a.number)) w.1) (asks_of A e)
     (all_passing (λ (a : AskRecord). a ≡ a) (λ (a : AskRecord). same_instance a.endpoint e && not (A.is_cancelled a.number)) A.asks (all_of (λ (a : AskRecord). a ≡ a) (λ a. refl) A.asks))
+
+-- what waits on an endpoint is what is open of its records
+pub open_sends : (A : State) → Rises send_number A.sends → (e : Instance) → filter (is_open_send A) (sends_to A e) ≡ waiting_sends A e
+open_sends A rise e =
+    filter_same (is_open_send A) (λ (s : SendRecord). has_number send_number (waiting_sends A e) s.number) (sends_to A e)
+        (all_weaker (λ (s : SendRecord). s.endpoint ≡ e) _ (λ s own. ap (λ (m : Instance). has_number send_number (waiting_sends A m) s.number) own) (sends_to A e) (own_sends A e))
+    ∙ filter_past send_number (length (asks_of A e)) (sends_to A e) (rises_filter send_number _ A.sends rise)
+
+pub open_asks : (A : State) → Rises ask_number A.asks → (e : Instance) → filter (is_open_receive A) (asks_of A e) ≡ waiting_asks A e
+open_asks A rise e =
+    filter_same (is_open_receive A) (λ (a : AskRecord). has_number ask_number (waiting_asks A e) a.number) (asks_of A e)
+        (all_weaker (λ (a : AskRecord). a.endpoint ≡ e) _ (λ a own. ap (λ (m : Instance). has_number ask_number (waiting_asks A m) a.number) own) (asks_of A e) (own_asks A e))
+    ∙ filter_past ask_number (length (sends_to A e)) (asks_of A e) (rises_filter ask_number _ A.asks rise)
 
 module _ (A : State) (S : SendRecord → Bool) (Q : AskRecord → Bool) (sends_rise : Rises send_number A.sends) (asks_rise : Rises ask_number A.asks) (unshared : Unshared A) where
   -- which of the sends and of the receives are cancelled after
