@@ -1,11 +1,11 @@
 -- What the rows of a kernel stand for.
-use Rattle.std.specs.Prelude.{◌≡◌, ℕ, ◌+◌, ◌*◌, ◌%◌, ◌^◌, ◌≤◌, ◌<◌, ◌==◌, Bool, cond, List, [], ◌∷◌, map, length, Option, None, Some, IsSomeAnd, is_some, All, true, false}
+use Rattle.std.specs.Prelude.{◌≡◌, ℕ, ◌+◌, ◌*◌, ◌^◌, ◌≤◌, ◌==◌, Bool, cond, List, [], ◌∷◌, map, length, Option, None, Some, IsSomeAnd, is_some, All, false}
 use Rattle.std.specs.List.{list_any, IsDistinct}
 use Rattle.std.specs.Ordering.{nat_cmp}
-use Rattle.std.specs.FinMap.{FinMap, from_entries, get, insert}
+use Rattle.std.specs.FinMap.{FinMap, from_entries, get}
 use Rattle.cap_core.specs.declared.limits.TheConstants.{MIN_MEMORY_BITS, MAX_MEMORY_BITS}
 use Rattle.cap_core.specs.declared.profile.ProfileName.{ProfileName}
-use Rattle.cap_core.specs.Numbers.{slot_size, tcb_size}
+use Rattle.cap_core.specs.Numbers.{tcb_size}
 use Rattle.cap_core.specs.Objects.{IsLawful}
 use Rattle.slot_core.specs.Forest.{Forest}
 use Rattle.slot_core.specs.Entries.{Entry, slots, caps}
@@ -13,11 +13,12 @@ use Rattle.slot_core.specs.Disjoint.{IsDisjoint}
 use Rattle.ipc_core.specs.declared.waiter.Waiter.{Waiter}
 use Rattle.ipc_core.specs.declared.waiter.Role.{Role}
 use Rattle.ipc_core.specs.Waits.{Waits, thread_of}
-use Rattle.kernel_core.specs.declared.call.ThreadState.{ThreadState}
-use Rattle.kernel_core.specs.declared.call.ThreadState.TheVariants.{Ready, Inactive, Sending, Receiving}
+use Rattle.abstract_kernel.specs.declared.call.ThreadState.{ThreadState}
+use Rattle.abstract_kernel.specs.declared.call.ThreadState.TheVariants.{Ready, Inactive, Sending, Receiving}
 use Rattle.kernel_core.specs.declared.rows.ThreadRow.{ThreadRow}
-use Rattle.kernel_core.specs.Shown.{Shown, ThreadView, endpoints_of, threads_of, table}
-use Rattle.kernel_core.specs.Regions.{AreRegions}
+use Rattle.abstract_kernel.specs.Shown.{Shown, ThreadView, endpoints_of, threads_of, table}
+use Rattle.abstract_kernel.specs.Regions.{AreRegions}
+use Rattle.abstract_kernel.specs.Memory.{IsSlotAddress}
 
 -- row k, from i on, is at the address size * k
 abbrev pub keyed : {X : Type 0} → ℕ → ℕ → List (Option X) → List (ℕ × X)
@@ -27,15 +28,6 @@ keyed size i (Some x ∷ rows) = (size * i, x) ∷ keyed size (i + 1) rows
 
 abbrev pub rows_map : {X : Type 0} → ℕ → List (Option X) → FinMap nat_cmp X
 rows_map size rows = from_entries (keyed size 0 rows)
-
--- the row of a thread that was just made: it is inactive and got no message
-abbrev pub new_row : ThreadRow
-new_row = record { inactive = true; inbox = None }
-
--- new threads get their rows
-abbrev pub with_rows : List ℕ → FinMap nat_cmp ThreadRow → FinMap nat_cmp ThreadRow
-with_rows [] rows = rows
-with_rows (base ∷ bases) rows = with_rows bases (insert rows base new_row)
 
 -- a thread that waits is Sending or Receiving; else it is what its row says
 abbrev pub state_with : Option Role → Bool → ThreadState
@@ -61,15 +53,6 @@ kernel_shown p f rows w =
       endpoints = table (endpoints_of f) w.queue;
     }
 
--- a multiple of a slot's size
-abbrev pub IsAligned : ProfileName → ℕ → Type 0
-IsAligned p address = address % slot_size p ≡ 0
-
--- an address at which a slot can stand
-pub record IsSlotAddress (p : ProfileName) (memory address : ℕ) : Type 0 where
-  pub aligned : address % slot_size p ≡ 0
-  pub within : address < 2 ^ memory
-
 -- the thread at an address has a row, which says that it is not inactive
 abbrev pub IsActive : ℕ → List (Option ThreadRow) → ℕ → Type 0
 IsActive size rows t = IsSomeAnd (get (rows_map size rows) t) (λ (row : ThreadRow). row.inactive ≡ false)
@@ -93,17 +76,3 @@ pub record IsKernel (p : ProfileName) (memory store_memory waiters_memory : ℕ)
   pub waiting_active : (e : ℕ) → All (λ (x : Waiter). IsActive (tcb_size p) rows (thread_of x)) (w.queue e)
   pub dead_queue : (e : ℕ) → list_any (λ k. e == k) (endpoints_of f) ≡ false → w.queue e ≡ []
   pub rowless_role : (t : ℕ) → get (rows_map (tcb_size p) rows) t ≡ None → w.role t ≡ None
-
--- what holds of the store of every kernel, by itself
-pub record IsKernelStore (p : ProfileName) (memory : ℕ) (f : Forest Entry) : Type 0 where
-  pub memory_most : memory ≤ MAX_MEMORY_BITS
-  pub slots_distinct : IsDistinct (λ (a b : ℕ). a == b) (slots f)
-  pub slots_placed : All (IsSlotAddress p memory) (slots f)
-  pub lawful : All (IsLawful p memory) (caps f)
-  pub disjoint : IsDisjoint p f
-  pub regions : AreRegions p f
-
--- what a kernel shows lies in a memory of 2^memory bytes: its slots, and the objects that they name
-pub record IsInMemory (p : ProfileName) (memory : ℕ) (v : Shown) : Type 0 where
-  pub slots_placed : All (IsSlotAddress p memory) (slots v.derivations)
-  pub lawful : All (IsLawful p memory) (caps v.derivations)

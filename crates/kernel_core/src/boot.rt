@@ -1,11 +1,11 @@
 //! Boot: a kernel from a plan.
 ghost use Rattle.std.specs.Prelude.{◌≡◌, ◌+◌, ◌-◌, ◌/◌, ◌^◌, ◌<◌, ◌++◌, IfOk, OnOk};
 ghost use Rattle.slot_core.specs.Forest.{none};
-ghost use Rattle.kernel_core.specs.BootRows.{boot_rows};
-ghost use Rattle.kernel_core.specs.State.{shown};
+ghost use Rattle.kernel_core.specs.Private.BootRows.{boot_rows};
+ghost use Rattle.abstract_kernel.specs.State.{shown};
 ghost use Rattle.cap_core.specs.Numbers.{tcb_bits, tcb_size};
-ghost use Rattle.kernel_core.specs.Plan.{IsPlan, IsWithinLimits, first_tcb};
-ghost use Rattle.kernel_core.specs.Boot.{root_cap, tcb_caps, endpoint_caps, untyped_caps, boot_caps, with_roots, boot_forest, boot as booted};
+ghost use Rattle.abstract_kernel.specs.Plan.{IsPlan, IsWithinLimits, first_tcb};
+ghost use Rattle.abstract_kernel.specs.Boot.{root_cap, tcb_caps, endpoint_caps, untyped_caps, boot_caps, with_roots, boot_forest, boot as booted};
 
 use crate::kernel::Kernel;
 use crate::plan::BootPlan;
@@ -170,6 +170,3 @@ fn derive_spaces<P: Profile, S: CapStore<P>>(store: &mut S, plan: &BootPlan)
         store.derive(Slot::of_node::<P>(0, 1), root_slot, cap);
     }
 }
-
-#[cfg(test)]
-mod tests;

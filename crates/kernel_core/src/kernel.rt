@@ -3,28 +3,28 @@ ghost use Rattle.std.specs.Prelude.{◌≡◌, ◌⊎◌, ℕ, Some, None, IfOk,
 ghost use Rattle.cap_core.specs.Numbers.{tcb_size};
 ghost use Rattle.slot_core.specs.Entries.{slots, cap_at as cap_held};
 ghost use Rattle.ipc_core.specs.Waits.{thread_of};
-ghost use Rattle.kernel_core.specs.Shown.{state_at, inbox_at, waiting_at, has_child};
-ghost use Rattle.kernel_core.specs.Checks.{checked};
-ghost use Rattle.kernel_core.specs.Effects.{send_effect, receive_effect, effect_of, task_effect, rearranged, objects_shown, IsReady, IsLiveEndpoint};
-ghost use Rattle.kernel_core.specs.Transfers.{with_derived, with_moved};
-ghost use Rattle.kernel_core.specs.Rows.{IsInMemory, IsAligned};
-ghost use Rattle.kernel_core.specs.Regions.{AreObjectsApart, IsForest};
-ghost use Rattle.kernel_core.specs.Tasks.{IsTask, IsRetype, IsDerivation, IsMove};
+ghost use Rattle.abstract_kernel.specs.Shown.{state_at, inbox_at, waiting_at, has_child};
+ghost use Rattle.abstract_kernel.specs.Decode.{decoded_call};
+ghost use Rattle.abstract_kernel.specs.Private.Effects.{send_effect, receive_effect, effect_of, performed_effect, rearranged, objects_shown, IsReady, IsLiveEndpoint};
+ghost use Rattle.abstract_kernel.specs.CNodes.{with_derived, with_moved};
+ghost use Rattle.abstract_kernel.specs.Memory.{IsInMemory, IsAligned};
+ghost use Rattle.abstract_kernel.specs.Regions.{AreObjectsApart, IsForest};
+ghost use Rattle.abstract_kernel.specs.Private.Invocations.{IsInvocation, IsRetype, IsDerivation, IsMove};
 ghost use Rattle.cap_core.specs.declared.refusal.Refusal.{Refusal};
 ghost use Rattle.ipc_core.specs.Records.{Instance};
-ghost use Rattle.kernel_core.specs.declared.call.Reply.TheVariants.{Done, Refused};
-ghost use Rattle.kernel_core.specs.State.{State, shown, pairs};
-ghost use Rattle.kernel_core.specs.Deliveries.{delivery, delivered};
-ghost use Rattle.kernel_core.specs.Step.{replies_of, state_after};
-ghost use Rattle.kernel_core.specs.Reached.{IsReached, StepsTo};
+ghost use Rattle.abstract_kernel.specs.declared.call.Reply.TheVariants.{Done, Refused};
+ghost use Rattle.abstract_kernel.specs.State.{State, shown, pairs};
+ghost use Rattle.abstract_kernel.specs.Deliveries.{delivery, delivered};
+ghost use Rattle.abstract_kernel.specs.Step.{replies_of, state_after};
+ghost use Rattle.abstract_kernel.specs.Reached.{IsReached, StepsTo};
 
-use crate::call::{Call, Inbox, Reply, ThreadState};
-use crate::checks::lookup::{is_endpoint_address, slot_within};
-use crate::checks::task_for;
+use crate::decode::decode_op;
+use crate::decode::lookup::{is_endpoint_address, slot_within};
 use crate::objects::{add_threads, make_objects};
+use crate::placements::{derive_in, move_in};
 use crate::rows::{ThreadRow, row_at, set_row};
-use crate::task::{NewObjects, Service, Task, Transfer};
-use crate::transfers::{derive_in, move_in};
+use abstract_kernel::call::{Call, Inbox, Reply, ThreadState};
+use abstract_kernel::invocation::{CapPlacement, Invocation, NewObjects, Service};
 use cap_core::{Cap, Kind, Message, Profile, Refusal};
 use ipc_core::{Received, Sent, Waiters};
 use slot_core::{CapStore, Slot};
@@ -45,7 +45,7 @@ pub struct Kernel<P: Profile, S: CapStore<P> + Drop, W: Waiters<P> + Drop> {
 }
 
 impl<P: Profile, S: CapStore<P> + Drop, W: Waiters<P> + Drop> Model for Kernel<P, S, W> {
-    ghost use Rattle.kernel_core.specs.Shown.{Shown};
+    ghost use Rattle.abstract_kernel.specs.Shown.{Shown};
     ghost use Rattle.std.specs.Coded.{codes};
     ghost use Rattle.std.specs.FinMap.{code as coded_map};
     ghost use Rattle.slot_core.specs.Spelled.{coded_forest};
@@ -69,7 +69,7 @@ impl<P: Profile, S: CapStore<P> + Drop, W: Waiters<P> + Drop> Kernel<P, S, W> {
     /// - `FailedLookup` with its kind where the word `cap`, all its bits, leads to no slot of the thread's capability
     ///   space;
     /// - `InvalidCapability` where that slot is empty, `IllegalOperation` where it holds a capability of another kind than the
-    ///   operation asks for: an endpoint's to send and to receive, an untyped one to retype, a CNode's for the others;
+    ///   operation receives for: an endpoint's to send and to receive, an untyped one to retype, a CNode's for the others;
     /// - `InvalidCapability` where an endpoint's capability lacks the right: to write for a send, to read for a receive.
     ///
     /// Those of a retype: `FailedLookup` where `root` leads to no slot; `InvalidArgument` where no kind has the number, and
@@ -110,7 +110,7 @@ impl<P: Profile, S: CapStore<P> + Drop, W: Waiters<P> + Drop> Kernel<P, S, W> {
     {
         for call in calls {
             let reply = self.step(*call);
-            push_reply(replies, reply);
+            replies.push_reserved(reply);
         }
         self.keeps_apart();
     }
@@ -127,43 +127,43 @@ impl<P: Profile, S: CapStore<P> + Drop, W: Waiters<P> + Drop> Kernel<P, S, W> {
         ensures after { self.new ≡ (effect_of P.the self.old call).after }
         ensures within { (memory : ℕ) → IsInMemory P.the memory self.old → IsInMemory P.the memory self.new }
     {
-        match self.check(call) {
+        match self.decode_call(call) {
             Err(refusal) => Reply::Refused(refusal),
-            Ok(task) => self.take(call.thread, task),
+            Ok(invocation) => self.perform_invocation(call.thread, invocation),
         }
     }
 
-    /// Does what a call whose checks passed asks for.
-    fn take(&mut self, thread: u64, task: Task) -> Reply
+    /// Does what a call whose checks passed receives for.
+    fn perform_invocation(&mut self, thread: u64, invocation: Invocation) -> Reply
         requires ready { IsReady self.old thread }
-        requires task { IsTask P.the self.old task }
+        requires invocation { IsInvocation P.the self.old invocation }
         requires forest { IsForest P.the self.old.derivations }
-        ensures reply { result ≡ (task_effect P.the self.old thread task).reply }
-        ensures after { self.new ≡ (task_effect P.the self.old thread task).after }
+        ensures reply { result ≡ (performed_effect P.the self.old thread invocation).reply }
+        ensures after { self.new ≡ (performed_effect P.the self.old thread invocation).after }
         ensures within { (memory : ℕ) → IsInMemory P.the memory self.old → IsInMemory P.the memory self.new }
     {
-        match task {
-            Task::Send {
+        match invocation {
+            Invocation::Send {
                 service,
                 message,
                 block,
             } => self.send(thread, service, message, block),
-            Task::Receive { service, block } => self.recv(thread, service, block),
-            Task::Retype(new) => self.retype(new),
-            Task::Derive(transfer) => self.derive(transfer),
-            Task::Move(transfer) => self.relocate(transfer),
+            Invocation::Receive { service, block } => self.recv(thread, service, block),
+            Invocation::Retype(new) => self.retype(new),
+            Invocation::Derive(placement) => self.derive(placement),
+            Invocation::Move(placement) => self.relocate(placement),
         }
     }
 
     /// The first check that fails, or what the call does.
-    fn check(&self, call: Call) -> Result<Task, Refusal>
-        ensures task { result ≡ checked P.the self.now call }
-        ensures lawful { IfOk result (IsTask P.the self.now) }
-        ensures ready { IfOk result (λ (t : Task). IsReady self.now call.thread) }
-        ensures forest { IfOk result (λ (t : Task). IsForest P.the self.now.derivations) }
+    fn decode_call(&self, call: Call) -> Result<Invocation, Refusal>
+        ensures invocation { result ≡ decoded_call P.the self.now call }
+        ensures lawful { IfOk result (IsInvocation P.the self.now) }
+        ensures ready { IfOk result (λ (t : Invocation). IsReady self.now call.thread) }
+        ensures forest { IfOk result (λ (t : Invocation). IsForest P.the self.now.derivations) }
     {
         match self.thread_state(call.thread).ok_or(Refusal::NoThread)? {
-            ThreadState::Ready => task_for::<P, S>(&self.store, call.thread, call.op),
+            ThreadState::Ready => decode_op::<P, S>(&self.store, call.thread, call.op),
             _ => Err(Refusal::NotReady),
         }
     }
@@ -183,22 +183,22 @@ impl<P: Profile, S: CapStore<P> + Drop, W: Waiters<P> + Drop> Kernel<P, S, W> {
     }
 
     /// Derives a capability from the one in a slot. An untyped region is used up where it is handed on.
-    fn derive(&mut self, transfer: Transfer) -> Reply
-        requires { IsDerivation P.the self.old.derivations transfer }
+    fn derive(&mut self, placement: CapPlacement) -> Reply
+        requires { IsDerivation P.the self.old.derivations placement }
         ensures reply { result ≡ Done }
-        ensures after { self.new ≡ rearranged self.old (with_derived P.the transfer self.old.derivations) }
+        ensures after { self.new ≡ rearranged self.old (with_derived P.the placement self.old.derivations) }
     {
-        derive_in::<P, S>(&mut self.store, transfer);
+        derive_in::<P, S>(&mut self.store, placement);
         Reply::Done
     }
 
     /// Moves a capability from one slot to another.
-    fn relocate(&mut self, transfer: Transfer) -> Reply
-        requires { IsMove P.the self.old.derivations transfer }
+    fn relocate(&mut self, placement: CapPlacement) -> Reply
+        requires { IsMove P.the self.old.derivations placement }
         ensures reply { result ≡ Done }
-        ensures after { self.new ≡ rearranged self.old (with_moved transfer self.old.derivations) }
+        ensures after { self.new ≡ rearranged self.old (with_moved placement self.old.derivations) }
     {
-        move_in::<P, S>(&mut self.store, transfer);
+        move_in::<P, S>(&mut self.store, placement);
         Reply::Done
     }
 
@@ -313,14 +313,4 @@ impl<P: Profile, S: CapStore<P> + Drop, W: Waiters<P> + Drop> Kernel<P, S, W> {
             None
         }
     }
-}
-
-/// Appends a reply, for which there is room.
-fn push_reply(replies: &mut Vec<Reply>, reply: Reply)
-    requires { vec_len replies.old < vec_capacity replies.old }
-    ensures replies { replies.new.items ≡ replies.old.items ++ reply ∷ [] }
-    ensures capacity { vec_capacity replies.old ≤ vec_capacity replies.new }
-    ensures longer { vec_len replies.new ≡ vec_len replies.old + 1 }
-{
-    let _ = replies.push(reply);
 }

@@ -2,18 +2,13 @@
 #![tactic(auto)]
 
 mod boot;
-pub mod call;
-mod checks;
+mod decode;
 pub mod kernel;
 mod objects;
+mod placements;
 pub mod plan;
 mod rows;
-pub mod task;
-mod transfers;
 
-pub use call::{Call, Inbox, Op, Reply, ThreadState};
+pub use abstract_kernel::{Call, Inbox, Op, Reply, ThreadState, call, invocation};
 pub use kernel::Kernel;
 pub use plan::{BootPlan, PlanDefect};
-
-#[cfg(test)]
-mod tests;

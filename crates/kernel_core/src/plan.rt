@@ -1,23 +1,10 @@
 //! What a kernel is booted from.
 ghost use Rattle.std.specs.Prelude.{◌≡◌, ◌^◌, ◌<◌, length, Some, IfOk, IfErr};
 
+pub use abstract_kernel::PlanDefect;
+use abstract_kernel::plan::Extent;
 use cap_core::Profile;
 use std::marker::Model;
-
-/// Why a boot plan cannot be laid out. A place is that of an untyped region in the plan's list, 0 the first.
-#[derive(Clone, Copy, Debug, PartialEq, Eq)]
-pub enum PlanDefect {
-    /// The boot objects end past the memory.
-    Outside,
-    /// The base of an untyped region is no multiple of its size.
-    Unaligned(usize),
-    /// An untyped region ends past the memory.
-    UntypedOutside(usize),
-    /// An untyped region has an address in common with a boot object or an earlier untyped region.
-    Overlap(usize),
-    /// The root CNode has too few slots.
-    Slots,
-}
 
 /// The sizes of a simulation, and the base and the bits of each untyped region.
 ///
@@ -32,7 +19,7 @@ pub struct BootPlan {
 }
 
 impl Model for BootPlan {
-    ghost use Rattle.kernel_core.specs.Plan.{Plan};
+    ghost use Rattle.abstract_kernel.specs.Plan.{Plan};
 
     ghost Value = { Plan };
 
@@ -40,7 +27,7 @@ impl Model for BootPlan {
 }
 
 impl BootPlan {
-    ghost use Rattle.kernel_core.specs.Plan.{planned, first_defect, IsWithinLimits, IsPlan, IsUntypedSize, first_tcb, boot_end, slots_taken, untypeds_defect, untyped_defect, overlaps_boot_object, overlaps_tcb, overlaps_endpoint, overlaps_earlier, tcb_place, endpoint_place};
+    ghost use Rattle.abstract_kernel.specs.Plan.{planned, first_defect, IsWithinLimits, IsPlan, IsUntypedSize, first_tcb, boot_end, slots_taken, untypeds_defect, untyped_defect, overlaps_boot_object, overlaps_tcb, overlaps_endpoint, overlaps_earlier, tcb_place, endpoint_place};
 
     /// A plan for a memory of 2^`memory_bits` bytes, a root CNode of 2^`root_radix` slots, and so many threads and endpoints.
     /// `untypeds` has the base and the bits of each untyped region. The layout is this project's profile.
@@ -234,35 +221,3 @@ impl BootPlan {
         false
     }
 }
-
-/// The addresses from `start` up to and without `end`, which may lie past the last address of a word.
-#[derive(Clone, Copy)]
-struct Extent {
-    start: u128,
-    end: u128,
-}
-
-impl Extent {
-    ghost use Rattle.kernel_core.specs.Plan.{extent, overlap};
-
-    fn new(base: u64, bits: u32) -> Extent
-        requires { bits < 64 }
-        ensures { result ≡ extent base bits }
-    {
-        let start = u128::from(base);
-        Extent {
-            start,
-            end: start + (1 << bits),
-        }
-    }
-
-    /// Whether both have an address in common.
-    fn overlaps(self, other: Extent) -> bool
-        ensures { result ≡ overlap self other }
-    {
-        self.start < other.end && other.start < self.end
-    }
-}
-
-#[cfg(test)]
-mod tests;

@@ -1,7 +1,7 @@
 use Rattle.std.proofs.Common.{◌≡◌, ◌++◌, map}
 use Rattle.std.specs.List.{range_with_len}
-use Rattle.kernel_core.specs.Plan.{endpoint_place}
-use Rattle.kernel_core.specs.Boot.{whole_endpoint}
+use Rattle.abstract_kernel.specs.Plan.{endpoint_place}
+use Rattle.abstract_kernel.specs.Boot.{whole_endpoint}
 use Rattle.kernel_core.proofs.boot.add_endpoints.Given as goal
 
 abbrev pub invariant-loop-j : goal.invariant-loop-j

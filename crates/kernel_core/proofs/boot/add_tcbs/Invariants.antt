@@ -1,7 +1,7 @@
 use Rattle.std.proofs.Common.{◌≡◌, ◌++◌, map}
 use Rattle.std.specs.List.{range_with_len}
 use Rattle.cap_core.specs.declared.capability.Cap.TheVariants.{Tcb}
-use Rattle.kernel_core.specs.Plan.{tcb_place}
+use Rattle.abstract_kernel.specs.Plan.{tcb_place}
 use Rattle.kernel_core.proofs.boot.add_tcbs.Given as goal
 
 abbrev pub invariant-loop-i : goal.invariant-loop-i

@@ -2,10 +2,10 @@ use Rattle.std.proofs.Common.{◌≡◌, ℕ, ◌+◌, ◌-◌, ◌*◌, sym, �
 use Rattle.std.proofs.lemmas.List.FromFn.{length-map-range_with_len, get_or-map-range_with_len}
 use Rattle.std.proofs.lemmas.List.{drop_all}
 use Rattle.cap_core.specs.Numbers.{slot_size, word_bits}
-use Rattle.kernel_core.specs.Plan.{tcb_place}
-use Rattle.kernel_core.specs.Boot.{boot_tcbs, with_spaces, root_cap}
-use Rattle.kernel_core.proofs.Spaces.{derive_next}
-use Rattle.kernel_core.proofs.BootPlaces.{can_derive}
+use Rattle.abstract_kernel.specs.Plan.{tcb_place}
+use Rattle.abstract_kernel.specs.Boot.{boot_tcbs, with_spaces, root_cap}
+use Rattle.abstract_kernel.proofs.Boot.Spaces.{derive_next}
+use Rattle.abstract_kernel.proofs.Boot.Places.{can_derive}
 use Rattle.kernel_core.proofs.boot.derive_spaces.Goals as goal
 
 pub loop-i-init : goal.loop-i-init

@@ -1,9 +1,9 @@
 use Rattle.std.proofs.Common.{◌≡◌, ◌+◌, ◌*◌, get_or, refl, ◌∙◌, ap, arith}
 use Rattle.cap_core.specs.declared.capability.Cap.TheVariants.{Null}
 use Rattle.cap_core.specs.Numbers.{slot_size}
-use Rattle.kernel_core.specs.Boot.{boot_caps, with_roots}
-use Rattle.kernel_core.proofs.Puts.{put_next}
-use Rattle.kernel_core.proofs.BootPlaces.{can_put}
+use Rattle.abstract_kernel.specs.Boot.{boot_caps, with_roots}
+use Rattle.abstract_kernel.proofs.Boot.Puts.{put_next}
+use Rattle.abstract_kernel.proofs.Boot.Places.{can_put}
 use Rattle.kernel_core.proofs.boot.put_all.Goals as goal
 
 pub loop-i-init : goal.loop-i-init

@@ -1,7 +1,7 @@
 use Rattle.std.proofs.Common.{◌≡◌, ◌+◌, drop}
 use Rattle.slot_core.specs.Forest.{none}
-use Rattle.kernel_core.specs.Boot.{boot_caps, with_roots}
-use Rattle.kernel_core.proofs.Puts.{CanPut}
+use Rattle.abstract_kernel.specs.Boot.{boot_caps, with_roots}
+use Rattle.abstract_kernel.proofs.Boot.Puts.{CanPut}
 use Rattle.kernel_core.proofs.boot.put_all.Given as goal
 
 -- the capabilities from i on are still to be put, which gives what boot gives

@@ -2,8 +2,9 @@ use Rattle.std.proofs.Common.{ap, ◌∙◌, sym}
 use Rattle.std.specs.FinMap.{insert}
 use Rattle.cap_core.specs.Numbers.{tcb_size}
 use Rattle.mem_core.specs.Plans.{object_at}
-use Rattle.kernel_core.specs.Rows.{rows_map, new_row}
-use Rattle.kernel_core.proofs.NewThreads.{rows-added}
+use Rattle.kernel_core.specs.Rows.{rows_map}
+use Rattle.kernel_core.specs.Private.NewRows.{new_row}
+use Rattle.kernel_core.proofs.Threads.NewThreads.{rows-added}
 use Rattle.kernel_core.proofs.objects.add_threads.Goals as goal
 
 pub loop-i-preserved : goal.loop-i-preserved

@@ -2,7 +2,8 @@ use Rattle.std.proofs.Common.{◌≡◌, length, map}
 use Rattle.std.specs.List.{range_with_len}
 use Rattle.cap_core.specs.Numbers.{tcb_size}
 use Rattle.mem_core.specs.Plans.{object_at}
-use Rattle.kernel_core.specs.Rows.{rows_map, with_rows}
+use Rattle.kernel_core.specs.Rows.{rows_map}
+use Rattle.kernel_core.specs.Private.NewRows.{with_rows}
 use Rattle.kernel_core.proofs.objects.add_threads.Given as goal
 
 -- the rows of the first i threads are written

@@ -1,7 +1,7 @@
 use Rattle.std.proofs.Common.{◌^◌, ◌-◌, ◌∙◌}
 use Rattle.cap_core.specs.Numbers.{tcb_bits}
-use Rattle.kernel_core.proofs.BootThreads.{shows_boot}
-use Rattle.kernel_core.proofs.Booted.{is_kernel, threads_fit}
+use Rattle.kernel_core.proofs.Booted.BootThreads.{shows_boot}
+use Rattle.kernel_core.proofs.Booted.BootedParts.{is_kernel, threads_fit}
 use Rattle.kernel_core.proofs.kernel.Kernel.boot.Goals as goal
 
 pub invariant_of-result : goal.invariant_of-result

@@ -1,9 +1,9 @@
 use Rattle.std.proofs.Common.{sym, ap, subst, ◌∙◌, All}
 use Rattle.slot_core.specs.Entries.{cap_at, slots}
-use Rattle.kernel_core.specs.Shown.{Shown}
-use Rattle.kernel_core.specs.Rows.{IsSlotAddress, IsAligned}
-use Rattle.kernel_core.proofs.Addresses.{no_cap}
-use Rattle.kernel_core.proofs.InMemory.{all_aligned}
+use Rattle.abstract_kernel.specs.Shown.{Shown}
+use Rattle.abstract_kernel.specs.Memory.{IsSlotAddress, IsAligned}
+use Rattle.kernel_core.proofs.Threads.Addresses.{no_cap}
+use Rattle.kernel_core.proofs.Capabilities.ShownForest.{all_aligned}
 use Rattle.kernel_core.proofs.kernel.Kernel.cap_at.Goals as goal
 
 pub returns-in-Some-clause-aligned : goal.returns-in-Some-clause-aligned

@@ -1,7 +1,7 @@
 use Rattle.std.proofs.Common.{sym, ap, ◌∙◌, is_some}
-use Rattle.kernel_core.specs.Shown.{Shown, has_child}
-use Rattle.kernel_core.specs.Rows.{IsSlotAddress}
-use Rattle.kernel_core.proofs.Addresses.{no_child}
+use Rattle.abstract_kernel.specs.Shown.{Shown, has_child}
+use Rattle.abstract_kernel.specs.Memory.{IsSlotAddress}
+use Rattle.kernel_core.proofs.Threads.Addresses.{no_child}
 use Rattle.kernel_core.proofs.kernel.Kernel.has_children.Goals as goal
 
 pub returns-in-None : goal.returns-in-None

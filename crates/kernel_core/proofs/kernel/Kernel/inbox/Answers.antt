@@ -3,7 +3,7 @@ use Rattle.std.specs.FinMap.{get}
 use Rattle.cap_core.specs.Numbers.{tcb_size}
 use Rattle.kernel_core.specs.declared.rows.ThreadRow.{ThreadRow}
 use Rattle.kernel_core.specs.Rows.{rows_map}
-use Rattle.kernel_core.proofs.Showing.{inbox_seen}
+use Rattle.kernel_core.proofs.Messages.ShownMessages.{inbox_seen}
 use Rattle.kernel_core.proofs.kernel.Kernel.inbox.Goals as goal
 
 pub returns-in_err-row_at : goal.returns-in_err-row_at

@@ -1,6 +1,6 @@
 use Rattle.std.proofs.Common.{subst}
-use Rattle.kernel_core.specs.Shown.{Shown}
-use Rattle.kernel_core.specs.Regions.{AreObjectsApart}
+use Rattle.abstract_kernel.specs.Shown.{Shown}
+use Rattle.abstract_kernel.specs.Regions.{AreObjectsApart}
 use Rattle.kernel_core.proofs.kernel.Kernel.keeps_apart.Goals as goal
 
 pub returns : goal.returns

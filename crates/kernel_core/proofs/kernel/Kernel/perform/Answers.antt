@@ -1,14 +1,14 @@
 use Rattle.std.proofs.Common.{Result, sym, ap, ◌∙◌}
 use Rattle.cap_core.specs.declared.refusal.Refusal.{Refusal}
-use Rattle.kernel_core.specs.declared.task.Task.{Task}
-use Rattle.kernel_core.specs.Effects.{effect_found}
+use Rattle.abstract_kernel.specs.declared.invocation.Invocation.{Invocation}
+use Rattle.abstract_kernel.specs.Private.Effects.{decoded_effect}
 use Rattle.kernel_core.proofs.kernel.Kernel.perform.Goals as goal
 
 pub returns-in-Ok : goal.returns-in-Ok
 returns-in-Ok g c =
-    let is = sym c.check.ensures.task ∙ c.in-Ok.is in
+    let is = sym c.decode_call.ensures.invocation ∙ c.in-Ok.is in
     record {
-      reply = c.take.ensures.reply ∙ sym (ap (λ (r : Result Task Refusal). (effect_found g.P.Profile.the c.args.self.now c.args.call.thread r).reply) is);
-      after = c.take.ensures.after ∙ sym (ap (λ (r : Result Task Refusal). (effect_found g.P.Profile.the c.args.self.now c.args.call.thread r).after) is);
-      within = c.take.ensures.within;
+      reply = c.perform_invocation.ensures.reply ∙ sym (ap (λ (r : Result Invocation Refusal). (decoded_effect g.P.Profile.the c.args.self.now c.args.call.thread r).reply) is);
+      after = c.perform_invocation.ensures.after ∙ sym (ap (λ (r : Result Invocation Refusal). (decoded_effect g.P.Profile.the c.args.self.now c.args.call.thread r).after) is);
+      within = c.perform_invocation.ensures.within;
     }

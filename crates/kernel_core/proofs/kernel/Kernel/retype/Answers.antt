@@ -1,7 +1,8 @@
 use Rattle.std.proofs.Common.{ℕ, List, refl, sym, ap, ◌∙◌}
 use Rattle.cap_core.specs.Numbers.{tcb_size}
-use Rattle.kernel_core.specs.Rows.{rows_map, with_rows}
-use Rattle.kernel_core.proofs.RetypedKernel.{new_tcbs, no_new_rows, thread_aligned, thread_within, thread_word, retyped_kernel, retyped_shown}
+use Rattle.kernel_core.specs.Rows.{rows_map}
+use Rattle.kernel_core.specs.Private.NewRows.{with_rows}
+use Rattle.kernel_core.proofs.Capabilities.RetypedKernel.{new_tcbs, no_new_rows, thread_aligned, thread_within, thread_word, retyped_kernel, retyped_shown}
 use Rattle.kernel_core.proofs.kernel.Kernel.retype.Goals as goal
 
 pub add_threads-requires-clause-aligned : goal.add_threads-requires-clause-aligned

@@ -1,9 +1,9 @@
 use Rattle.std.proofs.Common.{◌≡◌, ◌++◌, List, ap, ◌∙◌, take, arith}
 use Rattle.std.proofs.lemmas.List.{take_all}
-use Rattle.kernel_core.specs.declared.call.Call.{Call}
-use Rattle.kernel_core.specs.Step.{state_after, replies_of}
-use Rattle.kernel_core.proofs.Runs.{reached_after, run_more}
-use Rattle.kernel_core.proofs.Pairs.{replies_grow}
+use Rattle.abstract_kernel.specs.declared.call.Call.{Call}
+use Rattle.abstract_kernel.specs.Step.{state_after, replies_of}
+use Rattle.abstract_kernel.proofs.Reached.Runs.{reached_after, run_more}
+use Rattle.abstract_kernel.proofs.Messages.CompletedPairs.{replies_grow}
 use Rattle.kernel_core.proofs.kernel.Kernel.run.Goals as goal
 
 pub loop-call-preserved : goal.loop-call-preserved
@@ -13,8 +13,8 @@ loop-call-preserved g c =
     let i = c.loop-call.call-index in
     record {
       room = omega arith;
-      so_far = λ A r s. (run_more p A calls i _ _ _ _ _ _ c.loop-call-test.true (c.step-reply.ensures.stands (state_after p A (take i calls)) (reached_after p A (take i calls) r) (c.loop-call.invariant.stands A r s)) (c.loop-call.invariant.so_far A r s) c.push_reply.ensures.replies).0;
-      stands = λ A r s. (run_more p A calls i _ _ _ _ _ _ c.loop-call-test.true (c.step-reply.ensures.stands (state_after p A (take i calls)) (reached_after p A (take i calls) r) (c.loop-call.invariant.stands A r s)) (c.loop-call.invariant.so_far A r s) c.push_reply.ensures.replies).1;
+      so_far = λ A r s. (run_more p A calls i _ _ _ _ _ _ c.loop-call-test.true (c.step-reply.ensures.stands (state_after p A (take i calls)) (reached_after p A (take i calls) r) (c.loop-call.invariant.stands A r s)) (c.loop-call.invariant.so_far A r s) c.push_reserved.ensures.items).0;
+      stands = λ A r s. (run_more p A calls i _ _ _ _ _ _ c.loop-call-test.true (c.step-reply.ensures.stands (state_after p A (take i calls)) (reached_after p A (take i calls) r) (c.loop-call.invariant.stands A r s)) (c.loop-call.invariant.so_far A r s) c.push_reserved.ensures.items).1;
       within = λ memory h. c.step-reply.ensures.within memory (c.loop-call.invariant.within memory h);
     }
 

@@ -1,8 +1,8 @@
 use Rattle.std.proofs.Common.{◌≡◌, ℕ, ◌+◌, ◌≤◌, ◌-◌, ◌++◌, length, take, vec_len, vec_capacity}
-use Rattle.kernel_core.specs.State.{State, shown}
-use Rattle.kernel_core.specs.Step.{replies_of, state_after}
-use Rattle.kernel_core.specs.Reached.{IsReached}
-use Rattle.kernel_core.specs.Rows.{IsInMemory}
+use Rattle.abstract_kernel.specs.State.{State, shown}
+use Rattle.abstract_kernel.specs.Step.{replies_of, state_after}
+use Rattle.abstract_kernel.specs.Reached.{IsReached}
+use Rattle.abstract_kernel.specs.Memory.{IsInMemory}
 use Rattle.kernel_core.proofs.kernel.Kernel.run.Given as goal
 
 abbrev pub invariant-loop-call : goal.invariant-loop-call

@@ -1,6 +1,6 @@
 use Rattle.std.proofs.Common.{sym, ◌∙◌}
-use Rattle.kernel_core.proofs.Refused.{refused_keeps}
-use Rattle.kernel_core.proofs.Simulation.{stands}
+use Rattle.abstract_kernel.proofs.Checks.Refusals.{refused_keeps}
+use Rattle.abstract_kernel.proofs.Reached.Simulation.{stands}
 use Rattle.kernel_core.proofs.kernel.Kernel.step.Goals as goal
 
 pub returns : goal.returns

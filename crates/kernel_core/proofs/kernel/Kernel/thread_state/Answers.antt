@@ -4,8 +4,8 @@ use Rattle.cap_core.specs.Numbers.{tcb_size}
 use Rattle.kernel_core.specs.declared.rows.ThreadRow.{ThreadRow}
 use Rattle.kernel_core.specs.Rows.{rows_map, state_with}
 use Rattle.ipc_core.specs.Waits.{IsThreadAddress}
-use Rattle.kernel_core.proofs.Addresses.{row_address}
-use Rattle.kernel_core.proofs.Showing.{state_seen}
+use Rattle.kernel_core.proofs.Threads.Addresses.{row_address}
+use Rattle.kernel_core.proofs.Messages.ShownMessages.{state_seen}
 use Rattle.kernel_core.proofs.kernel.Kernel.thread_state.Goals as goal
 
 pub returns-in_err-row : goal.returns-in_err-row

@@ -1,9 +1,9 @@
 use Rattle.std.proofs.Common.{List, ap, sym, ◌∙◌, option_map, slice_get}
 use Rattle.ipc_core.specs.declared.waiter.Waiter.{Waiter}
 use Rattle.ipc_core.specs.Waits.{thread_of}
-use Rattle.kernel_core.specs.Shown.{Shown, waiting_at}
+use Rattle.abstract_kernel.specs.Shown.{Shown, waiting_at}
 use Rattle.std.proofs.lemmas.Bool.{false≢true}
-use Rattle.kernel_core.proofs.Parts.{waiting_is, nobody_there}
+use Rattle.kernel_core.proofs.Messages.KernelParts.{waiting_is, nobody_there}
 use Rattle.kernel_core.proofs.kernel.Kernel.waiting.Goals as goal
 
 pub returns-then-is_endpoint_address : goal.returns-then-is_endpoint_address

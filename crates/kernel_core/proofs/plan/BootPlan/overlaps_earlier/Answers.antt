@@ -2,7 +2,7 @@ use Rattle.std.proofs.Common.{◌≡◌, ℕ, ◌<◌, ◌≤◌, Bool, true, Li
 use Rattle.std.specs.List.{list_any}
 use Rattle.std.proofs.lemmas.List.{get_or-take, length-take-le}
 use Rattle.std.proofs.lemmas.List.Folds.{list_any_at}
-use Rattle.kernel_core.specs.Plan.{Plan, overlap, untyped_extent}
+use Rattle.abstract_kernel.specs.Plan.{Plan, overlap, untyped_extent}
 use Rattle.kernel_core.proofs.plan.BootPlan.overlaps_earlier.Goals as goal
 
 -- one of the first n settles it

@@ -1,5 +1,5 @@
 use Rattle.std.proofs.Common.{◌≡◌, false}
-use Rattle.kernel_core.specs.Plan.{overlaps_earlier}
+use Rattle.abstract_kernel.specs.Plan.{overlaps_earlier}
 use Rattle.kernel_core.proofs.plan.BootPlan.overlaps_earlier.Given as goal
 
 -- no region before the one at i overlaps

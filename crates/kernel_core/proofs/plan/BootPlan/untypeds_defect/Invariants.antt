@@ -1,5 +1,5 @@
 use Rattle.std.proofs.Common.{◌≡◌, drop}
-use Rattle.kernel_core.specs.Plan.{untypeds_defect}
+use Rattle.abstract_kernel.specs.Plan.{untypeds_defect}
 use Rattle.kernel_core.proofs.plan.BootPlan.untypeds_defect.Given as goal
 
 -- the regions before `place` have no defect

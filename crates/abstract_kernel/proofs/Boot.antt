@@ -1,0 +1,6 @@
+-- The capabilities of a boot.
+pub mod SoundPlans
+pub mod Puts
+pub mod Spaces
+pub mod Places
+pub mod BootedStore

@@ -1,0 +1,9 @@
+-- Capabilities that are derived and moved: what the derivation forest keeps.
+pub mod Descendants
+pub mod RegionsKept
+pub mod RegionsDerived
+pub mod RegionsMoved
+pub mod StoresKept
+pub mod LiveAfter
+pub mod Rearranged
+pub mod StaysInMemory

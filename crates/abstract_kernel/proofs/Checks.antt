@@ -1,0 +1,8 @@
+-- What checks that passed show of a call.
+pub mod FoundSlots
+pub mod FilledSlots
+pub mod Placement
+pub mod LiveEndpoints
+pub mod PassedCNodeChecks
+pub mod PassedInvocations
+pub mod Refusals

@@ -1,0 +1,145 @@
+-- What the checks show of an invocation.
+use Rattle.std.proofs.Common.{◌≡◌, ℕ, ◌<◌, ◌≤◌, ◌⊎◌, Bool, true, false, cond, ◌==◌, not, Result, Ok, Err, All, refl, sym, subst, ◌∙◌}
+use Rattle.cap_core.specs.declared.profile.ProfileName.{ProfileName}
+use Rattle.cap_core.specs.declared.capability.Cap.{Cap}
+use Rattle.cap_core.specs.declared.capability.Cap.TheVariants.{Null, Untyped, Endpoint, CNode, Tcb}
+use Rattle.cap_core.specs.declared.refusal.Refusal.{Refusal}
+use Rattle.cap_core.specs.declared.refusal.Refusal.TheVariants.{RangeError, DeleteFirst}
+use Rattle.cap_core.specs.Objects.{is_null, is_untyped, IsLawful}
+use Rattle.mem_core.specs.Shapes.{shape_of}
+use Rattle.mem_core.specs.Plans.{LieInUntyped}
+use Rattle.mem_core.proofs.Lawful.{lawful_shape}
+use Rattle.slot_core.specs.Forest.{Forest}
+use Rattle.slot_core.specs.Entries.{Entry, caps, cap_at}
+use Rattle.cspace_core.specs.Resolution.{slot_of}
+use Rattle.cspace_core.specs.Target.{target_slot}
+use Rattle.cspace_core.proofs.Nodes.{lawful_node}
+use Rattle.abstract_kernel.specs.Checks.{◌>>=◌}
+use Rattle.abstract_kernel.specs.declared.call.Op.{Op}
+use Rattle.abstract_kernel.specs.declared.call.Op.TheVariants as op
+use Rattle.abstract_kernel.specs.declared.invocation.NewObjects.{NewObjects}
+use Rattle.abstract_kernel.specs.declared.invocation.RetypeArguments.{RetypeArguments}
+use Rattle.abstract_kernel.specs.declared.invocation.CapPlacement.{CapPlacement}
+use Rattle.abstract_kernel.specs.declared.invocation.Invocation.{Invocation}
+use Rattle.abstract_kernel.specs.declared.invocation.Invocation.TheVariants.{Send, Receive, Retype, Derive, Move}
+use Rattle.abstract_kernel.specs.Memory.{IsSlotAddress}
+use Rattle.abstract_kernel.specs.declared.invocation.Service.{Service}
+use Rattle.cap_core.specs.declared.message.Message.{Message}
+use Rattle.cap_core.specs.declared.limits.TheConstants.{MAX_RETYPE_COUNT}
+use Rattle.cap_core.specs.Rights.{write_bit, read_bit}
+use Rattle.abstract_kernel.specs.Shown.{has_child}
+use Rattle.abstract_kernel.specs.Decode.{service_word, objects_asked, slots_named}
+use Rattle.abstract_kernel.specs.Lookups.{invoked_slot, extra_cap, held_in, where_kind}
+use Rattle.abstract_kernel.specs.Retyping.{node_cap, are_slots, some_full, where_all_empty, first_slot, placed_in, decoded_retype}
+use Rattle.abstract_kernel.specs.Decode.{decoded_invocation, service_of, retypes, derives, moves, decoded_op}
+use Rattle.abstract_kernel.specs.Private.Invocations.{IsRetype, IsDerivation, IsMove}
+use Rattle.abstract_kernel.proofs.Checks.FoundSlots.{passed, cond_passed, cond_failed, ok_same, kind_passed, lawful_at, empty_at, held_passed, none_of_range, not_false}
+use Rattle.abstract_kernel.proofs.Checks.Placement.{placed_lie}
+use Rattle.abstract_kernel.proofs.Checks.FilledSlots.{slots_there, slot_address}
+use Rattle.abstract_kernel.proofs.Checks.PassedCNodeChecks.{copy_derives, mint_derives, move_moves, mutate_moves}
+
+-- the slots that are filled: as many as a retype fills, empty, and in the memory
+record AreFilled (p : ProfileName) (f : Forest Entry) (first count : ℕ) (node : Cap) : Type 0 where
+  some : 1 ≤ count
+  most : count ≤ MAX_RETYPE_COUNT
+  empty : (i : ℕ) → i < count → is_null (cap_at f (slot_of p first i)) ≡ true
+  slots : (memory : ℕ) → (node ≡ Null) ⊎ IsLawful p memory node → (i : ℕ) → i < count → IsSlotAddress p memory (slot_of p first i)
+
+first_passed : (p : ProfileName) (f : Forest Entry) (offset count first : ℕ) (node : Cap) → first_slot p f offset count node ≡ Ok first → AreFilled p f first count node
+first_passed p f offset count first Null h = cc
+first_passed p f offset count first (Untyped base bits free) h = cc
+first_passed p f offset count first (Endpoint base badge rights) h = cc
+first_passed p f offset count first (CNode base radix guard) h =
+    let range = cond_passed (are_slots radix offset count) (where_all_empty p f (slot_of p base offset) count) RangeError first h in
+    let empty = cond_failed (some_full p f (slot_of p base offset) count) (Ok (slot_of p base offset)) DeleteFirst first range.1 in
+    let there = slots_there radix offset count range.0 in
+    subst (λ n. AreFilled p f n count (CNode base radix guard)) (ok_same (slot_of p base offset) first empty.1)
+    (record {
+      some = there.some;
+      most = there.most;
+      empty = λ i low. not_false _ (none_of_range (λ i. not (is_null (cap_at f (slot_of p (slot_of p base offset) i)))) count i empty.0 low);
+      slots = λ memory lawful i low. slot_address p memory base radix offset count i guard (lawful_node p memory base radix guard lawful) there low;
+    })
+first_passed p f offset count first (Tcb base) h = cc
+
+-- the CNode is named by a capability that some slot holds
+node_held : (p : ProfileName) (f : Forest Entry) (root node : Cap) (index depth : ℕ) (t : Bool) → ((slot : ℕ) × (cap_at f slot ≡ root)) →
+    cond t (Ok root) (held_in f (target_slot p (cap_at f) root index depth)) ≡ Ok node → (slot : ℕ) × (cap_at f slot ≡ node)
+node_held p f root node index depth true held h = (held.0, held.1 ∙ ok_same root node h)
+node_held p f root node index depth false held h = held_passed f (target_slot p (cap_at f) root index depth) node h
+
+retype_shows : (p : ProfileName) (memory : ℕ) (f : Forest Entry) → All (IsLawful p memory) (caps f) → (thread slot : ℕ) (asked : RetypeArguments) (new : NewObjects) →
+    decoded_retype p f thread slot (cap_at f slot) asked ≡ Ok new → IsRetype p f new
+retype_shows p memory f all thread slot asked new h =
+    let untyped = passed (where_kind is_untyped (cap_at f slot)) _ new h in
+    let root = passed (extra_cap p f thread asked.root) _ new untyped.1.1 in
+    let shape = passed (shape_of p asked.kind asked.size_bits) _ new root.1.1 in
+    let node = passed (node_cap p f root.0 asked.index asked.depth) _ new shape.1.1 in
+    let first = passed (first_slot p f asked.offset asked.count node.0) _ new node.1.1 in
+    let placed = passed (placed_in (has_child slot f) shape.0.bits asked.count untyped.0) _ new first.1.1 in
+    let found : NewObjects = record { untyped = slot; shape = shape.0; placed = placed.0; first_slot = first.0; count = asked.count } in
+    let kind = kind_passed is_untyped (cap_at f slot) untyped.0 untyped.1.0 in
+    let filled = first_passed p f asked.offset asked.count first.0 node.0 first.1.0 in
+    let held = held_passed f (invoked_slot p f thread asked.root) root.0 root.1.0 in
+    let there = node_held p f root.0 node.0 asked.index asked.depth (asked.depth == 0) held node.1.0 in
+    subst (IsRetype p f) (ok_same found new placed.1.1)
+    (record {
+      untyped = kind.0;
+      shape = lawful_shape p asked.kind asked.size_bits shape.0 shape.1.0;
+      some = filled.some;
+      most = filled.most;
+      placed = subst (λ cap. LieInUntyped cap (has_child slot f) shape.0.bits asked.count placed.0) (sym kind.1)
+          (placed_lie (has_child slot f) shape.0.bits asked.count untyped.0 placed.0 filled.some placed.1.0);
+      empty = λ i low. empty_at p memory f all (slot_of p first.0 i) (filled.empty i low);
+      slots = λ m lawful i low. filled.slots m (subst (λ cap. (cap ≡ Null) ⊎ IsLawful p m cap) there.1 (lawful_at p m f lawful there.0)) i low;
+    })
+
+-- what the checks show of an invocation that touches capabilities
+abbrev pub IsEdit : ProfileName → Forest Entry → Invocation → Type 0
+IsEdit p f (Send service message block) = Unit {0}
+IsEdit p f (Receive service block) = Unit {0}
+IsEdit p f (Retype new) = IsRetype p f new
+IsEdit p f (Derive placement) = IsDerivation p f placement
+IsEdit p f (Move placement) = IsMove p f placement
+
+module _ (p : ProfileName) (memory : ℕ) (f : Forest Entry) (all : All (IsLawful p memory) (caps f)) where
+  retypes_edit : (r : Result NewObjects Refusal) (invocation : Invocation) → ((new : NewObjects) → r ≡ Ok new → IsRetype p f new) → retypes r ≡ Ok invocation → IsEdit p f invocation
+  retypes_edit (Err refusal) invocation shows h = cc
+  retypes_edit (Ok new) invocation shows h = subst (IsEdit p f) (ok_same (Retype new) invocation h) (shows new refl)
+
+  derives_edit : (r : Result CapPlacement Refusal) (invocation : Invocation) → ((placement : CapPlacement) → r ≡ Ok placement → IsDerivation p f placement) → derives r ≡ Ok invocation → IsEdit p f invocation
+  derives_edit (Err refusal) invocation shows h = cc
+  derives_edit (Ok placement) invocation shows h = subst (IsEdit p f) (ok_same (Derive placement) invocation h) (shows placement refl)
+
+  moves_edit : (r : Result CapPlacement Refusal) (invocation : Invocation) → ((placement : CapPlacement) → r ≡ Ok placement → IsMove p f placement) → moves r ≡ Ok invocation → IsEdit p f invocation
+  moves_edit (Err refusal) invocation shows h = cc
+  moves_edit (Ok placement) invocation shows h = subst (IsEdit p f) (ok_same (Move placement) invocation h) (shows placement refl)
+
+  sends_edit : (r : Result Service Refusal) (message : Message) (block : Bool) (invocation : Invocation) → (r >>= λ service. Ok (Send service message block)) ≡ Ok invocation → IsEdit p f invocation
+  sends_edit (Err refusal) message block invocation h = cc
+  sends_edit (Ok service) message block invocation h = subst (IsEdit p f) (ok_same (Send service message block) invocation h) tt
+
+  receives_edit : (r : Result Service Refusal) (block : Bool) (invocation : Invocation) → (r >>= λ service. Ok (Receive service block)) ≡ Ok invocation → IsEdit p f invocation
+  receives_edit (Err refusal) block invocation h = cc
+  receives_edit (Ok service) block invocation h = subst (IsEdit p f) (ok_same (Receive service block) invocation h) tt
+
+  invocation_edit : (thread : ℕ) (o : Op) (slot : ℕ) (invocation : Invocation) → decoded_invocation p f thread o slot ≡ Ok invocation → IsEdit p f invocation
+  invocation_edit thread (op.Retype cap kind size_bits root index depth offset count) slot invocation h =
+      retypes_edit _ invocation (λ new is. retype_shows p memory f all thread slot (objects_asked kind size_bits root index depth offset count) new is) h
+  invocation_edit thread (op.CapCopy cap index depth src_root src_index src_depth rights) slot invocation h =
+      derives_edit _ invocation (λ placement is. copy_derives p memory f all thread slot (slots_named index depth src_root src_index src_depth) placement rights is) h
+  invocation_edit thread (op.CapMint cap index depth src_root src_index src_depth rights word) slot invocation h =
+      derives_edit _ invocation (λ placement is. mint_derives p memory f all thread slot (slots_named index depth src_root src_index src_depth) placement rights word is) h
+  invocation_edit thread (op.CapMove cap index depth src_root src_index src_depth) slot invocation h =
+      moves_edit _ invocation (λ placement is. move_moves p memory f all thread slot (slots_named index depth src_root src_index src_depth) placement is) h
+  invocation_edit thread (op.CapMutate cap index depth src_root src_index src_depth word) slot invocation h =
+      moves_edit _ invocation (λ placement is. mutate_moves p memory f all thread slot (slots_named index depth src_root src_index src_depth) placement word is) h
+  invocation_edit thread (op.Send cap message) slot invocation h = sends_edit (service_of write_bit (cap_at f slot)) message true invocation h
+  invocation_edit thread (op.NbSend cap message) slot invocation h = sends_edit (service_of write_bit (cap_at f slot)) message false invocation h
+  invocation_edit thread (op.Recv cap) slot invocation h = receives_edit (service_of read_bit (cap_at f slot)) true invocation h
+  invocation_edit thread (op.NbRecv cap) slot invocation h = receives_edit (service_of read_bit (cap_at f slot)) false invocation h
+
+  pub invoked_edit : (thread : ℕ) (o : Op) (invocation : Invocation) → decoded_op p f thread o ≡ Ok invocation → IsEdit p f invocation
+  invoked_edit thread o invocation h =
+      let slot = passed (invoked_slot p f thread (service_word o)) (decoded_invocation p f thread o) invocation h in
+      invocation_edit thread o slot.0 invocation slot.1.1

@@ -1,0 +1,8 @@
+pub mod Lists
+pub mod Messages
+pub mod Checks
+pub mod Capabilities
+pub mod Retype
+pub mod Boot
+pub mod Reached
+pub mod Cancelling

@@ -1,0 +1,5 @@
+-- Lists, and tables with numbers as keys.
+pub mod Paired
+pub mod Numbered
+pub mod Tables
+pub mod Searches

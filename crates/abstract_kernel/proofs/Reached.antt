@@ -1,0 +1,5 @@
+-- The states that runs reach.
+pub mod Runs
+pub mod Invariant
+pub mod Stores
+pub mod Simulation

@@ -1,0 +1,140 @@
+-- What holds of each state that runs reach.
+use Rattle.std.proofs.Common.{◌≡◌, ◌≢◌, ℕ, ◌+◌, ◌<◌, ◌≤◌, Bool, true, false, cond, ◌==◌, List, [], ◌∷◌, ◌++◌, Option, None, Some, Result, Ok, refl, sym, ap, ◌∙◌, arith, unwrap_or, option_and_then}
+use Rattle.std.specs.List.{list_any, AllByRecursion}
+use Rattle.abstract_kernel.proofs.Messages.WaitingReceive.{ReceivesUpTo}
+use Rattle.abstract_kernel.proofs.Checks.LiveEndpoints.{HasLiveEndpoint, found_live}
+use Rattle.abstract_kernel.proofs.Lists.Tables.{get_table}
+use Rattle.abstract_kernel.proofs.Messages.DeliveredSend.{SendsUpTo, pending}
+use Rattle.abstract_kernel.proofs.Lists.Numbered.{Rising}
+use Rattle.abstract_kernel.specs.declared.call.Call.{Call}
+use Rattle.abstract_kernel.specs.declared.invocation.Invocation.{Invocation}
+use Rattle.abstract_kernel.specs.declared.call.ThreadState.TheVariants.{Ready, Inactive, Sending, Receiving}
+use Rattle.abstract_kernel.specs.declared.call.ThreadState.{ThreadState}
+use Rattle.ipc_core.specs.Records.{AskRecord, Instance, SendRecord}
+use Rattle.cap_core.specs.declared.profile.ProfileName.{ProfileName}
+use Rattle.abstract_kernel.specs.Private.Effects.{Effect}
+use Rattle.abstract_kernel.specs.Plan.{Plan}
+use Rattle.cap_core.specs.declared.refusal.Refusal.{Refusal}
+use Rattle.abstract_kernel.specs.Shown.{ThreadView, endpoints_of, inbox_at, threads_of, waiting_at}
+use Rattle.abstract_kernel.specs.State.{State, endpoint_at, inbox_of, shown, state_of, thread_at, thread_view, waiters}
+use Rattle.ipc_core.specs.declared.waiter.Waiter.{Waiter}
+use Rattle.abstract_kernel.specs.Step.{Outcome, counted}
+use Rattle.abstract_kernel.specs.Boot.{boot}
+use Rattle.abstract_kernel.specs.Decode.{service_word}
+use Rattle.abstract_kernel.specs.Lookups.{invoked_slot}
+use Rattle.abstract_kernel.specs.Decode.{decoded_call, decoded_op, where_live, where_ready}
+
+-- what holds of each reached state
+pub record Invariant (A : State) : Type 0 where
+  pub fresh : (n : ℕ) → A.count < n → A.is_cancelled n ≡ false
+  pub numbered : ReceivesUpTo A.count A.receives
+  pub sends_numbered : SendsUpTo A.count A.sends
+  pub rising : Rising A.receives
+  pub endpoint_births : (b : ℕ) → A.endpoint_birth b ≤ A.count
+  pub thread_births : (b : ℕ) → A.thread_birth b ≤ A.count
+  pub born : AllByRecursion (λ (a : AskRecord). (a.endpoint.birth ≤ A.count) × (a.thread.birth ≤ A.count)) A.receives
+  pub sends_born : AllByRecursion (λ (s : SendRecord). (s.endpoint.birth ≤ A.count) × (s.thread.birth ≤ A.count)) A.sends
+  pub awake : AllByRecursion (λ (a : AskRecord). A.is_idle a.thread ≡ false) A.receives
+  pub sends_awake : AllByRecursion (λ (s : SendRecord). A.is_idle s.thread ≡ false) A.sends
+  pub known : AllByRecursion (λ (a : AskRecord). (a.thread ≡ thread_at A a.thread.base) × (list_any (λ k. a.thread.base == k) (threads_of A.derivations) ≡ true)) A.receives
+  pub sends_known : AllByRecursion (λ (s : SendRecord). (s.thread ≡ thread_at A s.thread.base) × (list_any (λ k. s.thread.base == k) (threads_of A.derivations) ≡ true)) A.sends
+  pub once : (m : Instance) (b : ℕ) → list_any (λ k. b == k) (endpoints_of A.derivations) ≡ true → pending A m b ≤ 1
+  pub alone : (m : Instance) (b c : ℕ) → list_any (λ k. b == k) (endpoints_of A.derivations) ≡ true → list_any (λ k. c == k) (endpoints_of A.derivations) ≡ true → b ≢ c → pending A m b + pending A m c ≤ 1
+
+-- what the checks show of a call that passes
+pub record Passes (A : State) (thread : ℕ) (invocation : Invocation) : Type 0 where
+  pub ready : state_of A (thread_at A thread) ≡ Ready
+  pub thread_live : list_any (λ k. thread == k) (threads_of A.derivations) ≡ true
+  pub endpoint_live : HasLiveEndpoint A.derivations invocation
+
+allowed : (s : ThreadState) (found : Result Invocation Refusal) (invocation : Invocation) → where_ready s found ≡ Ok invocation → (s ≡ Ready) × (found ≡ Ok invocation)
+allowed Ready found invocation h = (refl, h)
+allowed Inactive found invocation h = cc
+allowed (Sending e) found invocation h = cc
+allowed (Receiving e) found invocation h = cc
+
+ready_passes : (b : Bool) (row : ThreadView) (found : Result Invocation Refusal) (invocation : Invocation) → where_live (cond b (Some row) None) found ≡ Ok invocation → (b ≡ true) × (row.state ≡ Ready) × (found ≡ Ok invocation)
+ready_passes true row found invocation h = let w = allowed row.state found invocation h in (refl, w.0, w.1)
+ready_passes false row found invocation h = cc
+
+pub passes : (p : ProfileName) (A : State) (call : Call) (invocation : Invocation) → decoded_call p (shown A) call ≡ Ok invocation → Passes A call.thread invocation
+passes p A call invocation h =
+    let found : Result Invocation Refusal = decoded_op p A.derivations call.thread call.op in
+    let w = ready_passes (list_any (λ k. call.thread == k) (threads_of A.derivations)) (thread_view A call.thread) found invocation
+    (sym (ap (λ (o : Option ThreadView). where_live o found) (get_table (threads_of A.derivations) (thread_view A) call.thread)) ∙ h) in
+    record {
+      ready = w.1;
+      thread_live = w.0;
+      endpoint_live = found_live p A.derivations call.thread call.op (invoked_slot p A.derivations call.thread (service_word call.op)) invocation w.2;
+    }
+
+pub list_shown : (A : State) (e : ℕ) → list_any (λ k. e == k) (endpoints_of A.derivations) ≡ true → waiting_at (shown A) e ≡ waiters A (endpoint_at A e)
+list_shown A e live = ap (λ (o : Option (List Waiter)). unwrap_or o []) (get_table (endpoints_of A.derivations) (λ base. waiters A (endpoint_at A base)) e ∙ ap (λ (b : Bool). cond b (Some (waiters A (endpoint_at A e))) None) live)
+
+pub inbox_shown : (A : State) (t : ℕ) → list_any (λ k. t == k) (threads_of A.derivations) ≡ true → inbox_at (shown A) t ≡ inbox_of A (thread_at A t)
+inbox_shown A t live = ap (λ (o : Option ThreadView). option_and_then (λ (row : ThreadView). row.inbox) o) (get_table (threads_of A.derivations) (thread_view A) t ∙ ap (λ (b : Bool). cond b (Some (thread_view A t)) None) live)
+
+-- an effect on what is shown is that of an outcome of the state
+abbrev pub IsShown : Effect → Outcome → Type 0
+IsShown x y = (x.reply ≡ y.reply) × (x.after ≡ shown y.state)
+
+pub inv_boot : (p : ProfileName) (plan : Plan) → Invariant (boot p plan)
+inv_boot p plan = record {
+  fresh = λ n lt. refl;
+  numbered = tt;
+  sends_numbered = tt;
+  rising = tt;
+  endpoint_births = λ b. omega arith;
+  thread_births = λ b. omega arith;
+  born = tt;
+  sends_born = tt;
+  awake = tt;
+  sends_awake = tt;
+  known = tt;
+  sends_known = tt;
+  once = λ m b live. omega arith;
+  alone = λ m b c live live' ne. omega arith;
+}
+
+pub receives_later : (n : ℕ) (receives : List AskRecord) → ReceivesUpTo n receives → ReceivesUpTo (n + 1) receives
+receives_later n [] h = tt
+receives_later n (a ∷ receives) h = let le = h.0 in (omega arith, receives_later n receives h.1)
+
+pub sends_later : (n : ℕ) (sends : List SendRecord) → SendsUpTo n sends → SendsUpTo (n + 1) sends
+sends_later n [] h = tt
+sends_later n (a ∷ sends) h = let le = h.0 in (omega arith, sends_later n sends h.1)
+
+pub all_push : {X : Type 0} (P : X → Type 0) (xs : List X) (x : X) → AllByRecursion P xs → P x → AllByRecursion P (xs ++ x ∷ [])
+all_push P [] x h p = (p, tt)
+all_push P (y ∷ xs) x h p = (h.0, all_push P xs x h.1 p)
+
+pub rising_push : (n : ℕ) (receives : List AskRecord) (a : AskRecord) → Rising receives → ReceivesUpTo n receives → n < a.number → Rising (receives ++ a ∷ [])
+rising_push n [] a h up lt = (tt, tt)
+rising_push n (x ∷ receives) a h up lt = let le = up.0 in (all_push (λ (b : AskRecord). x.number < b.number) receives a h.0 (omega arith), rising_push n receives a h.1 up.1 lt)
+
+-- what holds up to a number holds up to the next
+pub receives_born_later : (n : ℕ) (receives : List AskRecord) → AllByRecursion (λ (a : AskRecord). (a.endpoint.birth ≤ n) × (a.thread.birth ≤ n)) receives → AllByRecursion (λ (a : AskRecord). (a.endpoint.birth ≤ n + 1) × (a.thread.birth ≤ n + 1)) receives
+receives_born_later n [] h = tt
+receives_born_later n (a ∷ receives) h = let e = h.0.0 in let t = h.0.1 in ((omega arith, omega arith), receives_born_later n receives h.1)
+
+pub sends_born_later : (n : ℕ) (sends : List SendRecord) → AllByRecursion (λ (s : SendRecord). (s.endpoint.birth ≤ n) × (s.thread.birth ≤ n)) sends → AllByRecursion (λ (s : SendRecord). (s.endpoint.birth ≤ n + 1) × (s.thread.birth ≤ n + 1)) sends
+sends_born_later n [] h = tt
+sends_born_later n (s ∷ sends) h = let e = h.0.0 in let t = h.0.1 in ((omega arith, omega arith), sends_born_later n sends h.1)
+
+pub inv_refused : (A : State) → Invariant A → Invariant (counted A)
+inv_refused A inv = record {
+  fresh = λ n lt. inv.fresh n (omega arith);
+  numbered = receives_later A.count A.receives inv.numbered;
+  sends_numbered = sends_later A.count A.sends inv.sends_numbered;
+  rising = inv.rising;
+  endpoint_births = λ b. let le = inv.endpoint_births b in omega arith;
+  thread_births = λ b. let le = inv.thread_births b in omega arith;
+  born = receives_born_later A.count A.receives inv.born;
+  sends_born = sends_born_later A.count A.sends inv.sends_born;
+  awake = inv.awake;
+  sends_awake = inv.sends_awake;
+  known = inv.known;
+  sends_known = inv.sends_known;
+  once = inv.once;
+  alone = inv.alone;
+}

@@ -1,0 +1,54 @@
+-- What a copy, a mint, a move and a mutate check, and what they do to the capabilities (seL4 Reference Manual, on CNodes).
+use Rattle.std.specs.Prelude.{ℕ, ◌^◌, true, false, cond, ◌&&◌, Option, None, Some, Result, Ok, Err}
+use Rattle.cap_core.specs.declared.profile.ProfileName.{ProfileName}
+use Rattle.cap_core.specs.declared.capability.Cap.{Cap}
+use Rattle.cap_core.specs.declared.refusal.Refusal.{Refusal}
+use Rattle.cap_core.specs.declared.refusal.Refusal.TheVariants.{IllegalOperation, RevokeFirst}
+use Rattle.cap_core.specs.Objects.{is_untyped, bits_of}
+use Rattle.cap_core.specs.Minting.{masked, with_data}
+use Rattle.slot_core.specs.Forest.{Forest}
+use Rattle.slot_core.specs.Entries.{Entry, cap_at}
+use Rattle.slot_core.specs.Derivation.{derived, moved, freed}
+use Rattle.cspace_core.specs.Resolution.{is_cnode}
+use Rattle.abstract_kernel.specs.declared.invocation.Change.{Change}
+use Rattle.abstract_kernel.specs.declared.invocation.Change.TheVariants.{Copy, Mint, Move, Mutate}
+use Rattle.abstract_kernel.specs.declared.invocation.CapPlacement.{CapPlacement}
+use Rattle.abstract_kernel.specs.declared.invocation.SlotArguments.{SlotArguments}
+use Rattle.abstract_kernel.specs.Checks.{◌>>=◌}
+use Rattle.abstract_kernel.specs.Lookups.{extra_cap, where_kind, empty_slot, full_slot}
+use Rattle.abstract_kernel.specs.Shown.{has_child}
+
+-- a capability whose data could be set
+abbrev pub where_set : Option Cap → Result Cap Refusal
+where_set (Some cap) = Ok cap
+where_set None = Err IllegalOperation
+
+-- a capability that may be derived from the one in a slot: an untyped one where nothing was derived from it
+abbrev pub where_derivable : Forest Entry → ℕ → Cap → Result Cap Refusal
+where_derivable f source cap = cond (is_untyped cap && has_child source f) (Err RevokeFirst) (Ok cap)
+
+-- the new capability, from the one in the source's slot
+abbrev pub changed_cap : ProfileName → Forest Entry → ℕ → Change → Cap → Result Cap Refusal
+changed_cap p f source (Copy rights) cap = where_derivable f source (masked rights cap)
+changed_cap p f source (Mint rights word) cap = where_set (with_data p false word (masked rights cap)) >>= where_derivable f source
+changed_cap p f source Move cap = Ok cap
+changed_cap p f source (Mutate word) cap = where_set (with_data p true word cap)
+
+-- the checks in their order, the same for all four
+abbrev pub decoded_placement : ProfileName → Forest Entry → ℕ → Cap → SlotArguments → Change → Result CapPlacement Refusal
+decoded_placement p f thread invoked asked change =
+    where_kind is_cnode invoked >>= λ node.
+    extra_cap p f thread asked.src_root >>= λ root.
+    empty_slot p f node asked.index asked.depth >>= λ slot.
+    full_slot p f root asked.src_index asked.src_depth >>= λ source.
+    changed_cap p f source change (cap_at f source) >>= λ cap.
+    Ok (record { source = source; slot = slot; cap = cap })
+
+-- a derived capability is put. Of an untyped one the source is used up by it
+abbrev pub with_derived : ProfileName → CapPlacement → Forest Entry → Forest Entry
+with_derived p placement f =
+    let put = derived placement.source placement.slot placement.cap f in
+    cond (is_untyped placement.cap) (freed placement.source (2 ^ bits_of p placement.cap) put) put
+
+abbrev pub with_moved : CapPlacement → Forest Entry → Forest Entry
+with_moved placement f = moved placement.source placement.slot placement.cap f

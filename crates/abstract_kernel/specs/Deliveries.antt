@@ -1,0 +1,32 @@
+-- What an endpoint delivers, by the replies to calls.
+use Rattle.std.specs.Prelude.{ℕ, Bool, false, cond, ◌==◌, ◌&&◌, List, [], ◌∷◌}
+use Rattle.std.specs.List.{list_any}
+use Rattle.cap_core.specs.declared.profile.ProfileName.{ProfileName}
+use Rattle.ipc_core.specs.Records.{Instance, SendRecord, AskRecord}
+use Rattle.abstract_kernel.specs.declared.call.Call.{Call}
+use Rattle.abstract_kernel.specs.declared.call.Reply.{Reply}
+use Rattle.abstract_kernel.specs.declared.call.Reply.TheVariants.{Delivered}
+use Rattle.abstract_kernel.specs.Shown.{endpoints_of}
+use Rattle.abstract_kernel.specs.State.{State}
+use Rattle.abstract_kernel.specs.Step.{step}
+
+-- an endpoint is live where its object is live and was not made anew
+abbrev pub is_live : State → Instance → Bool
+is_live A e = list_any (λ k. e.base == k) (endpoints_of A.derivations) && A.endpoint_birth e.base == e.birth
+
+-- a reply that tells of a delivery by the endpoint at an address
+abbrev pub is_delivery : ℕ → Reply → Bool
+is_delivery base (Delivered endpoint from to badge message) = endpoint == base
+is_delivery base reply = false
+
+-- the reply that tells of the delivery of a pair, with the badge that the send kept
+abbrev pub delivery : SendRecord × AskRecord → Reply
+delivery p = Delivered p.0.endpoint.base p.0.thread.base p.1.thread.base p.0.badge p.0.message
+
+-- of the replies to calls, those that tell of a delivery by an endpoint while it is live
+abbrev pub delivered : ProfileName → State → Instance → List Call → List Reply → List Reply
+delivered p A e [] replies = []
+delivered p A e (call ∷ calls) [] = []
+delivered p A e (call ∷ calls) (reply ∷ replies) =
+    let rest = delivered p (step p A call).state e calls replies in
+    cond (is_live A e && is_delivery e.base reply) (reply ∷ rest) rest

@@ -1,0 +1,16 @@
+pub mod Plan
+pub mod Shown
+pub mod State
+pub mod Checks
+pub mod Lookups
+pub mod Retyping
+pub mod CNodes
+pub mod Decode
+pub mod Step
+pub mod Boot
+pub mod Reached
+pub mod Deliveries
+pub mod Cancelling
+pub mod Regions
+pub mod Memory
+pub mod Private

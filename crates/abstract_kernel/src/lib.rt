@@ -1,0 +1,10 @@
+//! The abstract kernel: what a call receives, what it does and what it is answered, and, in `specs/`, the definitions of its
+//! state, of boot, of a step and of runs. There is next to no code here: this is what the kernel's contracts cite.
+#![tactic(auto)]
+
+pub mod call;
+pub mod invocation;
+pub mod plan;
+
+pub use call::{Call, Inbox, Op, Reply, ThreadState};
+pub use plan::PlanDefect;

@@ -1,0 +1,64 @@
+-- What holds of a booted kernel's parts.
+use Rattle.std.proofs.Common.{◌≡◌, ℕ, ◌+◌, ◌-◌, ◌*◌, ◌/◌, ◌^◌, ◌≤◌, Option, List, length, refl, ◌∙◌, ap, arith}
+use Rattle.std.proofs.lemmas.Nat.{pow-add}
+use Rattle.std.proofs.lemmas.List.FromFn.{length-map-range_with_len}
+use Rattle.cap_core.specs.declared.profile.ProfileName.{ProfileName}
+use Rattle.cap_core.specs.declared.profile.ProfileName.TheVariants.{Wide, Narrow}
+use Rattle.cap_core.specs.Numbers.{tcb_size, tcb_bits}
+use Rattle.slot_core.specs.Forest.{Forest}
+use Rattle.slot_core.specs.Entries.{Entry}
+use Rattle.ipc_core.specs.Waits.{Waits, no_waits}
+use Rattle.kernel_core.specs.declared.rows.ThreadRow.{ThreadRow}
+use Rattle.abstract_kernel.specs.Plan.{Plan, IsPlan, first_tcb}
+use Rattle.kernel_core.specs.Rows.{IsKernel}
+use Rattle.kernel_core.specs.Private.BootRows.{boot_row, boot_rows}
+use Rattle.abstract_kernel.specs.Boot.{boot_forest}
+use Rattle.abstract_kernel.proofs.Boot.SoundPlans.{objects_within}
+use Rattle.kernel_core.proofs.Booted.BootThreads.{places, live_at_boot}
+use Rattle.abstract_kernel.proofs.Boot.BootedStore.{store_at_boot}
+use Rattle.abstract_kernel.specs.Private.Stores.{IsKernelStore}
+
+-- the rows of the threads
+
+rows_fill : (p : ProfileName) (m : ℕ) → 12 ≤ m → 2 ^ (m - tcb_bits p) * tcb_size p ≡ 2 ^ m
+rows_fill Wide m h = let e = pow-add 2 (m - 11) 11 in let f : 2 ^ (m - 11 + 11) ≡ 2 ^ m = ap (λ n. 2 ^ n) (omega arith) in omega arith
+rows_fill Narrow m h = let e = pow-add 2 (m - 10) 10 in let f : 2 ^ (m - 10 + 10) ≡ 2 ^ m = ap (λ n. 2 ^ n) (omega arith) in omega arith
+
+fewer : (p : ProfileName) (x y : ℕ) → tcb_size p * x ≤ y * tcb_size p → x ≤ y
+fewer Wide x y h = omega arith
+fewer Narrow x y h = omega arith
+
+pub threads_fit : (p : ProfileName) (plan : Plan) → IsPlan p plan → first_tcb p plan / tcb_size p + plan.threads ≤ 2 ^ (plan.memory_bits - tcb_bits p)
+threads_fit p plan h =
+    fewer p (first_tcb p plan / tcb_size p + plan.threads) (2 ^ (plan.memory_bits - tcb_bits p))
+    (let a = places p plan plan.threads in let b = rows_fill p plan.memory_bits h.limits.memory_least in let w = objects_within p plan h in omega arith)
+
+kernel_at_boot : (p : ProfileName) (plan : Plan) → IsPlan p plan
+    → IsKernel p plan.memory_bits plan.memory_bits plan.memory_bits (boot_forest p plan) (boot_rows (first_tcb p plan / tcb_size p) plan.threads (2 ^ (plan.memory_bits - tcb_bits p))) no_waits
+kernel_at_boot p plan h =
+    record {
+      store_memory_is = refl;
+      waiters_memory_is = refl;
+      memory_least = h.limits.memory_least;
+      memory_most = h.limits.memory_most;
+      rows_fill = ap (λ n. n * tcb_size p) (length-map-range_with_len (boot_row (first_tcb p plan / tcb_size p) plan.threads) 0 (2 ^ (plan.memory_bits - tcb_bits p))) ∙ rows_fill p plan.memory_bits h.limits.memory_least;
+      slots_distinct = store.slots_distinct;
+      slots_placed = store.slots_placed;
+      lawful = store.lawful;
+      disjoint = store.disjoint;
+      regions = store.regions;
+      live_rows = live_at_boot p plan (2 ^ (plan.memory_bits - tcb_bits p)) (threads_fit p plan h);
+      waiting_active = λ e k d b. absurd (omega arith);
+      dead_queue = λ e d. refl;
+      rowless_role = λ t d. refl;
+    }
+  where
+    store : IsKernelStore p plan.memory_bits (boot_forest p plan)
+    store = store_at_boot p plan h
+
+-- the parts that a boot makes are those of a kernel
+pub is_kernel : (p : ProfileName) (plan : Plan) (memory store_memory waiters_memory : ℕ) (f : Forest Entry) (rows : List (Option ThreadRow)) (w : Waits) → IsPlan p plan
+    → memory ≡ plan.memory_bits → store_memory ≡ plan.memory_bits → waiters_memory ≡ plan.memory_bits → f ≡ boot_forest p plan
+    → rows ≡ boot_rows (first_tcb p plan / tcb_size p) plan.threads (2 ^ (plan.memory_bits - tcb_bits p)) → w ≡ no_waits
+    → IsKernel p memory store_memory waiters_memory f rows w
+is_kernel p plan memory store_memory waiters_memory f rows w h a b c d e i = rw (a, b, c, d, e, i) (kernel_at_boot p plan h)

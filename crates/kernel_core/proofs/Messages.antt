@@ -1,0 +1,4 @@
+-- A kernel after a send and after a receive.
+pub mod KernelParts
+pub mod ShownMessages
+pub mod PartsAfter

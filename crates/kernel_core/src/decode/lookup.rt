@@ -1,0 +1,108 @@
+//! The slots and capabilities that the words of a call name.
+ghost use Rattle.std.specs.Prelude.{◌≡◌, ◌≤◌, ◌<◌, ◌^◌, ℕ, true, IfSome, IfNone, IsTrue, ◌↔◌, ◌⊎◌, IfOk};
+ghost use Rattle.slot_core.specs.Places.{address_of};
+ghost use Rattle.ipc_core.specs.Waits.{IsEndpointAddress, IsThreadAddress};
+ghost use Rattle.abstract_kernel.specs.Memory.{IsSlotAddress};
+ghost use Rattle.abstract_kernel.specs.Lookups.{invoked_slot, extra_cap, where_kind, empty_slot as empty_slot_of, full_slot as full_slot_of};
+ghost use Rattle.cap_core.specs.Objects.{IsLawful};
+ghost use Rattle.cap_core.specs.declared.capability.Cap.TheVariants.{Null};
+ghost use Rattle.cspace_core.specs.Target.{target_seen};
+ghost use Rattle.cspace_core.specs.Inside.{LiesInCNode};
+ghost use Rattle.slot_core.specs.Entries.{cap_at};
+
+use cap_core::limits::MAX_MEMORY_BITS;
+use cap_core::{Cap, LookupFault, Profile, Refusal};
+use cspace_core::{resolve, target};
+use slot_core::{CapStore, Slot};
+
+/// The slot at an address within a memory of 2^`memory_bits` bytes, if one can stand there.
+pub fn slot_within<P: Profile>(memory_bits: u32, address: u64) -> Option<Slot>
+    requires { memory_bits ≤ MAX_MEMORY_BITS }
+    ensures slot { IfSome result (λ s. address_of P.the s ≡ address) }
+    ensures within { IfSome result (λ s. address < 2 ^ memory_bits) }
+    ensures none { IfNone result (IsSlotAddress P.the memory_bits address → ⊥) }
+{
+    if address >> memory_bits == 0 {
+        Slot::at::<P>(address)
+    } else {
+        None
+    }
+}
+
+/// Whether an endpoint can stand at an address within a memory of 2^`memory_bits` bytes.
+pub fn is_endpoint_address<P: Profile>(memory_bits: u32, address: u64) -> bool
+    requires { memory_bits ≤ MAX_MEMORY_BITS }
+    ensures { IsTrue result ↔ IsEndpointAddress P.the memory_bits address }
+{
+    address >> memory_bits == 0 && address % (1 << P::ENDPOINT_BITS) == 0
+}
+
+/// The slot that a word names in a thread's capability space, whose root is in the slot at the thread's own address. All the
+/// word's bits are looked up, and bits left over are ignored.
+pub fn named_slot<P: Profile, S: CapStore<P>>(
+    store: &S,
+    thread: u64,
+    word: u64,
+) -> Result<Slot, Refusal>
+    requires memory { S.memory_bits store.now ≤ MAX_MEMORY_BITS }
+    requires thread { IsThreadAddress P.the (S.memory_bits store.now) thread }
+    ensures { target_seen P.the result ≡ invoked_slot P.the (S.forest store.now) thread word }
+{
+    let Some(root) = slot_within::<P>(MAX_MEMORY_BITS, thread) else {
+        return Err(Refusal::FailedLookup(LookupFault::InvalidRoot));
+    };
+    match resolve::<P, S>(store, store.get(root), word, P::WORD_BITS) {
+        Ok((slot, _)) => Ok(slot),
+        Err(fault) => Err(Refusal::FailedLookup(fault)),
+    }
+}
+
+/// The capability that an extra word of a call names: `Null` where its slot is empty.
+pub fn extra_capability<P: Profile, S: CapStore<P>>(
+    store: &S,
+    thread: u64,
+    word: u64,
+) -> Result<Cap, Refusal>
+    requires memory { S.memory_bits store.now ≤ MAX_MEMORY_BITS }
+    requires thread { IsThreadAddress P.the (S.memory_bits store.now) thread }
+    ensures cap { result ≡ extra_cap P.the (S.forest store.now) thread word }
+    ensures lawful { IfOk result (λ cap. (cap ≡ Null) ⊎ IsLawful P.the (S.memory_bits store.now) cap) }
+{
+    let slot = named_slot::<P, S>(store, thread, word)?;
+    Ok(store.get(slot))
+}
+
+/// The empty slot that an operation names by an index and a depth from a capability.
+pub fn empty_slot<P: Profile, S: CapStore<P>>(
+    store: &S,
+    node: Cap,
+    index: u64,
+    depth: u64,
+) -> Result<Slot, Refusal>
+    requires lawful { (node ≡ Null) ⊎ IsLawful P.the (S.memory_bits store.now) node }
+    ensures slot { target_seen P.the result ≡ empty_slot_of P.the (S.forest store.now) node index depth }
+    ensures inside { IfOk result (λ slot. LiesInCNode P.the (cap_at (S.forest store.now)) node (address_of P.the slot)) }
+{
+    let slot = target::<P, S>(store, node, index, depth)?;
+    match store.get(slot) {
+        Cap::Null => Ok(slot),
+        _ => Err(Refusal::DeleteFirst),
+    }
+}
+
+/// The full slot that an operation names by an index and a depth from a capability.
+pub fn full_slot<P: Profile, S: CapStore<P>>(
+    store: &S,
+    node: Cap,
+    index: u64,
+    depth: u64,
+) -> Result<Slot, Refusal>
+    requires lawful { (node ≡ Null) ⊎ IsLawful P.the (S.memory_bits store.now) node }
+    ensures { target_seen P.the result ≡ full_slot_of P.the (S.forest store.now) node index depth }
+{
+    let slot = target::<P, S>(store, node, index, depth)?;
+    match store.get(slot) {
+        Cap::Null => Err(Refusal::FailedLookup(LookupFault::MissingCapability)),
+        _ => Ok(slot),
+    }
+}
