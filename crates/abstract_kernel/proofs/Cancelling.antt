@@ -1,7 +1,6 @@
 -- Cancellation of records that wait, and the ending of objects.
-pub mod Numbers
 pub mod Records
-pub mod Invariant
+pub mod InvariantKept
 pub mod Waiting
 pub mod States
 pub mod Ended

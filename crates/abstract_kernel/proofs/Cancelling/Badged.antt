@@ -12,15 +12,16 @@ use Rattle.abstract_kernel.specs.declared.call.ThreadState.TheVariants.{Ready, I
 use Rattle.abstract_kernel.specs.Shown.{threads_of, endpoints_of, table, waiting_at}
 use Rattle.abstract_kernel.specs.State.{State, endpoint_at, thread_at, waiting_sends, waiting_receives, waiters, is_sending, is_receiving, state_of, first_of, thread_view, shown}
 use Rattle.abstract_kernel.specs.Cancelling.{is_badged_send, cancelling_badged}
-use Rattle.abstract_kernel.specs.Private.Endings.{badge_released, released, readied}
+use Rattle.abstract_kernel.specs.Private.Endings.{after_cancel_badge, after_release, readied}
 use Rattle.abstract_kernel.proofs.Lists.Tables.{table_changed}
 use Rattle.abstract_kernel.proofs.Lists.Numbered.{find_nothing, tally, zero_none}
 use Rattle.abstract_kernel.proofs.Lists.Searches.{table_agrees}
 use Rattle.abstract_kernel.proofs.Messages.WaitingSend.{in_table, not_same, same_itself}
 use Rattle.abstract_kernel.proofs.Reached.Invariant.{list_shown}
-use Rattle.abstract_kernel.proofs.Cancelling.Numbers.{all_weaker, all_of, all_joined, any_left, any_same, filter_all, passes_not}
+use Rattle.abstract_kernel.proofs.Lists.Rising.{all_weaker, all_of, all_joined, any_left, any_same, filter_all, passes_not}
 use Rattle.abstract_kernel.proofs.Cancelling.Records.{inbox_same}
-use Rattle.abstract_kernel.proofs.Cancelling.Invariant.{Invariant, SendIsOpen, sends_waiting, receives_waiting}
+use Rattle.abstract_kernel.proofs.Reached.Invariant.{Invariant, SendIsOpen}
+use Rattle.abstract_kernel.proofs.Cancelling.InvariantKept.{sends_waiting, receives_waiting}
 use Rattle.abstract_kernel.proofs.Cancelling.Waiting.{own_waiting_sends, sender_open, sends_on_one, sends_alone}
 use Rattle.abstract_kernel.proofs.Cancelling.Ended.{list_less, row_shown}
 use Rattle.abstract_kernel.proofs.Cancelling.Stopped.{same_thread_at}
@@ -213,7 +214,7 @@ module _ (A : State) (base : ℕ) (badge : Badge) (inv : Invariant A) (live : li
         ∙ ap (readied was_named) (row_shown A t there)
         ∙ (λ i. record { state = sym state i; inbox = sym inbox i })
 
-  badged_shown : shown (cancelling_badged A (endpoint_at A base) badge) ≡ released (shown A) base (is_sender_with badge)
+  badged_shown : shown (cancelling_badged A (endpoint_at A base) badge) ≡ after_release (shown A) base (is_sender_with badge)
   badged_shown =
       let rows = table_agrees (threads_of A.derivations) (threads_of A.derivations) (thread_view left) (λ t. readied (list_any (is_thread t) (those (is_sender_with badge) (waiting_at (shown A) base))) (get (shown A).threads t)) (λ q. refl) view_left in
       let lists = table_changed (endpoints_of A.derivations) (λ b. waiters A (endpoint_at A b)) (λ b. waiters left (endpoint_at A b)) base (in_table _ _ _ live) list_elsewhere
@@ -248,9 +249,9 @@ module _ (A : State) (base : ℕ) (badge : Badge) (inv : Invariant A) (none : (b
   }
 
 pub cancelling_badged_shown : (A : State) (base : ℕ) (badge : Badge) → Invariant A → list_any (λ k. base == k) (endpoints_of A.derivations) ≡ true →
-    shown (cancelling_badged A (endpoint_at A base) badge) ≡ badge_released (shown A) base badge
+    shown (cancelling_badged A (endpoint_at A base) badge) ≡ after_cancel_badge (shown A) base badge
 cancelling_badged_shown A base badge inv live = by (badge.0 == 0) refl
   where
-    by : (b : Bool) → (badge.0 == 0) ≡ b → shown (cancelling_badged A (endpoint_at A base) badge) ≡ cond b (shown A) (released (shown A) base (is_sender_with badge))
+    by : (b : Bool) → (badge.0 == 0) ≡ b → shown (cancelling_badged A (endpoint_at A base) badge) ≡ cond b (shown A) (after_release (shown A) base (is_sender_with badge))
     by true none = unbadged_shown A base badge inv none
     by false some = badged_shown A base badge inv live some

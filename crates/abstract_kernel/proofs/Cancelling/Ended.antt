@@ -13,13 +13,14 @@ use Rattle.abstract_kernel.specs.declared.call.ThreadState.TheVariants.{Ready, I
 use Rattle.abstract_kernel.specs.Shown.{threads_of, endpoints_of, waiting_at}
 use Rattle.abstract_kernel.specs.State.{State, endpoint_at, thread_at, waiting_sends, waiting_receives, waiters, is_sending, is_receiving, state_of, first_of, thread_view, shown}
 use Rattle.abstract_kernel.specs.Cancelling.{is_ended, is_send_ended, is_receive_ended, ending}
-use Rattle.abstract_kernel.specs.Private.Endings.{rearranged, view_among, waiting_among, state_among}
+use Rattle.abstract_kernel.specs.Private.Endings.{after_ending, view_among, waiting_among, state_among}
 use Rattle.abstract_kernel.proofs.Lists.Tables.{get_table}
 use Rattle.abstract_kernel.proofs.Lists.Searches.{find_found, table_agrees}
 use Rattle.abstract_kernel.proofs.Reached.Invariant.{list_shown}
-use Rattle.abstract_kernel.proofs.Cancelling.Numbers.{all_weaker, all_joined, all_of, all_passing, any_left, filter_same}
+use Rattle.abstract_kernel.proofs.Lists.Rising.{all_weaker, all_joined, all_of, all_passing, any_left, filter_same}
 use Rattle.abstract_kernel.proofs.Cancelling.Records.{inbox_same}
-use Rattle.abstract_kernel.proofs.Cancelling.Invariant.{Invariant, SendIsOpen, ReceiveIsOpen, sends_waiting, receives_waiting}
+use Rattle.abstract_kernel.proofs.Reached.Invariant.{Invariant, SendIsOpen, ReceiveIsOpen}
+use Rattle.abstract_kernel.proofs.Cancelling.InvariantKept.{sends_waiting, receives_waiting}
 use Rattle.abstract_kernel.proofs.Cancelling.Waiting.{own_waiting_sends, own_waiting_receives, same_is, sender_open, receiver_open, sends_on_one, receives_on_one, sends_alone}
 use Rattle.abstract_kernel.proofs.Cancelling.States.{find_among, state_found}
 
@@ -115,7 +116,7 @@ module _ (A : State) (g : Forest Entry) (inv : Invariant A)
       stays : (e m : Instance) → e ≡ endpoint_at A b → m ≡ thread_at A m.base → not (is_ended A g e m) ≡ list_any (λ k. m.base == k) (threads_of g)
       stays e m own is = (λ i. not (is_ended A g (own i) (is i))) ∙ ap not (ended_by_thread b m.base live) ∙ not_not (list_any (λ k. m.base == k) (threads_of g))
 
-  pub ending_shown : shown (ending A g) ≡ rearranged (shown A) g
+  pub ending_shown : shown (ending A g) ≡ after_ending (shown A) g
   ending_shown =
       let rows = table_agrees (threads_of g) (threads_of g) (thread_view left) (λ t. view_among (endpoints_of g) (get (shown A).threads t)) (λ q. refl) view_left in
       let lists = table_agrees (endpoints_of g) (endpoints_of g) (λ b. waiting_among (threads_of g) (waiting_at (shown A) b)) (λ b. waiters left (endpoint_at A b)) (λ q. refl) list_left in

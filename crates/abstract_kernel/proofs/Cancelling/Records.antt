@@ -1,5 +1,5 @@
 -- What a cancellation leaves of an endpoint's records.
-use Rattle.std.proofs.Common.{◌≡◌, ℕ, Bool, true, false, not, ◌==◌, ◌&&◌, ◌||◌, filter, find, length, drop, refl, sym, ap, ◌∙◌, inl, inr}
+use Rattle.std.proofs.Common.{◌≡◌, Bool, true, false, not, ◌==◌, ◌&&◌, ◌||◌, filter, find, length, drop, refl, sym, ap, ◌∙◌, inl, inr}
 use Rattle.std.specs.List.{filter_map, AllByRecursion}
 use Rattle.std.proofs.lemmas.Bool.{false≢true}
 use Rattle.ipc_core.specs.Records.{Instance, same_instance, SendRecord, AskRecord, paired}
@@ -8,17 +8,9 @@ use Rattle.ipc_core.proofs.Cancelling.{pairs_stay}
 use Rattle.abstract_kernel.specs.State.{State, sends_to, receives_of, pairs, waiting_sends, waiting_receives, inbox_of, inbox_with, last_completed}
 use Rattle.abstract_kernel.specs.Cancelling.{cancelling, cancels_send, cancels_receive, is_open_send, is_open_receive}
 use Rattle.abstract_kernel.proofs.Messages.WaitingSend.{same_tells}
-use Rattle.abstract_kernel.proofs.Cancelling.Numbers.{Rises, has_number, all_weaker, all_passing, all_of, all_joined, filter_same, filter_both, rises_filter, by_number, no_number, filter_open, filter_past, drop_less, passes_not, each_there}
-
-abbrev pub send_number : SendRecord → ℕ
-send_number s = s.number
-
-abbrev pub receive_number : AskRecord → ℕ
-receive_number a = a.number
-
--- no send and no receive have a number in common
-abbrev pub Unshared : State → Type 0
-Unshared A = (n : ℕ) → has_number send_number A.sends n ≡ true → has_number receive_number A.receives n ≡ false
+use Rattle.abstract_kernel.proofs.Lists.Numbered.{send_number, receive_number}
+use Rattle.abstract_kernel.proofs.Reached.Invariant.{Unshared}
+use Rattle.abstract_kernel.proofs.Lists.Rising.{Rises, has_number, all_weaker, all_passing, all_of, all_joined, filter_same, filter_both, rises_filter, by_number, no_number, filter_open, filter_past, drop_less, passes_not, each_there}
 
 not_either : (a b c : Bool) → (a && not (b || c)) ≡ ((a && not b) && not c)
 not_either true true c = refl

@@ -8,7 +8,7 @@ use Rattle.abstract_kernel.specs.Private.Endings.{state_among}
 use Rattle.abstract_kernel.proofs.Messages.WaitsOnce.{find_fails}
 use Rattle.abstract_kernel.proofs.Lists.Numbered.{find_nothing}
 use Rattle.abstract_kernel.proofs.Lists.Searches.{find_found}
-use Rattle.abstract_kernel.proofs.Cancelling.Numbers.{passes_not}
+use Rattle.abstract_kernel.proofs.Lists.Rising.{passes_not}
 
 -- the key that was found, where it is among these
 abbrev pub among : List ℕ → Option ℕ → Option ℕ

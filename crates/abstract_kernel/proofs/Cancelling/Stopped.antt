@@ -10,15 +10,16 @@ use Rattle.abstract_kernel.specs.declared.call.ThreadState.TheVariants.{Ready, I
 use Rattle.abstract_kernel.specs.Shown.{threads_of, endpoints_of, table, waiting_at, inbox_at}
 use Rattle.abstract_kernel.specs.State.{State, endpoint_at, thread_at, waiting_sends, waiting_receives, waiters, is_sending, is_receiving, state_of, first_of, inbox_of, thread_view, shown}
 use Rattle.abstract_kernel.specs.Cancelling.{is_sent_by, is_received_by, stopping}
-use Rattle.abstract_kernel.specs.Private.Endings.{stopped}
+use Rattle.abstract_kernel.specs.Private.Endings.{after_stop}
 use Rattle.abstract_kernel.proofs.Lists.Tables.{table_changed}
 use Rattle.abstract_kernel.proofs.Lists.Numbered.{find_nothing}
 use Rattle.abstract_kernel.proofs.Lists.Searches.{table_agrees}
 use Rattle.abstract_kernel.proofs.Messages.WaitingSend.{in_table, not_same, same_itself}
 use Rattle.abstract_kernel.proofs.Reached.Invariant.{list_shown, inbox_shown}
-use Rattle.abstract_kernel.proofs.Cancelling.Numbers.{all_weaker, all_of, any_left}
+use Rattle.abstract_kernel.proofs.Lists.Rising.{all_weaker, all_of, any_left}
 use Rattle.abstract_kernel.proofs.Cancelling.Records.{inbox_same}
-use Rattle.abstract_kernel.proofs.Cancelling.Invariant.{Invariant, SendIsOpen, ReceiveIsOpen, sends_waiting, receives_waiting}
+use Rattle.abstract_kernel.proofs.Reached.Invariant.{Invariant, SendIsOpen, ReceiveIsOpen}
+use Rattle.abstract_kernel.proofs.Cancelling.InvariantKept.{sends_waiting, receives_waiting}
 use Rattle.abstract_kernel.proofs.Cancelling.Waiting.{same_is}
 use Rattle.abstract_kernel.proofs.Cancelling.Ended.{list_less}
 
@@ -83,7 +84,7 @@ module _ (A : State) (t : ℕ) (idle : Bool) (inv : Invariant A) (live : list_an
       by_address : (m : Instance) → m ≡ thread_at A m.base → same_instance m (thread_at A t) ≡ (m.base == t)
       by_address m is = ap (λ (x : Instance). same_instance x (thread_at A t)) is ∙ same_thread_at A m.base t
 
-  pub stopping_shown : shown (stopping A (thread_at A t) idle) ≡ stopped (shown A) t (cond idle Inactive Ready)
+  pub stopping_shown : shown (stopping A (thread_at A t) idle) ≡ after_stop (shown A) t (cond idle Inactive Ready)
   stopping_shown =
       let inbox : inbox_of left (thread_at A t) ≡ inbox_at (shown A) t = inbox_left (thread_at A t) ∙ sym (inbox_shown A t live) in
       let rows = table_changed (threads_of A.derivations) (thread_view A) (thread_view left) t (in_table _ _ _ live) view_else

@@ -16,9 +16,9 @@ use Rattle.abstract_kernel.proofs.Messages.DeliveredSend.{pending}
 use Rattle.abstract_kernel.proofs.Lists.Numbered.{tally, find_nothing}
 use Rattle.abstract_kernel.proofs.Messages.WaitsOnce.{find_fails}
 use Rattle.abstract_kernel.proofs.Lists.Searches.{find_found, some_tally}
-use Rattle.abstract_kernel.proofs.Cancelling.Numbers.{all_weaker, all_joined, all_dropped, passes_not, and_false, each_named}
+use Rattle.abstract_kernel.proofs.Lists.Rising.{all_weaker, all_joined, all_dropped, passes_not, and_false, each_named}
 use Rattle.abstract_kernel.proofs.Cancelling.Records.{own_sends, own_receives}
-use Rattle.abstract_kernel.proofs.Cancelling.Invariant.{Invariant, IsOpen, SendIsOpen, ReceiveIsOpen}
+use Rattle.abstract_kernel.proofs.Reached.Invariant.{Invariant, IsOpen, SendIsOpen, ReceiveIsOpen}
 
 -- what waits on an endpoint is its own
 pub own_waiting_sends : (A : State) (e : Instance) → AllByRecursion (λ (s : SendRecord). s.endpoint ≡ e) (waiting_sends A e)

@@ -30,8 +30,8 @@ abbrev pub waiting_among : List ℕ → List Waiter → List Waiter
 waiting_among threads list = filter (λ (waiter : Waiter). list_any (λ k. thread_of waiter == k) threads) list
 
 -- the capabilities become those of a forest: each thread and each endpoint that is live in it, with whom of these waits
-abbrev pub rearranged : Shown → Forest Entry → Shown
-rearranged v g =
+abbrev pub after_ending : Shown → Forest Entry → Shown
+after_ending v g =
     record {
       derivations = g;
       threads = table (threads_of g) (λ t. view_among (endpoints_of g) (get v.threads t));
@@ -39,18 +39,18 @@ rearranged v g =
     }
 
 -- a thread waits no more
-abbrev pub stopped : Shown → ℕ → ThreadState → Shown
-stopped v t state =
+abbrev pub after_stop : Shown → ℕ → ThreadState → Shown
+after_stop v t state =
     record v {
       threads = insert v.threads t (record { state = state; inbox = inbox_at v t });
       endpoints = table (endpoints_of v.derivations) (λ e. others (is_thread t) (waiting_at v e));
     }
 
-abbrev pub suspended : Shown → ℕ → Shown
-suspended v t = stopped v t Inactive
+abbrev pub after_suspend : Shown → ℕ → Shown
+after_suspend v t = after_stop v t Inactive
 
-abbrev pub resumed : Shown → ℕ → Shown
-resumed v t = stopped v t Ready
+abbrev pub after_resume : Shown → ℕ → Shown
+after_resume v t = after_stop v t Ready
 
 -- the threads that are named are ready
 abbrev pub readied : Bool → Option ThreadView → ThreadView
@@ -58,8 +58,8 @@ readied named None = new_thread
 readied named (Some thread) = record { state = cond named Ready thread.state; inbox = thread.inbox }
 
 -- on an endpoint, those that a test names wait no more
-abbrev pub released : Shown → ℕ → (Waiter → Bool) → Shown
-released v e names =
+abbrev pub after_release : Shown → ℕ → (Waiter → Bool) → Shown
+after_release v e names =
     record v {
       threads =
           table (threads_of v.derivations) (λ t. readied (list_any (is_thread t) (those names (waiting_at v e))) (get v.threads t));
@@ -67,5 +67,5 @@ released v e names =
     }
 
 -- on an endpoint, the senders with a badge wait no more; badge 0 names none
-abbrev pub badge_released : Shown → ℕ → Badge → Shown
-badge_released v e badge = cond (badge.0 == 0) v (released v e (is_sender_with badge))
+abbrev pub after_cancel_badge : Shown → ℕ → Badge → Shown
+after_cancel_badge v e badge = cond (badge.0 == 0) v (after_release v e (is_sender_with badge))

@@ -1,96 +1,19 @@
--- What holds of each reached state, also where objects end: of the records, of open ones only what needs live objects.
-use Rattle.std.proofs.Common.{◌≡◌, ◌≢◌, ℕ, ◌+◌, ◌<◌, ◌≤◌, Bool, true, false, not, cond, ◌==◌, ◌&&◌, ◌||◌, List, [], ◌∷◌, filter, refl, sym, ap, subst, ◌∙◌, arith}
+-- What holds of each reached state holds after a cancellation, and after objects have ended.
+use Rattle.std.proofs.Common.{◌≡◌, ℕ, ◌<◌, ◌≤◌, Bool, true, false, not, cond, ◌==◌, ◌&&◌, ◌||◌, List, [], ◌∷◌, filter, refl, sym, ap, subst, ◌∙◌, arith}
 use Rattle.std.specs.List.{list_any, AllByRecursion}
 use Rattle.std.proofs.lemmas.Bool.{false≢true}
 use Rattle.slot_core.specs.Forest.{Forest}
 use Rattle.slot_core.specs.Entries.{Entry}
-use Rattle.cap_core.specs.declared.profile.ProfileName.{ProfileName}
 use Rattle.cap_core.specs.declared.capability.Badge.{Badge}
 use Rattle.ipc_core.specs.Records.{Instance, same_instance, SendRecord, AskRecord}
-use Rattle.abstract_kernel.specs.Plan.{Plan}
-use Rattle.abstract_kernel.specs.Boot.{boot}
 use Rattle.abstract_kernel.specs.Shown.{threads_of, endpoints_of}
-use Rattle.abstract_kernel.specs.State.{State, endpoint_at, thread_at, waiting_sends, waiting_receives}
-use Rattle.abstract_kernel.specs.Step.{counted}
+use Rattle.abstract_kernel.specs.State.{State, endpoint_at, waiting_sends, waiting_receives}
 use Rattle.abstract_kernel.specs.Cancelling.{cancelling, cancels_send, cancels_receive, is_open_send, is_open_receive, is_ended, ending, stopping, cancelling_badged}
-use Rattle.abstract_kernel.proofs.Messages.WaitingReceive.{ReceivesUpTo}
-use Rattle.abstract_kernel.proofs.Messages.DeliveredSend.{SendsUpTo, pending}
-use Rattle.abstract_kernel.proofs.Lists.Numbered.{tally}
-use Rattle.abstract_kernel.proofs.Reached.Invariant.{receives_later, sends_later, receives_born_later, sends_born_later}
-use Rattle.abstract_kernel.proofs.Cancelling.Numbers.{Rises, all_weaker, all_passing, no_number, numbers_below}
-use Rattle.abstract_kernel.proofs.Cancelling.Records.{send_number, receive_number, Unshared, waiting_sends_left, waiting_receives_left}
-
--- a record that is open: its endpoint and its thread are live and were not made anew, and its thread is not idle
-pub record IsOpen (A : State) (endpoint thread : Instance) : Type 0 where
-  pub endpoint_is : endpoint ≡ endpoint_at A endpoint.base
-  pub endpoint_live : list_any (λ k. endpoint.base == k) (endpoints_of A.derivations) ≡ true
-  pub thread_is : thread ≡ thread_at A thread.base
-  pub thread_live : list_any (λ k. thread.base == k) (threads_of A.derivations) ≡ true
-  pub awake : A.is_idle thread ≡ false
-
-abbrev pub SendIsOpen : State → SendRecord → Type 0
-SendIsOpen A s = IsOpen A s.endpoint s.thread
-
-abbrev pub ReceiveIsOpen : State → AskRecord → Type 0
-ReceiveIsOpen A a = IsOpen A a.endpoint a.thread
-
--- what holds of each reached state
-pub record Invariant (A : State) : Type 0 where
-  pub fresh : (n : ℕ) → A.count < n → A.is_cancelled n ≡ false
-  pub numbered : ReceivesUpTo A.count A.receives
-  pub sends_numbered : SendsUpTo A.count A.sends
-  pub rising : Rises receive_number A.receives
-  pub sends_rising : Rises send_number A.sends
-  pub unshared : Unshared A
-  pub endpoint_births : (b : ℕ) → A.endpoint_birth b ≤ A.count
-  pub thread_births : (b : ℕ) → A.thread_birth b ≤ A.count
-  pub born : AllByRecursion (λ (a : AskRecord). (a.endpoint.birth ≤ A.count) × (a.thread.birth ≤ A.count)) A.receives
-  pub sends_born : AllByRecursion (λ (s : SendRecord). (s.endpoint.birth ≤ A.count) × (s.thread.birth ≤ A.count)) A.sends
-  pub receives_open : (e : Instance) → AllByRecursion (ReceiveIsOpen A) (waiting_receives A e)
-  pub sends_open : (e : Instance) → AllByRecursion (SendIsOpen A) (waiting_sends A e)
-  pub once : (m : Instance) (b : ℕ) → list_any (λ k. b == k) (endpoints_of A.derivations) ≡ true → pending A m b ≤ 1
-  pub alone : (m : Instance) (b c : ℕ) → list_any (λ k. b == k) (endpoints_of A.derivations) ≡ true → list_any (λ k. c == k) (endpoints_of A.derivations) ≡ true → b ≢ c → pending A m b + pending A m c ≤ 1
-
--- of a state with no records
-pub inv_boot : (p : ProfileName) (plan : Plan) → Invariant (boot p plan)
-inv_boot p plan = record {
-  fresh = λ n lt. refl;
-  numbered = tt;
-  sends_numbered = tt;
-  rising = tt;
-  sends_rising = tt;
-  unshared = λ n there. refl;
-  endpoint_births = λ b. omega arith;
-  thread_births = λ b. omega arith;
-  born = tt;
-  sends_born = tt;
-  receives_open = λ e. tt;
-  sends_open = λ e. tt;
-  once = λ m b live. omega arith;
-  alone = λ m b c live live' ne. omega arith;
-}
-
--- an open record, in a state with more or other things
-open_counted : (A : State) (e t : Instance) → IsOpen A e t → IsOpen (counted A) e t
-open_counted A e t o = record { endpoint_is = o.endpoint_is; endpoint_live = o.endpoint_live; thread_is = o.thread_is; thread_live = o.thread_live; awake = o.awake }
-
-pub inv_counted : (A : State) → Invariant A → Invariant (counted A)
-inv_counted A inv = record {
-  fresh = λ n lt. inv.fresh n (omega arith);
-  numbered = receives_later A.count A.receives inv.numbered;
-  sends_numbered = sends_later A.count A.sends inv.sends_numbered;
-  rising = inv.rising;
-  sends_rising = inv.sends_rising;
-  unshared = inv.unshared;
-  endpoint_births = λ b. let le = inv.endpoint_births b in omega arith;
-  thread_births = λ b. let le = inv.thread_births b in omega arith;
-  born = receives_born_later A.count A.receives inv.born;
-  sends_born = sends_born_later A.count A.sends inv.sends_born;
-  receives_open = λ e. all_weaker (ReceiveIsOpen A) (ReceiveIsOpen (counted A)) (λ a o. open_counted A a.endpoint a.thread o) (waiting_receives A e) (inv.receives_open e);
-  sends_open = λ e. all_weaker (SendIsOpen A) (SendIsOpen (counted A)) (λ s o. open_counted A s.endpoint s.thread o) (waiting_sends A e) (inv.sends_open e);
-  once = inv.once;
-  alone = inv.alone;
-}
+use Rattle.abstract_kernel.proofs.Messages.DeliveredSend.{pending}
+use Rattle.abstract_kernel.proofs.Lists.Numbered.{tally, send_number, receive_number}
+use Rattle.abstract_kernel.proofs.Reached.Invariant.{Invariant, IsOpen, SendIsOpen, ReceiveIsOpen}
+use Rattle.abstract_kernel.proofs.Lists.Rising.{all_weaker, all_passing, no_number, numbers_below}
+use Rattle.abstract_kernel.proofs.Cancelling.Records.{waiting_sends_left, waiting_receives_left}
 
 -- fewer pass where some are left out
 tally_filter : {X : Type 0} (p f : X → Bool) (xs : List X) → tally p (filter f xs) ≤ tally p xs

@@ -44,6 +44,19 @@ module _ {X : Type 0} where
   all_dropped P zero (x ∷ xs) h = h
   all_dropped P (suc n) (x ∷ xs) h = all_dropped P n xs h.1
 
+  pub all_dropped_more : (P : X → Type 0) (n m : ℕ) (xs : List X) → n ≤ m → AllByRecursion P (drop n xs) → AllByRecursion P (drop m xs)
+  all_dropped_more P n zero [] le h = tt
+  all_dropped_more P n (suc m) [] le h = tt
+  all_dropped_more P zero m (x ∷ xs) le h = all_dropped P m (x ∷ xs) h
+  all_dropped_more P (suc n) zero (x ∷ xs) le h = absurd (omega (arith, le))
+  all_dropped_more P (suc n) (suc m) (x ∷ xs) le h = all_dropped_more P n m xs (omega (arith, le)) h
+
+  pub all_dropped_push : (P : X → Type 0) (n : ℕ) (xs : List X) (x : X) → AllByRecursion P (drop n xs) → P x → AllByRecursion P (drop n (xs ++ x ∷ []))
+  all_dropped_push P zero [] x h new = (new, tt)
+  all_dropped_push P (suc n) [] x h new = all_dropped P n [] tt
+  all_dropped_push P zero (y ∷ xs) x h new = (h.0, all_dropped_push P zero xs x h.1 new)
+  all_dropped_push P (suc n) (y ∷ xs) x h new = all_dropped_push P n xs x h new
+
   -- what a filter keeps passes its test
   pub all_passing : (P : X → Type 0) (f : X → Bool) (xs : List X) → AllByRecursion P xs → AllByRecursion (λ (x : X). P x × (f x ≡ true)) (filter f xs)
   all_passing P f [] h = tt
@@ -111,6 +124,14 @@ module _ {X : Type 0} (number : X → ℕ) where
 
   pub numbers_below : (n : ℕ) (xs : List X) → AllByRecursion (λ (y : X). number y < n) xs → has_number xs n ≡ false
   numbers_below n xs h = any_none (λ (x : X). number x == n) xs (all_weaker (λ (y : X). number y < n) (λ (y : X). (number y == n) ≡ false) (λ y lt. ne_eqb (number y) n (λ d. absurd (omega (arith, d, lt)))) xs h)
+
+  pub has_number_push : (xs : List X) (x : X) (n : ℕ) → has_number (xs ++ x ∷ []) n ≡ (has_number xs n || number x == n)
+  has_number_push [] x n = or_false (number x == n)
+  has_number_push (y ∷ xs) x n = ap (λ (b : Bool). number y == n || b) (has_number_push xs x n) ∙ assoc (number y == n)
+    where
+      assoc : (b : Bool) → (b || (has_number xs n || number x == n)) ≡ ((b || has_number xs n) || number x == n)
+      assoc true = refl
+      assoc false = refl
 
   all_filtered : (P : X → Type 0) (f : X → Bool) (xs : List X) → AllByRecursion P xs → AllByRecursion P (filter f xs)
   all_filtered P f xs h = all_weaker (λ (x : X). P x × (f x ≡ true)) P (λ x w. w.0) (filter f xs) (all_passing P f xs h)
