@@ -3,3 +3,4 @@ pub mod Runs
 pub mod Invariant
 pub mod Stores
 pub mod Simulation
+pub mod EndedEndpoints
