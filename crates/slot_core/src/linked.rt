@@ -39,12 +39,14 @@ impl<P: Profile> CapStore<P> for LinkedStore<P> {
     ghost use Rattle.std.specs.Prelude.{◌^◌, ◌<◌, true, false};
     ghost use Rattle.cap_core.specs.Objects.{IsLawful, is_untyped, badge_of, contains};
     ghost use Rattle.slot_core.specs.Places.{address_of};
-    ghost use Rattle.slot_core.specs.Calls.{held, is_filled, rooted_at, retyped_at, derived_at, moved_at, freed_at, emptied_at};
+    ghost use Rattle.slot_core.specs.Calls.{held, is_filled, rooted_at, retyped_at, derived_at, moved_at, freed_at};
+    ghost use Rattle.slot_core.specs.Calls.{emptied_at};
     ghost use Rattle.slot_core.specs.Calls.{KeepsBadge, IsChildless};
     ghost use Rattle.derivation.specs.Derivation.{with_free, names_same, is_named};
     ghost use Rattle.derivation.specs.Disjoint.{IsDisjoint};
     ghost use Rattle.derivation.specs.Marked.{forest_of};
-    ghost use Rattle.derivation.specs.MarkedEdits.{appended, object_behind, derived_behind, moved_to, freed_at as freed_in, taken_out};
+    ghost use Rattle.derivation.specs.MarkedEdits.{appended, object_behind, derived_behind, moved_to};
+    ghost use Rattle.derivation.specs.MarkedEdits.{freed_at as freed_in, taken_out};
 
     ghost forest = { λ s. forest_of P.the s.0 };
 
@@ -191,7 +193,8 @@ impl<P: Profile> MakeStore<P> for LinkedStore<P> {
     }
 
     fn copy(&self, alloc: Global) -> Result<LinkedStore<P>, AllocError> {
-        // Each field is named and bound at its type, so a field more, of a tree or of further marks, would not compile.
+        // Each field is named and bound at its type, so a field more, of a tree or of further marks, would not
+        // compile.
         let LinkedStore {
             links,
             first,
@@ -236,9 +239,9 @@ impl<P: Profile> LinkedStore<P> {
 
     /// Derivation without a tree. Whatever calls a store has had, the rows that `link` answers stand for its forest,
     /// where revocable is originality, and for no other. The descendants of a slot are the longest run of the slots
-    /// behind it that it is parent of, and its newest child is the next slot, where it is parent of that. A capability
-    /// is the last of its object where it is untyped, or neither neighbour names the object. An original capability
-    /// with no badge has all other capabilities of its object below it.
+    /// behind it that it is parent of, and its newest child is the next slot, where it is parent of that. A
+    /// capability is the last of its object where it is untyped, or neither neighbour names the object. An original
+    /// capability with no badge has all other capabilities of its object below it.
     pub fn stands_for_its_forest(&self)
         ensures stands { StandsForEntries P.the self.now.0 (forest_of P.the self.now.0) }
         ensures alone { (f : Forest Entry) → StandsForEntries P.the self.now.0 f → f ≡ forest_of P.the self.now.0 }

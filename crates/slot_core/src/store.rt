@@ -3,7 +3,8 @@ ghost use Rattle.std.specs.Prelude.{◌≡◌, ℕ, ◌^◌, ◌<◌, ◌≤◌,
 ghost use Rattle.cap_core.specs.Objects.{IsLawful, is_untyped, badge_of, contains};
 ghost use Rattle.cap_core.specs.declared.capability.Cap.TheVariants.{Null};
 ghost use Rattle.slot_core.specs.Places.{address_of};
-ghost use Rattle.slot_core.specs.Calls.{held, is_filled, newest_child, rooted_at, retyped_at, derived_at, moved_at, freed_at, emptied_at};
+ghost use Rattle.slot_core.specs.Calls.{held, is_filled, newest_child, rooted_at, retyped_at, derived_at, moved_at};
+ghost use Rattle.slot_core.specs.Calls.{freed_at, emptied_at};
 ghost use Rattle.slot_core.specs.Calls.{KeepsBadge, IsChildless};
 ghost use Rattle.derivation.specs.Forest.{Forest, none};
 ghost use Rattle.derivation.specs.Entries.{Entry};
@@ -15,10 +16,11 @@ use cap_core::limits::{MAX_MEMORY_BITS, MIN_MEMORY_BITS};
 use cap_core::{Cap, Profile};
 use std::alloc::{AllocError, Global};
 
-/// Slots with capabilities, and the forest of their derivation (seL4 Reference Manual, on the capability derivation tree).
+/// Slots with capabilities, and the forest of their derivation (seL4 Reference Manual, on the capability derivation
+/// tree).
 ///
-/// Contracts see a store as its derivation forest, whose entries are the full slots with their capabilities and whether
-/// each is original, and as the bits of its memory's size. No call takes memory.
+/// Contracts see a store as its derivation forest, whose entries are the full slots with their capabilities and
+/// whether each is original, and as the bits of its memory's size. No call takes memory.
 pub trait CapStore<P: Profile> {
     ghost forest: { Self → Forest Entry };
 
@@ -40,7 +42,8 @@ pub trait CapStore<P: Profile> {
         ensures forest { forest self.new ≡ rooted_at P.the slot cap (forest self.old) }
         ensures memory { memory_bits self.new ≡ memory_bits self.old };
 
-    /// Puts the capability of a new object into an empty slot: the first child of the untyped in `parent`, and original.
+    /// Puts the capability of a new object into an empty slot: the first child of the untyped in `parent`, and
+    /// original.
     fn put_new(&mut self, parent: Slot, slot: Slot, cap: Cap)
         requires parent { is_untyped (held P.the parent (forest self.old)) ≡ true }
         requires contains { contains P.the (held P.the parent (forest self.old)) cap ≡ true }
@@ -66,8 +69,8 @@ pub trait CapStore<P: Profile> {
         ensures forest { forest self.new ≡ derived_at P.the source slot cap (forest self.old) }
         ensures memory { memory_bits self.new ≡ memory_bits self.old };
 
-    /// Moves a capability from `source` to the empty slot `slot`, as `cap`, which names the same object with the same badge.
-    /// It keeps its place in the forest and whether it is original; `source` is empty afterwards.
+    /// Moves a capability from `source` to the empty slot `slot`, as `cap`, which names the same object with the same
+    /// badge. It keeps its place in the forest and whether it is original; `source` is empty afterwards.
     fn relocate(&mut self, source: Slot, slot: Slot, cap: Cap)
         requires source { is_filled P.the source (forest self.old) ≡ true }
         requires within { address_of P.the slot < 2 ^ memory_bits self.old }
@@ -96,7 +99,8 @@ pub trait CapStore<P: Profile> {
     fn first_child(&self, slot: Slot) -> Option<Slot>
         ensures { option_map (address_of P.the) result ≡ newest_child P.the slot (forest self.now) };
 
-    /// Whether the capability in a full slot is the last of its object: it is untyped, or no other slot names the object.
+    /// Whether the capability in a full slot is the last of its object: it is untyped, or no other slot names the
+    /// object.
     fn is_last(&self, slot: Slot) -> bool
         requires full { is_filled P.the slot (forest self.now) ≡ true }
         ensures { result ≡ is_last_of (address_of P.the slot) (forest self.now) };

@@ -3,9 +3,10 @@ ghost use Rattle.std.specs.Prelude.{◌≡◌, ◌≢◌, ℕ, ◌<◌, length, 
 ghost use Rattle.cap_core.specs.declared.capability.Cap.TheVariants.{Null};
 ghost use Rattle.cap_core.specs.Objects.{same_object as is_same_object};
 ghost use Rattle.derivation.specs.Derivation.{with_free as freed_cap};
-ghost use Rattle.derivation.specs.Marked.{marked, at_place, with_cap, with_mark, is_parent as is_parent_in, badge_fits as badge_fits_in};
+ghost use Rattle.derivation.specs.Marked.{marked, at_place, with_cap, with_mark, is_parent as is_parent_in};
+ghost use Rattle.derivation.specs.Marked.{badge_fits as badge_fits_in};
 ghost use Rattle.slot_core.specs.TableEdits.{PutsBehind, Appends, TakesOut, Replaces, Frees};
-ghost use Rattle.slot_core.specs.Links.{next_of, previous_of, link_at, row_of, place_in};
+ghost use Rattle.slot_core.specs.Links.{unplaced, next_of, previous_of, link_at, row_of, place_in};
 
 use crate::derived::{badge_of, with_free};
 use crate::slot::Slot;
@@ -130,8 +131,8 @@ pub fn insert_after(
     requires source_in { source.place < length links.old }
     requires slot_in { slot.place < length links.old }
     requires next_in { IfSome (next_of links.old source.place) (λ n. n < length links.old) }
-    ensures { PutsBehind links.old links.new (place_in first.old) (place_in first.new) (place_in last.old) (place_in last.new)
-        source.place slot.place (marked slot.place cap marks marks) }
+    ensures { PutsBehind links.old links.new (place_in first.old) (place_in first.new)
+        (place_in last.old) (place_in last.new) source.place slot.place (marked slot.place cap marks marks) }
 {
     let next = links[source.index()].next;
     put(
@@ -159,8 +160,8 @@ pub fn append(
 )
     requires slot_in { slot.place < length links.old }
     requires last_in { IfSome (place_in last.old) (λ n. n < length links.old) }
-    ensures { Appends links.old links.new (place_in first.old) (place_in first.new) (place_in last.old) (place_in last.new)
-        slot.place (marked slot.place cap true true) }
+    ensures { Appends links.old links.new (place_in first.old) (place_in first.new)
+        (place_in last.old) (place_in last.new) slot.place (marked slot.place cap true true) }
 {
     let previous = *last;
     put(
@@ -183,8 +184,8 @@ pub fn unlink(links: &mut [Link], first: &mut Option<Slot>, last: &mut Option<Sl
     requires slot_in { slot.place < length links.old }
     requires next_in { IfSome (next_of links.old slot.place) (λ n. n < length links.old) }
     requires previous_in { IfSome (previous_of links.old slot.place) (λ n. n < length links.old) }
-    ensures { TakesOut links.old links.new (place_in first.old) (place_in first.new) (place_in last.old) (place_in last.new)
-        slot.place }
+    ensures { TakesOut links.old links.new (place_in first.old) (place_in first.new)
+        (place_in last.old) (place_in last.new) slot.place }
 {
     let row = links[slot.index()];
     lead_on(links, first, row.previous, row.next);
@@ -206,8 +207,8 @@ pub fn replace(
     requires slot_in { slot.place < length links.old }
     requires next_in { IfSome (next_of links.old source.place) (λ n. n < length links.old) }
     requires previous_in { IfSome (previous_of links.old source.place) (λ n. n < length links.old) }
-    ensures { Replaces links.old links.new (place_in first.old) (place_in first.new) (place_in last.old) (place_in last.new)
-        source.place slot.place cap }
+    ensures { Replaces links.old links.new (place_in first.old) (place_in first.new)
+        (place_in last.old) (place_in last.new) source.place slot.place cap }
 {
     let row = links[source.index()];
     put(links, slot, Link { cap, ..row });
@@ -247,18 +248,19 @@ pub fn names(links: &[Link], slot: Option<Slot>, cap: Cap) -> bool
     }
 }
 
-/// Whether `a` is parent of `b` in the list (seL4 abstract specification, on the capability derivation tree as a list):
-/// `a` is revocable and has `b` in its region, and where `a` has a badge, `b` has the same and is not first badged.
+/// Whether `a` is parent of `b` in the list (seL4 abstract specification, on the capability derivation tree as a
+/// list): `a` is revocable and has `b` in its region, and where `a` has a badge, `b` has the same and is not first
+/// badged.
 #[inline(always)]
 pub fn is_parent<P: Profile>(a: Link, b: Link) -> bool
-    ensures { result ≡ is_parent_in P.the (marked 0 a.cap a.revocable a.first_badged) (marked 0 b.cap b.revocable b.first_badged) }
+    ensures { result ≡ is_parent_in P.the (unplaced a) (unplaced b) }
 {
     a.revocable && in_region::<P>(a.cap, b.cap) && badge_fits(a, b)
 }
 
 /// Whether `a` has no badge, or `b` has the same and is not the first with it.
 fn badge_fits(a: Link, b: Link) -> bool
-    ensures { result ≡ badge_fits_in (marked 0 a.cap a.revocable a.first_badged) (marked 0 b.cap b.revocable b.first_badged) }
+    ensures { result ≡ badge_fits_in (unplaced a) (unplaced b) }
 {
     let badge = badge_of(a.cap);
     badge == 0 || (badge_of(b.cap) == badge && !b.first_badged)
