@@ -28,21 +28,21 @@ mod retyping;
 pub fn decode_op<P: Profile, S: CapStore<P>>(
     store: &S,
     thread: u64,
-    op: Op,
+    op: &Op,
 ) -> Result<Invocation, Refusal>
     requires memory { S.memory_bits store.now ≤ MAX_MEMORY_BITS }
     requires thread { IsThreadAddress P.the (S.memory_bits store.now) thread }
-    ensures { result ≡ decoded_op P.the (S.forest store.now) thread op }
+    ensures { result ≡ decoded_op P.the (S.forest store.now) thread op.now }
 {
     let slot = named_slot::<P, S>(store, thread, service_word(op))?;
     decode_invocation::<P, S>(store, thread, op, slot)
 }
 
 /// The word by which an operation names the capability that it invokes.
-fn service_word(op: Op) -> u64
-    ensures { result ≡ service_word_of op }
+fn service_word(op: &Op) -> u64
+    ensures { result ≡ service_word_of op.now }
 {
-    match op {
+    match *op {
         Op::Retype { cap, .. }
         | Op::CapCopy { cap, .. }
         | Op::CapMint { cap, .. }
@@ -61,39 +61,38 @@ fn service_word(op: Op) -> u64
 fn decode_invocation<P: Profile, S: CapStore<P>>(
     store: &S,
     thread: u64,
-    op: Op,
+    op: &Op,
     slot: Slot,
 ) -> Result<Invocation, Refusal>
     requires memory { S.memory_bits store.now ≤ MAX_MEMORY_BITS }
     requires thread { IsThreadAddress P.the (S.memory_bits store.now) thread }
-    ensures { result ≡ decoded_invocation P.the (S.forest store.now) thread op (address_of P.the slot) }
+    ensures { result ≡ decoded_invocation P.the (S.forest store.now) thread op.now (address_of P.the slot) }
 {
-    let cap = store.get(slot);
-    match op {
+    match *op {
         Op::Retype { kind, size_bits, root, index, depth, offset, count, .. } => {
             let asked = RetypeArguments { kind, size_bits, root, index, depth, offset, count };
             decode_new_objects::<P, S>(store, thread, slot, asked)
         }
         Op::CapCopy { index, depth, src_root, src_index, src_depth, rights, .. } => {
             let slots = SlotArguments { index, depth, src_root, src_index, src_depth };
-            decode_derive::<P, S>(store, thread, cap, slots, Change::Copy(rights))
+            decode_derive::<P, S>(store, thread, store.get(slot), slots, Change::Copy(rights))
         }
         Op::CapMint { index, depth, src_root, src_index, src_depth, rights, word, .. } => {
             let slots = SlotArguments { index, depth, src_root, src_index, src_depth };
-            decode_derive::<P, S>(store, thread, cap, slots, Change::Mint(rights, word))
+            decode_derive::<P, S>(store, thread, store.get(slot), slots, Change::Mint(rights, word))
         }
         Op::CapMove { index, depth, src_root, src_index, src_depth, .. } => {
             let slots = SlotArguments { index, depth, src_root, src_index, src_depth };
-            decode_move::<P, S>(store, thread, cap, slots, Change::Move)
+            decode_move::<P, S>(store, thread, store.get(slot), slots, Change::Move)
         }
         Op::CapMutate { index, depth, src_root, src_index, src_depth, word, .. } => {
             let slots = SlotArguments { index, depth, src_root, src_index, src_depth };
-            decode_move::<P, S>(store, thread, cap, slots, Change::Mutate(word))
+            decode_move::<P, S>(store, thread, store.get(slot), slots, Change::Mutate(word))
         }
-        Op::Send { message, .. } => decode_send(cap, message, true),
-        Op::NbSend { message, .. } => decode_send(cap, message, false),
-        Op::Recv { .. } => decode_receive(cap, true),
-        Op::NbRecv { .. } => decode_receive(cap, false),
+        Op::Send { message, .. } => decode_send(store.get(slot), message, true),
+        Op::NbSend { message, .. } => decode_send(store.get(slot), message, false),
+        Op::Recv { .. } => decode_receive(store.get(slot), true),
+        Op::NbRecv { .. } => decode_receive(store.get(slot), false),
     }
 }
 
@@ -113,6 +112,7 @@ fn decode_new_objects<P: Profile, S: CapStore<P>>(
 }
 
 /// A copy or a mint by a capability.
+#[inline(always)]
 fn decode_derive<P: Profile, S: CapStore<P>>(
     store: &S,
     thread: u64,
@@ -130,6 +130,7 @@ fn decode_derive<P: Profile, S: CapStore<P>>(
 }
 
 /// A move or a mutate by a capability.
+#[inline(always)]
 fn decode_move<P: Profile, S: CapStore<P>>(
     store: &S,
     thread: u64,

@@ -163,7 +163,7 @@ impl<P: Profile, S: CapStore<P> + Drop, W: Waiters<P> + Drop> Kernel<P, S, W> {
         ensures forest { IfOk result (λ (t : Invocation). IsForest P.the self.now.derivations) }
     {
         match self.thread_state(call.thread).ok_or(Refusal::NoThread)? {
-            ThreadState::Ready => decode_op::<P, S>(&self.store, call.thread, call.op),
+            ThreadState::Ready => decode_op::<P, S>(&self.store, call.thread, &call.op),
             _ => Err(Refusal::NotReady),
         }
     }
