@@ -8,7 +8,7 @@ use Rattle.derivation.specs.Entries.{Entry}
 use Rattle.ipc_core.specs.Records.{Instance, same_instance, SendRecord, ReceiveRecord, sender, receiver}
 use Rattle.ipc_core.specs.declared.waiter.Waiter.{Waiter}
 use Rattle.ipc_core.specs.Waits.{thread_of}
-use Rattle.ipc_core.proofs.Cancelling.{filter-map}
+use Rattle.ipc_core.proofs.Histories.Cancelling.{filter-map}
 use Rattle.abstract_kernel.specs.declared.call.ThreadState.TheVariants.{Ready, Inactive}
 use Rattle.abstract_kernel.specs.Shown.{threads_of, endpoints_of, waiting_at}
 use Rattle.abstract_kernel.specs.State.{State, endpoint_at, thread_at, waiting_sends, waiting_receives, waiters, is_sending, is_receiving, state_of, first_of, thread_view, shown}

@@ -4,7 +4,7 @@ use Rattle.std.specs.List.{filter_map, AllByRecursion}
 use Rattle.std.proofs.lemmas.Bool.{false≢true}
 use Rattle.ipc_core.specs.Records.{Instance, same_instance, SendRecord, ReceiveRecord, paired}
 use Rattle.ipc_core.specs.Cancelled.{sends_less, receives_less}
-use Rattle.ipc_core.proofs.Cancelling.{pairs_stay}
+use Rattle.ipc_core.proofs.Histories.Cancelling.{pairs_stay}
 use Rattle.abstract_kernel.specs.State.{State, sends_to, receives_of, pairs, waiting_sends, waiting_receives, inbox_of, inbox_with, last_completed}
 use Rattle.abstract_kernel.specs.Cancelling.{cancelling, cancels_send, cancels_receive, is_open_send, is_open_receive}
 use Rattle.abstract_kernel.proofs.Messages.WaitingSend.{same_tells}
