@@ -3,9 +3,9 @@ use Rattle.std.proofs.Common.{◌≡◌, Bool, true, false, not, cond, ◌||◌,
 use Rattle.std.specs.List.{list_any}
 use Rattle.std.proofs.lemmas.List.Folds.{list_any-append}
 use Rattle.std.proofs.lemmas.List.Elements.{filter-append}
-use Rattle.slot_core.specs.Forest.{Forest, none, tree, preorder, join, below_those, has, ancestors}
-use Rattle.slot_core.proofs.Built.{join-assoc, join-nothing}
-use Rattle.slot_core.proofs.Forests.{preorder-join}
+use Rattle.derivation.specs.Forest.{Forest, none, tree, preorder, join, below_those, has, ancestors}
+use Rattle.derivation.proofs.Trees.Built.{join-assoc, join-nothing}
+use Rattle.derivation.proofs.Trees.Forests.{preorder-join}
 use Rattle.clearing.specs.Members.{OneAtMost}
 use Rattle.clearing.specs.Without.{without}
 use Rattle.clearing.proofs.Without.{without-join, preorder-without, one-left, one-right}

@@ -7,10 +7,10 @@ use Rattle.cap_core.specs.declared.profile.ProfileName.{ProfileName}
 use Rattle.cap_core.specs.declared.capability.Cap.{Cap}
 use Rattle.cap_core.specs.declared.capability.Cap.TheVariants.{Null, Untyped, Endpoint, CNode, Tcb}
 use Rattle.cap_core.specs.Objects.{IsLawful, is_null, is_untyped, same_object, contains, base_of, end_of}
-use Rattle.slot_core.specs.Forest.{Forest, preorder}
-use Rattle.slot_core.specs.Entries.{Entry, slots, caps}
-use Rattle.slot_core.specs.Disjoint.{IsDisjoint, are_disjoint}
-use Rattle.slot_core.proofs.Forests.{each-contains, each-contained}
+use Rattle.derivation.specs.Forest.{Forest, preorder}
+use Rattle.derivation.specs.Entries.{Entry, slots, caps}
+use Rattle.derivation.specs.Disjoint.{IsDisjoint, are_disjoint}
+use Rattle.derivation.proofs.Trees.Forests.{each-contains, each-contained}
 use Rattle.clearing.specs.Members.{In}
 use Rattle.clearing.specs.Slots.{slots_of}
 use Rattle.clearing.specs.Work.{IsClearable}

@@ -4,8 +4,8 @@ use Rattle.cap_core.specs.declared.profile.ProfileName.TheVariants.{Wide}
 use Rattle.cap_core.specs.declared.capability.Cap.{Cap}
 use Rattle.cap_core.specs.declared.capability.Cap.TheVariants.{Untyped, Endpoint, CNode, Tcb}
 use Rattle.cap_core.specs.Rights.{all_rights}
-use Rattle.slot_core.specs.Forest.{Forest, none, tree}
-use Rattle.slot_core.specs.Entries.{Entry, entry, slots}
+use Rattle.derivation.specs.Forest.{Forest, none, tree}
+use Rattle.derivation.specs.Entries.{Entry, entry, slots}
 use Rattle.clearing.specs.Slots.{slots_of}
 use Rattle.clearing.specs.Least.{cleared}
 use Rattle.clearing.specs.Revoke.{revoke}

@@ -3,10 +3,10 @@ use Rattle.std.proofs.Common.{◌≡◌, inl, inr, ℕ, zero, suc, Bool, true, f
 use Rattle.std.specs.List.{AllByRecursion as Each}
 use Rattle.std.proofs.lemmas.Bool.{eqb-true}
 use Rattle.cap_core.specs.declared.profile.ProfileName.{ProfileName}
-use Rattle.slot_core.specs.Entries.{Entry, is_at, first_child}
+use Rattle.derivation.specs.Entries.{Entry, is_at, first_child}
 use Rattle.cap_core.specs.Objects.{same_object}
 use Rattle.clearing.specs.Slots.{slots_of}
-use Rattle.slot_core.specs.Forest.{Forest, preorder}
+use Rattle.derivation.specs.Forest.{Forest, preorder}
 use Rattle.clearing.specs.Without.{without}
 use Rattle.clearing.specs.Clear.{clear}
 use Rattle.clearing.specs.Least.{full, has_all, IsLeast}

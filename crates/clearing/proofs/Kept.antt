@@ -5,9 +5,9 @@ use Rattle.std.proofs.lemmas.Bool.{eqb-true}
 use Rattle.std.proofs.lemmas.List.Elements.{recursion_from_All, All-from_recursion}
 use Rattle.cap_core.specs.declared.profile.ProfileName.{ProfileName}
 use Rattle.cap_core.specs.Objects.{same_object, is_untyped, contains}
-use Rattle.slot_core.specs.Forest.{Forest, preorder, below_those, descendants, ancestors}
-use Rattle.slot_core.specs.Entries.{Entry, is_at, slots, first_child}
-use Rattle.slot_core.specs.Disjoint.{IsDisjoint, AreInLine, are_disjoint}
+use Rattle.derivation.specs.Forest.{Forest, preorder, below_those, descendants, ancestors}
+use Rattle.derivation.specs.Entries.{Entry, is_at, slots, first_child}
+use Rattle.derivation.specs.Disjoint.{IsDisjoint, AreInLine, are_disjoint}
 use Rattle.clearing.specs.Slots.{slots_of}
 use Rattle.clearing.specs.Members.{In}
 use Rattle.clearing.specs.Least.{full, has_all, cleared}

@@ -2,9 +2,9 @@
 use Rattle.std.proofs.Common.{◌≡◌, ◌⊎◌, inl, inr, ℕ, Bool, true, false, not, cond, ◌||◌, ◌&&◌, ◌==◌, List, [], ◌∷◌, refl, sym, ◌∙◌, ap, arith}
 use Rattle.std.specs.List.{list_any, filter}
 use Rattle.std.proofs.lemmas.List.Folds.{list_any-append}
-use Rattle.slot_core.specs.Entries.{Entry}
+use Rattle.derivation.specs.Entries.{Entry}
 use Rattle.cap_core.specs.Objects.{is_untyped, same_object}
-use Rattle.slot_core.specs.Forest.{Forest, none, tree, preorder, out}
+use Rattle.derivation.specs.Forest.{Forest, none, tree, preorder, out}
 use Rattle.clearing.specs.Least.{full, has_all}
 use Rattle.clearing.specs.Members.{In}
 use Rattle.clearing.specs.Work.{held, last_at, named, ended_in}

@@ -3,10 +3,10 @@ use Rattle.std.proofs.Common.{◌≡◌, inl, inr, ℕ, suc, ◌+◌, ◌<◌, B
 use Rattle.std.specs.List.{list_any, filter}
 use Rattle.std.proofs.lemmas.Bool.{eqb-true}
 use Rattle.cap_core.specs.declared.profile.ProfileName.{ProfileName}
-use Rattle.slot_core.specs.Entries.{Entry, is_at}
+use Rattle.derivation.specs.Entries.{Entry, is_at}
 use Rattle.cap_core.specs.Objects.{same_object}
 use Rattle.clearing.specs.Slots.{slots_of}
-use Rattle.slot_core.specs.Forest.{Forest, none, tree, preorder, out}
+use Rattle.derivation.specs.Forest.{Forest, none, tree, preorder, out}
 use Rattle.clearing.specs.Without.{without}
 use Rattle.clearing.specs.Clear.{clear}
 use Rattle.clearing.specs.Least.{full, has_all}

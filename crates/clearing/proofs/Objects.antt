@@ -8,7 +8,7 @@ use Rattle.cap_core.specs.declared.capability.Guard.{Guard}
 use Rattle.cap_core.specs.declared.capability.Cap.{Cap}
 use Rattle.cap_core.specs.declared.capability.Cap.TheVariants.{Null, Untyped, Endpoint, CNode, Tcb}
 use Rattle.cap_core.specs.Objects.{is_untyped, same_object}
-use Rattle.slot_core.proofs.Disjointness.{same_object-swap}
+use Rattle.derivation.proofs.Disjoint.Disjointness.{same_object-swap}
 use Rattle.clearing.specs.Slots.{slots_of}
 use Rattle.clearing.specs.Members.{In}
 use Rattle.clearing.proofs.Members.{both_true, eqb_self}

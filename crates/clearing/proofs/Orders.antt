@@ -3,11 +3,11 @@ use Rattle.std.proofs.Common.{◌≡◌, inl, inr, ℕ, Bool, true, false, not, 
 use Rattle.std.specs.List.{IsDistinct, list_any, filter}
 use Rattle.std.proofs.lemmas.Bool.Decides.{nat_tests}
 use Rattle.cap_core.specs.declared.profile.ProfileName.{ProfileName}
-use Rattle.slot_core.proofs.Built.{Absent, Once}
-use Rattle.slot_core.proofs.Distinct.{once_at}
+use Rattle.derivation.proofs.Trees.Built.{Absent, Once}
+use Rattle.derivation.proofs.Slots.Distinct.{once_at}
 use Rattle.clearing.specs.Least.{cleared}
-use Rattle.slot_core.specs.Entries.{slots, Entry, is_at}
-use Rattle.slot_core.specs.Forest.{Forest, none, tree, preorder, out}
+use Rattle.derivation.specs.Entries.{slots, Entry, is_at}
+use Rattle.derivation.specs.Forest.{Forest, none, tree, preorder, out}
 use Rattle.clearing.specs.Without.{without}
 use Rattle.clearing.specs.Clear.{clear, all_emptied}
 use Rattle.clearing.specs.Members.{In, OneAtMost, AreApart}

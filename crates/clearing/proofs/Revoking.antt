@@ -2,9 +2,9 @@
 use Rattle.std.proofs.Common.{◌≡◌, ◌⊎◌, inl, inr, ℕ, zero, suc, ◌-◌, ◌≤◌, ◌<◌, Bool, true, false, not, cond, ◌||◌, ◌&&◌, List, [], ◌∷◌, ◌++◌, length, Option, Some, None, refl, sym, ◌∙◌, ap, subst, arith}
 use Rattle.std.specs.List.{filter}
 use Rattle.cap_core.specs.declared.profile.ProfileName.{ProfileName}
-use Rattle.slot_core.specs.Entries.{Entry, is_at, first_slot, first_child}
+use Rattle.derivation.specs.Entries.{Entry, is_at, first_slot, first_child}
 use Rattle.cap_core.specs.Objects.{same_object}
-use Rattle.slot_core.specs.Forest.{Forest, none, tree, preorder, join, tops, below_those, children}
+use Rattle.derivation.specs.Forest.{Forest, none, tree, preorder, join, tops, below_those, children}
 use Rattle.clearing.specs.Clear.{clear}
 use Rattle.clearing.specs.Least.{full, cleared}
 use Rattle.clearing.specs.Members.{In}
@@ -13,7 +13,7 @@ use Rattle.clearing.specs.Revoke.{revoked, revoke}
 use Rattle.cap_core.specs.declared.capability.Cap.{Cap}
 use Rattle.clearing.proofs.Members.{any_in, any_of, in_append, in_left, in_right, in_filter, eqb_self}
 use Rattle.clearing.proofs.Without.{preorder-without}
-use Rattle.slot_core.proofs.Forests.{preorder-join}
+use Rattle.derivation.proofs.Trees.Forests.{preorder-join}
 use Rattle.clearing.proofs.Rounds.{cleared_least}
 use Rattle.clearing.proofs.Orders.{one-filter}
 

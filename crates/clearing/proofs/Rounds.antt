@@ -3,7 +3,7 @@ use Rattle.std.proofs.Common.{◌≡◌, ◌⊎◌, inl, inr, ℕ, zero, suc, �
 use Rattle.std.specs.List.{list_any, list_all, AllByRecursion as Each}
 use Rattle.std.proofs.lemmas.Bool.{eqb-true}
 use Rattle.cap_core.specs.declared.profile.ProfileName.{ProfileName}
-use Rattle.slot_core.specs.Entries.{Entry, is_at}
+use Rattle.derivation.specs.Entries.{Entry, is_at}
 use Rattle.cap_core.specs.Objects.{same_object}
 use Rattle.clearing.specs.Slots.{slots_of}
 use Rattle.clearing.specs.Least.{full, has_all, IsClosed, IsLeast, grown, rounds, cleared}

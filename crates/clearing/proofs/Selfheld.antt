@@ -4,7 +4,7 @@ use Rattle.std.specs.List.{list_any, AllByRecursion as Each}
 use Rattle.std.proofs.lemmas.Bool.{eqb-true}
 use Rattle.cap_core.specs.declared.profile.ProfileName.{ProfileName}
 use Rattle.cap_core.specs.Objects.{same_object}
-use Rattle.slot_core.specs.Entries.{Entry}
+use Rattle.derivation.specs.Entries.{Entry}
 use Rattle.clearing.specs.Slots.{slots_of}
 use Rattle.clearing.specs.Members.{In}
 use Rattle.clearing.specs.Least.{full, has_all, IsClosed, cleared}

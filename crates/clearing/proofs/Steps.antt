@@ -4,8 +4,8 @@ use Rattle.cap_core.specs.declared.profile.ProfileName.{ProfileName}
 use Rattle.cap_core.specs.declared.capability.Cap.{Cap}
 use Rattle.cap_core.specs.declared.capability.Cap.TheVariants.{Null}
 use Rattle.cap_core.specs.Objects.{same_object}
-use Rattle.slot_core.specs.Forest.{Forest, preorder, out}
-use Rattle.slot_core.specs.Entries.{Entry, is_at}
+use Rattle.derivation.specs.Forest.{Forest, preorder, out}
+use Rattle.derivation.specs.Entries.{Entry, is_at}
 use Rattle.clearing.specs.Slots.{slots_of}
 use Rattle.clearing.specs.Least.{full}
 use Rattle.clearing.specs.Work.{held, last_at, ended_in, ends, list_after, IsClearable}

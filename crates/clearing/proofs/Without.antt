@@ -3,11 +3,11 @@ use Rattle.std.proofs.Common.{◌≡◌, Bool, true, false, not, ◌||◌, List,
 use Rattle.std.specs.List.{list_any, filter}
 use Rattle.std.proofs.lemmas.List.Folds.{list_any-append}
 use Rattle.std.proofs.lemmas.List.Elements.{filter-append}
-use Rattle.slot_core.specs.Forest.{Forest, none, tree, preorder, join, out}
+use Rattle.derivation.specs.Forest.{Forest, none, tree, preorder, join, out}
 use Rattle.clearing.specs.Without.{without}
 use Rattle.clearing.specs.Members.{OneAtMost}
-use Rattle.slot_core.proofs.Forests.{preorder-join}
-use Rattle.slot_core.proofs.Built.{join-assoc}
+use Rattle.derivation.proofs.Trees.Forests.{preorder-join}
+use Rattle.derivation.proofs.Trees.Built.{join-assoc}
 
 pub without-join : {A : Type 0} (p : A → Bool) (f g : Forest A) → without p (join f g) ≡ join (without p f) (without p g)
 without-join p none g = refl

@@ -2,9 +2,9 @@
 use Rattle.std.specs.Prelude.{ℕ, Bool, not, ◌&&◌, List, [], ◌∷◌}
 use Rattle.cap_core.specs.declared.profile.ProfileName.{ProfileName}
 use Rattle.cap_core.specs.declared.capability.Cap.{Cap}
-use Rattle.slot_core.specs.Forest.{Forest, preorder}
-use Rattle.slot_core.specs.Entries.{Entry}
-use Rattle.slot_core.specs.Derivation.{emptied, is_named}
+use Rattle.derivation.specs.Forest.{Forest, preorder}
+use Rattle.derivation.specs.Entries.{Entry}
+use Rattle.derivation.specs.Derivation.{emptied, is_named}
 use Rattle.clearing.specs.Least.{cleared}
 use Rattle.clearing.specs.Without.{without}
 

@@ -2,8 +2,8 @@
 use Rattle.std.specs.Prelude.{◌≡◌, ℕ, Bool, true, ◌==◌}
 use Rattle.std.specs.List.{list_any, AllByRecursion as Each}
 use Rattle.cap_core.specs.declared.profile.ProfileName.{ProfileName}
-use Rattle.slot_core.specs.Forest.{Forest, preorder}
-use Rattle.slot_core.specs.Entries.{Entry}
+use Rattle.derivation.specs.Forest.{Forest, preorder}
+use Rattle.derivation.specs.Entries.{Entry}
 use Rattle.clearing.specs.Slots.{slots_of}
 
 -- the slot is one of a live CNode, or the root slot of a live thread

@@ -1,7 +1,7 @@
 -- Members of lists, and lists in which nothing comes twice.
 use Rattle.std.specs.Prelude.{◌≡◌, ◌⊎◌, ◌<◌, ℕ, Bool, true, false, List, [], ◌∷◌, ⊤}
 use Rattle.std.specs.List.{list_any, AllByRecursion as Each}
-use Rattle.slot_core.specs.Entries.{Entry, is_at}
+use Rattle.derivation.specs.Entries.{Entry, is_at}
 
 -- it stands in the list
 abbrev pub In : {A : Type 0} → A → List A → Type 0

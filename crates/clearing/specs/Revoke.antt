@@ -1,8 +1,8 @@
 -- The forest after a slot was revoked.
 use Rattle.std.specs.Prelude.{ℕ, zero, suc, length, Some, None}
 use Rattle.cap_core.specs.declared.profile.ProfileName.{ProfileName}
-use Rattle.slot_core.specs.Forest.{Forest, preorder}
-use Rattle.slot_core.specs.Entries.{Entry, first_child}
+use Rattle.derivation.specs.Forest.{Forest, preorder}
+use Rattle.derivation.specs.Entries.{Entry, first_child}
 use Rattle.clearing.specs.Clear.{clear}
 
 -- so many times, while the slot has a child: its first child is cleared

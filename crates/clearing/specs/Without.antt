@@ -1,6 +1,6 @@
 -- A forest that several leave at once.
 use Rattle.std.specs.Prelude.{Bool, cond}
-use Rattle.slot_core.specs.Forest.{Forest, none, tree, join}
+use Rattle.derivation.specs.Forest.{Forest, none, tree, join}
 
 -- all that pass leave at once, and what stands below one takes its place
 abbrev pub without : {A : Type 0} → (A → Bool) → Forest A → Forest A

@@ -1,8 +1,8 @@
 //! Laws of the definitions.
 ghost use Rattle.std.specs.Prelude.{◌≡◌, ℕ, List, Bool, None};
 ghost use Rattle.cap_core.specs.declared.profile.ProfileName.{ProfileName};
-ghost use Rattle.slot_core.specs.Forest.{Forest};
-ghost use Rattle.slot_core.specs.Entries.{Entry, first_child};
+ghost use Rattle.derivation.specs.Forest.{Forest};
+ghost use Rattle.derivation.specs.Entries.{Entry, first_child};
 ghost use Rattle.clearing.specs.Least.{IsLeast, cleared};
 ghost use Rattle.clearing.specs.Revoke.{revoke};
 ghost use Rattle.clearing.specs.Laws.{IsTheOnly, LeaveInOrder, StaysInItself, GoesOnFrom};

@@ -1,7 +1,7 @@
 use Rattle.std.proofs.Common.{◌≡◌, ℕ, ◌∷◌, [], Bool, length, refl, sym, ◌∙◌, ap, subst, arith}
 use Rattle.cap_core.specs.declared.capability.Cap.{Cap}
-use Rattle.slot_core.specs.Forest.{Forest, preorder, out}
-use Rattle.slot_core.specs.Entries.{Entry, is_at}
+use Rattle.derivation.specs.Forest.{Forest, preorder, out}
+use Rattle.derivation.specs.Entries.{Entry, is_at}
 use Rattle.slot_core.specs.Places.{address_of}
 use Rattle.clearing.specs.Members.{AreBelow}
 use Rattle.clearing.specs.Clear.{ended}

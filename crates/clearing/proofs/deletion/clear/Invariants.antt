@@ -1,5 +1,5 @@
 use Rattle.std.proofs.Common.{◌≡◌, ◌+◌, length}
-use Rattle.slot_core.specs.Forest.{preorder}
+use Rattle.derivation.specs.Forest.{preorder}
 use Rattle.slot_core.specs.Places.{address_of}
 use Rattle.clearing.specs.Clear.{ended}
 use Rattle.clearing.proofs.Midway.{Midway, weight}

@@ -1,7 +1,7 @@
 use Rattle.std.proofs.Common.{◌≡◌, ℕ, Bool, List, true, sym, ◌∙◌, ap, subst}
 use Rattle.cap_core.specs.declared.capability.Cap.{Cap}
-use Rattle.slot_core.specs.Forest.{preorder}
-use Rattle.slot_core.specs.Entries.{is_at}
+use Rattle.derivation.specs.Forest.{preorder}
+use Rattle.derivation.specs.Entries.{is_at}
 use Rattle.slot_core.specs.Places.{address_of}
 use Rattle.clearing.specs.Members.{AreDistinct, AreBelow}
 use Rattle.clearing.specs.Slots.{slots_of}

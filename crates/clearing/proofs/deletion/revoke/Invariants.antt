@@ -1,6 +1,6 @@
 use Rattle.std.proofs.Common.{◌≡◌, true, length}
 use Rattle.cap_core.specs.declared.capability.Cap.{Cap}
-use Rattle.slot_core.specs.Forest.{preorder}
+use Rattle.derivation.specs.Forest.{preorder}
 use Rattle.slot_core.specs.Places.{address_of}
 use Rattle.clearing.specs.Clear.{ended}
 use Rattle.clearing.specs.Revoke.{revoke}
