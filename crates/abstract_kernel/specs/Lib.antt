@@ -11,6 +11,7 @@ pub mod Boot
 pub mod Reached
 pub mod Deliveries
 pub mod Cancelling
+pub mod Laws
 pub mod Regions
 pub mod Memory
 pub mod Private

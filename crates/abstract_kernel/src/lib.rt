@@ -4,6 +4,7 @@
 
 pub mod call;
 pub mod invocation;
+pub mod laws;
 pub mod plan;
 
 pub use call::{Call, Inbox, Op, Reply, ThreadState};

@@ -14,7 +14,6 @@ use Rattle.cap_core.specs.Minting.{masked, guard_held, guarded, with_data}
 use Rattle.slot_core.specs.Forest.{Forest}
 use Rattle.slot_core.specs.Entries.{Entry, caps, cap_at, first_child}
 use Rattle.slot_core.specs.Derivation.{names_same}
-use Rattle.cspace_core.specs.Resolution.{is_cnode}
 use Rattle.cap_core.specs.declared.capability.Kind.TheVariants as kind
 use Rattle.abstract_kernel.specs.declared.invocation.Change.{Change}
 use Rattle.abstract_kernel.specs.declared.invocation.Change.TheVariants.{Copy, Mint, Move, Mutate}
