@@ -1,0 +1,17 @@
+pub mod Members
+pub mod Objects
+pub mod Without
+pub mod Sets
+pub mod Rounds
+pub mod Orders
+pub mod Lookups
+pub mod Midway
+pub mod Revoking
+pub mod Holding
+pub mod Ranges
+pub mod Clearable
+pub mod Below
+pub mod Kept
+pub mod Chains
+pub mod Steps
+pub mod Selfheld

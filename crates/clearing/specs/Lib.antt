@@ -1,0 +1,11 @@
+pub mod Slots
+pub mod Members
+pub mod Least
+pub mod Without
+pub mod Clear
+pub mod Revoke
+pub mod Work
+pub mod Housed
+pub mod Chain
+pub mod Laws
+pub mod Calls
