@@ -4,6 +4,7 @@ pub mod RegionsKept
 pub mod RegionsDerived
 pub mod RegionsMoved
 pub mod StoresKept
+pub mod StoresCleared
 pub mod LiveAfter
 pub mod Rearranged
 pub mod StaysInMemory

@@ -14,6 +14,7 @@ use Rattle.abstract_kernel.specs.declared.invocation.Change.{Change}
 use Rattle.abstract_kernel.specs.declared.invocation.Change.TheVariants.{Copy, Mint, Move, Mutate}
 use Rattle.abstract_kernel.specs.declared.invocation.CapPlacement.{CapPlacement}
 use Rattle.abstract_kernel.specs.declared.invocation.SlotArguments.{SlotArguments}
+use Rattle.cspace_core.specs.Target.{target_slot}
 use Rattle.abstract_kernel.specs.Checks.{◌>>=◌}
 use Rattle.abstract_kernel.specs.Lookups.{extra_cap, where_kind, empty_slot, full_slot}
 use Rattle.abstract_kernel.specs.Shown.{has_child}
@@ -43,6 +44,11 @@ decoded_placement p f thread invoked asked change =
     full_slot p f root asked.src_index asked.src_depth >>= λ source.
     changed_cap p f source change (cap_at f source) >>= λ cap.
     Ok (record { source = source; slot = slot; cap = cap })
+
+-- the slot that a delete or a revoke is for, full or empty
+abbrev pub decoded_slot : ProfileName → Forest Entry → Cap → ℕ → ℕ → Result ℕ Refusal
+decoded_slot p f invoked index depth =
+    where_kind kind.CNode invoked >>= λ node. target_slot p (cap_at f) node index depth
 
 -- a derived capability is put. Of an untyped one the source is used up by it
 abbrev pub with_derived : ProfileName → CapPlacement → Forest Entry → Forest Entry

@@ -28,7 +28,7 @@ use Rattle.abstract_kernel.specs.declared.invocation.Invocation.TheVariants as i
 use Rattle.abstract_kernel.specs.Checks.{◌>>=◌}
 use Rattle.abstract_kernel.specs.Lookups.{invoked_slot}
 use Rattle.abstract_kernel.specs.Retyping.{decoded_retype}
-use Rattle.abstract_kernel.specs.CNodes.{decoded_placement}
+use Rattle.abstract_kernel.specs.CNodes.{decoded_placement, decoded_slot}
 use Rattle.abstract_kernel.specs.Shown.{Shown, ThreadView}
 
 -- the word by which an operation names the capability that it invokes
@@ -38,6 +38,8 @@ service_word (op.CapCopy cap index depth src_root src_index src_depth rights) = 
 service_word (op.CapMint cap index depth src_root src_index src_depth rights word) = cap
 service_word (op.CapMove cap index depth src_root src_index src_depth) = cap
 service_word (op.CapMutate cap index depth src_root src_index src_depth word) = cap
+service_word (op.CapDelete cap index depth) = cap
+service_word (op.CapRevoke cap index depth) = cap
 service_word (op.Send cap message) = cap
 service_word (op.NbSend cap message) = cap
 service_word (op.Recv cap) = cap
@@ -70,6 +72,13 @@ derives decoded = decoded >>= λ placement. Ok (invocation.Derive placement)
 abbrev pub moves : Result CapPlacement Refusal → Result Invocation Refusal
 moves decoded = decoded >>= λ placement. Ok (invocation.Move placement)
 
+-- a delete and a revoke are for a slot
+abbrev pub deletes : Result ℕ Refusal → Result Invocation Refusal
+deletes decoded = decoded >>= λ slot. Ok (invocation.Delete slot)
+
+abbrev pub revokes : Result ℕ Refusal → Result Invocation Refusal
+revokes decoded = decoded >>= λ slot. Ok (invocation.Revoke slot)
+
 -- the words of a retype that say what it makes, and into which slots its capabilities go
 abbrev pub objects_asked : ℕ → ℕ → ℕ → ℕ → ℕ → ℕ → ℕ → RetypeArguments
 objects_asked kind size_bits root index depth offset count = record {
@@ -99,6 +108,8 @@ decoded_invocation p f thread (op.CapMove cap index depth src_root src_index src
     moves (decoded_placement p f thread (cap_at f slot) (slots_named index depth src_root src_index src_depth) Move)
 decoded_invocation p f thread (op.CapMutate cap index depth src_root src_index src_depth word) slot =
     moves (decoded_placement p f thread (cap_at f slot) (slots_named index depth src_root src_index src_depth) (Mutate word))
+decoded_invocation p f thread (op.CapDelete cap index depth) slot = deletes (decoded_slot p f (cap_at f slot) index depth)
+decoded_invocation p f thread (op.CapRevoke cap index depth) slot = revokes (decoded_slot p f (cap_at f slot) index depth)
 decoded_invocation p f thread (op.Send cap message) slot = decoded_send (cap_at f slot) message true
 decoded_invocation p f thread (op.NbSend cap message) slot = decoded_send (cap_at f slot) message false
 decoded_invocation p f thread (op.Recv cap) slot = decoded_receive (cap_at f slot) true

@@ -13,11 +13,14 @@ use Rattle.abstract_kernel.specs.declared.call.Reply.TheVariants.{Done, Delivere
 use Rattle.abstract_kernel.specs.declared.invocation.Service.{Service}
 use Rattle.abstract_kernel.specs.declared.invocation.NewObjects.{NewObjects}
 use Rattle.abstract_kernel.specs.declared.invocation.Invocation.{Invocation}
-use Rattle.abstract_kernel.specs.declared.invocation.Invocation.TheVariants.{Send, Receive, Retype, Derive, Move}
+use Rattle.abstract_kernel.specs.declared.invocation.Invocation.TheVariants.{Send, Receive, Retype, Derive, Move, Delete, Revoke}
 use Rattle.abstract_kernel.specs.Decode.{decoded_call}
 use Rattle.abstract_kernel.specs.Shown.{tcb_base, endpoint_base}
 use Rattle.abstract_kernel.specs.Retyping.{with_objects, new_bases}
 use Rattle.abstract_kernel.specs.CNodes.{with_derived, with_moved}
+use Rattle.clearing.specs.Clear.{clear}
+use Rattle.clearing.specs.Revoke.{revoke}
+use Rattle.abstract_kernel.specs.Cancelling.{ending}
 use Rattle.abstract_kernel.specs.State.{State, endpoint_at, thread_at, sends_to, receives_of, shown}
 
 pub record Outcome : Type 0 where
@@ -84,6 +87,10 @@ where_awaited A awaited accepted reply = cond awaited accepted (record { reply =
 abbrev pub rearranged : State → Forest Entry → Outcome
 rearranged A f = record { reply = Done; state = record (counted A) { derivations = f } }
 
+-- the capabilities become fewer, and what is open is cancelled where its endpoint or its thread has ended
+abbrev pub objects_ended : State → Forest Entry → Outcome
+objects_ended A g = record { reply = Done; state = counted (ending A g) }
+
 -- the number of this call where an object stands at one of these addresses, and else its former birth
 abbrev pub born_at : State → List ℕ → (ℕ → ℕ) → ℕ → ℕ
 born_at A bases birth base = cond (list_any (λ b. base == b) bases) (A.count + 1) (birth base)
@@ -116,6 +123,8 @@ performed p A thread (Receive service false) =
 performed p A thread (Retype new) = objects_made p A new
 performed p A thread (Derive placement) = rearranged A (with_derived p placement A.derivations)
 performed p A thread (Move placement) = rearranged A (with_moved placement A.derivations)
+performed p A thread (Delete slot) = objects_ended A (clear p slot A.derivations)
+performed p A thread (Revoke slot) = objects_ended A (revoke p slot A.derivations)
 
 abbrev pub outcome : ProfileName → State → ℕ → Result Invocation Refusal → Outcome
 outcome p A thread (Err refusal) = record { reply = Refused refusal; state = counted A }

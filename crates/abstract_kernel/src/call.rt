@@ -59,6 +59,18 @@ pub enum Op {
         src_depth: u64,
         word: u64,
     },
+    /// Empties a slot: what ends with the object whose last capability leaves, leaves too. An empty slot is left as it is.
+    CapDelete {
+        cap: u64,
+        index: u64,
+        depth: u64,
+    },
+    /// Empties the slots of all that was derived from the capability in a slot.
+    CapRevoke {
+        cap: u64,
+        index: u64,
+        depth: u64,
+    },
     /// Sends a message through an endpoint, and waits where no receiver does.
     Send {
         cap: u64,

@@ -81,4 +81,8 @@ pub enum Invocation {
     Derive(CapPlacement),
     /// Moves a capability.
     Move(CapPlacement),
+    /// Clears the slot at an address.
+    Delete(u64),
+    /// Clears what stands below the slot at an address.
+    Revoke(u64),
 }

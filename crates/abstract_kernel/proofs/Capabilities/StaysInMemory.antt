@@ -18,10 +18,13 @@ use Rattle.slot_core.proofs.Holding.{cap-entry}
 use Rattle.ipc_core.specs.declared.waiter.Waiter.{Waiter}
 use Rattle.ipc_core.specs.declared.waiter.Offer.{Offer}
 use Rattle.ipc_core.specs.Waits.{first_receiver, first_sender}
+use Rattle.clearing.specs.Clear.{clear}
+use Rattle.clearing.proofs.Kept.{kept-revoke}
+use Rattle.abstract_kernel.proofs.Capabilities.StoresCleared.{slots-clear, caps-clear}
 use Rattle.abstract_kernel.specs.declared.invocation.Service.{Service}
 use Rattle.abstract_kernel.specs.declared.invocation.CapPlacement.{CapPlacement}
 use Rattle.abstract_kernel.specs.declared.invocation.Invocation.{Invocation}
-use Rattle.abstract_kernel.specs.declared.invocation.Invocation.TheVariants.{Send, Receive, Retype, Derive, Move}
+use Rattle.abstract_kernel.specs.declared.invocation.Invocation.TheVariants.{Send, Receive, Retype, Derive, Move, Delete, Revoke}
 use Rattle.abstract_kernel.specs.Shown.{Shown, waiting_at}
 use Rattle.abstract_kernel.specs.Memory.{IsSlotAddress, IsInMemory}
 use Rattle.abstract_kernel.specs.Regions.{IsForest}
@@ -91,6 +94,10 @@ module _ (p : ProfileName) (memory : ℕ) (f : Forest Entry) (all : LiesIn p mem
     all_caps (IsLawful p memory) _ (each-moved (λ (e : Entry). IsLawful p memory e.cap) placement.source placement.slot placement.cap f (each_cap (IsLawful p memory) f all.1) (λ original. is.lawful memory all.1)),
   )
 
+clear_lies : (p : ProfileName) (memory s : ℕ) (f : Forest Entry) → LiesIn p memory f → LiesIn p memory (clear p s f)
+unfolding LiesIn
+clear_lies p memory s f h = (slots-clear p memory s f h.0, caps-clear p memory s f h.1)
+
 lies_in : (p : ProfileName) (memory : ℕ) (v : Shown) → IsInMemory p memory v → LiesIn p memory v.derivations
 unfolding LiesIn
 lies_in p memory v h = (h.slots_placed, h.lawful)
@@ -125,6 +132,8 @@ effect_lies p memory v t (Retype new) forest is h = (
 )
 effect_lies p memory v t (Derive placement) forest is h = with_derived_lies p memory v.derivations h placement is.ends forest.distinct
 effect_lies p memory v t (Move placement) forest is h = with_moved_lies p memory v.derivations h placement is.ends
+effect_lies p memory v t (Delete slot) forest is h = clear_lies p memory slot v.derivations h
+effect_lies p memory v t (Revoke slot) forest is h = kept-revoke p (LiesIn p memory) (λ c g lies. clear_lies p memory c g lies) slot v.derivations h
 
 -- what an invocation does stays in the memory
 pub invocation_within : (p : ProfileName) (v w : Shown) (t : ℕ) (invocation : Invocation) → IsForest p v.derivations → IsInvocation p v invocation → w ≡ (performed_effect p v t invocation).after →

@@ -18,9 +18,9 @@ use Rattle.abstract_kernel.specs.declared.invocation.Service.{Service}
 use Rattle.abstract_kernel.specs.declared.invocation.NewObjects.{NewObjects}
 use Rattle.abstract_kernel.specs.declared.invocation.CapPlacement.{CapPlacement}
 use Rattle.abstract_kernel.specs.declared.invocation.Invocation.{Invocation}
-use Rattle.abstract_kernel.specs.declared.invocation.Invocation.TheVariants.{Send, Receive, Retype, Derive, Move}
+use Rattle.abstract_kernel.specs.declared.invocation.Invocation.TheVariants.{Send, Receive, Retype, Derive, Move, Delete, Revoke}
 use Rattle.abstract_kernel.specs.Shown.{endpoint_base, endpoints_of}
-use Rattle.abstract_kernel.specs.Decode.{service_of, has_right, retypes, derives, moves, decoded_invocation}
+use Rattle.abstract_kernel.specs.Decode.{service_of, has_right, retypes, derives, moves, deletes, revokes, decoded_invocation}
 
 service_at : (b : Bool) (base : ℕ) (badge : Badge) (service : Service) → ◌≡◌ {A = Result Service Refusal} (cond b (Ok (record { endpoint = base; badge = badge })) (Err InvalidCapability)) (Ok service) → Some base ≡ Some service.endpoint
 service_at true base badge service h =
@@ -65,6 +65,8 @@ HasLiveEndpoint f (Receive service block) = list_any (λ k. service.endpoint == 
 HasLiveEndpoint f (Retype new) = Unit {0}
 HasLiveEndpoint f (Derive placement) = Unit {0}
 HasLiveEndpoint f (Move placement) = Unit {0}
+HasLiveEndpoint f (Delete slot) = Unit {0}
+HasLiveEndpoint f (Revoke slot) = Unit {0}
 
 sends_to_live : (f : Forest Entry) (slot : ℕ) (message : Message) (block : Bool) (r : Result Service Refusal) → service_of write_bit (cap_at f slot) ≡ r → (invocation : Invocation) →
     (r >>= λ service. Ok (Send service message block)) ≡ Ok invocation → HasLiveEndpoint f invocation
@@ -92,12 +94,22 @@ moves_none : (f : Forest Entry) (r : Result CapPlacement Refusal) (invocation : 
 moves_none f (Err refusal) invocation h = cc
 moves_none f (Ok placement) invocation h = let same : Move placement ≡ invocation = cc in subst (HasLiveEndpoint f) same tt
 
+deletes_none : (f : Forest Entry) (r : Result ℕ Refusal) (invocation : Invocation) → deletes r ≡ Ok invocation → HasLiveEndpoint f invocation
+deletes_none f (Err refusal) invocation h = cc
+deletes_none f (Ok slot) invocation h = let same : Delete slot ≡ invocation = cc in subst (HasLiveEndpoint f) same tt
+
+revokes_none : (f : Forest Entry) (r : Result ℕ Refusal) (invocation : Invocation) → revokes r ≡ Ok invocation → HasLiveEndpoint f invocation
+revokes_none f (Err refusal) invocation h = cc
+revokes_none f (Ok slot) invocation h = let same : Revoke slot ≡ invocation = cc in subst (HasLiveEndpoint f) same tt
+
 invocation_live : (p : ProfileName) (f : Forest Entry) (thread : ℕ) (op : Op) (slot : ℕ) (invocation : Invocation) → decoded_invocation p f thread op slot ≡ Ok invocation → HasLiveEndpoint f invocation
 invocation_live p f thread (op.Retype cap kind size_bits root index depth offset count) slot invocation h = retypes_none f _ invocation h
 invocation_live p f thread (op.CapCopy cap index depth src_root src_index src_depth rights) slot invocation h = derives_none f _ invocation h
 invocation_live p f thread (op.CapMint cap index depth src_root src_index src_depth rights word) slot invocation h = derives_none f _ invocation h
 invocation_live p f thread (op.CapMove cap index depth src_root src_index src_depth) slot invocation h = moves_none f _ invocation h
 invocation_live p f thread (op.CapMutate cap index depth src_root src_index src_depth word) slot invocation h = moves_none f _ invocation h
+invocation_live p f thread (op.CapDelete cap index depth) slot invocation h = deletes_none f _ invocation h
+invocation_live p f thread (op.CapRevoke cap index depth) slot invocation h = revokes_none f _ invocation h
 invocation_live p f thread (op.Send cap message) slot invocation h = sends_to_live f slot message true _ refl invocation h
 invocation_live p f thread (op.NbSend cap message) slot invocation h = sends_to_live f slot message false _ refl invocation h
 invocation_live p f thread (op.Recv cap) slot invocation h = receives_from_live f slot true _ refl invocation h

@@ -22,7 +22,7 @@ use Rattle.abstract_kernel.specs.declared.invocation.NewObjects.{NewObjects}
 use Rattle.abstract_kernel.specs.declared.invocation.RetypeArguments.{RetypeArguments}
 use Rattle.abstract_kernel.specs.declared.invocation.CapPlacement.{CapPlacement}
 use Rattle.abstract_kernel.specs.declared.invocation.Invocation.{Invocation}
-use Rattle.abstract_kernel.specs.declared.invocation.Invocation.TheVariants.{Send, Receive, Retype, Derive, Move}
+use Rattle.abstract_kernel.specs.declared.invocation.Invocation.TheVariants.{Send, Receive, Retype, Derive, Move, Delete, Revoke}
 use Rattle.abstract_kernel.specs.Memory.{IsSlotAddress}
 use Rattle.abstract_kernel.specs.declared.invocation.Service.{Service}
 use Rattle.cap_core.specs.declared.message.Message.{Message}
@@ -32,9 +32,10 @@ use Rattle.abstract_kernel.specs.Shown.{has_child}
 use Rattle.abstract_kernel.specs.Decode.{service_word, objects_asked, slots_named}
 use Rattle.abstract_kernel.specs.Lookups.{invoked_slot, extra_cap, held_in, where_kind}
 use Rattle.abstract_kernel.specs.Retyping.{node_cap, are_slots, some_full, where_all_empty, first_slot, placed_in, decoded_retype}
-use Rattle.abstract_kernel.specs.Decode.{decoded_invocation, service_of, retypes, derives, moves, decoded_op}
-use Rattle.abstract_kernel.specs.Private.Invocations.{IsRetype, IsDerivation, IsMove}
-use Rattle.abstract_kernel.proofs.Checks.FoundSlots.{passed, cond_passed, cond_failed, ok_same, kind_passed, lawful_at, empty_at, held_passed, none_of_range, not_false}
+use Rattle.abstract_kernel.specs.Decode.{decoded_invocation, service_of, retypes, derives, moves, deletes, revokes, decoded_op}
+use Rattle.abstract_kernel.specs.CNodes.{decoded_slot}
+use Rattle.abstract_kernel.specs.Private.Invocations.{IsRetype, IsDerivation, IsMove, IsTarget}
+use Rattle.abstract_kernel.proofs.Checks.FoundSlots.{passed, cond_passed, cond_failed, ok_same, kind_passed, lawful_at, target_passed, empty_at, held_passed, none_of_range, not_false}
 use Rattle.abstract_kernel.proofs.Checks.Placement.{placed_lie}
 use Rattle.abstract_kernel.proofs.Checks.FilledSlots.{slots_there, slot_address}
 use Rattle.abstract_kernel.proofs.Checks.PassedCNodeChecks.{copy_derives, mint_derives, move_moves, mutate_moves}
@@ -102,6 +103,15 @@ IsEdit p f (Receive service block) = Unit {0}
 IsEdit p f (Retype new) = IsRetype p f new
 IsEdit p f (Derive placement) = IsDerivation p f placement
 IsEdit p f (Move placement) = IsMove p f placement
+IsEdit p f (Delete slot) = IsTarget p f slot
+IsEdit p f (Revoke slot) = IsTarget p f slot
+
+-- the slot that is named from a CNode stands in the memory
+slot_shows : (p : ProfileName) (f : Forest Entry) (slot index depth target : ℕ) → decoded_slot p f (cap_at f slot) index depth ≡ Ok target → IsTarget p f target
+slot_shows p f slot index depth target h memory all =
+    let node = passed (where_kind kind.CNode (cap_at f slot)) _ target h in
+    let found = kind_passed kind.CNode (cap_at f slot) node.0 node.1.0 in
+    target_passed p memory f node.0 index depth target all (subst (λ cap. (cap ≡ Null) ⊎ IsLawful p memory cap) found.1 (lawful_at p memory f all slot)) node.1.1
 
 module _ (p : ProfileName) (memory : ℕ) (f : Forest Entry) (all : All (IsLawful p memory) (caps f)) where
   retypes_edit : (r : Result NewObjects Refusal) (invocation : Invocation) → ((new : NewObjects) → r ≡ Ok new → IsRetype p f new) → retypes r ≡ Ok invocation → IsEdit p f invocation
@@ -115,6 +125,14 @@ module _ (p : ProfileName) (memory : ℕ) (f : Forest Entry) (all : All (IsLawfu
   moves_edit : (r : Result CapPlacement Refusal) (invocation : Invocation) → ((placement : CapPlacement) → r ≡ Ok placement → IsMove p f placement) → moves r ≡ Ok invocation → IsEdit p f invocation
   moves_edit (Err refusal) invocation shows h = cc
   moves_edit (Ok placement) invocation shows h = subst (IsEdit p f) (ok_same (Move placement) invocation h) (shows placement refl)
+
+  deletes_edit : (r : Result ℕ Refusal) (invocation : Invocation) → ((slot : ℕ) → r ≡ Ok slot → IsTarget p f slot) → deletes r ≡ Ok invocation → IsEdit p f invocation
+  deletes_edit (Err refusal) invocation shows h = cc
+  deletes_edit (Ok slot) invocation shows h = subst (IsEdit p f) (ok_same (Delete slot) invocation h) (shows slot refl)
+
+  revokes_edit : (r : Result ℕ Refusal) (invocation : Invocation) → ((slot : ℕ) → r ≡ Ok slot → IsTarget p f slot) → revokes r ≡ Ok invocation → IsEdit p f invocation
+  revokes_edit (Err refusal) invocation shows h = cc
+  revokes_edit (Ok slot) invocation shows h = subst (IsEdit p f) (ok_same (Revoke slot) invocation h) (shows slot refl)
 
   sends_edit : (r : Result Service Refusal) (message : Message) (block : Bool) (invocation : Invocation) → (r >>= λ service. Ok (Send service message block)) ≡ Ok invocation → IsEdit p f invocation
   sends_edit (Err refusal) message block invocation h = cc
@@ -135,6 +153,8 @@ module _ (p : ProfileName) (memory : ℕ) (f : Forest Entry) (all : All (IsLawfu
       moves_edit _ invocation (λ placement is. move_moves p memory f all thread slot (slots_named index depth src_root src_index src_depth) placement is) h
   invocation_edit thread (op.CapMutate cap index depth src_root src_index src_depth word) slot invocation h =
       moves_edit _ invocation (λ placement is. mutate_moves p memory f all thread slot (slots_named index depth src_root src_index src_depth) placement word is) h
+  invocation_edit thread (op.CapDelete cap index depth) slot invocation h = deletes_edit _ invocation (slot_shows p f slot index depth) h
+  invocation_edit thread (op.CapRevoke cap index depth) slot invocation h = revokes_edit _ invocation (slot_shows p f slot index depth) h
   invocation_edit thread (op.Send cap message) slot invocation h = sends_edit (service_of write_bit (cap_at f slot)) message true invocation h
   invocation_edit thread (op.NbSend cap message) slot invocation h = sends_edit (service_of write_bit (cap_at f slot)) message false invocation h
   invocation_edit thread (op.Recv cap) slot invocation h = receives_edit (service_of read_bit (cap_at f slot)) true invocation h

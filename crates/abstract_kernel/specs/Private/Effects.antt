@@ -15,7 +15,7 @@ use Rattle.ipc_core.specs.Waits.{first_receiver, first_sender}
 use Rattle.abstract_kernel.specs.declared.call.Call.{Call}
 use Rattle.abstract_kernel.specs.declared.call.Reply.{Reply}
 use Rattle.abstract_kernel.specs.declared.call.Reply.TheVariants.{Done, Delivered, Waiting, Dropped, Empty, Refused}
-use Rattle.abstract_kernel.specs.declared.call.ThreadState.TheVariants.{Ready, Inactive, Sending, Receiving}
+use Rattle.abstract_kernel.specs.declared.call.ThreadState.TheVariants.{Ready, Sending, Receiving}
 use Rattle.abstract_kernel.specs.declared.invocation.Service.{Service}
 use Rattle.abstract_kernel.specs.declared.invocation.NewObjects.{NewObjects}
 use Rattle.abstract_kernel.specs.declared.invocation.Invocation.{Invocation}
@@ -24,6 +24,10 @@ use Rattle.abstract_kernel.specs.Shown.{Shown, ThreadView, waiting_at, inbox_at,
 use Rattle.abstract_kernel.specs.Retyping.{with_objects, new_bases}
 use Rattle.abstract_kernel.specs.CNodes.{with_derived, with_moved}
 use Rattle.abstract_kernel.specs.Decode.{decoded_call}
+use Rattle.clearing.specs.Clear.{clear}
+use Rattle.clearing.specs.Revoke.{revoke}
+use Rattle.abstract_kernel.specs.Private.Endings.{after_ending}
+pub use Rattle.abstract_kernel.specs.Private.Endings.{new_thread}
 
 -- the reply, and what is shown after
 pub record Effect : Type 0 where
@@ -86,10 +90,6 @@ receive_effect v t service block list = receive_from_first v t service list bloc
 abbrev pub rearranged : Shown → Forest Entry → Shown
 rearranged v f = record v { derivations = f; endpoints = table (endpoints_of f) (waiting_at v) }
 
--- a thread that was just made
-abbrev pub new_thread : ThreadView
-new_thread = record { state = Inactive; inbox = None }
-
 abbrev pub with_threads : List ℕ → FinMap nat_cmp ThreadView → FinMap nat_cmp ThreadView
 with_threads [] threads = threads
 with_threads (base ∷ bases) threads = with_threads bases (insert threads base new_thread)
@@ -109,6 +109,8 @@ performed_effect p v t (invocation.Receive service block) = receive_effect v t s
 performed_effect p v t (invocation.Retype new) = done (objects_shown p v new)
 performed_effect p v t (invocation.Derive placement) = done (rearranged v (with_derived p placement v.derivations))
 performed_effect p v t (invocation.Move placement) = done (rearranged v (with_moved placement v.derivations))
+performed_effect p v t (invocation.Delete slot) = done (after_ending v (clear p slot v.derivations))
+performed_effect p v t (invocation.Revoke slot) = done (after_ending v (revoke p slot v.derivations))
 
 abbrev pub decoded_effect : ProfileName → Shown → ℕ → Result Invocation Refusal → Effect
 decoded_effect p v t (Err refusal) = unchanged v (Refused refusal)

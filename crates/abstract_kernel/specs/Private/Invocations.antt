@@ -12,7 +12,7 @@ use Rattle.cspace_core.specs.Resolution.{slot_of}
 use Rattle.abstract_kernel.specs.declared.invocation.NewObjects.{NewObjects}
 use Rattle.abstract_kernel.specs.declared.invocation.CapPlacement.{CapPlacement}
 use Rattle.abstract_kernel.specs.declared.invocation.Invocation.{Invocation}
-use Rattle.abstract_kernel.specs.declared.invocation.Invocation.TheVariants.{Send, Receive, Retype, Derive, Move}
+use Rattle.abstract_kernel.specs.declared.invocation.Invocation.TheVariants.{Send, Receive, Retype, Derive, Move, Delete, Revoke}
 use Rattle.abstract_kernel.specs.Regions.{free_of}
 use Rattle.abstract_kernel.specs.Memory.{IsSlotAddress}
 use Rattle.abstract_kernel.specs.Shown.{Shown, has_child}
@@ -48,9 +48,15 @@ pub record IsRetype (p : ProfileName) (f : Forest Entry) (new : NewObjects) : Ty
   pub empty : (i : ℕ) → i < new.count → is_full (slot_of p new.first_slot i) f ≡ false
   pub slots : (memory : ℕ) → All (IsLawful p memory) (caps f) → (i : ℕ) → i < new.count → IsSlotAddress p memory (slot_of p new.first_slot i)
 
+-- a slot stands in whatever memory all capabilities are lawful in
+abbrev pub IsTarget : ProfileName → Forest Entry → ℕ → Type 0
+IsTarget p f slot = (memory : ℕ) → All (IsLawful p memory) (caps f) → IsSlotAddress p memory slot
+
 abbrev pub IsInvocation : ProfileName → Shown → Invocation → Type 0
 IsInvocation p v (Send service message block) = IsLiveEndpoint v service.endpoint
 IsInvocation p v (Receive service block) = IsLiveEndpoint v service.endpoint
 IsInvocation p v (Retype new) = IsRetype p v.derivations new
 IsInvocation p v (Derive placement) = IsDerivation p v.derivations placement
 IsInvocation p v (Move placement) = IsMove p v.derivations placement
+IsInvocation p v (Delete slot) = IsTarget p v.derivations slot
+IsInvocation p v (Revoke slot) = IsTarget p v.derivations slot
