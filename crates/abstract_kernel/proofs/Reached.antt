@@ -4,3 +4,4 @@ pub mod Invariant
 pub mod Stores
 pub mod Simulation
 pub mod EndedEndpoints
+pub mod NewEndpoints

@@ -1,5 +1,5 @@
 -- What the laws of endpoints and of waiting threads say.
-use Rattle.std.specs.Prelude.{◌≡◌, ◌≤◌, ◌<◌, false, List, [], All, filter}
+use Rattle.std.specs.Prelude.{◌≡◌, ◌≤◌, false, List, [], All, filter}
 use Rattle.cap_core.specs.declared.profile.ProfileName.{ProfileName}
 use Rattle.ipc_core.specs.Records.{Instance, SendRecord, AskRecord}
 use Rattle.abstract_kernel.specs.declared.call.Call.{Call}
@@ -22,10 +22,6 @@ StaysEnded p A calls e =
 abbrev pub KeepsItsPairs : ProfileName → State → List Call → Instance → Type 0
 KeepsItsPairs p A calls e =
     IsReached p A → e.birth ≤ A.count → is_live A e ≡ false → pairs (state_after p A calls) e ≡ pairs A e
-
--- an endpoint that is made after all calls so far has no sends and no receives
-abbrev pub StartsEmpty : ProfileName → State → Instance → Type 0
-StartsEmpty p A e = IsReached p A → A.count < e.birth → (sends_to A e ≡ []) × (receives_of A e ≡ [])
 
 -- what waits on an endpoint is what is open of its records
 abbrev pub WaitsWhereOpen : ProfileName → State → Instance → Type 0

@@ -63,7 +63,8 @@ placed_in has_children b count (Untyped base bits free) = placed_from base bits 
 placed_in has_children b count cap = Err NotEnoughMemory
 
 -- the rest of the checks of a retype, of the objects' slots and of the room for them
-abbrev pub decoded_objects : ProfileName → Forest Entry → ℕ → Cap → Cap → Shape → RetypeArguments → Result NewObjects Refusal
+abbrev pub decoded_objects :
+    ProfileName → Forest Entry → ℕ → Cap → Cap → Shape → RetypeArguments → Result NewObjects Refusal
 decoded_objects p f slot untyped root shape asked =
     node_cap p f root asked.index asked.depth >>= λ node.
     first_slot p f asked.offset asked.count node >>= λ first.

@@ -1,10 +1,24 @@
-//! Laws of the definitions, for each state that runs reach.
-ghost use Rattle.std.specs.Prelude.{List};
+//! Laws of the abstract kernel: what holds of every run. Nothing is done.
+ghost use Rattle.std.specs.Prelude.{◌<◌, List};
 ghost use Rattle.cap_core.specs.declared.profile.ProfileName.{ProfileName};
 ghost use Rattle.ipc_core.specs.Records.{Instance};
 ghost use Rattle.abstract_kernel.specs.declared.call.Call.{Call};
 ghost use Rattle.abstract_kernel.specs.State.{State};
-ghost use Rattle.abstract_kernel.specs.Laws.{HasNobodyWaiting, StaysEnded, KeepsItsPairs, StartsEmpty, WaitsWhereOpen, TellsItsSenders, TellsItsReceivers};
+ghost use Rattle.abstract_kernel.specs.Step.{replies_of};
+ghost use Rattle.abstract_kernel.specs.Deliveries.{DeliversPairs, IsUnused};
+ghost use Rattle.abstract_kernel.specs.Reached.{IsReached};
+ghost use Rattle.abstract_kernel.specs.Laws.{HasNobodyWaiting, StaysEnded, KeepsItsPairs, WaitsWhereOpen, TellsItsSenders, TellsItsReceivers};
+
+/// What an endpoint delivers in a run is one delivery for each pair that it gains of an accepted send and the accepted receive
+/// at its place, in the order of the pairs.
+pub fn each_pair_is_delivered_once()
+    ensures { (p : ProfileName) (A : State) (calls : List Call) → IsReached p A → DeliversPairs p A calls (replies_of p A calls) }
+{}
+
+/// An endpoint that is made later starts with no sends and no receives, whatever stood at its address before.
+pub fn new_endpoint_starts_empty()
+    ensures { (p : ProfileName) (A : State) (e : Instance) → IsReached p A → A.count < e.birth → IsUnused A e }
+{}
 
 /// On an endpoint that is not live nobody waits. One that was made at some time is never live again, and whatever is called,
 /// its pairs stay as they are.
@@ -12,11 +26,6 @@ pub fn ended_endpoint_delivers_no_more()
     ensures nobody { (p : ProfileName) (A : State) (e : Instance) → HasNobodyWaiting p A e }
     ensures ended { (p : ProfileName) (A : State) (calls : List Call) (e : Instance) → StaysEnded p A calls e }
     ensures pairs { (p : ProfileName) (A : State) (calls : List Call) (e : Instance) → KeepsItsPairs p A calls e }
-{}
-
-/// An endpoint that is made later has no sends and no receives yet, also where another stood at its address.
-pub fn new_endpoint_starts_empty()
-    ensures { (p : ProfileName) (A : State) (e : Instance) → StartsEmpty p A e }
 {}
 
 /// What waits on an endpoint are its open records, and the state of each one's thread tells so: no open record is left out

@@ -1,6 +1,6 @@
-use Rattle.abstract_kernel.proofs.Cancelling.Waiting.{no_sends_yet, no_receives_yet}
-use Rattle.abstract_kernel.proofs.Reached.Simulation.{reached_inv}
+-- The proof of `new_endpoint_starts_empty`: the goals that a search leaves open.
+use Rattle.abstract_kernel.proofs.Reached.NewEndpoints.{unmade_is_empty}
 use Rattle.abstract_kernel.proofs.laws.new_endpoint_starts_empty.Goals as goal
 
 pub returns : goal.returns
-returns c = λ p A e reached later. (no_sends_yet A (reached_inv p A reached) e later, no_receives_yet A (reached_inv p A reached) e later)
+returns c = unmade_is_empty

@@ -1,3 +1,4 @@
+-- The proof of `place`: the goals that a search leaves open.
 use Rattle.std.proofs.Common.{Bool, ◌∙◌, ap, is_some}
 use Rattle.abstract_kernel.specs.Retyping.{placed_in}
 use Rattle.abstract_kernel.proofs.Checks.Placement.{plan_is, some_mapped}
