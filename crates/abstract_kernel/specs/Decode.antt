@@ -4,12 +4,12 @@ use Rattle.std.specs.Int.RustNames.{bit_and}
 use Rattle.std.specs.FinMap.{get}
 use Rattle.cap_core.specs.declared.profile.ProfileName.{ProfileName}
 use Rattle.cap_core.specs.declared.capability.Cap.{Cap}
-use Rattle.cap_core.specs.declared.capability.Cap.TheVariants.{Null, Endpoint}
+use Rattle.cap_core.specs.declared.capability.Cap.TheVariants.{Null, Endpoint, Tcb}
 use Rattle.cap_core.specs.declared.rights.Rights.{Rights}
 use Rattle.cap_core.specs.declared.message.Message.{Message}
 use Rattle.cap_core.specs.declared.refusal.Refusal.{Refusal}
 use Rattle.cap_core.specs.declared.refusal.Refusal.TheVariants.{InvalidCapability, IllegalOperation, NoThread, NotReady}
-use Rattle.cap_core.specs.Rights.{write_bit, read_bit}
+use Rattle.cap_core.specs.Rights.{write_bit, read_bit, all_rights}
 use Rattle.slot_core.specs.Forest.{Forest}
 use Rattle.slot_core.specs.Entries.{Entry, cap_at}
 use Rattle.abstract_kernel.specs.declared.call.Call.{Call}
@@ -40,6 +40,9 @@ service_word (op.CapMove cap index depth src_root src_index src_depth) = cap
 service_word (op.CapMutate cap index depth src_root src_index src_depth word) = cap
 service_word (op.CapDelete cap index depth) = cap
 service_word (op.CapRevoke cap index depth) = cap
+service_word (op.CancelBadged cap index depth) = cap
+service_word (op.Suspend cap) = cap
+service_word (op.Resume cap) = cap
 service_word (op.Send cap message) = cap
 service_word (op.NbSend cap message) = cap
 service_word (op.Recv cap) = cap
@@ -79,6 +82,27 @@ deletes decoded = decoded >>= λ slot. Ok (invocation.Delete slot)
 abbrev pub revokes : Result ℕ Refusal → Result Invocation Refusal
 revokes decoded = decoded >>= λ slot. Ok (invocation.Revoke slot)
 
+-- the thread whose control block a capability names
+abbrev pub thread_named : Cap → Result ℕ Refusal
+thread_named (Tcb base) = Ok base
+thread_named Null = Err InvalidCapability
+thread_named cap = Err IllegalOperation
+
+abbrev pub suspends : Result ℕ Refusal → Result Invocation Refusal
+suspends decoded = decoded >>= λ thread. Ok (invocation.Suspend thread)
+
+abbrev pub resumes : Result ℕ Refusal → Result Invocation Refusal
+resumes decoded = decoded >>= λ thread. Ok (invocation.Resume thread)
+
+-- the endpoint of a capability with all rights, and its badge
+abbrev pub badged_service : Cap → Result Service Refusal
+badged_service (Endpoint base badge rights) =
+    cond (rights.0 == all_rights.0) (Ok (record { endpoint = base; badge = badge })) (Err IllegalOperation)
+badged_service cap = Err IllegalOperation
+
+abbrev pub cancels : Result Service Refusal → Result Invocation Refusal
+cancels decoded = decoded >>= λ service. Ok (invocation.CancelBadged service)
+
 -- the words of a retype that say what it makes, and into which slots its capabilities go
 abbrev pub objects_asked : ℕ → ℕ → ℕ → ℕ → ℕ → ℕ → ℕ → RetypeArguments
 objects_asked kind size_bits root index depth offset count = record {
@@ -115,6 +139,10 @@ decoded_invocation p f thread (op.CapMutate cap index depth src_root src_index s
     (slots_named index depth src_root src_index src_depth) (Mutate word))
 decoded_invocation p f thread (op.CapDelete cap index depth) slot = deletes (decoded_slot p f (cap_at f slot) index depth)
 decoded_invocation p f thread (op.CapRevoke cap index depth) slot = revokes (decoded_slot p f (cap_at f slot) index depth)
+decoded_invocation p f thread (op.CancelBadged cap index depth) slot =
+    cancels (decoded_slot p f (cap_at f slot) index depth >>= λ target. badged_service (cap_at f target))
+decoded_invocation p f thread (op.Suspend cap) slot = suspends (thread_named (cap_at f slot))
+decoded_invocation p f thread (op.Resume cap) slot = resumes (thread_named (cap_at f slot))
 decoded_invocation p f thread (op.Send cap message) slot = decoded_send (cap_at f slot) message true
 decoded_invocation p f thread (op.NbSend cap message) slot = decoded_send (cap_at f slot) message false
 decoded_invocation p f thread (op.Recv cap) slot = decoded_receive (cap_at f slot) true

@@ -13,14 +13,14 @@ use Rattle.abstract_kernel.specs.declared.call.Reply.TheVariants.{Done, Delivere
 use Rattle.abstract_kernel.specs.declared.invocation.Service.{Service}
 use Rattle.abstract_kernel.specs.declared.invocation.NewObjects.{NewObjects}
 use Rattle.abstract_kernel.specs.declared.invocation.Invocation.{Invocation}
-use Rattle.abstract_kernel.specs.declared.invocation.Invocation.TheVariants.{Send, Receive, Retype, Derive, Move, Delete, Revoke}
+use Rattle.abstract_kernel.specs.declared.invocation.Invocation.TheVariants.{Send, Receive, Retype, Derive, Move, Delete, Revoke, CancelBadged, Suspend, Resume}
 use Rattle.abstract_kernel.specs.Decode.{decoded_call}
 use Rattle.abstract_kernel.specs.Shown.{tcb_base, endpoint_base}
 use Rattle.abstract_kernel.specs.Retyping.{with_objects, new_bases}
 use Rattle.abstract_kernel.specs.CNodes.{with_derived, with_moved}
 use Rattle.clearing.specs.Clear.{clear}
 use Rattle.clearing.specs.Revoke.{revoke}
-use Rattle.abstract_kernel.specs.Cancelling.{ending}
+use Rattle.abstract_kernel.specs.Cancelling.{ending, cancelling_badged, suspending, resuming}
 use Rattle.abstract_kernel.specs.State.{State, endpoint_at, thread_at, sends_to, receives_of, shown}
 
 pub record Outcome : Type 0 where
@@ -91,6 +91,10 @@ rearranged A f = record { reply = Done; state = record (counted A) { derivations
 abbrev pub objects_ended : State → Forest Entry → Outcome
 objects_ended A g = record { reply = Done; state = counted (ending A g) }
 
+-- what was open is cancelled, and the capabilities stay
+abbrev pub cancelled : State → Outcome
+cancelled B = record { reply = Done; state = counted B }
+
 -- the number of this call where an object stands at one of these addresses, and else its former birth
 abbrev pub born_at : State → List ℕ → (ℕ → ℕ) → ℕ → ℕ
 born_at A bases birth base = cond (list_any (λ b. base == b) bases) (A.count + 1) (birth base)
@@ -125,6 +129,10 @@ performed p A thread (Derive placement) = rearranged A (with_derived p placement
 performed p A thread (Move placement) = rearranged A (with_moved placement A.derivations)
 performed p A thread (Delete slot) = objects_ended A (clear p slot A.derivations)
 performed p A thread (Revoke slot) = objects_ended A (revoke p slot A.derivations)
+performed p A thread (CancelBadged service) =
+    cancelled (cancelling_badged A (endpoint_at A service.endpoint) service.badge)
+performed p A thread (Suspend target) = cancelled (suspending A (thread_at A target))
+performed p A thread (Resume target) = cancelled (resuming A (thread_at A target))
 
 abbrev pub outcome : ProfileName → State → ℕ → Result Invocation Refusal → Outcome
 outcome p A thread (Err refusal) = record { reply = Refused refusal; state = counted A }

@@ -71,6 +71,20 @@ pub enum Op {
         index: u64,
         depth: u64,
     },
+    /// Of the threads that wait to send on the endpoint that a slot's capability names, those with its badge wait no more.
+    CancelBadged {
+        cap: u64,
+        index: u64,
+        depth: u64,
+    },
+    /// Makes a thread inactive. It waits no more.
+    Suspend {
+        cap: u64,
+    },
+    /// Makes a thread ready. It waits no more.
+    Resume {
+        cap: u64,
+    },
     /// Sends a message through an endpoint, and waits where no receiver does.
     Send {
         cap: u64,

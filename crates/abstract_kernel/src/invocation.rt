@@ -85,4 +85,10 @@ pub enum Invocation {
     Delete(u64),
     /// Clears what stands below the slot at an address.
     Revoke(u64),
+    /// The senders on an endpoint with a badge other than 0 wait no more.
+    CancelBadged(Service),
+    /// The thread at an address is inactive, and waits no more.
+    Suspend(u64),
+    /// The thread at an address is ready, and waits no more.
+    Resume(u64),
 }

@@ -20,11 +20,15 @@ use Rattle.ipc_core.specs.declared.waiter.Offer.{Offer}
 use Rattle.ipc_core.specs.Waits.{first_receiver, first_sender}
 use Rattle.clearing.specs.Clear.{clear}
 use Rattle.clearing.proofs.Kept.{kept-revoke}
+use Rattle.cap_core.specs.declared.capability.Badge.{Badge}
+use Rattle.std.proofs.Common.{cond, ◌==◌}
+use Rattle.ipc_core.specs.Cancelled.{is_sender_with}
+use Rattle.abstract_kernel.specs.Private.Endings.{after_release}
 use Rattle.abstract_kernel.proofs.Capabilities.StoresCleared.{slots-clear, caps-clear}
 use Rattle.abstract_kernel.specs.declared.invocation.Service.{Service}
 use Rattle.abstract_kernel.specs.declared.invocation.CapPlacement.{CapPlacement}
 use Rattle.abstract_kernel.specs.declared.invocation.Invocation.{Invocation}
-use Rattle.abstract_kernel.specs.declared.invocation.Invocation.TheVariants.{Send, Receive, Retype, Derive, Move, Delete, Revoke}
+use Rattle.abstract_kernel.specs.declared.invocation.Invocation.TheVariants.{Send, Receive, Retype, Derive, Move, Delete, Revoke, CancelBadged, Suspend, Resume}
 use Rattle.abstract_kernel.specs.Shown.{Shown, waiting_at}
 use Rattle.abstract_kernel.specs.Memory.{IsSlotAddress, IsInMemory}
 use Rattle.abstract_kernel.specs.Regions.{IsForest}
@@ -119,6 +123,10 @@ receive_keeps v t service list true None = refl
 receive_keeps v t service list false None = refl
 receive_keeps v t service list block (Some offer) = refl
 
+badge_keeps : (v : Shown) (e : ℕ) (badge : Badge) (none : Bool) → (cond none v (after_release v e (is_sender_with badge))).derivations ≡ v.derivations
+badge_keeps v e badge true = refl
+badge_keeps v e badge false = refl
+
 effect_lies : (p : ProfileName) (memory : ℕ) (v : Shown) (t : ℕ) (invocation : Invocation) → IsForest p v.derivations → IsInvocation p v invocation → LiesIn p memory v.derivations →
     LiesIn p memory (performed_effect p v t invocation).after.derivations
 unfolding LiesIn
@@ -134,6 +142,9 @@ effect_lies p memory v t (Derive placement) forest is h = with_derived_lies p me
 effect_lies p memory v t (Move placement) forest is h = with_moved_lies p memory v.derivations h placement is.ends
 effect_lies p memory v t (Delete slot) forest is h = clear_lies p memory slot v.derivations h
 effect_lies p memory v t (Revoke slot) forest is h = kept-revoke p (LiesIn p memory) (λ c g lies. clear_lies p memory c g lies) slot v.derivations h
+effect_lies p memory v t (CancelBadged service) forest is h = subst (LiesIn p memory) (sym (badge_keeps v service.endpoint service.badge (service.badge.0 == 0))) h
+effect_lies p memory v t (Suspend thread) forest is h = h
+effect_lies p memory v t (Resume thread) forest is h = h
 
 -- what an invocation does stays in the memory
 pub invocation_within : (p : ProfileName) (v w : Shown) (t : ℕ) (invocation : Invocation) → IsForest p v.derivations → IsInvocation p v invocation → w ≡ (performed_effect p v t invocation).after →

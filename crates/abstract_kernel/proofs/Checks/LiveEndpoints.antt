@@ -5,12 +5,12 @@ use Rattle.cap_core.specs.declared.capability.Badge.{Badge}
 use Rattle.cap_core.specs.declared.capability.Cap.{Cap}
 use Rattle.cap_core.specs.declared.capability.Cap.TheVariants.{Null, Untyped, Endpoint, CNode, Tcb}
 use Rattle.cap_core.specs.declared.refusal.Refusal.{Refusal}
-use Rattle.cap_core.specs.declared.refusal.Refusal.TheVariants.{InvalidCapability}
+use Rattle.cap_core.specs.declared.refusal.Refusal.TheVariants.{InvalidCapability, IllegalOperation}
 use Rattle.slot_core.specs.Forest.{Forest, preorder}
 use Rattle.slot_core.specs.Entries.{Entry, cap_at, cap_in}
 use Rattle.cap_core.specs.declared.profile.ProfileName.{ProfileName}
 use Rattle.cap_core.specs.declared.message.Message.{Message}
-use Rattle.cap_core.specs.Rights.{write_bit, read_bit}
+use Rattle.cap_core.specs.Rights.{write_bit, read_bit, all_rights}
 use Rattle.abstract_kernel.specs.Checks.{◌>>=◌}
 use Rattle.abstract_kernel.specs.declared.call.Op.{Op}
 use Rattle.abstract_kernel.specs.declared.call.Op.TheVariants as op
@@ -18,24 +18,24 @@ use Rattle.abstract_kernel.specs.declared.invocation.Service.{Service}
 use Rattle.abstract_kernel.specs.declared.invocation.NewObjects.{NewObjects}
 use Rattle.abstract_kernel.specs.declared.invocation.CapPlacement.{CapPlacement}
 use Rattle.abstract_kernel.specs.declared.invocation.Invocation.{Invocation}
-use Rattle.abstract_kernel.specs.declared.invocation.Invocation.TheVariants.{Send, Receive, Retype, Derive, Move, Delete, Revoke}
-use Rattle.abstract_kernel.specs.Shown.{endpoint_base, endpoints_of}
-use Rattle.abstract_kernel.specs.Decode.{service_of, has_right, retypes, derives, moves, deletes, revokes, decoded_invocation}
+use Rattle.abstract_kernel.specs.declared.invocation.Invocation.TheVariants.{Send, Receive, Retype, Derive, Move, Delete, Revoke, CancelBadged, Suspend, Resume}
+use Rattle.abstract_kernel.specs.Shown.{endpoint_base, endpoints_of, tcb_base, threads_of}
+use Rattle.abstract_kernel.specs.Decode.{service_of, has_right, retypes, derives, moves, deletes, revokes, cancels, suspends, resumes, badged_service, thread_named, decoded_invocation}
 
-service_at : (b : Bool) (base : ℕ) (badge : Badge) (service : Service) → ◌≡◌ {A = Result Service Refusal} (cond b (Ok (record { endpoint = base; badge = badge })) (Err InvalidCapability)) (Ok service) → Some base ≡ Some service.endpoint
-service_at true base badge service h =
+service_at : (b : Bool) (base : ℕ) (badge : Badge) (service : Service) (refusal : Refusal) → ◌≡◌ {A = Result Service Refusal} (cond b (Ok (record { endpoint = base; badge = badge })) (Err refusal)) (Ok service) → Some base ≡ Some service.endpoint
+service_at true base badge service refusal h =
     let same : Service → Option ℕ = λ s. Some s.endpoint in
     let e : record_of base badge ≡ service = cc in
     ap same e
   where
     record_of : ℕ → Badge → Service
     record_of a b = record { endpoint = a; badge = b }
-service_at false base badge service h = cc
+service_at false base badge service refusal h = cc
 
 pub service_endpoint : (right : ℕ) (cap : Cap) (service : Service) → service_of right cap ≡ Ok service → endpoint_base cap ≡ Some service.endpoint
 service_endpoint right Null service h = cc
 service_endpoint right (Untyped base bits free) service h = cc
-service_endpoint right (Endpoint base badge rights) service h = service_at (has_right right rights) base badge service h
+service_endpoint right (Endpoint base badge rights) service h = service_at (has_right right rights) base badge service InvalidCapability h
 service_endpoint right (CNode base radix guard) service h = cc
 service_endpoint right (Tcb base) service h = cc
 
@@ -67,6 +67,9 @@ HasLiveEndpoint f (Derive placement) = Unit {0}
 HasLiveEndpoint f (Move placement) = Unit {0}
 HasLiveEndpoint f (Delete slot) = Unit {0}
 HasLiveEndpoint f (Revoke slot) = Unit {0}
+HasLiveEndpoint f (CancelBadged service) = list_any (λ k. service.endpoint == k) (endpoints_of f) ≡ true
+HasLiveEndpoint f (Suspend thread) = Unit {0}
+HasLiveEndpoint f (Resume thread) = Unit {0}
 
 sends_to_live : (f : Forest Entry) (slot : ℕ) (message : Message) (block : Bool) (r : Result Service Refusal) → service_of write_bit (cap_at f slot) ≡ r → (invocation : Invocation) →
     (r >>= λ service. Ok (Send service message block)) ≡ Ok invocation → HasLiveEndpoint f invocation
@@ -102,6 +105,40 @@ revokes_none : (f : Forest Entry) (r : Result ℕ Refusal) (invocation : Invocat
 revokes_none f (Err refusal) invocation h = cc
 revokes_none f (Ok slot) invocation h = let same : Revoke slot ≡ invocation = cc in subst (HasLiveEndpoint f) same tt
 
+badged_endpoint : (cap : Cap) (service : Service) → badged_service cap ≡ Ok service → endpoint_base cap ≡ Some service.endpoint
+badged_endpoint Null service h = cc
+badged_endpoint (Untyped base bits free) service h = cc
+badged_endpoint (Endpoint base badge rights) service h = service_at (rights.0 == all_rights.0) base badge service IllegalOperation h
+badged_endpoint (CNode base radix guard) service h = cc
+badged_endpoint (Tcb base) service h = cc
+
+cancels_live : (f : Forest Entry) (r : Result ℕ Refusal) (invocation : Invocation) → cancels (r >>= λ target. badged_service (cap_at f target)) ≡ Ok invocation → HasLiveEndpoint f invocation
+cancels_live f (Err refusal) invocation h = cc
+cancels_live f (Ok target) invocation h = by (badged_service (cap_at f target)) refl h
+  where
+    by : (s : Result Service Refusal) → badged_service (cap_at f target) ≡ s → cancels s ≡ Ok invocation → HasLiveEndpoint f invocation
+    by (Err refusal) is h = cc
+    by (Ok service) is h = let same : CancelBadged service ≡ invocation = cc in subst (HasLiveEndpoint f) same (live_at f target service.endpoint (badged_endpoint (cap_at f target) service is))
+
+suspends_none : (f : Forest Entry) (r : Result ℕ Refusal) (invocation : Invocation) → suspends r ≡ Ok invocation → HasLiveEndpoint f invocation
+suspends_none f (Err refusal) invocation h = cc
+suspends_none f (Ok thread) invocation h = let same : Suspend thread ≡ invocation = cc in subst (HasLiveEndpoint f) same tt
+
+resumes_none : (f : Forest Entry) (r : Result ℕ Refusal) (invocation : Invocation) → resumes r ≡ Ok invocation → HasLiveEndpoint f invocation
+resumes_none f (Err refusal) invocation h = cc
+resumes_none f (Ok thread) invocation h = let same : Resume thread ≡ invocation = cc in subst (HasLiveEndpoint f) same tt
+
+-- the thread that a capability names is live
+thread_base : (cap : Cap) (t : ℕ) → thread_named cap ≡ Ok t → tcb_base cap ≡ Some t
+thread_base Null t h = cc
+thread_base (Untyped base bits free) t h = cc
+thread_base (Endpoint base badge rights) t h = cc
+thread_base (CNode base radix guard) t h = cc
+thread_base (Tcb base) t h = cc
+
+pub thread_live_at : (f : Forest Entry) (slot t : ℕ) → thread_named (cap_at f slot) ≡ Ok t → list_any (λ k. t == k) (threads_of f) ≡ true
+thread_live_at f slot t h = named_in tcb_base (preorder f) slot t (thread_base (cap_at f slot) t h) refl
+
 invocation_live : (p : ProfileName) (f : Forest Entry) (thread : ℕ) (op : Op) (slot : ℕ) (invocation : Invocation) → decoded_invocation p f thread op slot ≡ Ok invocation → HasLiveEndpoint f invocation
 invocation_live p f thread (op.Retype cap kind size_bits root index depth offset count) slot invocation h = retypes_none f _ invocation h
 invocation_live p f thread (op.CapCopy cap index depth src_root src_index src_depth rights) slot invocation h = derives_none f _ invocation h
@@ -110,6 +147,9 @@ invocation_live p f thread (op.CapMove cap index depth src_root src_index src_de
 invocation_live p f thread (op.CapMutate cap index depth src_root src_index src_depth word) slot invocation h = moves_none f _ invocation h
 invocation_live p f thread (op.CapDelete cap index depth) slot invocation h = deletes_none f _ invocation h
 invocation_live p f thread (op.CapRevoke cap index depth) slot invocation h = revokes_none f _ invocation h
+invocation_live p f thread (op.CancelBadged cap index depth) slot invocation h = cancels_live f _ invocation h
+invocation_live p f thread (op.Suspend cap) slot invocation h = suspends_none f _ invocation h
+invocation_live p f thread (op.Resume cap) slot invocation h = resumes_none f _ invocation h
 invocation_live p f thread (op.Send cap message) slot invocation h = sends_to_live f slot message true _ refl invocation h
 invocation_live p f thread (op.NbSend cap message) slot invocation h = sends_to_live f slot message false _ refl invocation h
 invocation_live p f thread (op.Recv cap) slot invocation h = receives_from_live f slot true _ refl invocation h

@@ -22,7 +22,7 @@ use Rattle.abstract_kernel.specs.declared.invocation.NewObjects.{NewObjects}
 use Rattle.abstract_kernel.specs.declared.invocation.RetypeArguments.{RetypeArguments}
 use Rattle.abstract_kernel.specs.declared.invocation.CapPlacement.{CapPlacement}
 use Rattle.abstract_kernel.specs.declared.invocation.Invocation.{Invocation}
-use Rattle.abstract_kernel.specs.declared.invocation.Invocation.TheVariants.{Send, Receive, Retype, Derive, Move, Delete, Revoke}
+use Rattle.abstract_kernel.specs.declared.invocation.Invocation.TheVariants.{Send, Receive, Retype, Derive, Move, Delete, Revoke, CancelBadged, Suspend, Resume}
 use Rattle.abstract_kernel.specs.Memory.{IsSlotAddress}
 use Rattle.abstract_kernel.specs.declared.invocation.Service.{Service}
 use Rattle.cap_core.specs.declared.message.Message.{Message}
@@ -32,7 +32,10 @@ use Rattle.abstract_kernel.specs.Shown.{has_child}
 use Rattle.abstract_kernel.specs.Decode.{service_word, objects_asked, slots_named}
 use Rattle.abstract_kernel.specs.Lookups.{invoked_slot, extra_cap, held_in, where_kind}
 use Rattle.abstract_kernel.specs.Retyping.{node_cap, are_slots, some_full, where_all_empty, first_slot, placed_in, decoded_retype}
-use Rattle.abstract_kernel.specs.Decode.{decoded_invocation, service_of, retypes, derives, moves, deletes, revokes, decoded_op}
+use Rattle.abstract_kernel.specs.Decode.{decoded_invocation, service_of, retypes, derives, moves, deletes, revokes, cancels, suspends, resumes, decoded_op}
+use Rattle.std.specs.List.{list_any}
+use Rattle.abstract_kernel.specs.Shown.{threads_of}
+use Rattle.abstract_kernel.proofs.Checks.LiveEndpoints.{thread_live_at}
 use Rattle.abstract_kernel.specs.CNodes.{decoded_slot}
 use Rattle.abstract_kernel.specs.Private.Invocations.{IsRetype, IsDerivation, IsMove, IsTarget}
 use Rattle.abstract_kernel.proofs.Checks.FoundSlots.{passed, cond_passed, cond_failed, ok_same, kind_passed, lawful_at, target_passed, empty_at, held_passed, none_of_range, not_false}
@@ -105,6 +108,9 @@ IsEdit p f (Derive placement) = IsDerivation p f placement
 IsEdit p f (Move placement) = IsMove p f placement
 IsEdit p f (Delete slot) = IsTarget p f slot
 IsEdit p f (Revoke slot) = IsTarget p f slot
+IsEdit p f (CancelBadged service) = Unit {0}
+IsEdit p f (Suspend thread) = list_any (λ k. thread == k) (threads_of f) ≡ true
+IsEdit p f (Resume thread) = list_any (λ k. thread == k) (threads_of f) ≡ true
 
 -- the slot that is named from a CNode stands in the memory
 slot_shows : (p : ProfileName) (f : Forest Entry) (slot index depth target : ℕ) → decoded_slot p f (cap_at f slot) index depth ≡ Ok target → IsTarget p f target
@@ -134,6 +140,18 @@ module _ (p : ProfileName) (memory : ℕ) (f : Forest Entry) (all : All (IsLawfu
   revokes_edit (Err refusal) invocation shows h = cc
   revokes_edit (Ok slot) invocation shows h = subst (IsEdit p f) (ok_same (Revoke slot) invocation h) (shows slot refl)
 
+  cancels_edit : (r : Result Service Refusal) (invocation : Invocation) → cancels r ≡ Ok invocation → IsEdit p f invocation
+  cancels_edit (Err refusal) invocation h = cc
+  cancels_edit (Ok service) invocation h = subst (IsEdit p f) (ok_same (CancelBadged service) invocation h) tt
+
+  suspends_edit : (r : Result ℕ Refusal) (invocation : Invocation) → ((t : ℕ) → r ≡ Ok t → list_any (λ k. t == k) (threads_of f) ≡ true) → suspends r ≡ Ok invocation → IsEdit p f invocation
+  suspends_edit (Err refusal) invocation live h = cc
+  suspends_edit (Ok t) invocation live h = subst (IsEdit p f) (ok_same (Suspend t) invocation h) (live t refl)
+
+  resumes_edit : (r : Result ℕ Refusal) (invocation : Invocation) → ((t : ℕ) → r ≡ Ok t → list_any (λ k. t == k) (threads_of f) ≡ true) → resumes r ≡ Ok invocation → IsEdit p f invocation
+  resumes_edit (Err refusal) invocation live h = cc
+  resumes_edit (Ok t) invocation live h = subst (IsEdit p f) (ok_same (Resume t) invocation h) (live t refl)
+
   sends_edit : (r : Result Service Refusal) (message : Message) (block : Bool) (invocation : Invocation) → (r >>= λ service. Ok (Send service message block)) ≡ Ok invocation → IsEdit p f invocation
   sends_edit (Err refusal) message block invocation h = cc
   sends_edit (Ok service) message block invocation h = subst (IsEdit p f) (ok_same (Send service message block) invocation h) tt
@@ -155,6 +173,9 @@ module _ (p : ProfileName) (memory : ℕ) (f : Forest Entry) (all : All (IsLawfu
       moves_edit _ invocation (λ placement is. mutate_moves p memory f all thread slot (slots_named index depth src_root src_index src_depth) placement word is) h
   invocation_edit thread (op.CapDelete cap index depth) slot invocation h = deletes_edit _ invocation (slot_shows p f slot index depth) h
   invocation_edit thread (op.CapRevoke cap index depth) slot invocation h = revokes_edit _ invocation (slot_shows p f slot index depth) h
+  invocation_edit thread (op.CancelBadged cap index depth) slot invocation h = cancels_edit _ invocation h
+  invocation_edit thread (op.Suspend cap) slot invocation h = suspends_edit _ invocation (thread_live_at f slot) h
+  invocation_edit thread (op.Resume cap) slot invocation h = resumes_edit _ invocation (thread_live_at f slot) h
   invocation_edit thread (op.Send cap message) slot invocation h = sends_edit (service_of write_bit (cap_at f slot)) message true invocation h
   invocation_edit thread (op.NbSend cap message) slot invocation h = sends_edit (service_of write_bit (cap_at f slot)) message false invocation h
   invocation_edit thread (op.Recv cap) slot invocation h = receives_edit (service_of read_bit (cap_at f slot)) true invocation h

@@ -10,20 +10,20 @@ use Rattle.cap_core.specs.declared.refusal.Refusal.{Refusal}
 use Rattle.ipc_core.specs.Records.{Instance, SendRecord, AskRecord, same_instance}
 use Rattle.abstract_kernel.specs.declared.call.Call.{Call}
 use Rattle.abstract_kernel.specs.declared.invocation.Invocation.{Invocation}
-use Rattle.abstract_kernel.specs.declared.invocation.Invocation.TheVariants.{Send, Receive, Retype, Derive, Move, Delete, Revoke}
+use Rattle.abstract_kernel.specs.declared.invocation.Invocation.TheVariants.{Send, Receive, Retype, Derive, Move, Delete, Revoke, CancelBadged, Suspend, Resume}
 use Rattle.abstract_kernel.specs.CNodes.{with_derived, with_moved}
 use Rattle.abstract_kernel.specs.declared.call.Reply.{Reply}
 use Rattle.abstract_kernel.specs.declared.invocation.Service.{Service}
 use Rattle.abstract_kernel.specs.Shown.{endpoints_of}
-use Rattle.abstract_kernel.specs.State.{State, shown, pairs, endpoint_at, sends_to, receives_of}
+use Rattle.abstract_kernel.specs.State.{State, shown, pairs, endpoint_at, thread_at, sends_to, receives_of}
 use Rattle.slot_core.specs.Forest.{Forest}
 use Rattle.slot_core.specs.Entries.{Entry}
 use Rattle.clearing.specs.Clear.{clear}
 use Rattle.clearing.specs.Revoke.{revoke}
-use Rattle.abstract_kernel.specs.Cancelling.{is_send_ended, is_receive_ended}
+use Rattle.abstract_kernel.specs.Cancelling.{is_send_ended, is_receive_ended, is_badged_send, is_sent_by, is_received_by, cancelling_badged, suspending, resuming}
 use Rattle.abstract_kernel.proofs.Cancelling.Records.{pairs_same}
 use Rattle.abstract_kernel.specs.Decode.{decoded_call}
-use Rattle.abstract_kernel.specs.Step.{Outcome, counted, is_send_awaited, is_receive_awaited, send_accepted, receive_accepted, where_awaited, objects_made, objects_ended, rearranged, step, outcome, performed, send_record, receive_record, reply_to_send, reply_to_receive, replies_of, state_after}
+use Rattle.abstract_kernel.specs.Step.{Outcome, counted, is_send_awaited, is_receive_awaited, send_accepted, receive_accepted, where_awaited, objects_made, objects_ended, cancelled, rearranged, step, outcome, performed, send_record, receive_record, reply_to_send, reply_to_receive, replies_of, state_after}
 use Rattle.abstract_kernel.specs.Reached.{IsReached}
 use Rattle.abstract_kernel.specs.Deliveries.{is_live, is_delivery, delivery, delivered}
 use Rattle.abstract_kernel.proofs.Lists.Paired.{zip_more_some, zip_some_right, all_get}
@@ -177,6 +177,9 @@ performed_grows p A t (Derive placement) inv pass e = same_pairs A e (rearranged
 performed_grows p A t (Move placement) inv pass e = same_pairs A e (rearranged A (with_moved placement A.derivations)) refl refl
 performed_grows p A t (Delete slot) inv pass e = ending_grows A (clear p slot A.derivations) inv e
 performed_grows p A t (Revoke slot) inv pass e = ending_grows A (revoke p slot A.derivations) inv e
+performed_grows p A t (CancelBadged service) inv pass e = same_pairs A e (cancelled (cancelling_badged A (endpoint_at A service.endpoint) service.badge)) (pairs_same A (is_badged_send (endpoint_at A service.endpoint) service.badge) (λ _. false) inv.sends_rising inv.rising inv.unshared e) refl
+performed_grows p A t (Suspend thread) inv pass e = same_pairs A e (cancelled (suspending A (thread_at A thread))) (pairs_same A (is_sent_by (thread_at A thread)) (is_received_by (thread_at A thread)) inv.sends_rising inv.rising inv.unshared e) refl
+performed_grows p A t (Resume thread) inv pass e = same_pairs A e (cancelled (resuming A (thread_at A thread))) (pairs_same A (is_sent_by (thread_at A thread)) (is_received_by (thread_at A thread)) inv.sends_rising inv.rising inv.unshared e) refl
 
 outcome_grows : (p : ProfileName) (A : State) (call : Call) → Invariant A → (r : Result Invocation Refusal) → decoded_call p (shown A) call ≡ r → (e : Instance) → Grows A e (outcome p A call.thread r)
 outcome_grows p A call inv (Err refusal) h e = same_pairs A e (outcome p A call.thread (Err refusal)) refl refl

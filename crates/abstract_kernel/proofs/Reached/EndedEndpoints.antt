@@ -14,13 +14,13 @@ use Rattle.abstract_kernel.specs.declared.call.Reply.TheVariants.{Dropped, Empty
 use Rattle.abstract_kernel.specs.declared.invocation.Service.{Service}
 use Rattle.abstract_kernel.specs.declared.invocation.NewObjects.{NewObjects}
 use Rattle.abstract_kernel.specs.declared.invocation.Invocation.{Invocation}
-use Rattle.abstract_kernel.specs.declared.invocation.Invocation.TheVariants.{Send, Receive, Retype, Derive, Move, Delete, Revoke}
+use Rattle.abstract_kernel.specs.declared.invocation.Invocation.TheVariants.{Send, Receive, Retype, Derive, Move, Delete, Revoke, CancelBadged, Suspend, Resume}
 use Rattle.abstract_kernel.specs.Shown.{endpoints_of, endpoint_base}
-use Rattle.abstract_kernel.specs.State.{State, endpoint_at, pairs, sends_to, receives_of, shown}
+use Rattle.abstract_kernel.specs.State.{State, endpoint_at, thread_at, pairs, sends_to, receives_of, shown}
 use Rattle.abstract_kernel.specs.Deliveries.{is_live}
 use Rattle.clearing.specs.Clear.{clear}
 use Rattle.clearing.specs.Revoke.{revoke}
-use Rattle.abstract_kernel.specs.Cancelling.{is_send_ended, is_receive_ended}
+use Rattle.abstract_kernel.specs.Cancelling.{is_send_ended, is_receive_ended, is_badged_send, is_sent_by, is_received_by}
 use Rattle.abstract_kernel.proofs.Cancelling.Records.{pairs_same}
 use Rattle.abstract_kernel.proofs.Cancelling.Waiting.{stays_ended}
 use Rattle.abstract_kernel.proofs.Capabilities.StoresCleared.{live-clear, live-revoke}
@@ -109,6 +109,9 @@ module _ (A : State) (e : Instance) (born : e.birth ≤ A.count) (ended : is_liv
   by_invocation p memory t reached (Move placement) pass edit = by_rearranging (with_moved placement A.derivations) (moved_same p memory A t reached placement edit endpoint_base endpoint_is_base)
   by_invocation p memory t reached (Delete slot) pass edit = by_ending (clear p slot A.derivations) reached.records (λ q. live-clear endpoint_base q p slot A.derivations)
   by_invocation p memory t reached (Revoke slot) pass edit = by_ending (revoke p slot A.derivations) reached.records (λ q. live-revoke endpoint_base q p slot A.derivations)
+  by_invocation p memory t reached (CancelBadged service) pass edit = record { born = omega (arith, born); ended = ended; pairs_same = pairs_same A (is_badged_send (endpoint_at A service.endpoint) service.badge) (λ _. false) reached.records.sends_rising reached.records.rising reached.records.unshared e }
+  by_invocation p memory t reached (Suspend thread) pass edit = record { born = omega (arith, born); ended = ended; pairs_same = pairs_same A (is_sent_by (thread_at A thread)) (is_received_by (thread_at A thread)) reached.records.sends_rising reached.records.rising reached.records.unshared e }
+  by_invocation p memory t reached (Resume thread) pass edit = record { born = omega (arith, born); ended = ended; pairs_same = pairs_same A (is_sent_by (thread_at A thread)) (is_received_by (thread_at A thread)) reached.records.sends_rising reached.records.rising reached.records.unshared e }
 
   by_outcome : (p : ProfileName) (memory : ℕ) → Reached p memory A → (call : Call) (r : Result Invocation Refusal) → decoded_call p (shown A) call ≡ r → StaysEnded A e (outcome p A call.thread r)
   by_outcome p memory reached call (Err refusal) h = record { born = omega (arith, born); ended = ended; pairs_same = refl }

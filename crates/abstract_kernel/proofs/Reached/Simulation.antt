@@ -3,14 +3,14 @@ use Rattle.std.proofs.Common.{◌≡◌, ℕ, true, false, ◌==◌, List, [], �
 use Rattle.std.specs.List.{list_any, filter_map}
 use Rattle.abstract_kernel.specs.declared.call.Call.{Call}
 use Rattle.abstract_kernel.specs.declared.invocation.Invocation.{Invocation}
-use Rattle.abstract_kernel.specs.declared.invocation.Invocation.TheVariants.{Send, Receive, Retype, Derive, Move, Delete, Revoke}
+use Rattle.abstract_kernel.specs.declared.invocation.Invocation.TheVariants.{Send, Receive, Retype, Derive, Move, Delete, Revoke, CancelBadged, Suspend, Resume}
 use Rattle.abstract_kernel.specs.declared.call.Reply.{Reply}
 use Rattle.cap_core.specs.declared.profile.ProfileName.{ProfileName}
 use Rattle.abstract_kernel.specs.Private.Effects.{done, effect_of, decoded_effect, performed_effect}
 use Rattle.abstract_kernel.specs.Reached.{IsReached, StepsTo}
 use Rattle.cap_core.specs.declared.refusal.Refusal.{Refusal}
 use Rattle.abstract_kernel.specs.Shown.{Shown, tcb_base, endpoint_base, endpoints_of, threads_of}
-use Rattle.abstract_kernel.specs.State.{State, shown}
+use Rattle.abstract_kernel.specs.State.{State, endpoint_at, thread_at, shown}
 use Rattle.abstract_kernel.specs.Step.{objects_ended, outcome, performed, state_after, step}
 use Rattle.abstract_kernel.specs.Boot.{boot}
 use Rattle.abstract_kernel.specs.Decode.{decoded_call}
@@ -19,10 +19,12 @@ use Rattle.slot_core.specs.Forest.{Forest}
 use Rattle.slot_core.specs.Entries.{Entry, caps}
 use Rattle.clearing.specs.Clear.{clear}
 use Rattle.clearing.specs.Revoke.{revoke}
-use Rattle.abstract_kernel.specs.Cancelling.{ending}
+use Rattle.abstract_kernel.specs.Cancelling.{ending, cancelling_badged, suspending, resuming}
 use Rattle.abstract_kernel.specs.Private.Endings.{after_ending}
 use Rattle.abstract_kernel.proofs.Capabilities.StoresCleared.{live-clear, live-revoke}
-use Rattle.abstract_kernel.proofs.Cancelling.InvariantKept.{inv_ending}
+use Rattle.abstract_kernel.proofs.Cancelling.InvariantKept.{inv_ending, inv_badged, inv_stopping}
+use Rattle.abstract_kernel.proofs.Cancelling.Stopped.{stopping_shown}
+use Rattle.abstract_kernel.proofs.Cancelling.Badged.{cancelling_badged_shown}
 use Rattle.abstract_kernel.proofs.Cancelling.Ended.{ending_shown}
 use Rattle.abstract_kernel.specs.declared.invocation.NewObjects.{NewObjects}
 use Rattle.abstract_kernel.specs.declared.invocation.CapPlacement.{CapPlacement}
@@ -81,6 +83,9 @@ module _ (p : ProfileName) (memory : ℕ) (A : State) (t : ℕ) (reached : Reach
       rearranged_steps A (with_moved placement A.derivations) reached.records (moved_same placement edit tcb_base tcb_is_base) (moved_same placement edit endpoint_base endpoint_is_base)
   performed_steps (Delete slot) pass edit = ends_steps (clear p slot A.derivations) (λ q. live-clear endpoint_base q p slot A.derivations) (λ q. live-clear tcb_base q p slot A.derivations)
   performed_steps (Revoke slot) pass edit = ends_steps (revoke p slot A.derivations) (λ q. live-revoke endpoint_base q p slot A.derivations) (λ q. live-revoke tcb_base q p slot A.derivations)
+  performed_steps (CancelBadged service) pass edit = (refl, sym (cancelling_badged_shown A service.endpoint service.badge reached.records pass.endpoint_live))
+  performed_steps (Suspend thread) pass edit = (refl, sym (stopping_shown A thread true reached.records edit))
+  performed_steps (Resume thread) pass edit = (refl, sym (stopping_shown A thread false reached.records edit))
 
   inv_performed : (invocation : Invocation) → Passes A t invocation → IsEdit p A.derivations invocation → Invariant (performed p A t invocation).state
   inv_performed (Send service message block) pass edit = inv_sends p A t service message block reached.records pass
@@ -92,6 +97,9 @@ module _ (p : ProfileName) (memory : ℕ) (A : State) (t : ℕ) (reached : Reach
       inv_rearranged A (with_moved placement A.derivations) reached.records (moved_same placement edit tcb_base tcb_is_base) (moved_same placement edit endpoint_base endpoint_is_base)
   inv_performed (Delete slot) pass edit = inv_ends (clear p slot A.derivations) (λ q. live-clear endpoint_base q p slot A.derivations)
   inv_performed (Revoke slot) pass edit = inv_ends (revoke p slot A.derivations) (λ q. live-revoke endpoint_base q p slot A.derivations)
+  inv_performed (CancelBadged service) pass edit = inv_refused (cancelling_badged A (endpoint_at A service.endpoint) service.badge) (inv_badged A (endpoint_at A service.endpoint) service.badge reached.records)
+  inv_performed (Suspend thread) pass edit = inv_refused (suspending A (thread_at A thread)) (inv_stopping A (thread_at A thread) true reached.records)
+  inv_performed (Resume thread) pass edit = inv_refused (resuming A (thread_at A thread)) (inv_stopping A (thread_at A thread) false reached.records)
 
 outcome_steps : (p : ProfileName) (memory : ℕ) (A : State) (call : Call) → Reached p memory A → (r : Result Invocation Refusal) → decoded_call p (shown A) call ≡ r →
     IsShown (decoded_effect p (shown A) call.thread r) (outcome p A call.thread r)

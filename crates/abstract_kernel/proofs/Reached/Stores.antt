@@ -9,7 +9,7 @@ use Rattle.abstract_kernel.specs.declared.call.Reply.{Reply}
 use Rattle.abstract_kernel.specs.declared.call.ThreadState.{ThreadState}
 use Rattle.abstract_kernel.specs.declared.call.ThreadState.TheVariants.{Ready, Inactive, Sending, Receiving}
 use Rattle.abstract_kernel.specs.declared.invocation.Invocation.{Invocation}
-use Rattle.abstract_kernel.specs.declared.invocation.Invocation.TheVariants.{Send, Receive, Retype, Derive, Move, Delete, Revoke}
+use Rattle.abstract_kernel.specs.declared.invocation.Invocation.TheVariants.{Send, Receive, Retype, Derive, Move, Delete, Revoke, CancelBadged, Suspend, Resume}
 use Rattle.abstract_kernel.specs.declared.invocation.NewObjects.{NewObjects}
 use Rattle.abstract_kernel.specs.Decode.{decoded_call, decoded_op, where_live, where_ready}
 use Rattle.abstract_kernel.specs.Retyping.{with_objects}
@@ -51,6 +51,9 @@ performed_store p memory A t (Derive placement) edit store = store-derived p mem
 performed_store p memory A t (Move placement) edit store = store-moved p memory A.derivations store placement edit
 performed_store p memory A t (Delete slot) edit store = store-clear p memory slot A.derivations store
 performed_store p memory A t (Revoke slot) edit store = store-revoke p memory slot A.derivations store
+performed_store p memory A t (CancelBadged service) edit store = store
+performed_store p memory A t (Suspend thread) edit store = store
+performed_store p memory A t (Resume thread) edit store = store
 
 -- what passed the checks passed those of its operation
 ready_found : (s : ThreadState) (found : Result Invocation Refusal) (invocation : Invocation) → where_ready s found ≡ Ok invocation → found ≡ Ok invocation

@@ -26,7 +26,7 @@ use Rattle.abstract_kernel.specs.CNodes.{with_derived, with_moved}
 use Rattle.abstract_kernel.specs.Decode.{decoded_call}
 use Rattle.clearing.specs.Clear.{clear}
 use Rattle.clearing.specs.Revoke.{revoke}
-use Rattle.abstract_kernel.specs.Private.Endings.{after_ending}
+use Rattle.abstract_kernel.specs.Private.Endings.{after_ending, after_cancel_badge, after_suspend, after_resume}
 pub use Rattle.abstract_kernel.specs.Private.Endings.{new_thread}
 
 -- the reply, and what is shown after
@@ -111,6 +111,9 @@ performed_effect p v t (invocation.Derive placement) = done (rearranged v (with_
 performed_effect p v t (invocation.Move placement) = done (rearranged v (with_moved placement v.derivations))
 performed_effect p v t (invocation.Delete slot) = done (after_ending v (clear p slot v.derivations))
 performed_effect p v t (invocation.Revoke slot) = done (after_ending v (revoke p slot v.derivations))
+performed_effect p v t (invocation.CancelBadged service) = done (after_cancel_badge v service.endpoint service.badge)
+performed_effect p v t (invocation.Suspend thread) = done (after_suspend v thread)
+performed_effect p v t (invocation.Resume thread) = done (after_resume v thread)
 
 abbrev pub decoded_effect : ProfileName → Shown → ℕ → Result Invocation Refusal → Effect
 decoded_effect p v t (Err refusal) = unchanged v (Refused refusal)
@@ -125,3 +128,6 @@ IsReady v t = IsSomeAnd (get v.threads t) (λ (thread : ThreadView). thread.stat
 
 abbrev pub IsLiveEndpoint : Shown → ℕ → Type 0
 IsLiveEndpoint v e = IsSome (get v.endpoints e)
+
+abbrev pub IsLiveThread : Shown → ℕ → Type 0
+IsLiveThread v t = IsSome (get v.threads t)

@@ -12,11 +12,11 @@ use Rattle.cspace_core.specs.Resolution.{slot_of}
 use Rattle.abstract_kernel.specs.declared.invocation.NewObjects.{NewObjects}
 use Rattle.abstract_kernel.specs.declared.invocation.CapPlacement.{CapPlacement}
 use Rattle.abstract_kernel.specs.declared.invocation.Invocation.{Invocation}
-use Rattle.abstract_kernel.specs.declared.invocation.Invocation.TheVariants.{Send, Receive, Retype, Derive, Move, Delete, Revoke}
+use Rattle.abstract_kernel.specs.declared.invocation.Invocation.TheVariants.{Send, Receive, Retype, Derive, Move, Delete, Revoke, CancelBadged, Suspend, Resume}
 use Rattle.abstract_kernel.specs.Regions.{free_of}
 use Rattle.abstract_kernel.specs.Memory.{IsSlotAddress}
 use Rattle.abstract_kernel.specs.Shown.{Shown, has_child}
-use Rattle.abstract_kernel.specs.Private.Effects.{IsLiveEndpoint}
+use Rattle.abstract_kernel.specs.Private.Effects.{IsLiveEndpoint, IsLiveThread}
 
 -- an empty slot gets a lawful capability of the object that a full slot names, in whatever memory all are lawful
 pub record IsPlacement (p : ProfileName) (f : Forest Entry) (placement : CapPlacement) : Type 0 where
@@ -60,3 +60,6 @@ IsInvocation p v (Derive placement) = IsDerivation p v.derivations placement
 IsInvocation p v (Move placement) = IsMove p v.derivations placement
 IsInvocation p v (Delete slot) = IsTarget p v.derivations slot
 IsInvocation p v (Revoke slot) = IsTarget p v.derivations slot
+IsInvocation p v (CancelBadged service) = IsLiveEndpoint v service.endpoint
+IsInvocation p v (Suspend thread) = IsLiveThread v thread
+IsInvocation p v (Resume thread) = IsLiveThread v thread
