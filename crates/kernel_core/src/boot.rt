@@ -1,6 +1,6 @@
 //! Boot: a kernel from a plan.
 ghost use Rattle.std.specs.Prelude.{◌≡◌, ◌+◌, ◌-◌, ◌/◌, ◌^◌, ◌<◌, ◌++◌, IfOk, OnOk};
-ghost use Rattle.slot_core.specs.Forest.{none};
+ghost use Rattle.derivation.specs.Forest.{none};
 ghost use Rattle.kernel_core.specs.Private.BootRows.{boot_rows};
 ghost use Rattle.abstract_kernel.specs.State.{shown};
 ghost use Rattle.abstract_kernel.specs.Memory.{IsInMemory};

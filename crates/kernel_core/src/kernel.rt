@@ -1,7 +1,7 @@
 //! The kernel.
 ghost use Rattle.std.specs.Prelude.{◌≡◌, ◌⊎◌, ℕ, Some, None, IfOk, option_map, slice_get, All, vec_len, vec_capacity, length, drop, map, ◌≤◌, ◌<◌, ◌+◌, ◌++◌, ◌∷◌, []};
 ghost use Rattle.cap_core.specs.Numbers.{tcb_size};
-ghost use Rattle.slot_core.specs.Entries.{slots, cap_at as cap_held};
+ghost use Rattle.derivation.specs.Entries.{slots, cap_at as cap_held};
 ghost use Rattle.ipc_core.specs.Waits.{thread_of};
 ghost use Rattle.abstract_kernel.specs.Shown.{state_at, inbox_at, waiting_at, has_child};
 ghost use Rattle.abstract_kernel.specs.Decode.{decoded_call};
@@ -47,7 +47,7 @@ impl<P: Profile, S: CapStore<P> + Drop, W: Waiters<P> + Drop> Model for Kernel<P
     ghost use Rattle.abstract_kernel.specs.Shown.{Shown};
     ghost use Rattle.std.specs.Coded.{codes};
     ghost use Rattle.std.specs.FinMap.{code as coded_map};
-    ghost use Rattle.slot_core.specs.Spelled.{coded_forest};
+    ghost use Rattle.derivation.specs.Spelled.{coded_forest};
 
     ghost Value = { Shown };
 

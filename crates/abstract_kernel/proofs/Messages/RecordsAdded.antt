@@ -17,7 +17,7 @@ use Rattle.abstract_kernel.specs.declared.call.Reply.{Reply}
 use Rattle.abstract_kernel.specs.declared.call.Reply.TheVariants.{Dropped, Empty}
 use Rattle.std.proofs.lemmas.Bool.Decides.{nat_tests}
 use Rattle.abstract_kernel.specs.declared.call.Inbox.{Inbox}
-use Rattle.ipc_core.specs.Records.{AskRecord, Instance, SendRecord}
+use Rattle.ipc_core.specs.Records.{ReceiveRecord, Instance, SendRecord}
 use Rattle.cap_core.specs.declared.profile.ProfileName.{ProfileName}
 use Rattle.abstract_kernel.specs.Private.Effects.{Effect, unchanged, changed, performed_effect, receive_effect, receive_from_first, with_message, send_effect, send_to_first}
 use Rattle.cap_core.specs.declared.message.Message.{Message}
@@ -73,7 +73,7 @@ module _ (A : State) (t : ℕ) (service : Service) (message : Message) (inv : In
             ∙ sym shows,
       )
 
-  send_delivers_steps : (block : Bool) (a : AskRecord) → slice_get (receives_of A e) (length (sends_to A e)) ≡ Some a →
+  send_delivers_steps : (block : Bool) (a : ReceiveRecord) → slice_get (receives_of A e) (length (sends_to A e)) ≡ Some a →
       IsShown (send_effect (shown A) t service message block (waiting_at (shown A) service.endpoint)) (send_accepted A t service message)
   send_delivers_steps block a met =
       let fresh = inv.fresh (A.count + 1) (omega arith) in
@@ -87,12 +87,12 @@ module _ (A : State) (t : ℕ) (service : Service) (message : Message) (inv : In
         ap (λ (o : Effect). o.after) exact ∙ sym shows,
       )
 
-  send_steps : (o : Option AskRecord) → slice_get (receives_of A e) (length (sends_to A e)) ≡ o →
+  send_steps : (o : Option ReceiveRecord) → slice_get (receives_of A e) (length (sends_to A e)) ≡ o →
       IsShown (send_effect (shown A) t service message true (waiting_at (shown A) service.endpoint)) (send_accepted A t service message)
   send_steps None alone = send_waits_steps alone
   send_steps (Some a) met = send_delivers_steps true a met
 
-  nb_send_steps : (o : Option AskRecord) → slice_get (receives_of A e) (length (sends_to A e)) ≡ o →
+  nb_send_steps : (o : Option ReceiveRecord) → slice_get (receives_of A e) (length (sends_to A e)) ≡ o →
       IsShown (send_effect (shown A) t service message false (waiting_at (shown A) service.endpoint)) (where_awaited A (is_send_awaited A e) (send_accepted A t service message) Dropped)
   nb_send_steps None alone = unawaited A _ (is_send_awaited A e) (send_accepted A t service message) Dropped (not_longer (receives_of A e) (length (sends_to A e)) alone) (sends_alone false alone)
   nb_send_steps (Some a) met = awaited A _ (is_send_awaited A e) (send_accepted A t service message) Dropped (longer (receives_of A e) (length (sends_to A e)) a met) (send_delivers_steps false a met)

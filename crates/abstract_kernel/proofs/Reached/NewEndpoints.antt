@@ -3,7 +3,7 @@ use Rattle.std.proofs.Common.{◌≡◌, ◌≢◌, ℕ, ◌<◌, ◌≤◌, Boo
 use Rattle.std.proofs.lemmas.Bool.{ne_eqb}
 use Rattle.std.specs.List.{AllByRecursion}
 use Rattle.cap_core.specs.declared.profile.ProfileName.{ProfileName}
-use Rattle.ipc_core.specs.Records.{AskRecord, Instance, SendRecord, same_instance}
+use Rattle.ipc_core.specs.Records.{ReceiveRecord, Instance, SendRecord, same_instance}
 use Rattle.abstract_kernel.specs.State.{State}
 use Rattle.abstract_kernel.specs.Deliveries.{IsUnused}
 use Rattle.abstract_kernel.specs.Reached.{IsReached}
@@ -27,11 +27,11 @@ module _ (A : State) (e : Instance) (lt : A.count < e.birth) where
       let rest : List SendRecord = filter (λ (s : SendRecord). same_instance s.endpoint e && not (A.is_cancelled s.number)) xs in
       ap (λ (b : Bool). cond (b && not (A.is_cancelled s.number)) (s ∷ rest) rest) (younger s.endpoint e A.count born.0.0 lt) ∙ no_sends xs born.1
 
-  no_receives : (xs : List AskRecord) → AllByRecursion (λ (a : AskRecord). (a.endpoint.birth ≤ A.count) × (a.thread.birth ≤ A.count)) xs →
-      filter (λ (a : AskRecord). same_instance a.endpoint e && not (A.is_cancelled a.number)) xs ≡ []
+  no_receives : (xs : List ReceiveRecord) → AllByRecursion (λ (a : ReceiveRecord). (a.endpoint.birth ≤ A.count) × (a.thread.birth ≤ A.count)) xs →
+      filter (λ (a : ReceiveRecord). same_instance a.endpoint e && not (A.is_cancelled a.number)) xs ≡ []
   no_receives [] born = refl
   no_receives (a ∷ xs) born =
-      let rest : List AskRecord = filter (λ (a : AskRecord). same_instance a.endpoint e && not (A.is_cancelled a.number)) xs in
+      let rest : List ReceiveRecord = filter (λ (a : ReceiveRecord). same_instance a.endpoint e && not (A.is_cancelled a.number)) xs in
       ap (λ (b : Bool). cond (b && not (A.is_cancelled a.number)) (a ∷ rest) rest) (younger a.endpoint e A.count born.0.0 lt) ∙ no_receives xs born.1
 
 pub unmade_is_empty : (p : ProfileName) (A : State) (e : Instance) → IsReached p A → A.count < e.birth → IsUnused A e

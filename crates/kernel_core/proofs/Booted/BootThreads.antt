@@ -12,10 +12,10 @@ use Rattle.cap_core.specs.declared.capability.Cap.{Cap}
 use Rattle.cap_core.specs.declared.capability.Cap.TheVariants.{Untyped, CNode, Tcb}
 use Rattle.cap_core.specs.declared.capability.Guard.{Guard}
 use Rattle.cap_core.specs.Numbers.{word_bits, slot_size, slot_bits, tcb_size}
-use Rattle.slot_core.specs.Forest.{Forest, none, tree, preorder}
-use Rattle.slot_core.specs.Entries.{Entry, entry, caps}
-use Rattle.slot_core.specs.Derivation.{rooted, derived, derived_entry}
-use Rattle.slot_core.proofs.Forests.{preorder-root}
+use Rattle.derivation.specs.Forest.{Forest, none, tree, preorder}
+use Rattle.derivation.specs.Entries.{Entry, entry, caps}
+use Rattle.derivation.specs.Derivation.{rooted, derived, derived_entry}
+use Rattle.derivation.proofs.Trees.Forests.{preorder-root}
 use Rattle.ipc_core.specs.Waits.{no_waits}
 use Rattle.kernel_core.specs.declared.rows.ThreadRow.{ThreadRow}
 use Rattle.abstract_kernel.specs.Plan.{Plan, first_tcb, tcb_place, endpoint_place, least_multiple}

@@ -7,11 +7,11 @@ use Rattle.cap_core.specs.declared.capability.Cap.{Cap}
 use Rattle.cap_core.specs.declared.capability.Cap.TheVariants.{Untyped}
 use Rattle.cap_core.specs.Numbers.{slot_size, word_bits, max_object_bits}
 use Rattle.cap_core.specs.Objects.{is_untyped, bits_of, IsLawful}
-use Rattle.slot_core.specs.Forest.{Forest}
-use Rattle.slot_core.specs.Entries.{Entry, cap_at}
-use Rattle.slot_core.specs.Derivation.{derived, moved, freed, with_free}
-use Rattle.slot_core.specs.Disjoint.{IsDisjoint}
-use Rattle.slot_core.proofs.Alike.{alike_named}
+use Rattle.derivation.specs.Forest.{Forest}
+use Rattle.derivation.specs.Entries.{Entry, cap_at}
+use Rattle.derivation.specs.Derivation.{derived, moved, freed, with_free}
+use Rattle.derivation.specs.Disjoint.{IsDisjoint}
+use Rattle.derivation.proofs.Disjoint.Alike.{alike_named}
 use Rattle.abstract_kernel.specs.declared.invocation.CapPlacement.{CapPlacement}
 use Rattle.abstract_kernel.specs.Private.Stores.{IsKernelStore}
 use Rattle.abstract_kernel.specs.Private.Invocations.{IsPlacement, IsDerivation, IsMove}

@@ -11,11 +11,11 @@ use Rattle.cap_core.specs.Numbers.{slot_size, word_bits}
 use Rattle.cap_core.specs.Kinds.{new_cap}
 use Rattle.cap_core.specs.Objects.{IsLawful}
 use Rattle.mem_core.specs.Plans.{object_at}
-use Rattle.slot_core.specs.Forest.{Forest, preorder}
-use Rattle.slot_core.specs.Entries.{Entry, cap_at, caps, slots}
-use Rattle.slot_core.specs.Derivation.{retyped}
-use Rattle.slot_core.proofs.Forests.{each-contained}
-use Rattle.slot_core.proofs.Edits.{entry_at}
+use Rattle.derivation.specs.Forest.{Forest, preorder}
+use Rattle.derivation.specs.Entries.{Entry, cap_at, caps, slots}
+use Rattle.derivation.specs.Derivation.{retyped}
+use Rattle.derivation.proofs.Trees.Forests.{each-contained}
+use Rattle.derivation.proofs.Slots.Edits.{entry_at}
 use Rattle.cspace_core.specs.Resolution.{slot_of}
 use Rattle.abstract_kernel.specs.declared.invocation.NewObjects.{NewObjects}
 use Rattle.abstract_kernel.specs.Memory.{IsSlotAddress}

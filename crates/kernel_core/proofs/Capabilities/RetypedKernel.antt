@@ -12,8 +12,8 @@ use Rattle.cap_core.specs.Kinds.{new_cap, size_of}
 use Rattle.cap_core.specs.declared.capability.Cap.{Cap}
 use Rattle.mem_core.specs.declared.objects.Placed.{Placed}
 use Rattle.mem_core.specs.Plans.{object_at}
-use Rattle.slot_core.specs.Forest.{Forest}
-use Rattle.slot_core.specs.Entries.{Entry, is_full}
+use Rattle.derivation.specs.Forest.{Forest}
+use Rattle.derivation.specs.Entries.{Entry, is_full}
 use Rattle.cspace_core.specs.Resolution.{slot_of}
 use Rattle.ipc_core.specs.declared.waiter.Role.{Role}
 use Rattle.ipc_core.specs.Waits.{Waits, thread_of}

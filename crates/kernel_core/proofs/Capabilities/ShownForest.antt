@@ -1,8 +1,8 @@
 -- What every kernel shows of its derivations.
 use Rattle.std.proofs.Common.{◌≡◌, ℕ, List, Option, All, subst}
 use Rattle.cap_core.specs.declared.profile.ProfileName.{ProfileName}
-use Rattle.slot_core.specs.Forest.{Forest}
-use Rattle.slot_core.specs.Entries.{Entry, slots}
+use Rattle.derivation.specs.Forest.{Forest}
+use Rattle.derivation.specs.Entries.{Entry, slots}
 use Rattle.ipc_core.specs.Waits.{Waits}
 use Rattle.abstract_kernel.specs.Shown.{Shown}
 use Rattle.abstract_kernel.specs.Memory.{IsSlotAddress, IsAligned}

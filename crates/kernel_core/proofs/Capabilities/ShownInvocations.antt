@@ -5,8 +5,8 @@ use Rattle.std.specs.FinMap.{get}
 use Rattle.cap_core.specs.declared.profile.ProfileName.{ProfileName}
 use Rattle.cap_core.specs.declared.refusal.Refusal.{Refusal}
 use Rattle.cap_core.specs.Objects.{IsLawful}
-use Rattle.slot_core.specs.Forest.{Forest}
-use Rattle.slot_core.specs.Entries.{Entry, caps}
+use Rattle.derivation.specs.Forest.{Forest}
+use Rattle.derivation.specs.Entries.{Entry, caps}
 use Rattle.abstract_kernel.specs.declared.call.Reply.{Reply}
 use Rattle.abstract_kernel.specs.Memory.{IsInMemory}
 use Rattle.abstract_kernel.specs.Regions.{IsForest}

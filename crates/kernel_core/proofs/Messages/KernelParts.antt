@@ -10,8 +10,8 @@ use Rattle.cap_core.specs.declared.profile.ProfileName.{ProfileName}
 use Rattle.cap_core.specs.declared.capability.Badge.{Badge}
 use Rattle.cap_core.specs.declared.message.Message.{Message}
 use Rattle.cap_core.specs.Numbers.{tcb_size}
-use Rattle.slot_core.specs.Forest.{Forest}
-use Rattle.slot_core.specs.Entries.{Entry, caps}
+use Rattle.derivation.specs.Forest.{Forest}
+use Rattle.derivation.specs.Entries.{Entry, caps}
 use Rattle.ipc_core.specs.declared.waiter.Waiter.{Waiter}
 use Rattle.ipc_core.specs.declared.waiter.Waiter.TheVariants.{Sender, Receiver}
 use Rattle.ipc_core.specs.declared.waiter.Role.{Role}

@@ -11,8 +11,8 @@ use Rattle.cap_core.specs.declared.capability.Cap.{Cap}
 use Rattle.cap_core.specs.declared.capability.Cap.TheVariants.{Null, Untyped, Endpoint, CNode, Tcb}
 use Rattle.cap_core.specs.Numbers.{tcb_size, slot_size, endpoint_bits}
 use Rattle.cap_core.specs.Objects.{IsLawful}
-use Rattle.slot_core.specs.Forest.{Forest, none, tree, preorder, join, tops, below_those}
-use Rattle.slot_core.specs.Entries.{Entry, cap_at, cap_in, slots, is_at, first_child, first_slot}
+use Rattle.derivation.specs.Forest.{Forest, none, tree, preorder, join, tops, below_those}
+use Rattle.derivation.specs.Entries.{Entry, cap_at, cap_in, slots, is_at, first_child, first_slot}
 use Rattle.ipc_core.specs.Waits.{IsThreadAddress, IsEndpointAddress}
 use Rattle.kernel_core.specs.declared.rows.ThreadRow.{ThreadRow}
 use Rattle.abstract_kernel.specs.Shown.{endpoint_base}

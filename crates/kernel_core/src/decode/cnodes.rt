@@ -2,7 +2,7 @@
 ghost use Rattle.std.specs.Prelude.{◌≡◌, ◌≤◌, ◌⊎◌, IfOk};
 ghost use Rattle.cap_core.specs.Objects.{IsLawful};
 ghost use Rattle.cap_core.specs.declared.capability.Cap.TheVariants.{Null};
-ghost use Rattle.slot_core.specs.Entries.{cap_at};
+ghost use Rattle.derivation.specs.Entries.{cap_at};
 ghost use Rattle.slot_core.specs.Places.{address_of};
 ghost use Rattle.ipc_core.specs.Waits.{IsThreadAddress};
 ghost use Rattle.cap_core.specs.Minting.{with_data};

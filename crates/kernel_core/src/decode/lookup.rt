@@ -8,7 +8,7 @@ ghost use Rattle.cap_core.specs.Objects.{IsLawful};
 ghost use Rattle.cap_core.specs.declared.capability.Cap.TheVariants.{Null};
 ghost use Rattle.cspace_core.specs.Target.{target_seen};
 ghost use Rattle.cspace_core.specs.Inside.{LiesInCNode};
-ghost use Rattle.slot_core.specs.Entries.{cap_at};
+ghost use Rattle.derivation.specs.Entries.{cap_at};
 
 use cap_core::limits::MAX_MEMORY_BITS;
 use cap_core::{Cap, Kind, LookupFault, Profile, Refusal};

@@ -4,7 +4,7 @@ ghost use Rattle.cap_core.specs.Numbers.{slot_size, word_bits};
 ghost use Rattle.cspace_core.specs.Resolution.{slot_of};
 ghost use Rattle.cap_core.specs.Objects.{IsLawful};
 ghost use Rattle.cap_core.specs.declared.capability.Cap.TheVariants.{Null};
-ghost use Rattle.slot_core.specs.Entries.{cap_at};
+ghost use Rattle.derivation.specs.Entries.{cap_at};
 ghost use Rattle.slot_core.specs.Places.{address_of};
 ghost use Rattle.ipc_core.specs.Waits.{IsThreadAddress};
 ghost use Rattle.cap_core.specs.declared.limits.TheConstants.{MAX_RETYPE_COUNT};

@@ -1,6 +1,6 @@
 -- The proof of `put_all`: what holds at each turn of its loop.
 use Rattle.std.proofs.Common.{◌≡◌, ◌+◌, drop}
-use Rattle.slot_core.specs.Forest.{none}
+use Rattle.derivation.specs.Forest.{none}
 use Rattle.abstract_kernel.specs.Boot.{boot_caps, with_roots}
 use Rattle.abstract_kernel.proofs.Boot.Puts.{CanPut}
 use Rattle.kernel_core.proofs.boot.put_all.Given as goal

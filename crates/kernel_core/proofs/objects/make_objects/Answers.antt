@@ -3,9 +3,9 @@ use Rattle.std.proofs.Common.{ℕ, ◌≡◌, ◌<◌, ◌+◌, ◌*◌, ◌^◌
 use Rattle.cap_core.specs.declared.capability.Cap.{Cap}
 use Rattle.cap_core.specs.Numbers.{slot_size}
 use Rattle.cap_core.specs.Objects.{IsLawful}
-use Rattle.slot_core.specs.Forest.{Forest}
-use Rattle.slot_core.specs.Entries.{Entry, cap_at}
-use Rattle.slot_core.specs.Derivation.{freed, with_free}
+use Rattle.derivation.specs.Forest.{Forest}
+use Rattle.derivation.specs.Entries.{Entry, cap_at}
+use Rattle.derivation.specs.Derivation.{freed, with_free}
 use Rattle.abstract_kernel.specs.Retyping.{with_new}
 use Rattle.abstract_kernel.proofs.Retype.PutInOrder.{CanMake}
 use Rattle.abstract_kernel.proofs.Retype.RetypedForest.{freed_lawful, can_make}

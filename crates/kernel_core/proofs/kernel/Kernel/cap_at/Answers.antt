@@ -1,6 +1,6 @@
 -- The proof of `cap_at`: the goals that a search leaves open.
 use Rattle.std.proofs.Common.{sym, ap, subst, ◌∙◌, All}
-use Rattle.slot_core.specs.Entries.{cap_at, slots}
+use Rattle.derivation.specs.Entries.{cap_at, slots}
 use Rattle.abstract_kernel.specs.Shown.{Shown}
 use Rattle.abstract_kernel.specs.Memory.{IsSlotAddress, IsAligned}
 use Rattle.kernel_core.proofs.Threads.Addresses.{no_cap}
