@@ -1,3 +1,4 @@
+-- The abstract kernel: what is seen of it is in Shown, its state in State, a call's checks in Decode, a call in Step.
 pub mod Plan
 pub mod Shown
 pub mod State
