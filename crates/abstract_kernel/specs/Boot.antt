@@ -6,9 +6,9 @@ use Rattle.cap_core.specs.declared.capability.Cap.{Cap}
 use Rattle.cap_core.specs.declared.capability.Cap.TheVariants.{Untyped, Endpoint, CNode, Tcb}
 use Rattle.cap_core.specs.Numbers.{word_bits, slot_size}
 use Rattle.cap_core.specs.Rights.{all_rights}
-use Rattle.slot_core.specs.Forest.{Forest, none}
-use Rattle.slot_core.specs.Entries.{Entry}
-use Rattle.slot_core.specs.Derivation.{rooted, derived}
+use Rattle.derivation.specs.Forest.{Forest, none}
+use Rattle.derivation.specs.Entries.{Entry}
+use Rattle.derivation.specs.Derivation.{rooted, derived}
 use Rattle.abstract_kernel.specs.Plan.{Plan, tcb_place, endpoint_place}
 use Rattle.abstract_kernel.specs.State.{State}
 

@@ -7,9 +7,9 @@ use Rattle.cap_core.specs.declared.refusal.Refusal.{Refusal}
 use Rattle.cap_core.specs.declared.refusal.Refusal.TheVariants.{IllegalOperation, RevokeFirst}
 use Rattle.cap_core.specs.Objects.{is_untyped, bits_of}
 use Rattle.cap_core.specs.Minting.{masked, with_data}
-use Rattle.slot_core.specs.Forest.{Forest}
-use Rattle.slot_core.specs.Entries.{Entry, cap_at}
-use Rattle.slot_core.specs.Derivation.{derived, moved, freed}
+use Rattle.derivation.specs.Forest.{Forest}
+use Rattle.derivation.specs.Entries.{Entry, cap_at}
+use Rattle.derivation.specs.Derivation.{derived, moved, freed}
 use Rattle.abstract_kernel.specs.declared.invocation.Change.{Change}
 use Rattle.abstract_kernel.specs.declared.invocation.Change.TheVariants.{Copy, Mint, Move, Mutate}
 use Rattle.abstract_kernel.specs.declared.invocation.CapPlacement.{CapPlacement}

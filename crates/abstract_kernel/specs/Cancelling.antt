@@ -2,9 +2,9 @@
 use Rattle.std.specs.Prelude.{ℕ, Bool, false, true, not, cond, ◌==◌, ◌&&◌, ◌||◌}
 use Rattle.std.specs.List.{list_any}
 use Rattle.cap_core.specs.declared.capability.Badge.{Badge}
-use Rattle.slot_core.specs.Forest.{Forest}
-use Rattle.slot_core.specs.Entries.{Entry}
-use Rattle.ipc_core.specs.Records.{Instance, same_instance, SendRecord, AskRecord}
+use Rattle.derivation.specs.Forest.{Forest}
+use Rattle.derivation.specs.Entries.{Entry}
+use Rattle.ipc_core.specs.Records.{Instance, same_instance, SendRecord, ReceiveRecord}
 use Rattle.abstract_kernel.specs.Shown.{threads_of, endpoints_of}
 use Rattle.abstract_kernel.specs.State.{State, waiting_sends, waiting_receives}
 
@@ -12,18 +12,18 @@ use Rattle.abstract_kernel.specs.State.{State, waiting_sends, waiting_receives}
 abbrev pub is_open_send : State → SendRecord → Bool
 is_open_send A s = list_any (λ (w : SendRecord). w.number == s.number) (waiting_sends A s.endpoint)
 
-abbrev pub is_open_receive : State → AskRecord → Bool
-is_open_receive A a = list_any (λ (w : AskRecord). w.number == a.number) (waiting_receives A a.endpoint)
+abbrev pub is_open_receive : State → ReceiveRecord → Bool
+is_open_receive A a = list_any (λ (w : ReceiveRecord). w.number == a.number) (waiting_receives A a.endpoint)
 
 -- whether a number is that of an open send, or of an open receive, that a test names
 abbrev pub cancels_send : State → (SendRecord → Bool) → ℕ → Bool
 cancels_send A named n = list_any (λ (s : SendRecord). s.number == n && (is_open_send A s && named s)) A.sends
 
-abbrev pub cancels_receive : State → (AskRecord → Bool) → ℕ → Bool
-cancels_receive A named n = list_any (λ (a : AskRecord). a.number == n && (is_open_receive A a && named a)) A.receives
+abbrev pub cancels_receive : State → (ReceiveRecord → Bool) → ℕ → Bool
+cancels_receive A named n = list_any (λ (a : ReceiveRecord). a.number == n && (is_open_receive A a && named a)) A.receives
 
 -- the open sends that a test names and the open receives that a test names are cancelled
-abbrev pub cancelling : State → (SendRecord → Bool) → (AskRecord → Bool) → State
+abbrev pub cancelling : State → (SendRecord → Bool) → (ReceiveRecord → Bool) → State
 cancelling A sends receives =
     record A { is_cancelled = λ n. A.is_cancelled n || (cancels_send A sends n || cancels_receive A receives n) }
 
@@ -41,7 +41,7 @@ is_ended A g endpoint thread = not (is_endpoint_live A g endpoint && is_thread_l
 abbrev pub is_send_ended : State → Forest Entry → SendRecord → Bool
 is_send_ended A g s = is_ended A g s.endpoint s.thread
 
-abbrev pub is_receive_ended : State → Forest Entry → AskRecord → Bool
+abbrev pub is_receive_ended : State → Forest Entry → ReceiveRecord → Bool
 is_receive_ended A g a = is_ended A g a.endpoint a.thread
 
 -- the capabilities become those of a forest, and each open record whose endpoint or thread is then not live is cancelled
@@ -52,7 +52,7 @@ ending A g = record (cancelling A (is_send_ended A g) (is_receive_ended A g)) { 
 abbrev pub is_sent_by : Instance → SendRecord → Bool
 is_sent_by t s = same_instance s.thread t
 
-abbrev pub is_received_by : Instance → AskRecord → Bool
+abbrev pub is_received_by : Instance → ReceiveRecord → Bool
 is_received_by t a = same_instance a.thread t
 
 abbrev pub is_badged_send : Instance → Badge → SendRecord → Bool

@@ -10,8 +10,8 @@ use Rattle.cap_core.specs.declared.message.Message.{Message}
 use Rattle.cap_core.specs.declared.refusal.Refusal.{Refusal}
 use Rattle.cap_core.specs.declared.refusal.Refusal.TheVariants.{InvalidCapability, IllegalOperation, NoThread, NotReady}
 use Rattle.cap_core.specs.Rights.{write_bit, read_bit}
-use Rattle.slot_core.specs.Forest.{Forest}
-use Rattle.slot_core.specs.Entries.{Entry, cap_at}
+use Rattle.derivation.specs.Forest.{Forest}
+use Rattle.derivation.specs.Entries.{Entry, cap_at}
 use Rattle.abstract_kernel.specs.declared.call.Call.{Call}
 use Rattle.abstract_kernel.specs.declared.call.Op.{Op}
 use Rattle.abstract_kernel.specs.declared.call.Op.TheVariants as op

@@ -2,7 +2,7 @@
 use Rattle.std.specs.Prelude.{ℕ, Bool, false, cond, ◌==◌, ◌&&◌, List, [], ◌∷◌}
 use Rattle.std.specs.List.{list_any}
 use Rattle.cap_core.specs.declared.profile.ProfileName.{ProfileName}
-use Rattle.ipc_core.specs.Records.{Instance, SendRecord, AskRecord}
+use Rattle.ipc_core.specs.Records.{Instance, SendRecord, ReceiveRecord}
 use Rattle.abstract_kernel.specs.declared.call.Call.{Call}
 use Rattle.abstract_kernel.specs.declared.call.Reply.{Reply}
 use Rattle.abstract_kernel.specs.declared.call.Reply.TheVariants.{Delivered}
@@ -20,7 +20,7 @@ is_delivery base (Delivered endpoint from to badge message) = endpoint == base
 is_delivery base reply = false
 
 -- the reply that tells of the delivery of a pair, with the badge that the send kept
-abbrev pub delivery : SendRecord × AskRecord → Reply
+abbrev pub delivery : SendRecord × ReceiveRecord → Reply
 delivery p = Delivered p.0.endpoint.base p.0.thread.base p.1.thread.base p.0.badge p.0.message
 
 -- of the replies to calls, those that tell of a delivery by an endpoint while it is live

@@ -1,7 +1,7 @@
 -- What the laws of endpoints and of waiting threads say.
 use Rattle.std.specs.Prelude.{◌≡◌, ◌≤◌, ◌<◌, false, List, [], All, filter}
 use Rattle.cap_core.specs.declared.profile.ProfileName.{ProfileName}
-use Rattle.ipc_core.specs.Records.{Instance, SendRecord, AskRecord}
+use Rattle.ipc_core.specs.Records.{Instance, SendRecord, ReceiveRecord}
 use Rattle.abstract_kernel.specs.declared.call.Call.{Call}
 use Rattle.abstract_kernel.specs.declared.call.ThreadState.TheVariants.{Sending, Receiving}
 use Rattle.abstract_kernel.specs.State.{State, sends_to, receives_of, waiting_sends, waiting_receives, waiters, pairs, state_of}
@@ -40,4 +40,4 @@ TellsItsSenders p A e = IsReached p A → All (λ (s : SendRecord). state_of A s
 
 abbrev pub TellsItsReceivers : ProfileName → State → Instance → Type 0
 TellsItsReceivers p A e =
-    IsReached p A → All (λ (a : AskRecord). state_of A a.thread ≡ Receiving e.base) (waiting_receives A e)
+    IsReached p A → All (λ (a : ReceiveRecord). state_of A a.thread ≡ Receiving e.base) (waiting_receives A e)

@@ -10,8 +10,8 @@ use Rattle.cap_core.specs.Numbers.{word_bits}
 use Rattle.cap_core.specs.declared.capability.Kind.{Kind}
 use Rattle.cap_core.specs.declared.capability.Kind.TheVariants as kind
 use Rattle.cap_core.specs.Objects.{is_null, is_untyped}
-use Rattle.slot_core.specs.Forest.{Forest}
-use Rattle.slot_core.specs.Entries.{Entry, cap_at}
+use Rattle.derivation.specs.Forest.{Forest}
+use Rattle.derivation.specs.Entries.{Entry, cap_at}
 use Rattle.cspace_core.specs.Bits.{low_bits}
 use Rattle.cspace_core.specs.Resolution.{Found, is_cnode, resolution}
 use Rattle.cspace_core.specs.Target.{target_slot}

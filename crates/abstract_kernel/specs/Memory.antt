@@ -3,7 +3,7 @@ use Rattle.std.specs.Prelude.{◌≡◌, ℕ, ◌%◌, ◌^◌, ◌<◌, All}
 use Rattle.cap_core.specs.declared.profile.ProfileName.{ProfileName}
 use Rattle.cap_core.specs.Numbers.{slot_size}
 use Rattle.cap_core.specs.Objects.{IsLawful}
-use Rattle.slot_core.specs.Entries.{slots, caps}
+use Rattle.derivation.specs.Entries.{slots, caps}
 use Rattle.abstract_kernel.specs.Shown.{Shown}
 
 -- a multiple of a slot's size

@@ -5,9 +5,9 @@ use Rattle.cap_core.specs.declared.profile.ProfileName.{ProfileName}
 use Rattle.cap_core.specs.declared.capability.Cap.{Cap}
 use Rattle.cap_core.specs.declared.capability.Cap.TheVariants.{Untyped}
 use Rattle.cap_core.specs.Objects.{is_untyped, in_region, base_of, end_of}
-use Rattle.slot_core.specs.Forest.{Forest, preorder, descendants}
-use Rattle.slot_core.specs.Entries.{Entry, is_at, slots}
-use Rattle.slot_core.specs.Disjoint.{IsDisjoint}
+use Rattle.derivation.specs.Forest.{Forest, preorder, descendants}
+use Rattle.derivation.specs.Entries.{Entry, is_at, slots}
+use Rattle.derivation.specs.Disjoint.{IsDisjoint}
 
 -- how many bytes of an untyped region are used
 abbrev pub free_of : Cap → ℕ

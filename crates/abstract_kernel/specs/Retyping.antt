@@ -15,9 +15,9 @@ use Rattle.mem_core.specs.declared.objects.Placed.{Placed}
 use Rattle.mem_core.specs.declared.objects.Shape.{Shape}
 use Rattle.mem_core.specs.Shapes.{shape_of}
 use Rattle.mem_core.specs.Plans.{start_of, room_of, object_at}
-use Rattle.slot_core.specs.Forest.{Forest}
-use Rattle.slot_core.specs.Entries.{Entry, cap_at}
-use Rattle.slot_core.specs.Derivation.{retyped, freed}
+use Rattle.derivation.specs.Forest.{Forest}
+use Rattle.derivation.specs.Entries.{Entry, cap_at}
+use Rattle.derivation.specs.Derivation.{retyped, freed}
 use Rattle.cspace_core.specs.Resolution.{slot_of}
 use Rattle.cspace_core.specs.Target.{target_slot}
 use Rattle.abstract_kernel.specs.declared.invocation.NewObjects.{NewObjects}

@@ -1,10 +1,10 @@
 -- The abstract state: the capabilities, and whole histories of sends and receives.
 use Rattle.std.specs.Prelude.{ℕ, Bool, not, ◌==◌, ◌&&◌, cond, List, [], ◌∷◌, length, drop, filter, find, Option, None, Some, max, nat_lt}
 use Rattle.std.specs.List.{list_any, filter_map}
-use Rattle.slot_core.specs.Forest.{Forest}
-use Rattle.slot_core.specs.Entries.{Entry}
+use Rattle.derivation.specs.Forest.{Forest}
+use Rattle.derivation.specs.Entries.{Entry}
 use Rattle.ipc_core.specs.declared.waiter.Waiter.{Waiter}
-use Rattle.ipc_core.specs.Records.{Instance, same_instance, SendRecord, AskRecord, paired, waiting_list}
+use Rattle.ipc_core.specs.Records.{Instance, same_instance, SendRecord, ReceiveRecord, paired, waiting_list}
 use Rattle.abstract_kernel.specs.declared.call.ThreadState.{ThreadState}
 use Rattle.abstract_kernel.specs.declared.call.ThreadState.TheVariants.{Ready, Inactive, Sending, Receiving}
 use Rattle.abstract_kernel.specs.declared.call.Inbox.{Inbox}
@@ -18,7 +18,7 @@ pub record State : Type 0 where
   pub thread_birth : ℕ → ℕ
   -- the accepted sends and the accepted receives, in order
   pub sends : List SendRecord
-  pub receives : List AskRecord
+  pub receives : List ReceiveRecord
   -- whether the send or the receive of the call with a number was cancelled
   pub is_cancelled : ℕ → Bool
   -- whether a thread was made and not resumed, or was suspended
@@ -37,18 +37,18 @@ thread_at A base = record { base = base; birth = A.thread_birth base }
 abbrev pub sends_to : State → Instance → List SendRecord
 sends_to A e = filter (λ (s : SendRecord). same_instance s.endpoint e && not (A.is_cancelled s.number)) A.sends
 
-abbrev pub receives_of : State → Instance → List AskRecord
-receives_of A e = filter (λ (a : AskRecord). same_instance a.endpoint e && not (A.is_cancelled a.number)) A.receives
+abbrev pub receives_of : State → Instance → List ReceiveRecord
+receives_of A e = filter (λ (a : ReceiveRecord). same_instance a.endpoint e && not (A.is_cancelled a.number)) A.receives
 
 -- what an endpoint delivered: each send with the receive at its place
-abbrev pub pairs : State → Instance → List (SendRecord × AskRecord)
+abbrev pub pairs : State → Instance → List (SendRecord × ReceiveRecord)
 pairs A e = paired (sends_to A e) (receives_of A e)
 
 -- the sends, or the receives, that wait: those past the length of the other list
 abbrev pub waiting_sends : State → Instance → List SendRecord
 waiting_sends A e = drop (length (receives_of A e)) (sends_to A e)
 
-abbrev pub waiting_receives : State → Instance → List AskRecord
+abbrev pub waiting_receives : State → Instance → List ReceiveRecord
 waiting_receives A e = drop (length (sends_to A e)) (receives_of A e)
 
 abbrev pub waiters : State → Instance → List Waiter
@@ -59,7 +59,7 @@ abbrev pub is_sending : State → Instance → ℕ → Bool
 is_sending A t base = list_any (λ (s : SendRecord). same_instance s.thread t) (waiting_sends A (endpoint_at A base))
 
 abbrev pub is_receiving : State → Instance → ℕ → Bool
-is_receiving A t base = list_any (λ (a : AskRecord). same_instance a.thread t) (waiting_receives A (endpoint_at A base))
+is_receiving A t base = list_any (λ (a : ReceiveRecord). same_instance a.thread t) (waiting_receives A (endpoint_at A base))
 
 abbrev pub first_of : Option ℕ → Option ℕ → ThreadState → ThreadState
 first_of (Some e) _ other = Sending e
@@ -73,26 +73,26 @@ state_of A t =
     (cond (A.is_idle t) Inactive Ready)
 
 -- a pair is completed by the later of its two calls
-abbrev pub completion : SendRecord × AskRecord → ℕ
+abbrev pub completion : SendRecord × ReceiveRecord → ℕ
 completion p = max p.0.number p.1.number
 
 -- the pair of a receive
-abbrev pub pair_of : State → AskRecord → Option (SendRecord × AskRecord)
-pair_of A a = find (λ (p : SendRecord × AskRecord). p.1.number == a.number) (pairs A a.endpoint)
+abbrev pub pair_of : State → ReceiveRecord → Option (SendRecord × ReceiveRecord)
+pair_of A a = find (λ (p : SendRecord × ReceiveRecord). p.1.number == a.number) (pairs A a.endpoint)
 
 -- the pairs with a receive of a thread
-abbrev pub deliveries_to : State → Instance → List (SendRecord × AskRecord)
-deliveries_to A t = filter_map (pair_of A) (filter (λ (a : AskRecord). same_instance a.thread t) A.receives)
+abbrev pub deliveries_to : State → Instance → List (SendRecord × ReceiveRecord)
+deliveries_to A t = filter_map (pair_of A) (filter (λ (a : ReceiveRecord). same_instance a.thread t) A.receives)
 
-abbrev pub later : SendRecord × AskRecord → Option (SendRecord × AskRecord) → Option (SendRecord × AskRecord)
+abbrev pub later : SendRecord × ReceiveRecord → Option (SendRecord × ReceiveRecord) → Option (SendRecord × ReceiveRecord)
 later p None = Some p
 later p (Some q) = cond (nat_lt (completion p) (completion q)) (Some q) (Some p)
 
-abbrev pub last_completed : List (SendRecord × AskRecord) → Option (SendRecord × AskRecord)
+abbrev pub last_completed : List (SendRecord × ReceiveRecord) → Option (SendRecord × ReceiveRecord)
 last_completed [] = None
 last_completed (p ∷ ps) = later p (last_completed ps)
 
-abbrev pub inbox_with : Option (SendRecord × AskRecord) → Option Inbox
+abbrev pub inbox_with : Option (SendRecord × ReceiveRecord) → Option Inbox
 inbox_with None = None
 inbox_with (Some p) = Some (record { badge = p.0.badge; message = p.0.message })
 

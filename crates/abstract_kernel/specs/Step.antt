@@ -4,9 +4,9 @@ use Rattle.std.specs.List.{list_any}
 use Rattle.cap_core.specs.declared.profile.ProfileName.{ProfileName}
 use Rattle.cap_core.specs.declared.message.Message.{Message}
 use Rattle.cap_core.specs.declared.refusal.Refusal.{Refusal}
-use Rattle.slot_core.specs.Forest.{Forest}
-use Rattle.slot_core.specs.Entries.{Entry}
-use Rattle.ipc_core.specs.Records.{Instance, SendRecord, AskRecord}
+use Rattle.derivation.specs.Forest.{Forest}
+use Rattle.derivation.specs.Entries.{Entry}
+use Rattle.ipc_core.specs.Records.{Instance, SendRecord, ReceiveRecord}
 use Rattle.abstract_kernel.specs.declared.call.Call.{Call}
 use Rattle.abstract_kernel.specs.declared.call.Reply.{Reply}
 use Rattle.abstract_kernel.specs.declared.call.Reply.TheVariants.{Done, Delivered, Waiting, Dropped, Empty, Refused}
@@ -39,16 +39,16 @@ send_record A thread service message =
       message = message;
     }
 
-abbrev pub receive_record : State → ℕ → Service → AskRecord
+abbrev pub receive_record : State → ℕ → Service → ReceiveRecord
 receive_record A thread service =
     record { number = A.count + 1; endpoint = endpoint_at A service.endpoint; thread = thread_at A thread }
 
 -- the message is delivered where the record completes a pair: where there is a partner at its place
-abbrev pub reply_to_send : SendRecord → Option AskRecord → Reply
+abbrev pub reply_to_send : SendRecord → Option ReceiveRecord → Reply
 reply_to_send s (Some a) = Delivered s.endpoint.base s.thread.base a.thread.base s.badge s.message
 reply_to_send s None = Waiting
 
-abbrev pub reply_to_receive : AskRecord → Option SendRecord → Reply
+abbrev pub reply_to_receive : ReceiveRecord → Option SendRecord → Reply
 reply_to_receive a (Some s) = Delivered a.endpoint.base s.thread.base a.thread.base s.badge s.message
 reply_to_receive a None = Waiting
 

@@ -10,13 +10,13 @@ use Rattle.cap_core.specs.declared.capability.Cap.TheVariants.{CNode}
 use Rattle.cap_core.specs.declared.capability.Guard.{Guard}
 use Rattle.cap_core.specs.Numbers.{word_bits, slot_size, slot_bits, tcb_size, tcb_bits}
 use Rattle.cap_core.specs.Objects.{IsLawful}
-use Rattle.slot_core.specs.Forest.{Forest, none, preorder}
-use Rattle.slot_core.specs.Entries.{Entry, entry, slots}
-use Rattle.slot_core.specs.Derivation.{rooted, derived, derived_entry}
-use Rattle.slot_core.specs.Disjoint.{IsDisjoint}
-use Rattle.slot_core.proofs.Forests.{each-weaker}
-use Rattle.slot_core.proofs.Edits.{each-derived}
-use Rattle.slot_core.proofs.Distinct.{distinct-rooted, distinct-derived}
+use Rattle.derivation.specs.Forest.{Forest, none, preorder}
+use Rattle.derivation.specs.Entries.{Entry, entry, slots}
+use Rattle.derivation.specs.Derivation.{rooted, derived, derived_entry}
+use Rattle.derivation.specs.Disjoint.{IsDisjoint}
+use Rattle.derivation.proofs.Trees.Forests.{each-weaker}
+use Rattle.derivation.proofs.Slots.Edits.{each-derived}
+use Rattle.derivation.proofs.Slots.Distinct.{distinct-rooted, distinct-derived}
 use Rattle.abstract_kernel.specs.Plan.{Plan, IsPlan, tcb_place, least_multiple}
 use Rattle.abstract_kernel.specs.Memory.{IsSlotAddress}
 use Rattle.abstract_kernel.specs.Regions.{AreRegions}

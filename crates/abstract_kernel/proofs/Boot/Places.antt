@@ -13,13 +13,13 @@ use Rattle.cap_core.specs.declared.capability.Cap.TheVariants.{Untyped, Tcb}
 use Rattle.cap_core.specs.declared.limits.TheConstants.{MAX_MEMORY_BITS}
 use Rattle.cap_core.specs.Numbers.{word_bits, slot_bits, slot_size, tcb_bits, tcb_size, endpoint_bits, endpoint_size}
 use Rattle.cap_core.specs.Objects.{IsLawful, IsPlaced, base_of, bits_of, end_of, are_apart, is_untyped, contains}
-use Rattle.slot_core.proofs.Forests.{each-append, each-weaker}
+use Rattle.derivation.proofs.Trees.Forests.{each-append, each-weaker}
 use Rattle.abstract_kernel.specs.Plan.{Plan, IsPlan, overlap, extent, untyped_extent, least_multiple, first_tcb, tcb_place, endpoint_place, boot_end, slots_taken}
 use Rattle.abstract_kernel.specs.Boot.{root_cap, tcb_caps, endpoint_caps, untyped_caps, boot_caps, whole_endpoint, boot_tcbs, with_roots}
-use Rattle.slot_core.specs.Forest.{Forest, none}
-use Rattle.slot_core.specs.Entries.{Entry, cap_at}
-use Rattle.slot_core.specs.Derivation.{rooted}
-use Rattle.slot_core.proofs.Disjointness.{disjoint-none, apart_contains, are_apart-swap}
+use Rattle.derivation.specs.Forest.{Forest, none}
+use Rattle.derivation.specs.Entries.{Entry, cap_at}
+use Rattle.derivation.specs.Derivation.{rooted}
+use Rattle.derivation.proofs.Disjoint.Disjointness.{disjoint-none, apart_contains, are_apart-swap}
 use Rattle.abstract_kernel.proofs.Boot.Puts.{AreApart, CanPut, each-with_roots, full-with_roots, cap-with_roots, disjoint-with_roots}
 use Rattle.abstract_kernel.proofs.Boot.Spaces.{AreDifferent, CanDerive}
 use Rattle.abstract_kernel.proofs.Boot.SoundPlans.{clear, objects_within, slots_within}

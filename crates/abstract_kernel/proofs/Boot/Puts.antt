@@ -10,13 +10,13 @@ use Rattle.cap_core.specs.declared.profile.ProfileName.TheVariants.{Wide, Narrow
 use Rattle.cap_core.specs.declared.capability.Cap.{Cap}
 use Rattle.cap_core.specs.Numbers.{slot_size}
 use Rattle.cap_core.specs.Objects.{IsLawful, base_of, bits_of, same_object, are_apart}
-use Rattle.slot_core.specs.Forest.{Forest, preorder}
-use Rattle.slot_core.specs.Entries.{Entry, entry, is_at, is_full, cap_at}
-use Rattle.slot_core.specs.Derivation.{rooted, is_named}
-use Rattle.slot_core.specs.Disjoint.{IsDisjoint}
-use Rattle.slot_core.proofs.Forests.{each-weaker, each-contained}
-use Rattle.slot_core.proofs.Edits.{each-rooted, full-rooted, cap-rooted_other}
-use Rattle.slot_core.proofs.Disjointness.{AreSame, are_same, disjoint-rooted}
+use Rattle.derivation.specs.Forest.{Forest, preorder}
+use Rattle.derivation.specs.Entries.{Entry, entry, is_at, is_full, cap_at}
+use Rattle.derivation.specs.Derivation.{rooted, is_named}
+use Rattle.derivation.specs.Disjoint.{IsDisjoint}
+use Rattle.derivation.proofs.Trees.Forests.{each-weaker, each-contained}
+use Rattle.derivation.proofs.Slots.Edits.{each-rooted, full-rooted, cap-rooted_other}
+use Rattle.derivation.proofs.Disjoint.Disjointness.{AreSame, are_same, disjoint-rooted}
 use Rattle.abstract_kernel.specs.Boot.{with_roots}
 
 -- the objects of a list are apart from one another

@@ -7,13 +7,13 @@ use Rattle.cap_core.specs.declared.capability.Cap.{Cap}
 use Rattle.cap_core.specs.declared.capability.Cap.TheVariants.{CNode}
 use Rattle.cap_core.specs.declared.capability.Guard.{Guard}
 use Rattle.cap_core.specs.Objects.{IsLawful, is_untyped, badge_of, contains, same_object}
-use Rattle.slot_core.specs.Forest.{Forest, preorder}
-use Rattle.slot_core.specs.Entries.{Entry, is_full, cap_at, first_child}
-use Rattle.slot_core.specs.Derivation.{derived, names_same}
-use Rattle.slot_core.specs.Disjoint.{IsDisjoint}
-use Rattle.slot_core.proofs.Forests.{each-weaker, each-contained}
-use Rattle.slot_core.proofs.Edits.{each-derived, full-derived, cap-derived_other}
-use Rattle.slot_core.proofs.Disjointness.{disjoint-derived}
+use Rattle.derivation.specs.Forest.{Forest, preorder}
+use Rattle.derivation.specs.Entries.{Entry, is_full, cap_at, first_child}
+use Rattle.derivation.specs.Derivation.{derived, names_same}
+use Rattle.derivation.specs.Disjoint.{IsDisjoint}
+use Rattle.derivation.proofs.Trees.Forests.{each-weaker, each-contained}
+use Rattle.derivation.proofs.Slots.Edits.{each-derived, full-derived, cap-derived_other}
+use Rattle.derivation.proofs.Disjoint.Disjointness.{disjoint-derived}
 use Rattle.cap_core.specs.Numbers.{slot_size}
 use Rattle.std.proofs.Math.Seq.{drop-cons}
 use Rattle.abstract_kernel.specs.Boot.{with_spaces}

@@ -5,7 +5,7 @@ use Rattle.std.specs.FinMap.{get, insert}
 use Rattle.std.proofs.lemmas.Bool.{false≢true}
 use Rattle.std.proofs.lemmas.Bool.Decides.{eqb_tells}
 use Rattle.cap_core.specs.declared.capability.Badge.{Badge}
-use Rattle.ipc_core.specs.Records.{Instance, same_instance, SendRecord, AskRecord, sender, receiver}
+use Rattle.ipc_core.specs.Records.{Instance, same_instance, SendRecord, ReceiveRecord, sender, receiver}
 use Rattle.ipc_core.specs.declared.waiter.Waiter.{Waiter}
 use Rattle.ipc_core.specs.Cancelled.{is_thread, is_sender_with, those, others}
 use Rattle.abstract_kernel.specs.declared.call.ThreadState.TheVariants.{Ready, Inactive}
@@ -101,7 +101,7 @@ module _ (A : State) (base : ℕ) (badge : Badge) (inv : Invariant A) (live : li
   sends_left x = sends_waiting A (is_badged_send (endpoint_at A base) badge) (λ _. false) inv x
 
   receives_left : (x : Instance) → waiting_receives left x ≡ waiting_receives A x
-  receives_left x = receives_waiting A (is_badged_send (endpoint_at A base) badge) (λ _. false) inv x ∙ filter_all (λ (a : AskRecord). true) (waiting_receives A x) (all_of (λ (a : AskRecord). true ≡ true) (λ a. refl) (waiting_receives A x))
+  receives_left x = receives_waiting A (is_badged_send (endpoint_at A base) badge) (λ _. false) inv x ∙ filter_all (λ (a : ReceiveRecord). true) (waiting_receives A x) (all_of (λ (a : ReceiveRecord). true ≡ true) (λ a. refl) (waiting_receives A x))
 
   -- at the endpoint itself the badge decides, and elsewhere nothing is named
   by_badge : (s : SendRecord) → s.endpoint ≡ e → named s ≡ (s.badge.0 == badge.0)
@@ -131,7 +131,7 @@ module _ (A : State) (base : ℕ) (badge : Badge) (inv : Invariant A) (live : li
       (λ i. map sender (ss i) ++ map receiver (qs i))
       ∙ list_less (waiting_sends A e) (waiting_receives A e) named (λ _. false) (λ (w : Waiter). not (is_sender_with badge w))
       (all_weaker (λ (s : SendRecord). s.endpoint ≡ e) (λ (s : SendRecord). not (named s) ≡ not (s.badge.0 == badge.0)) (λ s own. ap not (by_badge s own)) (waiting_sends A e) (own_waiting_sends A e))
-      (all_of (λ (a : AskRecord). true ≡ true) (λ a. refl) (waiting_receives A e))
+      (all_of (λ (a : ReceiveRecord). true ≡ true) (λ a. refl) (waiting_receives A e))
 
   -- whether a thread is among those that wait no more
   module _ (t : ℕ) where
@@ -178,7 +178,7 @@ module _ (A : State) (base : ℕ) (badge : Badge) (inv : Invariant A) (live : li
     sending_elsewhere q ne = ap (list_any (λ (s : SendRecord). same_instance s.thread m)) (sends_elsewhere q ne)
 
     receiving_same : (q : ℕ) → is_receiving left m q ≡ is_receiving A m q
-    receiving_same q = ap (list_any (λ (a : AskRecord). same_instance a.thread m)) (receives_left (endpoint_at A q))
+    receiving_same q = ap (list_any (λ (a : ReceiveRecord). same_instance a.thread m)) (receives_left (endpoint_at A q))
 
     state_stays : was_named ≡ false → state_of left m ≡ state_of A m
     state_stays is =
@@ -233,7 +233,7 @@ module _ (A : State) (base : ℕ) (badge : Badge) (inv : Invariant A) (none : (b
       (λ s. ap (λ (b : Bool). not (not b && (same_instance s.endpoint (endpoint_at A base) && s.badge.0 == badge.0))) none) (waiting_sends A x))
 
   receives_kept : (x : Instance) → waiting_receives kept x ≡ waiting_receives A x
-  receives_kept x = receives_waiting A (is_badged_send (endpoint_at A base) badge) (λ _. false) inv x ∙ filter_all (λ (a : AskRecord). true) (waiting_receives A x) (all_of (λ (a : AskRecord). true ≡ true) (λ a. refl) (waiting_receives A x))
+  receives_kept x = receives_waiting A (is_badged_send (endpoint_at A base) badge) (λ _. false) inv x ∙ filter_all (λ (a : ReceiveRecord). true) (waiting_receives A x) (all_of (λ (a : ReceiveRecord). true ≡ true) (λ a. refl) (waiting_receives A x))
 
   unbadged_shown : shown kept ≡ shown A
   unbadged_shown = λ i. record {
@@ -241,7 +241,7 @@ module _ (A : State) (base : ℕ) (badge : Badge) (inv : Invariant A) (none : (b
     threads = table (threads_of A.derivations) (λ t. record {
       state = first_of
           (find (λ q. list_any (λ (s : SendRecord). same_instance s.thread (thread_at A t)) (sends_kept (endpoint_at A q) i)) (endpoints_of A.derivations))
-          (find (λ q. list_any (λ (a : AskRecord). same_instance a.thread (thread_at A t)) (receives_kept (endpoint_at A q) i)) (endpoints_of A.derivations))
+          (find (λ q. list_any (λ (a : ReceiveRecord). same_instance a.thread (thread_at A t)) (receives_kept (endpoint_at A q) i)) (endpoints_of A.derivations))
           (cond (A.is_idle (thread_at A t)) Inactive Ready);
       inbox = inbox_same A (is_badged_send (endpoint_at A base) badge) (λ _. false) inv.sends_rising inv.rising inv.unshared (thread_at A t) i;
     });

@@ -3,9 +3,9 @@ use Rattle.std.proofs.Common.{◌≡◌, ℕ, Bool, true, false, not, cond, ◌=
 use Rattle.std.specs.List.{list_any, AllByRecursion}
 use Rattle.std.specs.FinMap.{get}
 use Rattle.std.proofs.lemmas.List.Elements.{filter-append}
-use Rattle.slot_core.specs.Forest.{Forest}
-use Rattle.slot_core.specs.Entries.{Entry}
-use Rattle.ipc_core.specs.Records.{Instance, same_instance, SendRecord, AskRecord, sender, receiver}
+use Rattle.derivation.specs.Forest.{Forest}
+use Rattle.derivation.specs.Entries.{Entry}
+use Rattle.ipc_core.specs.Records.{Instance, same_instance, SendRecord, ReceiveRecord, sender, receiver}
 use Rattle.ipc_core.specs.declared.waiter.Waiter.{Waiter}
 use Rattle.ipc_core.specs.Waits.{thread_of}
 use Rattle.ipc_core.proofs.Cancelling.{filter-map}
@@ -29,12 +29,12 @@ pub row_shown : (A : State) (t : ℕ) → list_any (λ k. t == k) (threads_of A.
 row_shown A t live = get_table (threads_of A.derivations) (thread_view A) t ∙ ap (λ (b : Bool). cond b (Some (thread_view A t)) None) live
 
 -- a waiting list, less those that a test names
-pub list_less : (ss : List SendRecord) (qs : List AskRecord) (S : SendRecord → Bool) (Q : AskRecord → Bool) (stays : Waiter → Bool) →
-    AllByRecursion (λ (s : SendRecord). not (S s) ≡ stays (sender s)) ss → AllByRecursion (λ (a : AskRecord). not (Q a) ≡ stays (receiver a)) qs →
-    (map sender (filter (λ (s : SendRecord). not (S s)) ss) ++ map receiver (filter (λ (a : AskRecord). not (Q a)) qs)) ≡ filter stays (map sender ss ++ map receiver qs)
+pub list_less : (ss : List SendRecord) (qs : List ReceiveRecord) (S : SendRecord → Bool) (Q : ReceiveRecord → Bool) (stays : Waiter → Bool) →
+    AllByRecursion (λ (s : SendRecord). not (S s) ≡ stays (sender s)) ss → AllByRecursion (λ (a : ReceiveRecord). not (Q a) ≡ stays (receiver a)) qs →
+    (map sender (filter (λ (s : SendRecord). not (S s)) ss) ++ map receiver (filter (λ (a : ReceiveRecord). not (Q a)) qs)) ≡ filter stays (map sender ss ++ map receiver qs)
 list_less ss qs S Q stays hs hq =
     let sends = ap (map sender) (filter_same (λ (s : SendRecord). not (S s)) (λ (s : SendRecord). stays (sender s)) ss hs) ∙ sym (filter-map sender stays (λ (s : SendRecord). stays (sender s)) (λ s. refl) ss) in
-    let receives = ap (map receiver) (filter_same (λ (a : AskRecord). not (Q a)) (λ (a : AskRecord). stays (receiver a)) qs hq) ∙ sym (filter-map receiver stays (λ (a : AskRecord). stays (receiver a)) (λ a. refl) qs) in
+    let receives = ap (map receiver) (filter_same (λ (a : ReceiveRecord). not (Q a)) (λ (a : ReceiveRecord). stays (receiver a)) qs hq) ∙ sym (filter-map receiver stays (λ (a : ReceiveRecord). stays (receiver a)) (λ a. refl) qs) in
     (λ i. sends i ++ receives i) ∙ sym (filter-append stays (map sender ss) (map receiver qs))
 
 not_not : (b : Bool) → not (not b) ≡ b
@@ -52,9 +52,9 @@ module _ (A : State) (g : Forest Entry) (inv : Invariant A)
   sends_not_ended e = subst (AllByRecursion (λ (s : SendRecord). not (is_send_ended A g s) ≡ true)) (sym (sends_waiting A (is_send_ended A g) (is_receive_ended A g) inv e))
       (all_weaker (λ (s : SendRecord). (s ≡ s) × (not (is_send_ended A g s) ≡ true)) (λ (s : SendRecord). not (is_send_ended A g s) ≡ true) (λ s w. w.1) _ (all_passing (λ (s : SendRecord). s ≡ s) (λ (s : SendRecord). not (is_send_ended A g s)) (waiting_sends A e) (all_of (λ (s : SendRecord). s ≡ s) (λ s. refl) (waiting_sends A e))))
 
-  pub receives_not_ended : (e : Instance) → AllByRecursion (λ (a : AskRecord). not (is_receive_ended A g a) ≡ true) (waiting_receives (ending A g) e)
-  receives_not_ended e = subst (AllByRecursion (λ (a : AskRecord). not (is_receive_ended A g a) ≡ true)) (sym (receives_waiting A (is_send_ended A g) (is_receive_ended A g) inv e))
-      (all_weaker (λ (a : AskRecord). (a ≡ a) × (not (is_receive_ended A g a) ≡ true)) (λ (a : AskRecord). not (is_receive_ended A g a) ≡ true) (λ a w. w.1) _ (all_passing (λ (a : AskRecord). a ≡ a) (λ (a : AskRecord). not (is_receive_ended A g a)) (waiting_receives A e) (all_of (λ (a : AskRecord). a ≡ a) (λ a. refl) (waiting_receives A e))))
+  pub receives_not_ended : (e : Instance) → AllByRecursion (λ (a : ReceiveRecord). not (is_receive_ended A g a) ≡ true) (waiting_receives (ending A g) e)
+  receives_not_ended e = subst (AllByRecursion (λ (a : ReceiveRecord). not (is_receive_ended A g a) ≡ true)) (sym (receives_waiting A (is_send_ended A g) (is_receive_ended A g) inv e))
+      (all_weaker (λ (a : ReceiveRecord). (a ≡ a) × (not (is_receive_ended A g a) ≡ true)) (λ (a : ReceiveRecord). not (is_receive_ended A g a) ≡ true) (λ a w. w.1) _ (all_passing (λ (a : ReceiveRecord). a ≡ a) (λ (a : ReceiveRecord). not (is_receive_ended A g a)) (waiting_receives A e) (all_of (λ (a : ReceiveRecord). a ≡ a) (λ a. refl) (waiting_receives A e))))
 
   -- at an endpoint that stays, what ends is what threads that end sent and received
   ended_by_thread : (b t : ℕ) → list_any (λ k. b == k) (endpoints_of g) ≡ true → is_ended A g (endpoint_at A b) (thread_at A t) ≡ not (list_any (λ k. t == k) (threads_of g))
@@ -81,9 +81,9 @@ module _ (A : State) (g : Forest Entry) (inv : Invariant A)
 
     same_receiving : (b : ℕ) → list_any (λ k. b == k) (endpoints_of g) ≡ true → is_receiving left (thread_at A t) b ≡ is_receiving A (thread_at A t) b
     same_receiving b live =
-        ap (list_any (λ (a : AskRecord). same_instance a.thread (thread_at A t))) (receives_waiting A (is_send_ended A g) (is_receive_ended A g) inv (endpoint_at A b))
-        ∙ any_left (λ (a : AskRecord). same_instance a.thread (thread_at A t)) (is_receive_ended A g) false (waiting_receives A (endpoint_at A b))
-        (all_weaker (λ (a : AskRecord). a.endpoint ≡ endpoint_at A b) (λ (a : AskRecord). same_instance a.thread (thread_at A t) ≡ true → is_ended A g a.endpoint a.thread ≡ false) (λ a own there. not_ended b live a.endpoint a.thread own (same_is a.thread (thread_at A t) there)) (waiting_receives A (endpoint_at A b)) (own_waiting_receives A (endpoint_at A b)))
+        ap (list_any (λ (a : ReceiveRecord). same_instance a.thread (thread_at A t))) (receives_waiting A (is_send_ended A g) (is_receive_ended A g) inv (endpoint_at A b))
+        ∙ any_left (λ (a : ReceiveRecord). same_instance a.thread (thread_at A t)) (is_receive_ended A g) false (waiting_receives A (endpoint_at A b))
+        (all_weaker (λ (a : ReceiveRecord). a.endpoint ≡ endpoint_at A b) (λ (a : ReceiveRecord). same_instance a.thread (thread_at A t) ≡ true → is_ended A g a.endpoint a.thread ≡ false) (λ a own there. not_ended b live a.endpoint a.thread own (same_is a.thread (thread_at A t) there)) (waiting_receives A (endpoint_at A b)) (own_waiting_receives A (endpoint_at A b)))
 
     state_left : state_of left (thread_at A t) ≡ state_among (endpoints_of g) (state_of A (thread_at A t))
     state_left =
@@ -110,7 +110,7 @@ module _ (A : State) (g : Forest Entry) (inv : Invariant A)
       (λ i. map sender (sends i) ++ map receiver (receives i))
       ∙ list_less (waiting_sends A e) (waiting_receives A e) (is_send_ended A g) (is_receive_ended A g) (λ (w : Waiter). list_any (λ k. thread_of w == k) (threads_of g))
       (all_joined (λ (s : SendRecord). s.endpoint ≡ e) (SendIsOpen A) _ (λ (s : SendRecord) own o. stays s.endpoint s.thread own o.thread_is) (waiting_sends A e) (own_waiting_sends A e) (inv.sends_open e))
-      (all_joined (λ (a : AskRecord). a.endpoint ≡ e) (ReceiveIsOpen A) _ (λ (a : AskRecord) own o. stays a.endpoint a.thread own o.thread_is) (waiting_receives A e) (own_waiting_receives A e) (inv.receives_open e))
+      (all_joined (λ (a : ReceiveRecord). a.endpoint ≡ e) (ReceiveIsOpen A) _ (λ (a : ReceiveRecord) own o. stays a.endpoint a.thread own o.thread_is) (waiting_receives A e) (own_waiting_receives A e) (inv.receives_open e))
       ∙ ap (waiting_among (threads_of g)) (sym (list_shown A b (endpoints b live)))
     where
       stays : (e m : Instance) → e ≡ endpoint_at A b → m ≡ thread_at A m.base → not (is_ended A g e m) ≡ list_any (λ k. m.base == k) (threads_of g)

@@ -2,10 +2,10 @@
 use Rattle.std.proofs.Common.{◌≡◌, ℕ, ◌<◌, ◌≤◌, Bool, true, false, not, cond, ◌==◌, ◌&&◌, ◌||◌, List, [], ◌∷◌, filter, refl, sym, ap, subst, ◌∙◌, arith}
 use Rattle.std.specs.List.{list_any, AllByRecursion}
 use Rattle.std.proofs.lemmas.Bool.{false≢true}
-use Rattle.slot_core.specs.Forest.{Forest}
-use Rattle.slot_core.specs.Entries.{Entry}
+use Rattle.derivation.specs.Forest.{Forest}
+use Rattle.derivation.specs.Entries.{Entry}
 use Rattle.cap_core.specs.declared.capability.Badge.{Badge}
-use Rattle.ipc_core.specs.Records.{Instance, same_instance, SendRecord, AskRecord}
+use Rattle.ipc_core.specs.Records.{Instance, same_instance, SendRecord, ReceiveRecord}
 use Rattle.abstract_kernel.specs.Shown.{threads_of, endpoints_of}
 use Rattle.abstract_kernel.specs.State.{State, endpoint_at, waiting_sends, waiting_receives}
 use Rattle.abstract_kernel.specs.Cancelling.{cancelling, cancels_send, cancels_receive, is_open_send, is_open_receive, is_ended, ending, stopping, cancelling_badged}
@@ -21,7 +21,7 @@ tally_filter p f [] = omega arith
 tally_filter p f (x ∷ xs) = let le = tally_filter p f xs in elim (f x) as (λ b. tally p (cond b (x ∷ filter f xs) (filter f xs)) ≤ tally p (x ∷ xs)) [ true ↦ omega (arith, le) | false ↦ omega (arith, le) ]
 
 -- a cancellation, after which other objects may be live and other threads idle
-module _ (A : State) (S : SendRecord → Bool) (Q : AskRecord → Bool) (inv : Invariant A) where
+module _ (A : State) (S : SendRecord → Bool) (Q : ReceiveRecord → Bool) (inv : Invariant A) where
   abbrev pub left : State
   left = cancelling A S Q
 
@@ -30,28 +30,28 @@ module _ (A : State) (S : SendRecord → Bool) (Q : AskRecord → Bool) (inv : I
       ap (λ (b : Bool). b || (cancels_send A S n || cancels_receive A Q n)) (inv.fresh n lt)
       ∙ ap (λ (b : Bool). b || cancels_receive A Q n) (no_number send_number (λ (s : SendRecord). is_open_send A s && S s) A.sends n
       (numbers_below send_number n A.sends (all_weaker (λ (s : SendRecord). s.number ≤ A.count) (λ (s : SendRecord). s.number < n) (λ s le. omega (arith, le, lt)) A.sends inv.sends_numbered)))
-      ∙ no_number receive_number (λ (a : AskRecord). is_open_receive A a && Q a) A.receives n
-      (numbers_below receive_number n A.receives (all_weaker (λ (a : AskRecord). a.number ≤ A.count) (λ (a : AskRecord). a.number < n) (λ a le. omega (arith, le, lt)) A.receives inv.numbered))
+      ∙ no_number receive_number (λ (a : ReceiveRecord). is_open_receive A a && Q a) A.receives n
+      (numbers_below receive_number n A.receives (all_weaker (λ (a : ReceiveRecord). a.number ≤ A.count) (λ (a : ReceiveRecord). a.number < n) (λ a le. omega (arith, le, lt)) A.receives inv.numbered))
 
   pub sends_waiting : (e : Instance) → waiting_sends left e ≡ filter (λ (s : SendRecord). not (S s)) (waiting_sends A e)
   sends_waiting e = waiting_sends_left A S Q inv.sends_rising inv.rising inv.unshared e
 
-  pub receives_waiting : (e : Instance) → waiting_receives left e ≡ filter (λ (a : AskRecord). not (Q a)) (waiting_receives A e)
+  pub receives_waiting : (e : Instance) → waiting_receives left e ≡ filter (λ (a : ReceiveRecord). not (Q a)) (waiting_receives A e)
   receives_waiting e = waiting_receives_left A S Q inv.sends_rising inv.rising inv.unshared e
 
   pending_less : (m : Instance) (b : ℕ) → pending left m b ≤ pending A m b
   pending_less m b =
       let ss = ap (tally (λ (s : SendRecord). same_instance s.thread m)) (sends_waiting (endpoint_at A b)) in
-      let qs = ap (tally (λ (a : AskRecord). same_instance a.thread m)) (receives_waiting (endpoint_at A b)) in
+      let qs = ap (tally (λ (a : ReceiveRecord). same_instance a.thread m)) (receives_waiting (endpoint_at A b)) in
       let sl = tally_filter (λ (s : SendRecord). same_instance s.thread m) (λ (s : SendRecord). not (S s)) (waiting_sends A (endpoint_at A b)) in
-      let ql = tally_filter (λ (a : AskRecord). same_instance a.thread m) (λ (a : AskRecord). not (Q a)) (waiting_receives A (endpoint_at A b)) in
+      let ql = tally_filter (λ (a : ReceiveRecord). same_instance a.thread m) (λ (a : ReceiveRecord). not (Q a)) (waiting_receives A (endpoint_at A b)) in
       omega (arith, ss, qs, sl, ql)
 
   -- where what is not named stays open, with these capabilities and these idle threads
   module _ (g : Forest Entry) (idle : Instance → Bool)
       (endpoints : (q : ℕ) → list_any (λ k. q == k) (endpoints_of g) ≡ true → list_any (λ k. q == k) (endpoints_of A.derivations) ≡ true)
       (sends_stay : (s : SendRecord) → SendIsOpen A s → S s ≡ false → SendIsOpen (record left { derivations = g; is_idle = idle }) s)
-      (receives_stay : (a : AskRecord) → ReceiveIsOpen A a → Q a ≡ false → ReceiveIsOpen (record left { derivations = g; is_idle = idle }) a) where
+      (receives_stay : (a : ReceiveRecord) → ReceiveIsOpen A a → Q a ≡ false → ReceiveIsOpen (record left { derivations = g; is_idle = idle }) a) where
     abbrev after : State
     after = record left { derivations = g; is_idle = idle }
 
@@ -68,7 +68,7 @@ module _ (A : State) (S : SendRecord → Bool) (Q : AskRecord → Bool) (inv : I
       born = inv.born;
       sends_born = inv.sends_born;
       receives_open = λ e. subst (AllByRecursion (ReceiveIsOpen after)) (sym (receives_waiting e))
-          (all_weaker _ (ReceiveIsOpen after) (λ a w. receives_stay a w.0 (unnamed (Q a) w.1)) _ (all_passing (ReceiveIsOpen A) (λ (a : AskRecord). not (Q a)) (waiting_receives A e) (inv.receives_open e)));
+          (all_weaker _ (ReceiveIsOpen after) (λ a w. receives_stay a w.0 (unnamed (Q a) w.1)) _ (all_passing (ReceiveIsOpen A) (λ (a : ReceiveRecord). not (Q a)) (waiting_receives A e) (inv.receives_open e)));
       sends_open = λ e. subst (AllByRecursion (SendIsOpen after)) (sym (sends_waiting e))
           (all_weaker _ (SendIsOpen after) (λ s w. sends_stay s w.0 (unnamed (S s) w.1)) _ (all_passing (SendIsOpen A) (λ (s : SendRecord). not (S s)) (waiting_sends A e) (inv.sends_open e)));
       once = λ m b live. let le = inv.once m b (endpoints b live) in let less = pending_less m b in omega (arith, le, less);
@@ -80,7 +80,7 @@ module _ (A : State) (S : SendRecord → Bool) (Q : AskRecord → Bool) (inv : I
         unnamed false h = refl
 
 -- a cancellation alone
-pub inv_cancelling : (A : State) (S : SendRecord → Bool) (Q : AskRecord → Bool) → Invariant A → Invariant (cancelling A S Q)
+pub inv_cancelling : (A : State) (S : SendRecord → Bool) (Q : ReceiveRecord → Bool) → Invariant A → Invariant (cancelling A S Q)
 inv_cancelling A S Q inv = inv_left A S Q inv A.derivations A.is_idle (λ q live. live)
     (λ s o unnamed. record { endpoint_is = o.endpoint_is; endpoint_live = o.endpoint_live; thread_is = o.thread_is; thread_live = o.thread_live; awake = o.awake })
     (λ a o unnamed. record { endpoint_is = o.endpoint_is; endpoint_live = o.endpoint_live; thread_is = o.thread_is; thread_live = o.thread_live; awake = o.awake })

@@ -3,7 +3,7 @@ use Rattle.std.proofs.Common.{◌≡◌, ◌≢◌, ℕ, Bool, true, false, not,
 use Rattle.std.specs.List.{list_any}
 use Rattle.std.specs.FinMap.{insert}
 use Rattle.std.proofs.lemmas.Bool.Decides.{eqb_tells}
-use Rattle.ipc_core.specs.Records.{Instance, same_instance, SendRecord, AskRecord, sender, receiver}
+use Rattle.ipc_core.specs.Records.{Instance, same_instance, SendRecord, ReceiveRecord, sender, receiver}
 use Rattle.ipc_core.specs.declared.waiter.Waiter.{Waiter}
 use Rattle.ipc_core.specs.Cancelled.{is_thread, others}
 use Rattle.abstract_kernel.specs.declared.call.ThreadState.TheVariants.{Ready, Inactive}
@@ -44,9 +44,9 @@ module _ (A : State) (t : ℕ) (idle : Bool) (inv : Invariant A) (live : list_an
 
     receiving_left : (b : ℕ) → is_receiving left m b ≡ cond c false (is_receiving A m b)
     receiving_left b =
-        ap (list_any (λ (a : AskRecord). same_instance a.thread m)) (receives_waiting A (is_sent_by (thread_at A t)) (is_received_by (thread_at A t)) inv (endpoint_at A b))
-        ∙ any_left (λ (a : AskRecord). same_instance a.thread m) (is_received_by (thread_at A t)) c (waiting_receives A (endpoint_at A b))
-        (all_of (λ (a : AskRecord). same_instance a.thread m ≡ true → is_received_by (thread_at A t) a ≡ c) (λ a there. ap (λ (x : Instance). same_instance x (thread_at A t)) (same_is a.thread m there) ∙ is) (waiting_receives A (endpoint_at A b)))
+        ap (list_any (λ (a : ReceiveRecord). same_instance a.thread m)) (receives_waiting A (is_sent_by (thread_at A t)) (is_received_by (thread_at A t)) inv (endpoint_at A b))
+        ∙ any_left (λ (a : ReceiveRecord). same_instance a.thread m) (is_received_by (thread_at A t)) c (waiting_receives A (endpoint_at A b))
+        (all_of (λ (a : ReceiveRecord). same_instance a.thread m ≡ true → is_received_by (thread_at A t) a ≡ c) (λ a there. ap (λ (x : Instance). same_instance x (thread_at A t)) (same_is a.thread m there) ∙ is) (waiting_receives A (endpoint_at A b)))
 
   inbox_left : (m : Instance) → inbox_of left m ≡ inbox_of A m
   inbox_left m = inbox_same A (is_sent_by (thread_at A t)) (is_received_by (thread_at A t)) inv.sends_rising inv.rising inv.unshared m
@@ -78,7 +78,7 @@ module _ (A : State) (t : ℕ) (idle : Bool) (inv : Invariant A) (live : list_an
       (λ i. map sender (sends i) ++ map receiver (receives i))
       ∙ list_less (waiting_sends A e) (waiting_receives A e) (is_sent_by (thread_at A t)) (is_received_by (thread_at A t)) (λ (w : Waiter). not (is_thread t w))
       (all_weaker (SendIsOpen A) (λ (s : SendRecord). not (is_sent_by (thread_at A t) s) ≡ not (s.thread.base == t)) (λ s o. ap not (by_address s.thread o.thread_is)) (waiting_sends A e) (inv.sends_open e))
-      (all_weaker (ReceiveIsOpen A) (λ (a : AskRecord). not (is_received_by (thread_at A t) a) ≡ not (a.thread.base == t)) (λ a o. ap not (by_address a.thread o.thread_is)) (waiting_receives A e) (inv.receives_open e))
+      (all_weaker (ReceiveIsOpen A) (λ (a : ReceiveRecord). not (is_received_by (thread_at A t) a) ≡ not (a.thread.base == t)) (λ a o. ap not (by_address a.thread o.thread_is)) (waiting_receives A e) (inv.receives_open e))
       ∙ ap (others (is_thread t)) (sym (list_shown A b there))
     where
       by_address : (m : Instance) → m ≡ thread_at A m.base → same_instance m (thread_at A t) ≡ (m.base == t)

@@ -3,9 +3,9 @@ use Rattle.std.proofs.Common.{◌≡◌, ℕ, ◌<◌, ◌≤◌, Bool, true, fa
 use Rattle.std.specs.List.{list_any, AllByRecursion}
 use Rattle.std.proofs.lemmas.Bool.{false≢true, ne_eqb}
 use Rattle.std.proofs.lemmas.Bool.Decides.{eqb_tells}
-use Rattle.slot_core.specs.Forest.{Forest}
-use Rattle.slot_core.specs.Entries.{Entry}
-use Rattle.ipc_core.specs.Records.{Instance, same_instance, SendRecord, AskRecord, sender, receiver}
+use Rattle.derivation.specs.Forest.{Forest}
+use Rattle.derivation.specs.Entries.{Entry}
+use Rattle.ipc_core.specs.Records.{Instance, same_instance, SendRecord, ReceiveRecord, sender, receiver}
 use Rattle.abstract_kernel.specs.declared.call.ThreadState.TheVariants.{Inactive, Ready, Sending, Receiving}
 use Rattle.abstract_kernel.specs.Shown.{endpoints_of}
 use Rattle.abstract_kernel.specs.State.{State, endpoint_at, sends_to, receives_of, waiting_sends, waiting_receives, waiters, is_sending, is_receiving, state_of, first_of}
@@ -24,7 +24,7 @@ use Rattle.abstract_kernel.proofs.Reached.Invariant.{Invariant, IsOpen, SendIsOp
 pub own_waiting_sends : (A : State) (e : Instance) → AllByRecursion (λ (s : SendRecord). s.endpoint ≡ e) (waiting_sends A e)
 own_waiting_sends A e = all_dropped _ (length (receives_of A e)) (sends_to A e) (own_sends A e)
 
-pub own_waiting_receives : (A : State) (e : Instance) → AllByRecursion (λ (a : AskRecord). a.endpoint ≡ e) (waiting_receives A e)
+pub own_waiting_receives : (A : State) (e : Instance) → AllByRecursion (λ (a : ReceiveRecord). a.endpoint ≡ e) (waiting_receives A e)
 own_waiting_receives A e = all_dropped _ (length (sends_to A e)) (receives_of A e) (own_receives A e)
 
 pub same_is : (m n : Instance) → same_instance m n ≡ true → m ≡ n
@@ -48,10 +48,10 @@ module _ (A : State) (inv : Invariant A) where
       (λ s w is. subst (λ (x : Instance). IsOpen A x m) w.1 (subst (λ (x : Instance). IsOpen A s.endpoint x) (same_is s.thread m is) w.0))
       (waiting_sends A e) (all_joined (SendIsOpen A) (λ (s : SendRecord). s.endpoint ≡ e) _ (λ s o own. (o, own)) (waiting_sends A e) (inv.sends_open e) (own_waiting_sends A e)) there
 
-  pub receiver_open : (e m : Instance) → list_any (λ (a : AskRecord). same_instance a.thread m) (waiting_receives A e) ≡ true → IsOpen A e m
-  receiver_open e m there = some_passes (λ (a : AskRecord). ReceiveIsOpen A a × (a.endpoint ≡ e)) (λ (a : AskRecord). same_instance a.thread m) (IsOpen A e m)
+  pub receiver_open : (e m : Instance) → list_any (λ (a : ReceiveRecord). same_instance a.thread m) (waiting_receives A e) ≡ true → IsOpen A e m
+  receiver_open e m there = some_passes (λ (a : ReceiveRecord). ReceiveIsOpen A a × (a.endpoint ≡ e)) (λ (a : ReceiveRecord). same_instance a.thread m) (IsOpen A e m)
       (λ a w is. subst (λ (x : Instance). IsOpen A x m) w.1 (subst (λ (x : Instance). IsOpen A a.endpoint x) (same_is a.thread m is) w.0))
-      (waiting_receives A e) (all_joined (ReceiveIsOpen A) (λ (a : AskRecord). a.endpoint ≡ e) _ (λ a o own. (o, own)) (waiting_receives A e) (inv.receives_open e) (own_waiting_receives A e)) there
+      (waiting_receives A e) (all_joined (ReceiveIsOpen A) (λ (a : ReceiveRecord). a.endpoint ≡ e) _ (λ a o own. (o, own)) (waiting_receives A e) (inv.receives_open e) (own_waiting_receives A e)) there
 
   open_live : (e m : Instance) → IsOpen A e m → is_live A e ≡ true
   open_live e m o =
@@ -68,10 +68,10 @@ module _ (A : State) (inv : Invariant A) where
       nothing (x ∷ xs) h = absurd h.0
 
   pub no_receives_wait : (e : Instance) → is_live A e ≡ false → waiting_receives A e ≡ []
-  no_receives_wait e dead = nothing (waiting_receives A e) (all_joined (ReceiveIsOpen A) (λ (a : AskRecord). a.endpoint ≡ e) (λ _. ⊥)
+  no_receives_wait e dead = nothing (waiting_receives A e) (all_joined (ReceiveIsOpen A) (λ (a : ReceiveRecord). a.endpoint ≡ e) (λ _. ⊥)
       (λ a o own. false≢true (sym dead ∙ subst (λ (x : Instance). is_live A x ≡ true) own (open_live a.endpoint a.thread o))) (waiting_receives A e) (inv.receives_open e) (own_waiting_receives A e))
     where
-      nothing : (xs : List AskRecord) → AllByRecursion (λ _. ⊥) xs → xs ≡ []
+      nothing : (xs : List ReceiveRecord) → AllByRecursion (λ _. ⊥) xs → xs ≡ []
       nothing [] h = refl
       nothing (x ∷ xs) h = absurd h.0
 
@@ -96,12 +96,12 @@ module _ (A : State) (inv : Invariant A) where
   pub no_receives_yet : (e : Instance) → A.count < e.birth → receives_of A e ≡ []
   no_receives_yet e later = nothing A.receives inv.born
     where
-      nothing : (xs : List AskRecord) → AllByRecursion (λ (a : AskRecord). (a.endpoint.birth ≤ A.count) × (a.thread.birth ≤ A.count)) xs → filter (λ (a : AskRecord). same_instance a.endpoint e && not (A.is_cancelled a.number)) xs ≡ []
+      nothing : (xs : List ReceiveRecord) → AllByRecursion (λ (a : ReceiveRecord). (a.endpoint.birth ≤ A.count) × (a.thread.birth ≤ A.count)) xs → filter (λ (a : ReceiveRecord). same_instance a.endpoint e && not (A.is_cancelled a.number)) xs ≡ []
       nothing [] h = refl
       nothing (a ∷ qs) h = let le = h.0.0 in
-          ap (λ (b : Bool). cond ((a.endpoint.base == e.base && b) && not (A.is_cancelled a.number)) (a ∷ filter (λ (x : AskRecord). same_instance x.endpoint e && not (A.is_cancelled x.number)) qs) (filter (λ (x : AskRecord). same_instance x.endpoint e && not (A.is_cancelled x.number)) qs))
+          ap (λ (b : Bool). cond ((a.endpoint.base == e.base && b) && not (A.is_cancelled a.number)) (a ∷ filter (λ (x : ReceiveRecord). same_instance x.endpoint e && not (A.is_cancelled x.number)) qs) (filter (λ (x : ReceiveRecord). same_instance x.endpoint e && not (A.is_cancelled x.number)) qs))
           (ne_eqb a.endpoint.birth e.birth (λ d. absurd (omega (arith, d, le, later))))
-          ∙ ap (λ (b : Bool). cond (b && not (A.is_cancelled a.number)) (a ∷ filter (λ (x : AskRecord). same_instance x.endpoint e && not (A.is_cancelled x.number)) qs) (filter (λ (x : AskRecord). same_instance x.endpoint e && not (A.is_cancelled x.number)) qs)) (and_false (a.endpoint.base == e.base))
+          ∙ ap (λ (b : Bool). cond (b && not (A.is_cancelled a.number)) (a ∷ filter (λ (x : ReceiveRecord). same_instance x.endpoint e && not (A.is_cancelled x.number)) qs) (filter (λ (x : ReceiveRecord). same_instance x.endpoint e && not (A.is_cancelled x.number)) qs)) (and_false (a.endpoint.base == e.base))
           ∙ nothing qs h.1
 
   -- a thread waits on one endpoint at most, and sends or receives there
@@ -110,13 +110,13 @@ module _ (A : State) (inv : Invariant A) where
     sent b = tally (λ (s : SendRecord). same_instance s.thread m) (waiting_sends A (endpoint_at A b))
 
     abbrev received : ℕ → ℕ
-    received b = tally (λ (a : AskRecord). same_instance a.thread m) (waiting_receives A (endpoint_at A b))
+    received b = tally (λ (a : ReceiveRecord). same_instance a.thread m) (waiting_receives A (endpoint_at A b))
 
     some_sent : (b : ℕ) → is_sending A m b ≡ true → 1 ≤ sent b
     some_sent b h = some_tally (λ (s : SendRecord). same_instance s.thread m) (waiting_sends A (endpoint_at A b)) h
 
     some_received : (b : ℕ) → is_receiving A m b ≡ true → 1 ≤ received b
-    some_received b h = some_tally (λ (a : AskRecord). same_instance a.thread m) (waiting_receives A (endpoint_at A b)) h
+    some_received b h = some_tally (λ (a : ReceiveRecord). same_instance a.thread m) (waiting_receives A (endpoint_at A b)) h
 
     live_sent : (b : ℕ) → is_sending A m b ≡ true → list_any (λ k. b == k) (endpoints_of A.derivations) ≡ true
     live_sent b h = (sender_open (endpoint_at A b) m h).endpoint_live
@@ -181,13 +181,13 @@ module _ (A : State) (inv : Invariant A) where
           (all_joined (SendIsOpen A) (λ (s : SendRecord). s.endpoint ≡ e) _ (λ s o own. (o, own)) (waiting_sends A e) (inv.sends_open e) (own_waiting_sends A e))
           (each_named (λ (s : SendRecord). s.thread) same_instance same_itself (waiting_sends A e) (waiting_sends A e) (λ m there. there))
 
-  pub receivers_told : (e : Instance) → AllByRecursion (λ (a : AskRecord). state_of A a.thread ≡ Receiving e.base) (waiting_receives A e)
-  receivers_told e = all_weaker _ _ (λ (a : AskRecord) w. receives_there a.thread e.base (subst (λ (x : Instance). list_any (λ (r : AskRecord). same_instance r.thread a.thread) (waiting_receives A x) ≡ true) (sym (w.1) ∙ w.0.endpoint_is ∙ ap (λ (x : Instance). endpoint_at A x.base) w.1) w.2)) (waiting_receives A e) facts
+  pub receivers_told : (e : Instance) → AllByRecursion (λ (a : ReceiveRecord). state_of A a.thread ≡ Receiving e.base) (waiting_receives A e)
+  receivers_told e = all_weaker _ _ (λ (a : ReceiveRecord) w. receives_there a.thread e.base (subst (λ (x : Instance). list_any (λ (r : ReceiveRecord). same_instance r.thread a.thread) (waiting_receives A x) ≡ true) (sym (w.1) ∙ w.0.endpoint_is ∙ ap (λ (x : Instance). endpoint_at A x.base) w.1) w.2)) (waiting_receives A e) facts
     where
-      facts : AllByRecursion (λ (a : AskRecord). ReceiveIsOpen A a × (a.endpoint ≡ e) × (list_any (λ (r : AskRecord). same_instance r.thread a.thread) (waiting_receives A e) ≡ true)) (waiting_receives A e)
-      facts = all_joined (λ (a : AskRecord). ReceiveIsOpen A a × (a.endpoint ≡ e)) (λ (a : AskRecord). list_any (λ (r : AskRecord). same_instance r.thread a.thread) (waiting_receives A e) ≡ true) _ (λ a w there. (w.0, w.1, there)) (waiting_receives A e)
-          (all_joined (ReceiveIsOpen A) (λ (a : AskRecord). a.endpoint ≡ e) _ (λ a o own. (o, own)) (waiting_receives A e) (inv.receives_open e) (own_waiting_receives A e))
-          (each_named (λ (a : AskRecord). a.thread) same_instance same_itself (waiting_receives A e) (waiting_receives A e) (λ m there. there))
+      facts : AllByRecursion (λ (a : ReceiveRecord). ReceiveIsOpen A a × (a.endpoint ≡ e) × (list_any (λ (r : ReceiveRecord). same_instance r.thread a.thread) (waiting_receives A e) ≡ true)) (waiting_receives A e)
+      facts = all_joined (λ (a : ReceiveRecord). ReceiveIsOpen A a × (a.endpoint ≡ e)) (λ (a : ReceiveRecord). list_any (λ (r : ReceiveRecord). same_instance r.thread a.thread) (waiting_receives A e) ≡ true) _ (λ a w there. (w.0, w.1, there)) (waiting_receives A e)
+          (all_joined (ReceiveIsOpen A) (λ (a : ReceiveRecord). a.endpoint ≡ e) _ (λ a o own. (o, own)) (waiting_receives A e) (inv.receives_open e) (own_waiting_receives A e))
+          (each_named (λ (a : ReceiveRecord). a.thread) same_instance same_itself (waiting_receives A e) (waiting_receives A e) (λ m there. there))
 
 -- an endpoint that is not live is not live after objects end
 pub stays_ended : (A : State) (g : Forest Entry) (e : Instance) → ((q : ℕ) → list_any (λ k. q == k) (endpoints_of g) ≡ true → list_any (λ k. q == k) (endpoints_of A.derivations) ≡ true) →

@@ -1,9 +1,9 @@
 -- What stands below an element of a forest after a put.
 use Rattle.std.proofs.Common.{◌≡◌, Bool, true, false, cond, ◌∷◌, refl}
 use Rattle.std.specs.List.{AllByRecursion as Each, Contains}
-use Rattle.slot_core.specs.Forest.{Forest, none, tree, preorder, join, below_those, below, after}
-use Rattle.slot_core.proofs.Forests.{each-append, each-left_part, each-right_part, each-contained, each-contains, each-join, each-join_parts}
-use Rattle.slot_core.proofs.Built.{Absent, below_those_none}
+use Rattle.derivation.specs.Forest.{Forest, none, tree, preorder, join, below_those, below, after}
+use Rattle.derivation.proofs.Trees.Forests.{each-append, each-left_part, each-right_part, each-contained, each-contains, each-join, each-join_parts}
+use Rattle.derivation.proofs.Trees.Built.{Absent, below_those_none}
 
 -- it stands in the forest
 pub each-below_those : {A : Type 0} (P : A → Type 0) (q : A → Bool) (f : Forest A) → Each P (preorder f) → Each P (preorder (below_those q f))

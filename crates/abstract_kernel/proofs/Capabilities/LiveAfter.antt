@@ -7,15 +7,15 @@ use Rattle.cap_core.specs.declared.profile.ProfileName.{ProfileName}
 use Rattle.cap_core.specs.declared.capability.Cap.{Cap}
 use Rattle.cap_core.specs.declared.capability.Cap.TheVariants.{Null, Untyped, Endpoint, CNode, Tcb}
 use Rattle.cap_core.specs.Objects.{is_untyped, bits_of}
-use Rattle.slot_core.specs.Forest.{Forest, preorder}
-use Rattle.slot_core.specs.Entries.{Entry, entry, is_full, cap_at, caps, slots}
-use Rattle.slot_core.specs.Derivation.{names_same, with_free, derived, freed}
-use Rattle.slot_core.proofs.Forests.{each-contains}
-use Rattle.slot_core.proofs.Edits.{any-derived, entry_at}
-use Rattle.slot_core.proofs.Freed.{any-freed}
-use Rattle.slot_core.proofs.Moved.{moved_entry, preorder-moved}
-use Rattle.slot_core.proofs.Holding.{cap-entry}
-use Rattle.slot_core.proofs.DisjointDerived.{any_contained}
+use Rattle.derivation.specs.Forest.{Forest, preorder}
+use Rattle.derivation.specs.Entries.{Entry, entry, is_full, cap_at, caps, slots}
+use Rattle.derivation.specs.Derivation.{names_same, with_free, derived, freed}
+use Rattle.derivation.proofs.Trees.Forests.{each-contains}
+use Rattle.derivation.proofs.Slots.Edits.{any-derived, entry_at}
+use Rattle.derivation.proofs.Slots.Freed.{any-freed}
+use Rattle.derivation.proofs.Slots.Moved.{moved_entry, preorder-moved}
+use Rattle.derivation.proofs.Slots.Holding.{cap-entry}
+use Rattle.derivation.proofs.Disjoint.DisjointDerived.{any_contained}
 use Rattle.abstract_kernel.specs.declared.invocation.CapPlacement.{CapPlacement}
 use Rattle.abstract_kernel.specs.Shown.{tcb_base, endpoint_base}
 use Rattle.abstract_kernel.specs.CNodes.{with_derived, with_moved}

@@ -2,9 +2,9 @@
 use Rattle.std.proofs.Common.{◌≡◌, ℕ, ◌≤◌, true, cond, ◌==◌, find, refl, sym, ◌∙◌, arith, inl, inr}
 use Rattle.std.specs.List.{list_any}
 use Rattle.std.proofs.lemmas.Bool.Decides.{eqb_tells}
-use Rattle.slot_core.specs.Forest.{Forest}
-use Rattle.slot_core.specs.Entries.{Entry}
-use Rattle.ipc_core.specs.Records.{Instance, SendRecord, AskRecord, same_instance}
+use Rattle.derivation.specs.Forest.{Forest}
+use Rattle.derivation.specs.Entries.{Entry}
+use Rattle.ipc_core.specs.Records.{Instance, SendRecord, ReceiveRecord, same_instance}
 use Rattle.abstract_kernel.specs.declared.call.ThreadState.TheVariants.{Ready, Inactive}
 use Rattle.abstract_kernel.specs.Shown.{threads_of, endpoints_of, waiting_at}
 use Rattle.abstract_kernel.specs.State.{State, endpoint_at, thread_at, first_of, is_sending, is_receiving, inbox_of, thread_view, shown, waiters, waiting_sends, waiting_receives}
@@ -22,7 +22,7 @@ module _ (A : State) (inv : Invariant A) (m : Instance) where
   sends_pending b h = let le = some_tally (λ (s : SendRecord). same_instance s.thread m) (waiting_sends A (endpoint_at A b)) h in omega arith
 
   receives_pending : (b : ℕ) → is_receiving A m b ≡ true → 1 ≤ pending A m b
-  receives_pending b h = let le = some_tally (λ (a : AskRecord). same_instance a.thread m) (waiting_receives A (endpoint_at A b)) h in omega arith
+  receives_pending b h = let le = some_tally (λ (a : ReceiveRecord). same_instance a.thread m) (waiting_receives A (endpoint_at A b)) h in omega arith
 
   one_pending : (b c : ℕ) → list_any (λ k. b == k) (endpoints_of A.derivations) ≡ true → list_any (λ k. c == k) (endpoints_of A.derivations) ≡ true → 1 ≤ pending A m b → 1 ≤ pending A m c → b ≡ c
   one_pending b c live live' here there = elim (eqb_tells b c) [

@@ -7,16 +7,16 @@ use Rattle.cap_core.specs.declared.profile.ProfileName.{ProfileName}
 use Rattle.cap_core.specs.declared.capability.Cap.{Cap}
 use Rattle.cap_core.specs.declared.capability.Cap.TheVariants.{Null, Untyped, Endpoint, CNode, Tcb}
 use Rattle.cap_core.specs.Objects.{is_null, is_untyped, contains, in_region, base_of, bits_of, end_of, same_object}
-use Rattle.slot_core.specs.Forest.{Forest, none, preorder, below_those, descendants, below, after}
-use Rattle.slot_core.specs.Entries.{Entry, entry, is_at, is_full, is_original, cap_at, slots}
-use Rattle.slot_core.specs.Derivation.{derived, derived_entry, names_same, freed, with_free}
-use Rattle.slot_core.proofs.Forests.{each-contained, each-from_contained}
-use Rattle.slot_core.proofs.Built.{Absent}
-use Rattle.slot_core.proofs.Edits.{contains-derived}
-use Rattle.slot_core.proofs.Disjointness.{slot_differs}
-use Rattle.slot_core.proofs.Alike.{IsAlike, alike_self, alike_named}
-use Rattle.slot_core.proofs.Freed.{freed_entry}
-use Rattle.slot_core.proofs.Holding.{cap-entry, none_stands}
+use Rattle.derivation.specs.Forest.{Forest, none, preorder, below_those, descendants, below, after}
+use Rattle.derivation.specs.Entries.{Entry, entry, is_at, is_full, is_original, cap_at, slots}
+use Rattle.derivation.specs.Derivation.{derived, derived_entry, names_same, freed, with_free}
+use Rattle.derivation.proofs.Trees.Forests.{each-contained, each-from_contained}
+use Rattle.derivation.proofs.Trees.Built.{Absent}
+use Rattle.derivation.proofs.Slots.Edits.{contains-derived}
+use Rattle.derivation.proofs.Disjoint.Disjointness.{slot_differs}
+use Rattle.derivation.proofs.Disjoint.Alike.{IsAlike, alike_self, alike_named}
+use Rattle.derivation.proofs.Slots.Freed.{freed_entry}
+use Rattle.derivation.proofs.Slots.Holding.{cap-entry, none_stands}
 use Rattle.abstract_kernel.specs.declared.invocation.CapPlacement.{CapPlacement}
 use Rattle.abstract_kernel.specs.CNodes.{with_derived}
 use Rattle.abstract_kernel.specs.Regions.{free_of, AreRegions}

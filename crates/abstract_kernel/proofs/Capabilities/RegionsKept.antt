@@ -6,16 +6,16 @@ use Rattle.cap_core.specs.declared.profile.ProfileName.{ProfileName}
 use Rattle.cap_core.specs.declared.capability.Cap.{Cap}
 use Rattle.cap_core.specs.declared.capability.Cap.TheVariants.{Null, Untyped, Endpoint, CNode, Tcb}
 use Rattle.cap_core.specs.Objects.{is_null, is_untyped, same_object, contains, in_region, base_of, end_of}
-use Rattle.slot_core.specs.Forest.{Forest, preorder, below_those, descendants, renamed}
-use Rattle.slot_core.specs.Entries.{Entry, entry, is_at, cap_at, slots}
-use Rattle.slot_core.specs.Derivation.{freed, with_free}
-use Rattle.slot_core.proofs.Built.{renamed-below_those}
-use Rattle.slot_core.proofs.Renamed.{contains-renamed, below_those-agree}
-use Rattle.slot_core.proofs.Disjointness.{same_object-swap}
-use Rattle.slot_core.proofs.Alike.{IsAlike, alike_self, alike_freed, contains-alike}
-use Rattle.slot_core.proofs.DisjointRenamed.{KeepsSlot}
-use Rattle.slot_core.proofs.Freed.{freed_entry, slot-freed_entry}
-use Rattle.slot_core.proofs.Holding.{cap-entry}
+use Rattle.derivation.specs.Forest.{Forest, preorder, below_those, descendants, renamed}
+use Rattle.derivation.specs.Entries.{Entry, entry, is_at, cap_at, slots}
+use Rattle.derivation.specs.Derivation.{freed, with_free}
+use Rattle.derivation.proofs.Trees.Built.{renamed-below_those}
+use Rattle.derivation.proofs.Trees.Renamed.{contains-renamed, below_those-agree}
+use Rattle.derivation.proofs.Disjoint.Disjointness.{same_object-swap}
+use Rattle.derivation.proofs.Disjoint.Alike.{IsAlike, alike_self, alike_freed, contains-alike}
+use Rattle.derivation.proofs.Disjoint.DisjointRenamed.{KeepsSlot}
+use Rattle.derivation.proofs.Slots.Freed.{freed_entry, slot-freed_entry}
+use Rattle.derivation.proofs.Slots.Holding.{cap-entry}
 use Rattle.abstract_kernel.specs.Regions.{free_of, IsUsedUp, AreRegions}
 use Rattle.abstract_kernel.proofs.Capabilities.Descendants.{contains-below_those}
 

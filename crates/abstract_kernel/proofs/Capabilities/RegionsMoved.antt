@@ -5,15 +5,15 @@ use Rattle.std.proofs.lemmas.Bool.Decides.{nat_tests}
 use Rattle.cap_core.specs.declared.profile.ProfileName.{ProfileName}
 use Rattle.cap_core.specs.declared.capability.Cap.{Cap}
 use Rattle.cap_core.specs.Objects.{is_null, is_untyped, in_region, base_of, end_of}
-use Rattle.slot_core.specs.Forest.{Forest, none, preorder, descendants}
-use Rattle.slot_core.specs.Entries.{Entry, entry, is_at, is_full, cap_at, slots}
-use Rattle.slot_core.specs.Derivation.{rooted, moved, names_same}
-use Rattle.slot_core.proofs.Forests.{each-contained, below_those-root}
-use Rattle.slot_core.proofs.Built.{below_those_none}
-use Rattle.slot_core.proofs.Edits.{contains-rooted}
-use Rattle.slot_core.proofs.Alike.{IsAlike, alike_self, alike_named}
-use Rattle.slot_core.proofs.Moved.{moved_entry}
-use Rattle.slot_core.proofs.Holding.{cap-entry, none_stands}
+use Rattle.derivation.specs.Forest.{Forest, none, preorder, descendants}
+use Rattle.derivation.specs.Entries.{Entry, entry, is_at, is_full, cap_at, slots}
+use Rattle.derivation.specs.Derivation.{rooted, moved, names_same}
+use Rattle.derivation.proofs.Trees.Forests.{each-contained, below_those-root}
+use Rattle.derivation.proofs.Trees.Built.{below_those_none}
+use Rattle.derivation.proofs.Slots.Edits.{contains-rooted}
+use Rattle.derivation.proofs.Disjoint.Alike.{IsAlike, alike_self, alike_named}
+use Rattle.derivation.proofs.Slots.Moved.{moved_entry}
+use Rattle.derivation.proofs.Slots.Holding.{cap-entry, none_stands}
 use Rattle.abstract_kernel.specs.declared.invocation.CapPlacement.{CapPlacement}
 use Rattle.abstract_kernel.specs.CNodes.{with_moved}
 use Rattle.abstract_kernel.specs.Regions.{free_of, AreRegions}

@@ -7,14 +7,14 @@ use Rattle.cap_core.specs.declared.message.Message.{Message}
 use Rattle.cap_core.specs.declared.capability.Cap.{Cap}
 use Rattle.cap_core.specs.declared.capability.Cap.TheVariants.{Null, Untyped, Endpoint, CNode, Tcb}
 use Rattle.cap_core.specs.Objects.{is_untyped, bits_of, IsLawful}
-use Rattle.slot_core.specs.Forest.{Forest, preorder}
-use Rattle.slot_core.specs.Entries.{Entry, caps, slots, cap_at}
-use Rattle.slot_core.specs.Derivation.{derived, derived_entry, freed, names_same}
-use Rattle.slot_core.proofs.Forests.{each-contained}
-use Rattle.slot_core.proofs.Edits.{each-derived, contains-derived}
-use Rattle.slot_core.proofs.Moved.{each-moved}
-use Rattle.slot_core.proofs.Freed.{each-freed}
-use Rattle.slot_core.proofs.Holding.{cap-entry}
+use Rattle.derivation.specs.Forest.{Forest, preorder}
+use Rattle.derivation.specs.Entries.{Entry, caps, slots, cap_at}
+use Rattle.derivation.specs.Derivation.{derived, derived_entry, freed, names_same}
+use Rattle.derivation.proofs.Trees.Forests.{each-contained}
+use Rattle.derivation.proofs.Slots.Edits.{each-derived, contains-derived}
+use Rattle.derivation.proofs.Slots.Moved.{each-moved}
+use Rattle.derivation.proofs.Slots.Freed.{each-freed}
+use Rattle.derivation.proofs.Slots.Holding.{cap-entry}
 use Rattle.ipc_core.specs.declared.waiter.Waiter.{Waiter}
 use Rattle.ipc_core.specs.declared.waiter.Offer.{Offer}
 use Rattle.ipc_core.specs.Waits.{first_receiver, first_sender}

@@ -11,22 +11,22 @@ use Rattle.cap_core.specs.declared.capability.Cap.{Cap}
 use Rattle.cap_core.specs.declared.capability.Cap.TheVariants.{Null, Untyped, Endpoint, CNode, Tcb}
 use Rattle.cap_core.specs.Numbers.{slot_size, word_bits}
 use Rattle.cap_core.specs.Objects.{is_null, is_untyped, bits_of, contains, in_region, same_object, IsLawful}
-use Rattle.slot_core.specs.Forest.{Forest, preorder, descendants}
-use Rattle.slot_core.specs.Entries.{Entry, is_at, is_full, is_original, cap_at, slots}
-use Rattle.slot_core.specs.Derivation.{derived, freed, moved, with_free}
-use Rattle.slot_core.specs.Disjoint.{IsDisjoint}
-use Rattle.slot_core.proofs.Forests.{each-from_contained, each-contained}
-use Rattle.slot_core.proofs.Edits.{each-derived, entry_at, cap-derived_other}
-use Rattle.slot_core.proofs.Disjointness.{are_same}
-use Rattle.slot_core.proofs.Distinct.{distinct-derived}
-use Rattle.slot_core.proofs.Alike.{IsAlike, alike_named}
-use Rattle.slot_core.proofs.DisjointDerived.{disjoint-derived_named}
-use Rattle.slot_core.proofs.DisjointRenamed.{disjoint-freed, disjoint-moved}
-use Rattle.slot_core.proofs.FirstChildren.{childless-bare}
-use Rattle.slot_core.proofs.Freed.{each-freed, distinct-freed}
-use Rattle.slot_core.proofs.Moved.{each-moved, distinct-moved}
-use Rattle.slot_core.proofs.Renamed.{each-map, each-map_old}
-use Rattle.slot_core.proofs.Holding.{cap-entry, original_in-one}
+use Rattle.derivation.specs.Forest.{Forest, preorder, descendants}
+use Rattle.derivation.specs.Entries.{Entry, is_at, is_full, is_original, cap_at, slots}
+use Rattle.derivation.specs.Derivation.{derived, freed, moved, with_free}
+use Rattle.derivation.specs.Disjoint.{IsDisjoint}
+use Rattle.derivation.proofs.Trees.Forests.{each-from_contained, each-contained}
+use Rattle.derivation.proofs.Slots.Edits.{each-derived, entry_at, cap-derived_other}
+use Rattle.derivation.proofs.Disjoint.Disjointness.{are_same}
+use Rattle.derivation.proofs.Slots.Distinct.{distinct-derived}
+use Rattle.derivation.proofs.Disjoint.Alike.{IsAlike, alike_named}
+use Rattle.derivation.proofs.Disjoint.DisjointDerived.{disjoint-derived_named}
+use Rattle.derivation.proofs.Disjoint.DisjointRenamed.{disjoint-freed, disjoint-moved}
+use Rattle.derivation.proofs.Slots.FirstChildren.{childless-bare}
+use Rattle.derivation.proofs.Slots.Freed.{each-freed, distinct-freed}
+use Rattle.derivation.proofs.Slots.Moved.{each-moved, distinct-moved}
+use Rattle.derivation.proofs.Trees.Renamed.{each-map, each-map_old}
+use Rattle.derivation.proofs.Slots.Holding.{cap-entry, original_in-one}
 use Rattle.abstract_kernel.specs.declared.invocation.CapPlacement.{CapPlacement}
 use Rattle.abstract_kernel.specs.Private.Stores.{IsKernelStore}
 use Rattle.abstract_kernel.specs.Memory.{IsSlotAddress}

@@ -11,9 +11,9 @@ use Rattle.cap_core.specs.declared.refusal.Refusal.TheVariants.{RevokeFirst}
 use Rattle.cap_core.specs.Numbers.{word_bits, guard_size_bits}
 use Rattle.cap_core.specs.Objects.{is_null, is_untyped, badge_of, IsLawful}
 use Rattle.cap_core.specs.Minting.{masked, guard_held, guarded, with_data}
-use Rattle.slot_core.specs.Forest.{Forest}
-use Rattle.slot_core.specs.Entries.{Entry, caps, cap_at, first_child}
-use Rattle.slot_core.specs.Derivation.{names_same}
+use Rattle.derivation.specs.Forest.{Forest}
+use Rattle.derivation.specs.Entries.{Entry, caps, cap_at, first_child}
+use Rattle.derivation.specs.Derivation.{names_same}
 use Rattle.cap_core.specs.declared.capability.Kind.TheVariants as kind
 use Rattle.abstract_kernel.specs.declared.invocation.Change.{Change}
 use Rattle.abstract_kernel.specs.declared.invocation.Change.TheVariants.{Copy, Mint, Move, Mutate}

@@ -9,8 +9,8 @@ use Rattle.cap_core.specs.Objects.{is_null, IsLawful}
 use Rattle.mem_core.specs.Shapes.{shape_of}
 use Rattle.mem_core.specs.Plans.{LieInUntyped}
 use Rattle.mem_core.proofs.Lawful.{lawful_shape}
-use Rattle.slot_core.specs.Forest.{Forest}
-use Rattle.slot_core.specs.Entries.{Entry, caps, cap_at}
+use Rattle.derivation.specs.Forest.{Forest}
+use Rattle.derivation.specs.Entries.{Entry, caps, cap_at}
 use Rattle.cspace_core.specs.Resolution.{slot_of}
 use Rattle.cspace_core.specs.Target.{target_slot}
 use Rattle.cspace_core.proofs.Nodes.{lawful_node}

@@ -7,7 +7,7 @@ use Rattle.std.specs.List.{list_any, zip, AllByRecursion}
 use Rattle.cap_core.specs.declared.profile.ProfileName.{ProfileName}
 use Rattle.cap_core.specs.declared.message.Message.{Message}
 use Rattle.cap_core.specs.declared.refusal.Refusal.{Refusal}
-use Rattle.ipc_core.specs.Records.{Instance, SendRecord, AskRecord, same_instance}
+use Rattle.ipc_core.specs.Records.{Instance, SendRecord, ReceiveRecord, same_instance}
 use Rattle.abstract_kernel.specs.declared.call.Call.{Call}
 use Rattle.abstract_kernel.specs.declared.invocation.Invocation.{Invocation}
 use Rattle.abstract_kernel.specs.declared.invocation.Invocation.TheVariants.{Send, Receive, Retype, Derive, Move}
@@ -73,10 +73,10 @@ here_told A base reply live is =
     ∙ ap (λ (b : Bool). cond b (reply ∷ []) []) (is ∙ eq-eqb base base refl)
 
 send_grows : (A : State) (t : ℕ) (service : Service) (message : Message) → Invariant A → list_any (λ k. service.endpoint == k) (endpoints_of A.derivations) ≡ true →
-    (o : Option AskRecord) → slice_get (receives_of A (endpoint_at A service.endpoint)) (length (sends_to A (endpoint_at A service.endpoint))) ≡ o → (e : Instance) → Grows A e (send_accepted A t service message)
+    (o : Option ReceiveRecord) → slice_get (receives_of A (endpoint_at A service.endpoint)) (length (sends_to A (endpoint_at A service.endpoint))) ≡ o → (e : Instance) → Grows A e (send_accepted A t service message)
 send_grows A t service message inv live None alone e =
     same_pairs A e (send_accepted A t service message) (pairs_stay A t service message (inv.fresh (A.count + 1) (omega arith)) alone e)
-    (ap (λ (o : Option AskRecord). is_delivery e.base (reply_to_send (send_record A t service message) o)) alone)
+    (ap (λ (o : Option ReceiveRecord). is_delivery e.base (reply_to_send (send_record A t service message) o)) alone)
 send_grows A t service message inv live (Some a) met e = elim (same_tells (endpoint_at A service.endpoint) e) [
   | inl w ↦ subst (λ (m : Instance). Grows A m (send_accepted A t service message)) w
       (ap (map delivery) (ap (λ (ss : List SendRecord). zip ss (receives_of A (endpoint_at A service.endpoint))) (sends_here A t service message fresh)
@@ -106,12 +106,12 @@ receive_grows A t service inv live None alone of e =
     (ap (λ (o : Option SendRecord). is_delivery e.base (reply_to_receive (receive_record A t service) o)) alone)
 receive_grows A t service inv live (Some s) met of e = elim (same_tells (endpoint_at A service.endpoint) e) [
   | inl w ↦ subst (λ (m : Instance). Grows A m (receive_accepted A t service)) w
-      (ap (map delivery) (ap (λ (qs : List AskRecord). zip (sends_to A (endpoint_at A service.endpoint)) qs) (receives_here A t service fresh inv.numbered)
+      (ap (map delivery) (ap (λ (qs : List ReceiveRecord). zip (sends_to A (endpoint_at A service.endpoint)) qs) (receives_here A t service fresh inv.numbered)
       ∙ zip_some_right (sends_to A (endpoint_at A service.endpoint)) (receives_of A (endpoint_at A service.endpoint)) s a met)
       ∙ map-append delivery (pairs A (endpoint_at A service.endpoint)) ((s, a) ∷ [])
       ∙ ap (λ (r : Reply). map delivery (pairs A (endpoint_at A service.endpoint)) ++ r ∷ []) (sym (reply ∙ ap (λ (b : ℕ). Delivered b s.thread.base t s.badge s.message) (sym (of s refl))))
       ∙ ap (λ (xs : List Reply). map delivery (pairs A (endpoint_at A service.endpoint)) ++ xs) (sym (here_told A service.endpoint _ live (ap (is_delivery service.endpoint) reply))))
-  | inr w ↦ ap (map delivery) (ap (λ (qs : List AskRecord). zip (sends_to A e) qs) (receives_elsewhere A t service fresh inv.numbered e w))
+  | inr w ↦ ap (map delivery) (ap (λ (qs : List ReceiveRecord). zip (sends_to A e) qs) (receives_elsewhere A t service fresh inv.numbered e w))
       ∙ sym (append-nil (map delivery (pairs A e)))
       ∙ ap (λ (xs : List Reply). map delivery (pairs A e) ++ xs) (sym (elsewhere_silent A e service.endpoint _ w (ap (is_delivery e.base) reply)))
 ]
@@ -119,7 +119,7 @@ receive_grows A t service inv live (Some s) met of e = elim (same_tells (endpoin
     fresh : A.is_cancelled (A.count + 1) ≡ false
     fresh = inv.fresh (A.count + 1) (omega arith)
 
-    a : AskRecord
+    a : ReceiveRecord
     a = receive_record A t service
 
     reply : reply_to_receive (receive_record A t service) (slice_get (sends_to A (endpoint_at A service.endpoint)) (length (receives_of A (endpoint_at A service.endpoint)))) ≡ Delivered service.endpoint s.thread.base t s.badge s.message

@@ -17,12 +17,12 @@ use Rattle.abstract_kernel.proofs.Messages.DeliveredSend.{SendsUpTo, deliveries_
 use Rattle.abstract_kernel.proofs.Messages.WaitsOnce.{ready_waits_not}
 use Rattle.abstract_kernel.specs.declared.invocation.Service.{Service}
 use Rattle.abstract_kernel.specs.declared.call.ThreadState.TheVariants.{Ready, Inactive}
-use Rattle.ipc_core.specs.Records.{AskRecord, Instance, SendRecord, receiver, same_instance, sender}
+use Rattle.ipc_core.specs.Records.{ReceiveRecord, Instance, SendRecord, receiver, same_instance, sender}
 use Rattle.abstract_kernel.specs.State.{State, receives_of, endpoint_at, first_of, inbox_of, inbox_with, is_receiving, is_sending, last_completed, pair_of, pairs, sends_to, shown, state_of, thread_at, thread_view, waiters, waiting_receives, waiting_sends}
 use Rattle.abstract_kernel.specs.Shown.{ThreadView, endpoints_of, table, threads_of}
 use Rattle.abstract_kernel.specs.Private.Effects.{changed, with_message}
 
-member_last : (xs : List AskRecord) (r : AskRecord) → Member r (xs ++ r ∷ [])
+member_last : (xs : List ReceiveRecord) (r : ReceiveRecord) → Member r (xs ++ r ∷ [])
 member_last [] r = inl refl
 member_last (x ∷ xs) r = inr (member_last xs r)
 
@@ -32,43 +32,43 @@ module _ (A : State) (t : ℕ) (service : Service) (fresh : A.is_cancelled (A.co
   abbrev e : Instance
   e = endpoint_at A service.endpoint
 
-  abbrev r : AskRecord
+  abbrev r : ReceiveRecord
   r = record_received A t service fresh receives_numbered
 
   abbrev A' : State
   A' = after_receive A t service fresh receives_numbered
 
   pairs_grow : pairs A' e ≡ pairs A e ++ (s, r) ∷ []
-  pairs_grow = ap (λ (qs : List AskRecord). zip (sends_to A e) qs) (receives_here A t service fresh receives_numbered) ∙ zip_some_right (sends_to A e) (receives_of A e) s r met
+  pairs_grow = ap (λ (qs : List ReceiveRecord). zip (sends_to A e) qs) (receives_here A t service fresh receives_numbered) ∙ zip_some_right (sends_to A e) (receives_of A e) s r met
 
-  pair_elsewhere : (x : AskRecord) → x.number ≢ A.count + 1 → pair_of A' x ≡ pair_of A x
+  pair_elsewhere : (x : ReceiveRecord) → x.number ≢ A.count + 1 → pair_of A' x ≡ pair_of A x
   pair_elsewhere x ne = elim (same_tells e x.endpoint) [
-    | inl w ↦ subst (λ (m : Instance). find (λ (p : SendRecord × AskRecord). p.1.number == x.number) (pairs A' m) ≡ find (λ (p : SendRecord × AskRecord). p.1.number == x.number) (pairs A m)) w
-        (ap (find (λ (p : SendRecord × AskRecord). p.1.number == x.number)) pairs_grow
-        ∙ find_push_no (λ (p : SendRecord × AskRecord). p.1.number == x.number) (pairs A e) (s, r) (ne_eqb r.number x.number (λ d. ne (sym d))))
-    | inr w ↦ ap (λ (qs : List AskRecord). find (λ (p : SendRecord × AskRecord). p.1.number == x.number) (zip (sends_to A x.endpoint) qs)) (receives_elsewhere A t service fresh receives_numbered x.endpoint w)
+    | inl w ↦ subst (λ (m : Instance). find (λ (p : SendRecord × ReceiveRecord). p.1.number == x.number) (pairs A' m) ≡ find (λ (p : SendRecord × ReceiveRecord). p.1.number == x.number) (pairs A m)) w
+        (ap (find (λ (p : SendRecord × ReceiveRecord). p.1.number == x.number)) pairs_grow
+        ∙ find_push_no (λ (p : SendRecord × ReceiveRecord). p.1.number == x.number) (pairs A e) (s, r) (ne_eqb r.number x.number (λ d. ne (sym d))))
+    | inr w ↦ ap (λ (qs : List ReceiveRecord). find (λ (p : SendRecord × ReceiveRecord). p.1.number == x.number) (zip (sends_to A x.endpoint) qs)) (receives_elsewhere A t service fresh receives_numbered x.endpoint w)
   ]
 
   pair_now : pair_of A' r ≡ Some (s, r)
   pair_now =
-      ap (find (λ (p : SendRecord × AskRecord). p.1.number == r.number)) pairs_grow
-      ∙ find_push_yes (λ (p : SendRecord × AskRecord). p.1.number == r.number) (pairs A e) (s, r) (no_pair_yet A.count (A.count + 1) (sends_to A e) (receives_of A e) (omega arith) (up_to_filter _ A.count A.receives receives_numbered)) (eq-eqb r.number r.number refl)
+      ap (find (λ (p : SendRecord × ReceiveRecord). p.1.number == r.number)) pairs_grow
+      ∙ find_push_yes (λ (p : SendRecord × ReceiveRecord). p.1.number == r.number) (pairs A e) (s, r) (no_pair_yet A.count (A.count + 1) (sends_to A e) (receives_of A e) (omega arith) (up_to_filter _ A.count A.receives receives_numbered)) (eq-eqb r.number r.number refl)
 
-  here : (f : AskRecord → Bool) → Here (pair_of A) (pair_of A') (A.count + 1) (s, r) pair_elsewhere (filter f (A.receives ++ r ∷ []))
-  here f = all_filter _ f (A.receives ++ r ∷ []) (all_more (λ (x : AskRecord). x.number ≡ A.count + 1 → pair_of A' x ≡ Some (s, r)) A.receives r
-      (all_map (λ (x : AskRecord). x.number ≤ A.count) (λ (x : AskRecord). x.number ≡ A.count + 1 → pair_of A' x ≡ Some (s, r)) (λ x le d. absurd (omega arith)) A.receives receives_numbered) (λ d. pair_now))
+  here : (f : ReceiveRecord → Bool) → Here (pair_of A) (pair_of A') (A.count + 1) (s, r) pair_elsewhere (filter f (A.receives ++ r ∷ []))
+  here f = all_filter _ f (A.receives ++ r ∷ []) (all_more (λ (x : ReceiveRecord). x.number ≡ A.count + 1 → pair_of A' x ≡ Some (s, r)) A.receives r
+      (all_map (λ (x : ReceiveRecord). x.number ≤ A.count) (λ (x : ReceiveRecord). x.number ≡ A.count + 1 → pair_of A' x ≡ Some (s, r)) (λ x le d. absurd (omega arith)) A.receives receives_numbered) (λ d. pair_now))
 
   inbox_filled : inbox_of A' (thread_at A t) ≡ (with_message s.badge s.message).inbox
-  inbox_filled = ap inbox_with (now_last (pair_of A) (pair_of A') (A.count + 1) (s, r) pair_elsewhere (filter (λ (x : AskRecord). same_instance x.thread (thread_at A t)) (A.receives ++ r ∷ [])) A.count
-      (here (λ (x : AskRecord). same_instance x.thread (thread_at A t))) (deliveries_up_to A sends_numbered receives_numbered _) (omega arith)
-      (any_kept (λ (x : AskRecord). same_instance x.thread (thread_at A t)) (A.receives ++ r ∷ []) r (member_last A.receives r) (same_itself (thread_at A t))))
+  inbox_filled = ap inbox_with (now_last (pair_of A) (pair_of A') (A.count + 1) (s, r) pair_elsewhere (filter (λ (x : ReceiveRecord). same_instance x.thread (thread_at A t)) (A.receives ++ r ∷ [])) A.count
+      (here (λ (x : ReceiveRecord). same_instance x.thread (thread_at A t))) (deliveries_up_to A sends_numbered receives_numbered _) (omega arith)
+      (any_kept (λ (x : ReceiveRecord). same_instance x.thread (thread_at A t)) (A.receives ++ r ∷ []) r (member_last A.receives r) (same_itself (thread_at A t))))
 
   inbox_else : (q : Instance) → same_instance (thread_at A t) q ≡ false → inbox_of A' q ≡ inbox_of A q
   inbox_else q other =
-      ap (λ (xs : List AskRecord). inbox_with (last_completed (filter_map (pair_of A') xs)))
-      (filter-append (λ (x : AskRecord). same_instance x.thread q) A.receives (r ∷ []) ∙ ap (λ (b : Bool). filter (λ (x : AskRecord). same_instance x.thread q) A.receives ++ cond b (r ∷ []) []) other ∙ append-nil (filter (λ (x : AskRecord). same_instance x.thread q) A.receives))
-      ∙ ap (λ (ps : List (SendRecord × AskRecord)). inbox_with (last_completed ps)) (untouched (pair_of A) (pair_of A') (A.count + 1) (s, r) pair_elsewhere (filter (λ (x : AskRecord). same_instance x.thread q) A.receives)
-      (none_kept (λ (x : AskRecord). same_instance x.thread q) A.receives (A.count + 1) (all_map (λ (x : AskRecord). x.number ≤ A.count) (λ (x : AskRecord). x.number ≡ A.count + 1 → same_instance x.thread q ≡ false) (λ x le d. absurd (omega arith)) A.receives receives_numbered)))
+      ap (λ (xs : List ReceiveRecord). inbox_with (last_completed (filter_map (pair_of A') xs)))
+      (filter-append (λ (x : ReceiveRecord). same_instance x.thread q) A.receives (r ∷ []) ∙ ap (λ (b : Bool). filter (λ (x : ReceiveRecord). same_instance x.thread q) A.receives ++ cond b (r ∷ []) []) other ∙ append-nil (filter (λ (x : ReceiveRecord). same_instance x.thread q) A.receives))
+      ∙ ap (λ (ps : List (SendRecord × ReceiveRecord)). inbox_with (last_completed ps)) (untouched (pair_of A) (pair_of A') (A.count + 1) (s, r) pair_elsewhere (filter (λ (x : ReceiveRecord). same_instance x.thread q) A.receives)
+      (none_kept (λ (x : ReceiveRecord). same_instance x.thread q) A.receives (A.count + 1) (all_map (λ (x : ReceiveRecord). x.number ≤ A.count) (λ (x : ReceiveRecord). x.number ≡ A.count + 1 → same_instance x.thread q ≡ false) (λ x le d. absurd (omega arith)) A.receives receives_numbered)))
 
   long : length (receives_of A' e) ≡ suc (length (receives_of A e))
   long = ap length (receives_here A t service fresh receives_numbered) ∙ length-append (receives_of A e) (r ∷ []) ∙ omega arith
@@ -84,16 +84,16 @@ module _ (A : State) (t : ℕ) (service : Service) (fresh : A.is_cancelled (A.co
 
   pub list_left : waiters A e ≡ sender s ∷ waiters A' e
   list_left = ap (λ (ss : List SendRecord). map sender ss ++ map receiver (waiting_receives A e)) sends_left
-      ∙ ap (λ (qs : List AskRecord). sender s ∷ (map sender (waiting_sends A' e) ++ map receiver qs)) (no_receives ∙ sym no_receives_after)
+      ∙ ap (λ (qs : List ReceiveRecord). sender s ∷ (map sender (waiting_sends A' e) ++ map receiver qs)) (no_receives ∙ sym no_receives_after)
 
   receiving_at : (q : Instance) (base : ℕ) → is_receiving A' q base ≡ is_receiving A q base
   receiving_at q base = elim (eqb_tells base service.endpoint) [
-    | inl w ↦ subst (λ (b : ℕ). is_receiving A' q b ≡ is_receiving A q b) (sym w.1) (ap (list_any (λ (x : AskRecord). same_instance x.thread q)) (no_receives_after ∙ sym no_receives))
-    | inr w ↦ ap (λ (qs : List AskRecord). list_any (λ (x : AskRecord). same_instance x.thread q) (drop (length (sends_to A (endpoint_at A base))) qs)) (receives_elsewhere A t service fresh receives_numbered (endpoint_at A base) (not_same e (endpoint_at A base) (λ d. w.1 (sym d))))
+    | inl w ↦ subst (λ (b : ℕ). is_receiving A' q b ≡ is_receiving A q b) (sym w.1) (ap (list_any (λ (x : ReceiveRecord). same_instance x.thread q)) (no_receives_after ∙ sym no_receives))
+    | inr w ↦ ap (λ (qs : List ReceiveRecord). list_any (λ (x : ReceiveRecord). same_instance x.thread q) (drop (length (sends_to A (endpoint_at A base))) qs)) (receives_elsewhere A t service fresh receives_numbered (endpoint_at A base) (not_same e (endpoint_at A base) (λ d. w.1 (sym d))))
   ]
 
   sending_elsewhere : (q : Instance) (base : ℕ) → base ≢ service.endpoint → is_sending A' q base ≡ is_sending A q base
-  sending_elsewhere q base ne = ap (λ (qs : List AskRecord). list_any (λ (x : SendRecord). same_instance x.thread q) (drop (length qs) (sends_to A (endpoint_at A base)))) (receives_elsewhere A t service fresh receives_numbered (endpoint_at A base) (not_same e (endpoint_at A base) (λ d. ne (sym d))))
+  sending_elsewhere q base ne = ap (λ (qs : List ReceiveRecord). list_any (λ (x : SendRecord). same_instance x.thread q) (drop (length qs) (sends_to A (endpoint_at A base)))) (receives_elsewhere A t service fresh receives_numbered (endpoint_at A base) (not_same e (endpoint_at A base) (λ d. ne (sym d))))
 
   sending_at : (q : Instance) (base : ℕ) → same_instance s.thread q ≡ false → is_sending A' q base ≡ is_sending A q base
   sending_at q base other = elim (eqb_tells base service.endpoint) [
@@ -118,8 +118,8 @@ module _ (A : State) (t : ℕ) (service : Service) (fresh : A.is_cancelled (A.co
 
     nowhere_receiving : (b : ℕ) → list_any (λ k. b == k) (endpoints_of A.derivations) ≡ true → is_receiving A' s.thread b ≡ false
     nowhere_receiving b there = receiving_at s.thread b ∙ elim (eqb_tells b service.endpoint) [
-      | inl w ↦ subst (λ (n : ℕ). is_receiving A s.thread n ≡ false) (sym w.1) (ap (list_any (λ (x : AskRecord). same_instance x.thread s.thread)) no_receives)
-      | inr w ↦ (let m = mine in let o = alone s.thread b service.endpoint there live w.1 in zero_none (λ (x : AskRecord). same_instance x.thread s.thread) (waiting_receives A (endpoint_at A b)) (omega arith))
+      | inl w ↦ subst (λ (n : ℕ). is_receiving A s.thread n ≡ false) (sym w.1) (ap (list_any (λ (x : ReceiveRecord). same_instance x.thread s.thread)) no_receives)
+      | inr w ↦ (let m = mine in let o = alone s.thread b service.endpoint there live w.1 in zero_none (λ (x : ReceiveRecord). same_instance x.thread s.thread) (waiting_receives A (endpoint_at A b)) (omega arith))
     ]
 
     served_ready : A.is_idle s.thread ≡ false → state_of A' s.thread ≡ Ready

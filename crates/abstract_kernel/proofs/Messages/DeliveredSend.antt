@@ -12,7 +12,7 @@ use Rattle.abstract_kernel.proofs.Messages.Inboxes.{UpTo, untouched, now_last, H
 use Rattle.abstract_kernel.proofs.Lists.Numbered.{Rising, Member, member_get, member_filter, all_filter, all_map, rising_filter, only_one, next_unpaired, find_push_no, find_push_yes, tally, zero_none, find_nothing, any_kept, none_kept}
 use Rattle.abstract_kernel.specs.declared.invocation.Service.{Service}
 use Rattle.abstract_kernel.specs.declared.call.ThreadState.TheVariants.{Ready, Inactive}
-use Rattle.ipc_core.specs.Records.{AskRecord, Instance, SendRecord, same_instance, waiting_list}
+use Rattle.ipc_core.specs.Records.{ReceiveRecord, Instance, SendRecord, same_instance, waiting_list}
 use Rattle.cap_core.specs.declared.message.Message.{Message}
 use Rattle.abstract_kernel.specs.State.{State, receives_of, completion, endpoint_at, first_of, inbox_of, inbox_with, is_receiving, is_sending, last_completed, pair_of, pairs, sends_to, shown, state_of, thread_at, thread_view, waiters, waiting_receives, waiting_sends}
 use Rattle.abstract_kernel.specs.Private.Effects.{changed, with_message}
@@ -26,7 +26,7 @@ sends_filter f n [] h = tt
 sends_filter f n (x ∷ xs) h = elim (f x) as (λ b. SendsUpTo n (cond b (x ∷ filter f xs) (filter f xs))) [ true ↦ (h.0, sends_filter f n xs h.1) | false ↦ sends_filter f n xs h.1 ]
 
 -- a pair that is found is not completed later than its records
-found_up_to : (q : SendRecord × AskRecord → Bool) (n : ℕ) (ss : List SendRecord) (qs : List AskRecord) (p : SendRecord × AskRecord) → SendsUpTo n ss → ReceivesUpTo n qs → find q (zip ss qs) ≡ Some p → completion p ≤ n
+found_up_to : (q : SendRecord × ReceiveRecord → Bool) (n : ℕ) (ss : List SendRecord) (qs : List ReceiveRecord) (p : SendRecord × ReceiveRecord) → SendsUpTo n ss → ReceivesUpTo n qs → find q (zip ss qs) ≡ Some p → completion p ≤ n
 found_up_to q n [] qs p hs hq e = cc
 found_up_to q n (s ∷ ss) [] p hs hq e = cc
 found_up_to q n (s ∷ ss) (a ∷ qs) p hs hq e =
@@ -35,29 +35,29 @@ found_up_to q n (s ∷ ss) (a ∷ qs) p hs hq e =
           let same_pair : pair_with s a ≡ p = cc in
           let le : s.number ≤ n = hs.0 in
           let le' : a.number ≤ n = hq.0 in
-          subst (λ (x : SendRecord × AskRecord). completion x ≤ n) same_pair (omega arith)
+          subst (λ (x : SendRecord × ReceiveRecord). completion x ≤ n) same_pair (omega arith)
       | false ↦ λ k. found_up_to q n ss qs p hs.1 hq.1 k
     ] e
   where
-    pair_with : SendRecord → AskRecord → SendRecord × AskRecord
+    pair_with : SendRecord → ReceiveRecord → SendRecord × ReceiveRecord
     pair_with x y = (x, y)
 
 module _ (A : State) (sends_numbered : SendsUpTo A.count A.sends) (receives_numbered : ReceivesUpTo A.count A.receives) where
-  pub deliveries_up_to : (xs : List AskRecord) → UpTo A.count (filter_map (pair_of A) xs)
+  pub deliveries_up_to : (xs : List ReceiveRecord) → UpTo A.count (filter_map (pair_of A) xs)
   deliveries_up_to [] = tt
   deliveries_up_to (x ∷ xs) = by_pair (deliveries_up_to xs) (pair_of A x) refl
     where
-      by_pair : UpTo A.count (filter_map (pair_of A) xs) → (o : Option (SendRecord × AskRecord)) → pair_of A x ≡ o → UpTo A.count (cons_option o (filter_map (pair_of A) xs))
+      by_pair : UpTo A.count (filter_map (pair_of A) xs) → (o : Option (SendRecord × ReceiveRecord)) → pair_of A x ≡ o → UpTo A.count (cons_option o (filter_map (pair_of A) xs))
       by_pair rest None e = rest
-      by_pair rest (Some p) e = (found_up_to _ A.count (sends_to A x.endpoint) (receives_of A x.endpoint) p (sends_filter _ A.count A.sends sends_numbered) (all_filter (λ (a : AskRecord). a.number ≤ A.count) _ A.receives receives_numbered) e, rest)
+      by_pair rest (Some p) e = (found_up_to _ A.count (sends_to A x.endpoint) (receives_of A x.endpoint) p (sends_filter _ A.count A.sends sends_numbered) (all_filter (λ (a : ReceiveRecord). a.number ≤ A.count) _ A.receives receives_numbered) e, rest)
 
 -- how often a thread waits at an endpoint
 abbrev pub pending : State → Instance → ℕ → ℕ
-pending A m base = tally (λ (s : SendRecord). same_instance s.thread m) (waiting_sends A (endpoint_at A base)) + tally (λ (a : AskRecord). same_instance a.thread m) (waiting_receives A (endpoint_at A base))
+pending A m base = tally (λ (s : SendRecord). same_instance s.thread m) (waiting_sends A (endpoint_at A base)) + tally (λ (a : ReceiveRecord). same_instance a.thread m) (waiting_receives A (endpoint_at A base))
 
 module _ (A : State) (t : ℕ) (service : Service) (message : Message) (fresh : A.is_cancelled (A.count + 1) ≡ false)
     (sends_numbered : SendsUpTo A.count A.sends) (receives_numbered : ReceivesUpTo A.count A.receives) (rising : Rising A.receives)
-    (a : AskRecord) (met : slice_get (receives_of A (endpoint_at A service.endpoint)) (length (sends_to A (endpoint_at A service.endpoint))) ≡ Some a) where
+    (a : ReceiveRecord) (met : slice_get (receives_of A (endpoint_at A service.endpoint)) (length (sends_to A (endpoint_at A service.endpoint))) ≡ Some a) where
   abbrev e : Instance
   e = endpoint_at A service.endpoint
 
@@ -73,34 +73,34 @@ module _ (A : State) (t : ℕ) (service : Service) (message : Message) (fresh : 
   asked : Member a A.receives × ((same_instance a.endpoint e && not (A.is_cancelled a.number)) ≡ true)
   asked = member_filter _ A.receives a (member_get (receives_of A e) _ a met)
 
-  pair_elsewhere : (x : AskRecord) → x.number ≢ a.number → pair_of A' x ≡ pair_of A x
+  pair_elsewhere : (x : ReceiveRecord) → x.number ≢ a.number → pair_of A' x ≡ pair_of A x
   pair_elsewhere x ne = elim (same_tells e x.endpoint) [
-    | inl w ↦ subst (λ (m : Instance). find (λ (p : SendRecord × AskRecord). p.1.number == x.number) (pairs A' m) ≡ find (λ (p : SendRecord × AskRecord). p.1.number == x.number) (pairs A m)) w
-        (ap (find (λ (p : SendRecord × AskRecord). p.1.number == x.number)) pairs_grow
-        ∙ find_push_no (λ (p : SendRecord × AskRecord). p.1.number == x.number) (pairs A e) (s, a) (ne_eqb a.number x.number (λ d. ne (sym d))))
-    | inr w ↦ ap (λ (ss : List SendRecord). find (λ (p : SendRecord × AskRecord). p.1.number == x.number) (zip ss (receives_of A x.endpoint))) (sends_elsewhere A t service message fresh x.endpoint w)
+    | inl w ↦ subst (λ (m : Instance). find (λ (p : SendRecord × ReceiveRecord). p.1.number == x.number) (pairs A' m) ≡ find (λ (p : SendRecord × ReceiveRecord). p.1.number == x.number) (pairs A m)) w
+        (ap (find (λ (p : SendRecord × ReceiveRecord). p.1.number == x.number)) pairs_grow
+        ∙ find_push_no (λ (p : SendRecord × ReceiveRecord). p.1.number == x.number) (pairs A e) (s, a) (ne_eqb a.number x.number (λ d. ne (sym d))))
+    | inr w ↦ ap (λ (ss : List SendRecord). find (λ (p : SendRecord × ReceiveRecord). p.1.number == x.number) (zip ss (receives_of A x.endpoint))) (sends_elsewhere A t service message fresh x.endpoint w)
   ]
 
   pair_now : pair_of A' a ≡ Some (s, a)
   pair_now = elim (same_tells a.endpoint e) [
-    | inl w ↦ ap (λ (m : Instance). find (λ (p : SendRecord × AskRecord). p.1.number == a.number) (pairs A' m)) w
-        ∙ ap (find (λ (p : SendRecord × AskRecord). p.1.number == a.number)) pairs_grow
-        ∙ find_push_yes (λ (p : SendRecord × AskRecord). p.1.number == a.number) (pairs A e) (s, a) (next_unpaired (sends_to A e) (receives_of A e) a (rising_filter _ A.receives rising) met) (eq-eqb a.number a.number refl)
+    | inl w ↦ ap (λ (m : Instance). find (λ (p : SendRecord × ReceiveRecord). p.1.number == a.number) (pairs A' m)) w
+        ∙ ap (find (λ (p : SendRecord × ReceiveRecord). p.1.number == a.number)) pairs_grow
+        ∙ find_push_yes (λ (p : SendRecord × ReceiveRecord). p.1.number == a.number) (pairs A e) (s, a) (next_unpaired (sends_to A e) (receives_of A e) a (rising_filter _ A.receives rising) met) (eq-eqb a.number a.number refl)
     | inr w ↦ let false_is : false ≡ true = sym (ap (λ (b : Bool). b && not (A.is_cancelled a.number)) w) ∙ asked.1 in cc
   ]
 
-  here : (f : AskRecord → Bool) → Here (pair_of A) (pair_of A') a.number (s, a) pair_elsewhere (filter f A.receives)
-  here f = all_filter _ f A.receives (all_map (λ (x : AskRecord). x.number ≡ a.number → x ≡ a) (λ (x : AskRecord). x.number ≡ a.number → pair_of A' x ≡ Some (s, a)) (λ x is d. ap (pair_of A') (is d) ∙ pair_now) A.receives (only_one A.receives a rising asked.0))
+  here : (f : ReceiveRecord → Bool) → Here (pair_of A) (pair_of A') a.number (s, a) pair_elsewhere (filter f A.receives)
+  here f = all_filter _ f A.receives (all_map (λ (x : ReceiveRecord). x.number ≡ a.number → x ≡ a) (λ (x : ReceiveRecord). x.number ≡ a.number → pair_of A' x ≡ Some (s, a)) (λ x is d. ap (pair_of A') (is d) ∙ pair_now) A.receives (only_one A.receives a rising asked.0))
 
   -- the thread that asked has the message now
   pub inbox_filled : inbox_of A' a.thread ≡ (with_message service.badge message).inbox
-  inbox_filled = ap inbox_with (now_last (pair_of A) (pair_of A') a.number (s, a) pair_elsewhere (filter (λ (x : AskRecord). same_instance x.thread a.thread) A.receives) A.count
-      (here (λ (x : AskRecord). same_instance x.thread a.thread)) (deliveries_up_to A sends_numbered receives_numbered _) (omega arith) (any_kept (λ (x : AskRecord). same_instance x.thread a.thread) A.receives a asked.0 (same_itself a.thread)))
+  inbox_filled = ap inbox_with (now_last (pair_of A) (pair_of A') a.number (s, a) pair_elsewhere (filter (λ (x : ReceiveRecord). same_instance x.thread a.thread) A.receives) A.count
+      (here (λ (x : ReceiveRecord). same_instance x.thread a.thread)) (deliveries_up_to A sends_numbered receives_numbered _) (omega arith) (any_kept (λ (x : ReceiveRecord). same_instance x.thread a.thread) A.receives a asked.0 (same_itself a.thread)))
 
   -- no other inbox changes
   pub inbox_else : (q : Instance) → same_instance a.thread q ≡ false → inbox_of A' q ≡ inbox_of A q
-  inbox_else q other = ap (λ (ps : List (SendRecord × AskRecord)). inbox_with (last_completed ps)) (untouched (pair_of A) (pair_of A') a.number (s, a) pair_elsewhere (filter (λ (x : AskRecord). same_instance x.thread q) A.receives)
-      (none_kept (λ (x : AskRecord). same_instance x.thread q) A.receives a.number (all_map (λ (x : AskRecord). x.number ≡ a.number → x ≡ a) (λ (x : AskRecord). x.number ≡ a.number → same_instance x.thread q ≡ false) (λ x is d. ap (λ (y : AskRecord). same_instance y.thread q) (is d) ∙ other) A.receives (only_one A.receives a rising asked.0))))
+  inbox_else q other = ap (λ (ps : List (SendRecord × ReceiveRecord)). inbox_with (last_completed ps)) (untouched (pair_of A) (pair_of A') a.number (s, a) pair_elsewhere (filter (λ (x : ReceiveRecord). same_instance x.thread q) A.receives)
+      (none_kept (λ (x : ReceiveRecord). same_instance x.thread q) A.receives a.number (all_map (λ (x : ReceiveRecord). x.number ≡ a.number → x ≡ a) (λ (x : ReceiveRecord). x.number ≡ a.number → same_instance x.thread q ≡ false) (λ x is d. ap (λ (y : ReceiveRecord). same_instance y.thread q) (is d) ∙ other) A.receives (only_one A.receives a rising asked.0))))
 
   -- the waiting receives lose their first
   pub no_sends : waiting_sends A e ≡ []
@@ -122,12 +122,12 @@ module _ (A : State) (t : ℕ) (service : Service) (message : Message) (fresh : 
   ]
 
   receiving_elsewhere : (q : Instance) (base : ℕ) → base ≢ service.endpoint → is_receiving A' q base ≡ is_receiving A q base
-  receiving_elsewhere q base ne = ap (λ (ss : List SendRecord). list_any (λ (x : AskRecord). same_instance x.thread q) (drop (length ss) (receives_of A (endpoint_at A base)))) (sends_elsewhere A t service message fresh (endpoint_at A base) (not_same e (endpoint_at A base) (λ d. ne (sym d))))
+  receiving_elsewhere q base ne = ap (λ (ss : List SendRecord). list_any (λ (x : ReceiveRecord). same_instance x.thread q) (drop (length ss) (receives_of A (endpoint_at A base)))) (sends_elsewhere A t service message fresh (endpoint_at A base) (not_same e (endpoint_at A base) (λ d. ne (sym d))))
 
   receiving_at : (q : Instance) (base : ℕ) → same_instance a.thread q ≡ false → is_receiving A' q base ≡ is_receiving A q base
   receiving_at q base other = elim (eqb_tells base service.endpoint) [
     | inl w ↦ subst (λ (b : ℕ). is_receiving A' q b ≡ is_receiving A q b) (sym w.1)
-        (sym (ap (list_any (λ (x : AskRecord). same_instance x.thread q)) receives_left ∙ ap (λ (b : Bool). b || list_any (λ (x : AskRecord). same_instance x.thread q) (waiting_receives A' e)) other))
+        (sym (ap (list_any (λ (x : ReceiveRecord). same_instance x.thread q)) receives_left ∙ ap (λ (b : Bool). b || list_any (λ (x : ReceiveRecord). same_instance x.thread q) (waiting_receives A' e)) other))
     | inr w ↦ receiving_elsewhere q base w.1
   ]
 
@@ -135,15 +135,15 @@ module _ (A : State) (t : ℕ) (service : Service) (message : Message) (fresh : 
   module _ (live : list_any (λ k. service.endpoint == k) (endpoints_of A.derivations) ≡ true)
       (once : (m : Instance) (b : ℕ) → list_any (λ k. b == k) (endpoints_of A.derivations) ≡ true → pending A m b ≤ 1)
       (alone : (m : Instance) (b c : ℕ) → list_any (λ k. b == k) (endpoints_of A.derivations) ≡ true → list_any (λ k. c == k) (endpoints_of A.derivations) ≡ true → b ≢ c → pending A m b + pending A m c ≤ 1) where
-    mine : tally (λ (x : AskRecord). same_instance x.thread a.thread) (waiting_receives A e) ≡ 1 + tally (λ (x : AskRecord). same_instance x.thread a.thread) (waiting_receives A' e)
-    mine = ap (tally (λ (x : AskRecord). same_instance x.thread a.thread)) receives_left ∙ ap (λ (b : Bool). cond {A = ℕ} b 1 0 + tally (λ (x : AskRecord). same_instance x.thread a.thread) (waiting_receives A' e)) (same_itself a.thread)
+    mine : tally (λ (x : ReceiveRecord). same_instance x.thread a.thread) (waiting_receives A e) ≡ 1 + tally (λ (x : ReceiveRecord). same_instance x.thread a.thread) (waiting_receives A' e)
+    mine = ap (tally (λ (x : ReceiveRecord). same_instance x.thread a.thread)) receives_left ∙ ap (λ (b : Bool). cond {A = ℕ} b 1 0 + tally (λ (x : ReceiveRecord). same_instance x.thread a.thread) (waiting_receives A' e)) (same_itself a.thread)
 
     nowhere_receiving : (b : ℕ) → list_any (λ k. b == k) (endpoints_of A.derivations) ≡ true → is_receiving A' a.thread b ≡ false
     nowhere_receiving b there = elim (eqb_tells b service.endpoint) [
       | inl w ↦ subst (λ (n : ℕ). is_receiving A' a.thread n ≡ false) (sym w.1)
-          (let m = mine in let o = once a.thread service.endpoint live in zero_none (λ (x : AskRecord). same_instance x.thread a.thread) (waiting_receives A' e) (omega arith))
+          (let m = mine in let o = once a.thread service.endpoint live in zero_none (λ (x : ReceiveRecord). same_instance x.thread a.thread) (waiting_receives A' e) (omega arith))
       | inr w ↦ receiving_elsewhere a.thread b w.1
-          ∙ (let m = mine in let o = alone a.thread b service.endpoint there live w.1 in zero_none (λ (x : AskRecord). same_instance x.thread a.thread) (waiting_receives A (endpoint_at A b)) (omega arith))
+          ∙ (let m = mine in let o = alone a.thread b service.endpoint there live w.1 in zero_none (λ (x : ReceiveRecord). same_instance x.thread a.thread) (waiting_receives A (endpoint_at A b)) (omega arith))
     ]
 
     nowhere_sending : (b : ℕ) → list_any (λ k. b == k) (endpoints_of A.derivations) ≡ true → is_sending A' a.thread b ≡ false

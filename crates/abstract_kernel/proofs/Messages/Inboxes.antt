@@ -3,11 +3,11 @@ use Rattle.std.proofs.Common.{◌≡◌, ◌≢◌, ℕ, suc, ◌<◌, ◌≤◌
 use Rattle.std.specs.List.{list_any, filter_map, cons_option, AllByRecursion}
 use Rattle.std.proofs.lemmas.Bool.{cases_lt}
 use Rattle.std.proofs.lemmas.Bool.Decides.{eqb_tells, leb_tells}
-use Rattle.ipc_core.specs.Records.{AskRecord, SendRecord}
+use Rattle.ipc_core.specs.Records.{ReceiveRecord, SendRecord}
 use Rattle.abstract_kernel.specs.State.{completion, last_completed, later}
 
 abbrev pub Pair : Type 0
-Pair = SendRecord × AskRecord
+Pair = SendRecord × ReceiveRecord
 
 -- a later pair wins
 later_wins : (p q : Pair) → completion p < completion q → later p (Some q) ≡ Some q
@@ -38,20 +38,20 @@ last_up_to n (p ∷ ps) h = elim (last_up_to n ps h.1) [
 ]
 
 -- receives, of which those with the number n are now paired as p
-module _ (g g' : AskRecord → Option Pair) (n : ℕ) (p : Pair) (others : (x : AskRecord) → x.number ≢ n → g' x ≡ g x) where
+module _ (g g' : ReceiveRecord → Option Pair) (n : ℕ) (p : Pair) (others : (x : ReceiveRecord) → x.number ≢ n → g' x ≡ g x) where
   -- each of these receives with the number is paired as p
-  abbrev pub Here : List AskRecord → Type 0
-  Here receives = AllByRecursion (λ (x : AskRecord). x.number ≡ n → g' x ≡ Some p) receives
+  abbrev pub Here : List ReceiveRecord → Type 0
+  Here receives = AllByRecursion (λ (x : ReceiveRecord). x.number ≡ n → g' x ≡ Some p) receives
 
   -- none of these receives has the number
-  pub untouched : (xs : List AskRecord) → list_any (λ (x : AskRecord). x.number == n) xs ≡ false → filter_map g' xs ≡ filter_map g xs
+  pub untouched : (xs : List ReceiveRecord) → list_any (λ (x : ReceiveRecord). x.number == n) xs ≡ false → filter_map g' xs ≡ filter_map g xs
   untouched [] h = refl
   untouched (x ∷ xs) h = elim (eqb_tells x.number n) [
-    | inl w ↦ absurd (let e : (true || list_any (λ (y : AskRecord). y.number == n) xs) ≡ false = sym (ap (λ (b : Bool). b || list_any (λ (y : AskRecord). y.number == n) xs) w.0) ∙ h in cc)
-    | inr w ↦ λ i. cons_option (others x w.1 i) (untouched xs (sym (ap (λ (b : Bool). b || list_any (λ (y : AskRecord). y.number == n) xs) w.0) ∙ h) i)
+    | inl w ↦ absurd (let e : (true || list_any (λ (y : ReceiveRecord). y.number == n) xs) ≡ false = sym (ap (λ (b : Bool). b || list_any (λ (y : ReceiveRecord). y.number == n) xs) w.0) ∙ h in cc)
+    | inr w ↦ λ i. cons_option (others x w.1 i) (untouched xs (sym (ap (λ (b : Bool). b || list_any (λ (y : ReceiveRecord). y.number == n) xs) w.0) ∙ h) i)
   ]
 
-  still_up_to : (xs : List AskRecord) (m : ℕ) → Here xs → UpTo m (filter_map g xs) → m ≤ completion p → UpTo (completion p) (filter_map g' xs)
+  still_up_to : (xs : List ReceiveRecord) (m : ℕ) → Here xs → UpTo m (filter_map g xs) → m ≤ completion p → UpTo (completion p) (filter_map g' xs)
   still_up_to [] m here h le = tt
   still_up_to (x ∷ xs) m here h le = elim (eqb_tells x.number n) [
     | inl w ↦ subst (λ (o : Option Pair). UpTo (completion p) (cons_option o (filter_map g' xs))) (sym (here.0 w.1)) (omega arith, still_up_to xs m here.1 (tail (g x) (filter_map g xs) h) le)
@@ -67,7 +67,7 @@ module _ (g g' : AskRecord → Option Pair) (n : ℕ) (p : Pair) (others : (x : 
       more (Some q) ps u v = (omega (arith, u.0), v)
 
   -- one of these receives has the number: its pair is the last
-  pub now_last : (xs : List AskRecord) (m : ℕ) → Here xs → UpTo m (filter_map g xs) → m < completion p → list_any (λ (x : AskRecord). x.number == n) xs ≡ true → last_completed (filter_map g' xs) ≡ Some p
+  pub now_last : (xs : List ReceiveRecord) (m : ℕ) → Here xs → UpTo m (filter_map g xs) → m < completion p → list_any (λ (x : ReceiveRecord). x.number == n) xs ≡ true → last_completed (filter_map g' xs) ≡ Some p
   now_last [] m here h lt there = cc
   now_last (x ∷ xs) m here h lt there = elim (eqb_tells x.number n) [
     | inl w ↦ ap (λ (o : Option Pair). last_completed (cons_option o (filter_map g' xs))) (here.0 w.1)
@@ -76,7 +76,7 @@ module _ (g g' : AskRecord → Option Pair) (n : ℕ) (p : Pair) (others : (x : 
           | inr q ↦ ap (later p) q.1 ∙ later_keeps p q.0 q.2
         ]
     | inr w ↦
-        let rest = now_last xs m here.1 (tail (g x) (filter_map g xs) h) lt (sym (ap (λ (b : Bool). b || list_any (λ (y : AskRecord). y.number == n) xs) w.0) ∙ there) in
+        let rest = now_last xs m here.1 (tail (g x) (filter_map g xs) h) lt (sym (ap (λ (b : Bool). b || list_any (λ (y : ReceiveRecord). y.number == n) xs) w.0) ∙ there) in
         ap (λ (o : Option Pair). last_completed (cons_option o (filter_map g' xs))) (others x w.1) ∙ step_over (g x) (filter_map g xs) (filter_map g' xs) h rest
   ]
     where

@@ -16,7 +16,7 @@ use Rattle.abstract_kernel.specs.declared.call.Reply.{Reply}
 use Rattle.abstract_kernel.specs.declared.call.Reply.TheVariants.{Dropped, Empty}
 use Rattle.std.proofs.lemmas.Bool.Decides.{nat_tests}
 use Rattle.abstract_kernel.specs.declared.call.Inbox.{Inbox}
-use Rattle.ipc_core.specs.Records.{AskRecord, Instance, SendRecord}
+use Rattle.ipc_core.specs.Records.{ReceiveRecord, Instance, SendRecord}
 use Rattle.cap_core.specs.declared.profile.ProfileName.{ProfileName}
 use Rattle.abstract_kernel.specs.Private.Effects.{Effect, unchanged, changed, performed_effect, receive_effect, receive_from_first, with_message, send_effect, send_to_first}
 use Rattle.cap_core.specs.declared.message.Message.{Message}
@@ -82,7 +82,7 @@ module _ (A : State) (t : ℕ) (service : Service) (message : Message) (inv : In
             ∙ sym shows,
       )
 
-  send_delivers_steps : (block : Bool) (a : AskRecord) → slice_get (receives_of A e) (length (sends_to A e)) ≡ Some a →
+  send_delivers_steps : (block : Bool) (a : ReceiveRecord) → slice_get (receives_of A e) (length (sends_to A e)) ≡ Some a →
       IsShown (send_effect (shown A) t service message block (waiting_at (shown A) service.endpoint)) (send_accepted A t service message)
   send_delivers_steps block a met =
       let fresh = inv.fresh (A.count + 1) (omega arith) in
@@ -95,12 +95,12 @@ module _ (A : State) (t : ℕ) (service : Service) (message : Message) (inv : In
         ap (λ (o : Effect). o.after) exact ∙ sym shows,
       )
 
-  send_steps : (o : Option AskRecord) → slice_get (receives_of A e) (length (sends_to A e)) ≡ o →
+  send_steps : (o : Option ReceiveRecord) → slice_get (receives_of A e) (length (sends_to A e)) ≡ o →
       IsShown (send_effect (shown A) t service message true (waiting_at (shown A) service.endpoint)) (send_accepted A t service message)
   send_steps None alone = send_waits_steps alone
   send_steps (Some a) met = send_delivers_steps true a met
 
-  nb_send_steps : (o : Option AskRecord) → slice_get (receives_of A e) (length (sends_to A e)) ≡ o →
+  nb_send_steps : (o : Option ReceiveRecord) → slice_get (receives_of A e) (length (sends_to A e)) ≡ o →
       IsShown (send_effect (shown A) t service message false (waiting_at (shown A) service.endpoint)) (where_awaited A (is_send_awaited A e) (send_accepted A t service message) Dropped)
   nb_send_steps None alone = unawaited A _ (is_send_awaited A e) (send_accepted A t service message) Dropped (not_longer (receives_of A e) (length (sends_to A e)) alone) (sends_alone false alone)
   nb_send_steps (Some a) met = awaited A _ (is_send_awaited A e) (send_accepted A t service message) Dropped (longer (receives_of A e) (length (sends_to A e)) a met) (send_delivers_steps false a met)
@@ -206,7 +206,7 @@ inv_sent A t service message inv ready thread_live endpoint_live = record {
     by_last : (b c : Bool) (n : ℕ) → (b || c) ≡ true → has_number send_number A.sends n ≡ b → (A.count + 1 == n) ≡ c → has_number receive_number A.receives n ≡ false
     by_last true c n h earlier last = inv.unshared n earlier
     by_last false true n h earlier last = elim (eqb_tells (A.count + 1) n) [
-      | inl w ↦ numbers_below receive_number n A.receives (all_weaker (λ (a : AskRecord). a.number ≤ A.count) (λ (a : AskRecord). a.number < n) (λ a le. let is = w.1 in omega (arith, le, is)) A.receives inv.numbered)
+      | inl w ↦ numbers_below receive_number n A.receives (all_weaker (λ (a : ReceiveRecord). a.number ≤ A.count) (λ (a : ReceiveRecord). a.number < n) (λ a le. let is = w.1 in omega (arith, le, is)) A.receives inv.numbered)
       | inr w ↦ absurd (false≢true (sym w.0 ∙ last))
     ]
     by_last false false n h earlier last = absurd (false≢true h)
@@ -283,9 +283,9 @@ inv_received A t service inv ready thread_live endpoint_live = record {
         let were : AllByRecursion (ReceiveIsOpen after) (waiting_receives A e) = all_weaker (ReceiveIsOpen A) (ReceiveIsOpen after) (λ a o. still_open a.endpoint a.thread o) (waiting_receives A e) (inv.receives_open e) in
         elim (same_tells (endpoint_at A service.endpoint) e) [
           | inl w ↦ subst (λ (m : Instance). AllByRecursion (ReceiveIsOpen after) (waiting_receives A m) → AllByRecursion (ReceiveIsOpen after) (waiting_receives after m)) w
-              (λ all. subst (λ (qs : List AskRecord). AllByRecursion (ReceiveIsOpen after) (drop (length (sends_to A (endpoint_at A service.endpoint))) qs)) (sym (receives_here A t service fresh inv.numbered))
+              (λ all. subst (λ (qs : List ReceiveRecord). AllByRecursion (ReceiveIsOpen after) (drop (length (sends_to A (endpoint_at A service.endpoint))) qs)) (sym (receives_here A t service fresh inv.numbered))
               (all_dropped_push (ReceiveIsOpen after) (length (sends_to A (endpoint_at A service.endpoint))) (receives_of A (endpoint_at A service.endpoint)) (receive_record A t service) all now_open)) were
-          | inr w ↦ subst (λ (qs : List AskRecord). AllByRecursion (ReceiveIsOpen after) (drop (length (sends_to A e)) qs)) (sym (receives_elsewhere A t service fresh inv.numbered e w)) were
+          | inr w ↦ subst (λ (qs : List ReceiveRecord). AllByRecursion (ReceiveIsOpen after) (drop (length (sends_to A e)) qs)) (sym (receives_elsewhere A t service fresh inv.numbered e w)) were
         ]
 
     sends_still_open : (e : Instance) → AllByRecursion (SendIsOpen after) (waiting_sends after e)
@@ -295,7 +295,7 @@ inv_received A t service inv ready thread_live endpoint_live = record {
           | inl w ↦ subst (λ (m : Instance). AllByRecursion (SendIsOpen after) (waiting_sends A m) → AllByRecursion (SendIsOpen after) (waiting_sends after m)) w
               (λ all. all_dropped_more (SendIsOpen after) (length (receives_of A (endpoint_at A service.endpoint))) (length (receives_of after (endpoint_at A service.endpoint))) (sends_to A (endpoint_at A service.endpoint))
               (let long = ap length (receives_here A t service fresh inv.numbered) ∙ length-append (receives_of A (endpoint_at A service.endpoint)) (receive_record A t service ∷ []) in omega (arith, long)) all) were
-          | inr w ↦ subst (λ (qs : List AskRecord). AllByRecursion (SendIsOpen after) (drop (length qs) (sends_to A e))) (sym (receives_elsewhere A t service fresh inv.numbered e w)) were
+          | inr w ↦ subst (λ (qs : List ReceiveRecord). AllByRecursion (SendIsOpen after) (drop (length qs) (sends_to A e))) (sym (receives_elsewhere A t service fresh inv.numbered e w)) were
         ]
 
 inv_awaited : (A : State) (awaited : Bool) (accepted : Outcome) (reply : Reply) → Invariant A → Invariant accepted.state → Invariant (where_awaited A awaited accepted reply).state

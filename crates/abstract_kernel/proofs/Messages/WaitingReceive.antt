@@ -12,18 +12,18 @@ use Rattle.abstract_kernel.proofs.Messages.WaitingSend.{same_itself, not_same, s
 use Rattle.abstract_kernel.specs.declared.call.ThreadState.{ThreadState}
 use Rattle.abstract_kernel.specs.declared.call.ThreadState.TheVariants.{Ready, Inactive, Receiving}
 use Rattle.abstract_kernel.specs.declared.invocation.Service.{Service}
-use Rattle.ipc_core.specs.Records.{AskRecord, Instance, SendRecord, receiver, same_instance, sender, waiting_list}
+use Rattle.ipc_core.specs.Records.{ReceiveRecord, Instance, SendRecord, receiver, same_instance, sender, waiting_list}
 use Rattle.abstract_kernel.specs.State.{State, receives_of, endpoint_at, first_of, inbox_of, inbox_with, is_receiving, is_sending, last_completed, pair_of, pairs, sends_to, shown, state_of, thread_at, thread_view, waiters, waiting_receives}
 use Rattle.abstract_kernel.specs.Step.{receive_record, counted}
 use Rattle.abstract_kernel.specs.Private.Effects.{changed}
 use Rattle.abstract_kernel.specs.Shown.{endpoints_of, table, threads_of}
 use Rattle.ipc_core.specs.Waits.{first_sender}
 
-one_longer : (qs : List AskRecord) (a : AskRecord) → length (qs ++ a ∷ []) ≡ suc (length qs)
+one_longer : (qs : List ReceiveRecord) (a : ReceiveRecord) → length (qs ++ a ∷ []) ≡ suc (length qs)
 one_longer qs a = length-append qs (a ∷ []) ∙ omega arith
 
 -- one more receives, and no send is left
-pub list_receive_waits : (ss : List SendRecord) (qs : List AskRecord) (a : AskRecord) → slice_get ss (length qs) ≡ None → waiting_list ss (qs ++ a ∷ []) ≡ waiting_list ss qs ++ receiver a ∷ []
+pub list_receive_waits : (ss : List SendRecord) (qs : List ReceiveRecord) (a : ReceiveRecord) → slice_get ss (length qs) ≡ None → waiting_list ss (qs ++ a ∷ []) ≡ waiting_list ss qs ++ receiver a ∷ []
 list_receive_waits ss qs a none =
     let le : length ss ≤ length qs = get_none (length qs) ss none in
     let longer = one_longer qs a in
@@ -34,29 +34,29 @@ list_receive_waits ss qs a none =
     ∙ map-append receiver (drop (length ss) qs) (a ∷ [])
     ∙ ap (λ (xs : List SendRecord). (map sender xs ++ map receiver (drop (length ss) qs)) ++ receiver a ∷ []) (sym nobody)
 
-receivers_first : (qs : List AskRecord) → first_sender (map receiver qs) ≡ None
+receivers_first : (qs : List ReceiveRecord) → first_sender (map receiver qs) ≡ None
 receivers_first [] = refl
 receivers_first (a ∷ qs) = refl
 
-pub no_sender : (ss : List SendRecord) (qs : List AskRecord) → slice_get ss (length qs) ≡ None → first_sender (waiting_list ss qs) ≡ None
+pub no_sender : (ss : List SendRecord) (qs : List ReceiveRecord) → slice_get ss (length qs) ≡ None → first_sender (waiting_list ss qs) ≡ None
 no_sender ss qs none =
     ap (λ (xs : List SendRecord). first_sender (map sender xs ++ map receiver (drop (length ss) qs))) (drop_all (length qs) ss (get_none (length qs) ss none))
     ∙ receivers_first (drop (length ss) qs)
 
 -- a number that no receive has yet finds no pair
-abbrev pub ReceivesUpTo : ℕ → List AskRecord → Type 0
-ReceivesUpTo n receives = AllByRecursion (λ (a : AskRecord). a.number ≤ n) receives
+abbrev pub ReceivesUpTo : ℕ → List ReceiveRecord → Type 0
+ReceivesUpTo n receives = AllByRecursion (λ (a : ReceiveRecord). a.number ≤ n) receives
 
-pub up_to_filter : (f : AskRecord → Bool) (n : ℕ) (receives : List AskRecord) → ReceivesUpTo n receives → ReceivesUpTo n (filter f receives)
+pub up_to_filter : (f : ReceiveRecord → Bool) (n : ℕ) (receives : List ReceiveRecord) → ReceivesUpTo n receives → ReceivesUpTo n (filter f receives)
 up_to_filter f n [] h = tt
 up_to_filter f n (a ∷ receives) h = elim (f a) as (λ b. ReceivesUpTo n (cond b (a ∷ filter f receives) (filter f receives))) [ true ↦ (h.0, up_to_filter f n receives h.1) | false ↦ up_to_filter f n receives h.1 ]
 
-pub no_pair_yet : (n m : ℕ) (ss : List SendRecord) (qs : List AskRecord) → n < m → ReceivesUpTo n qs → find (λ (p : SendRecord × AskRecord). p.1.number == m) (zip ss qs) ≡ None
+pub no_pair_yet : (n m : ℕ) (ss : List SendRecord) (qs : List ReceiveRecord) → n < m → ReceivesUpTo n qs → find (λ (p : SendRecord × ReceiveRecord). p.1.number == m) (zip ss qs) ≡ None
 no_pair_yet n m [] qs lt h = refl
 no_pair_yet n m (s ∷ ss) [] lt h = refl
 no_pair_yet n m (s ∷ ss) (a ∷ qs) lt h =
     let le = h.0 in
-    ap (λ (b : Bool). cond b (Some (s, a)) (find (λ (p : SendRecord × AskRecord). p.1.number == m) (zip ss qs))) (ne_eqb a.number m (λ e. absurd (omega arith)))
+    ap (λ (b : Bool). cond b (Some (s, a)) (find (λ (p : SendRecord × ReceiveRecord). p.1.number == m) (zip ss qs))) (ne_eqb a.number m (λ e. absurd (omega arith)))
     ∙ no_pair_yet n m ss qs lt h.1
 
 -- a thread that is ready receives nowhere
@@ -66,7 +66,7 @@ none_received None (Some e) other h = cc
 none_received (Some e) r other h = cc
 
 module _ (A : State) (t : ℕ) (service : Service) (fresh : A.is_cancelled (A.count + 1) ≡ false) (numbered : ReceivesUpTo A.count A.receives) where
-  abbrev pub record_received : AskRecord
+  abbrev pub record_received : ReceiveRecord
   record_received = receive_record A t service
 
   -- the state after the receive
@@ -75,47 +75,47 @@ module _ (A : State) (t : ℕ) (service : Service) (fresh : A.is_cancelled (A.co
 
   pub receives_here : receives_of after_receive record_received.endpoint ≡ receives_of A record_received.endpoint ++ record_received ∷ []
   receives_here =
-      filter-append (λ (a : AskRecord). same_instance a.endpoint record_received.endpoint && not (A.is_cancelled a.number)) A.receives (record_received ∷ [])
+      filter-append (λ (a : ReceiveRecord). same_instance a.endpoint record_received.endpoint && not (A.is_cancelled a.number)) A.receives (record_received ∷ [])
       ∙ ap (λ (b : Bool). receives_of A record_received.endpoint ++ cond (b && not (A.is_cancelled (A.count + 1))) (record_received ∷ []) []) (same_itself record_received.endpoint)
       ∙ ap (λ (b : Bool). receives_of A record_received.endpoint ++ cond (not b) (record_received ∷ []) []) fresh
 
   pub receives_elsewhere : (q : Instance) → same_instance record_received.endpoint q ≡ false → receives_of after_receive q ≡ receives_of A q
   receives_elsewhere q other =
-      filter-append (λ (a : AskRecord). same_instance a.endpoint q && not (A.is_cancelled a.number)) A.receives (record_received ∷ [])
+      filter-append (λ (a : ReceiveRecord). same_instance a.endpoint q && not (A.is_cancelled a.number)) A.receives (record_received ∷ [])
       ∙ ap (λ (b : Bool). receives_of A q ++ cond (b && not (A.is_cancelled (A.count + 1))) (record_received ∷ []) []) other
       ∙ append-nil (receives_of A q)
 
   pub lists_elsewhere : (q : Instance) → same_instance record_received.endpoint q ≡ false → waiters after_receive q ≡ waiters A q
-  lists_elsewhere q other = ap (λ (qs : List AskRecord). waiting_list (sends_to A q) qs) (receives_elsewhere q other)
+  lists_elsewhere q other = ap (λ (qs : List ReceiveRecord). waiting_list (sends_to A q) qs) (receives_elsewhere q other)
 
   module _ (alone : slice_get (sends_to A record_received.endpoint) (length (receives_of A record_received.endpoint)) ≡ None) where
     pub few : length (sends_to A record_received.endpoint) ≤ length (receives_of A record_received.endpoint)
     few = get_none _ (sends_to A record_received.endpoint) alone
 
     pub list_here : waiters after_receive record_received.endpoint ≡ waiters A record_received.endpoint ++ receiver record_received ∷ []
-    list_here = ap (λ (qs : List AskRecord). waiting_list (sends_to A record_received.endpoint) qs) receives_here ∙ list_receive_waits (sends_to A record_received.endpoint) (receives_of A record_received.endpoint) record_received alone
+    list_here = ap (λ (qs : List ReceiveRecord). waiting_list (sends_to A record_received.endpoint) qs) receives_here ∙ list_receive_waits (sends_to A record_received.endpoint) (receives_of A record_received.endpoint) record_received alone
 
     pub pairs_kept : (q : Instance) → pairs after_receive q ≡ pairs A q
     pairs_kept q = elim (same_tells record_received.endpoint q) [
       | inl w ↦ subst (λ (m : Instance). pairs after_receive m ≡ pairs A m) w
-          (ap (λ (qs : List AskRecord). zip (sends_to A record_received.endpoint) qs) receives_here
+          (ap (λ (qs : List ReceiveRecord). zip (sends_to A record_received.endpoint) qs) receives_here
           ∙ zip_none_right (sends_to A record_received.endpoint) (receives_of A record_received.endpoint) record_received few)
-      | inr w ↦ ap (λ (qs : List AskRecord). zip (sends_to A q) qs) (receives_elsewhere q w)
+      | inr w ↦ ap (λ (qs : List ReceiveRecord). zip (sends_to A q) qs) (receives_elsewhere q w)
     ]
 
     -- the new receive has no pair, so no inbox changes
     pub inbox_kept : (q : Instance) → inbox_of after_receive q ≡ inbox_of A q
     inbox_kept q =
-        (λ i. inbox_with (last_completed (filter_map (λ (a : AskRecord). find (λ (p : SendRecord × AskRecord). p.1.number == a.number) (pairs_kept a.endpoint i)) (filter-append (λ (a : AskRecord). same_instance a.thread q) A.receives (record_received ∷ []) i))))
-        ∙ ap (λ (ps : List (SendRecord × AskRecord)). inbox_with (last_completed ps)) (filter_map-append (pair_of A) (filter (λ (a : AskRecord). same_instance a.thread q) A.receives) (filter (λ (a : AskRecord). same_instance a.thread q) (record_received ∷ [])))
-        ∙ ap (λ (ps : List (SendRecord × AskRecord)). inbox_with (last_completed (filter_map (pair_of A) (filter (λ (a : AskRecord). same_instance a.thread q) A.receives) ++ ps))) (nothing (same_instance record_received.thread q))
-        ∙ ap (λ (ps : List (SendRecord × AskRecord)). inbox_with (last_completed ps)) (append-nil (filter_map (pair_of A) (filter (λ (a : AskRecord). same_instance a.thread q) A.receives)))
+        (λ i. inbox_with (last_completed (filter_map (λ (a : ReceiveRecord). find (λ (p : SendRecord × ReceiveRecord). p.1.number == a.number) (pairs_kept a.endpoint i)) (filter-append (λ (a : ReceiveRecord). same_instance a.thread q) A.receives (record_received ∷ []) i))))
+        ∙ ap (λ (ps : List (SendRecord × ReceiveRecord)). inbox_with (last_completed ps)) (filter_map-append (pair_of A) (filter (λ (a : ReceiveRecord). same_instance a.thread q) A.receives) (filter (λ (a : ReceiveRecord). same_instance a.thread q) (record_received ∷ [])))
+        ∙ ap (λ (ps : List (SendRecord × ReceiveRecord)). inbox_with (last_completed (filter_map (pair_of A) (filter (λ (a : ReceiveRecord). same_instance a.thread q) A.receives) ++ ps))) (nothing (same_instance record_received.thread q))
+        ∙ ap (λ (ps : List (SendRecord × ReceiveRecord)). inbox_with (last_completed ps)) (append-nil (filter_map (pair_of A) (filter (λ (a : ReceiveRecord). same_instance a.thread q) A.receives)))
       where
         unpaired : pair_of A record_received ≡ None
         unpaired = no_pair_yet A.count (A.count + 1) (sends_to A record_received.endpoint) (receives_of A record_received.endpoint) (omega arith) (up_to_filter _ A.count A.receives numbered)
 
         nothing : (b : Bool) → filter_map (pair_of A) (cond b (record_received ∷ []) []) ≡ []
-        nothing true = ap (λ (o : Option (SendRecord × AskRecord)). cons_option o []) unpaired
+        nothing true = ap (λ (o : Option (SendRecord × ReceiveRecord)). cons_option o []) unpaired
         nothing false = refl
 
     pub receives_wait : waiting_receives after_receive record_received.endpoint ≡ waiting_receives A record_received.endpoint ++ record_received ∷ []
@@ -124,13 +124,13 @@ module _ (A : State) (t : ℕ) (service : Service) (fresh : A.is_cancelled (A.co
         ∙ drop-append-le (length (sends_to A record_received.endpoint)) (receives_of A record_received.endpoint) (record_received ∷ []) few
 
     pub elsewhere_kept : (q : Instance) (base : ℕ) → base ≢ service.endpoint → is_receiving after_receive q base ≡ is_receiving A q base
-    elsewhere_kept q base ne = ap (λ (qs : List AskRecord). list_any (λ (a : AskRecord). same_instance a.thread q) (drop (length (sends_to A (endpoint_at A base))) qs)) (receives_elsewhere (endpoint_at A base) (not_same record_received.endpoint (endpoint_at A base) (λ e. ne (sym e))))
+    elsewhere_kept q base ne = ap (λ (qs : List ReceiveRecord). list_any (λ (a : ReceiveRecord). same_instance a.thread q) (drop (length (sends_to A (endpoint_at A base))) qs)) (receives_elsewhere (endpoint_at A base) (not_same record_received.endpoint (endpoint_at A base) (λ e. ne (sym e))))
 
     pub others_kept : (q base : ℕ) → q ≢ t → is_receiving after_receive (thread_at A q) base ≡ is_receiving A (thread_at A q) base
     others_kept q base ne = elim (eqb_tells base service.endpoint) [
       | inl w ↦ subst (λ (b : ℕ). is_receiving after_receive (thread_at A q) b ≡ is_receiving A (thread_at A q) b) (sym w.1)
-          (ap (list_any (λ (a : AskRecord). same_instance a.thread (thread_at A q))) receives_wait
-          ∙ any_push_false (λ (a : AskRecord). same_instance a.thread (thread_at A q)) (waiting_receives A record_received.endpoint) record_received (not_same (thread_at A t) (thread_at A q) (λ e. ne (sym e))))
+          (ap (list_any (λ (a : ReceiveRecord). same_instance a.thread (thread_at A q))) receives_wait
+          ∙ any_push_false (λ (a : ReceiveRecord). same_instance a.thread (thread_at A q)) (waiting_receives A record_received.endpoint) record_received (not_same (thread_at A t) (thread_at A q) (λ e. ne (sym e))))
       | inr w ↦ elsewhere_kept (thread_at A q) base w.1
     ]
 
@@ -141,13 +141,13 @@ module _ (A : State) (t : ℕ) (service : Service) (fresh : A.is_cancelled (A.co
           let le = few in
           let long : length (receives_of after_receive record_received.endpoint) ≡ length (receives_of A record_received.endpoint ++ record_received ∷ []) = ap length receives_here in
           ap (list_any (λ (s : SendRecord). same_instance s.thread q)) (drop_all _ (sends_to A record_received.endpoint) (omega arith) ∙ sym (drop_all _ (sends_to A record_received.endpoint) le)))
-      | inr w ↦ ap (λ (qs : List AskRecord). list_any (λ (s : SendRecord). same_instance s.thread q) (drop (length qs) (sends_to A (endpoint_at A base)))) (receives_elsewhere (endpoint_at A base) (not_same record_received.endpoint (endpoint_at A base) (λ e. w.1 (sym e))))
+      | inr w ↦ ap (λ (qs : List ReceiveRecord). list_any (λ (s : SendRecord). same_instance s.thread q) (drop (length qs) (sends_to A (endpoint_at A base)))) (receives_elsewhere (endpoint_at A base) (not_same record_received.endpoint (endpoint_at A base) (λ e. w.1 (sym e))))
     ]
 
     pub receives_now : is_receiving after_receive (thread_at A t) service.endpoint ≡ true
     receives_now =
-        ap (list_any (λ (a : AskRecord). same_instance a.thread (thread_at A t))) receives_wait
-        ∙ any_push_true (λ (a : AskRecord). same_instance a.thread (thread_at A t)) (waiting_receives A record_received.endpoint) record_received (same_itself (thread_at A t))
+        ap (list_any (λ (a : ReceiveRecord). same_instance a.thread (thread_at A t))) receives_wait
+        ∙ any_push_true (λ (a : ReceiveRecord). same_instance a.thread (thread_at A t)) (waiting_receives A record_received.endpoint) record_received (same_itself (thread_at A t))
 
     pub row_kept : (q : ℕ) → q ≢ t → thread_view after_receive q ≡ thread_view A q
     row_kept q ne = λ i. record {

@@ -11,7 +11,7 @@ use Rattle.abstract_kernel.proofs.Lists.Paired.{drop_all, get_none, drop_get, ge
 use Rattle.abstract_kernel.specs.declared.call.ThreadState.{ThreadState}
 use Rattle.abstract_kernel.specs.declared.call.ThreadState.TheVariants.{Ready, Inactive, Sending}
 use Rattle.abstract_kernel.specs.declared.invocation.Service.{Service}
-use Rattle.ipc_core.specs.Records.{AskRecord, Instance, SendRecord, receiver, same_instance, sender, waiting_list}
+use Rattle.ipc_core.specs.Records.{ReceiveRecord, Instance, SendRecord, receiver, same_instance, sender, waiting_list}
 use Rattle.cap_core.specs.declared.message.Message.{Message}
 use Rattle.abstract_kernel.specs.State.{State, receives_of, endpoint_at, first_of, inbox_of, inbox_with, is_receiving, is_sending, last_completed, pairs, sends_to, shown, state_of, thread_at, thread_view, waiters, waiting_sends}
 use Rattle.ipc_core.specs.declared.waiter.Waiter.{Waiter}
@@ -49,19 +49,19 @@ in_table keys f q there = subst IsSome (sym (get_table keys f q ∙ ap (λ (b : 
 one_longer : (ss : List SendRecord) (s : SendRecord) → length (ss ++ s ∷ []) ≡ suc (length ss)
 one_longer ss s = length-append ss (s ∷ []) ∙ omega arith
 
-pub list_waits : (ss : List SendRecord) (qs : List AskRecord) (s : SendRecord) → slice_get qs (length ss) ≡ None → waiting_list (ss ++ s ∷ []) qs ≡ waiting_list ss qs ++ sender s ∷ []
+pub list_waits : (ss : List SendRecord) (qs : List ReceiveRecord) (s : SendRecord) → slice_get qs (length ss) ≡ None → waiting_list (ss ++ s ∷ []) qs ≡ waiting_list ss qs ++ sender s ∷ []
 list_waits ss qs s none =
     let le : length qs ≤ length ss = get_none (length ss) qs none in
     let longer = one_longer ss s in
     let nobody : drop (length ss) qs ≡ [] = drop_all (length ss) qs le in
     let nobody' : drop (length (ss ++ s ∷ [])) qs ≡ [] = drop_all (length (ss ++ s ∷ [])) qs (omega arith) in
     ap (λ (xs : List SendRecord). map sender xs ++ map receiver (drop (length (ss ++ s ∷ [])) qs)) (drop-append-le (length qs) ss (s ∷ []) le)
-    ∙ ap (λ (xs : List AskRecord). map sender (drop (length qs) ss ++ s ∷ []) ++ map receiver xs) nobody'
+    ∙ ap (λ (xs : List ReceiveRecord). map sender (drop (length qs) ss ++ s ∷ []) ++ map receiver xs) nobody'
     ∙ append-nil (map sender (drop (length qs) ss ++ s ∷ []))
     ∙ map-append sender (drop (length qs) ss) (s ∷ [])
-    ∙ ap (λ (xs : List Waiter). xs ++ sender s ∷ []) (sym (ap (λ (xs : List AskRecord). map sender (drop (length qs) ss) ++ map receiver xs) nobody ∙ append-nil (map sender (drop (length qs) ss))))
+    ∙ ap (λ (xs : List Waiter). xs ++ sender s ∷ []) (sym (ap (λ (xs : List ReceiveRecord). map sender (drop (length qs) ss) ++ map receiver xs) nobody ∙ append-nil (map sender (drop (length qs) ss))))
 
-pub list_serves : (ss : List SendRecord) (qs : List AskRecord) (s : SendRecord) (a : AskRecord) → slice_get qs (length ss) ≡ Some a → waiting_list ss qs ≡ receiver a ∷ waiting_list (ss ++ s ∷ []) qs
+pub list_serves : (ss : List SendRecord) (qs : List ReceiveRecord) (s : SendRecord) (a : ReceiveRecord) → slice_get qs (length ss) ≡ Some a → waiting_list ss qs ≡ receiver a ∷ waiting_list (ss ++ s ∷ []) qs
 list_serves ss qs s a some =
     let lt : length ss < length qs = get_within (length ss) qs a some in
     let longer = one_longer ss s in
@@ -76,13 +76,13 @@ senders_first : (ss : List SendRecord) → first_receiver (map sender ss) ≡ No
 senders_first [] = refl
 senders_first (s ∷ ss) = refl
 
-pub no_receiver : (ss : List SendRecord) (qs : List AskRecord) → slice_get qs (length ss) ≡ None → first_receiver (waiting_list ss qs) ≡ None
+pub no_receiver : (ss : List SendRecord) (qs : List ReceiveRecord) → slice_get qs (length ss) ≡ None → first_receiver (waiting_list ss qs) ≡ None
 no_receiver ss qs none =
-    ap (λ (xs : List AskRecord). first_receiver (map sender (drop (length qs) ss) ++ map receiver xs)) (drop_all (length ss) qs (get_none (length ss) qs none))
+    ap (λ (xs : List ReceiveRecord). first_receiver (map sender (drop (length qs) ss) ++ map receiver xs)) (drop_all (length ss) qs (get_none (length ss) qs none))
     ∙ ap first_receiver (append-nil (map sender (drop (length qs) ss)))
     ∙ senders_first (drop (length qs) ss)
 
-pub a_receiver : (ss : List SendRecord) (qs : List AskRecord) (s : SendRecord) (a : AskRecord) → slice_get qs (length ss) ≡ Some a → first_receiver (waiting_list ss qs) ≡ Some a.thread.base
+pub a_receiver : (ss : List SendRecord) (qs : List ReceiveRecord) (s : SendRecord) (a : ReceiveRecord) → slice_get qs (length ss) ≡ Some a → first_receiver (waiting_list ss qs) ≡ Some a.thread.base
 a_receiver ss qs s a some = ap first_receiver (list_serves ss qs s a some)
 
 module _ (A : State) (t : ℕ) (service : Service) (message : Message) (fresh : A.is_cancelled (A.count + 1) ≡ false) where
@@ -121,7 +121,7 @@ module _ (A : State) (t : ℕ) (service : Service) (message : Message) (fresh : 
     ]
 
     pub inbox_stays : (q : Instance) → inbox_of after_send q ≡ inbox_of A q
-    inbox_stays q = λ i. inbox_with (last_completed (filter_map (λ (a : AskRecord). find (λ (p : SendRecord × AskRecord). p.1.number == a.number) (pairs_stay a.endpoint i)) (filter (λ (a : AskRecord). same_instance a.thread q) A.receives)))
+    inbox_stays q = λ i. inbox_with (last_completed (filter_map (λ (a : ReceiveRecord). find (λ (p : SendRecord × ReceiveRecord). p.1.number == a.number) (pairs_stay a.endpoint i)) (filter (λ (a : ReceiveRecord). same_instance a.thread q) A.receives)))
 
     pub waits_here : waiting_sends after_send record_sent.endpoint ≡ waiting_sends A record_sent.endpoint ++ record_sent ∷ []
     waits_here =
@@ -145,8 +145,8 @@ module _ (A : State) (t : ℕ) (service : Service) (message : Message) (fresh : 
           (let longer = one_longer (sends_to A record_sent.endpoint) record_sent in
           let le : length (receives_of A record_sent.endpoint) ≤ length (sends_to A record_sent.endpoint) = get_none _ (receives_of A record_sent.endpoint) alone in
           let long : length (sends_to after_send record_sent.endpoint) ≡ length (sends_to A record_sent.endpoint ++ record_sent ∷ []) = ap length sends_here in
-          ap (list_any (λ (a : AskRecord). same_instance a.thread q)) (drop_all _ (receives_of A record_sent.endpoint) (omega arith) ∙ sym (drop_all _ (receives_of A record_sent.endpoint) le)))
-      | inr w ↦ ap (λ (ss : List SendRecord). list_any (λ (a : AskRecord). same_instance a.thread q) (drop (length ss) (receives_of A (endpoint_at A base)))) (sends_elsewhere (endpoint_at A base) (not_same record_sent.endpoint (endpoint_at A base) (λ e. w.1 (sym e))))
+          ap (list_any (λ (a : ReceiveRecord). same_instance a.thread q)) (drop_all _ (receives_of A record_sent.endpoint) (omega arith) ∙ sym (drop_all _ (receives_of A record_sent.endpoint) le)))
+      | inr w ↦ ap (λ (ss : List SendRecord). list_any (λ (a : ReceiveRecord). same_instance a.thread q) (drop (length ss) (receives_of A (endpoint_at A base)))) (sends_elsewhere (endpoint_at A base) (not_same record_sent.endpoint (endpoint_at A base) (λ e. w.1 (sym e))))
     ]
 
     pub sends_now : is_sending after_send (thread_at A t) service.endpoint ≡ true

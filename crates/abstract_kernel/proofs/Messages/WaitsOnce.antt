@@ -10,7 +10,7 @@ use Rattle.abstract_kernel.proofs.Lists.Numbered.{tally, none_zero}
 use Rattle.abstract_kernel.proofs.Messages.DeliveredSend.{pending}
 use Rattle.abstract_kernel.specs.declared.invocation.Service.{Service}
 use Rattle.abstract_kernel.specs.declared.call.ThreadState.TheVariants.{Ready}
-use Rattle.ipc_core.specs.Records.{AskRecord, Instance, SendRecord, same_instance}
+use Rattle.ipc_core.specs.Records.{ReceiveRecord, Instance, SendRecord, same_instance}
 use Rattle.cap_core.specs.declared.message.Message.{Message}
 use Rattle.abstract_kernel.specs.State.{State, receives_of, endpoint_at, is_receiving, is_sending, sends_to, state_of, thread_at, waiting_receives, waiting_sends}
 use Rattle.abstract_kernel.specs.Shown.{endpoints_of}
@@ -31,7 +31,7 @@ pub ready_waits_not : (A : State) (m : Instance) (b : ℕ) → state_of A m ≡ 
 ready_waits_not A m b ready live =
     let none = none_received _ _ _ ready in
     let ss = none_zero (λ (s : SendRecord). same_instance s.thread m) (waiting_sends A (endpoint_at A b)) (find_fails (is_sending A m) (endpoints_of A.derivations) b none.0 live) in
-    let qs = none_zero (λ (a : AskRecord). same_instance a.thread m) (waiting_receives A (endpoint_at A b)) (find_fails (is_receiving A m) (endpoints_of A.derivations) b none.1 live) in
+    let qs = none_zero (λ (a : ReceiveRecord). same_instance a.thread m) (waiting_receives A (endpoint_at A b)) (find_fails (is_receiving A m) (endpoints_of A.derivations) b none.1 live) in
     omega (arith, ss, qs)
 
 tally_push : {X : Type 0} (p : X → Bool) (xs : List X) (x : X) → tally p (xs ++ x ∷ []) ≡ tally p xs + cond (p x) 1 0
@@ -40,14 +40,14 @@ tally_push p (y ∷ xs) x = let ih = tally_push p xs x in omega (arith, ih)
 
 module _ (A : State) (t : ℕ) (service : Service) (message : Message) (fresh : A.is_cancelled (A.count + 1) ≡ false) where
   pub pending_elsewhere : (m : Instance) (b : ℕ) → b ≢ service.endpoint → pending (after_send A t service message fresh) m b ≡ pending A m b
-  pending_elsewhere m b ne = ap (λ (ss : List SendRecord). tally (λ (s : SendRecord). same_instance s.thread m) (drop (length (receives_of A (endpoint_at A b))) ss) + tally (λ (a : AskRecord). same_instance a.thread m) (drop (length ss) (receives_of A (endpoint_at A b))))
+  pending_elsewhere m b ne = ap (λ (ss : List SendRecord). tally (λ (s : SendRecord). same_instance s.thread m) (drop (length (receives_of A (endpoint_at A b))) ss) + tally (λ (a : ReceiveRecord). same_instance a.thread m) (drop (length ss) (receives_of A (endpoint_at A b))))
       (sends_elsewhere A t service message fresh (endpoint_at A b) (not_same (endpoint_at A service.endpoint) (endpoint_at A b) (λ d. ne (sym d))))
 
-  pub pending_here : (o : Option AskRecord) → slice_get (receives_of A (endpoint_at A service.endpoint)) (length (sends_to A (endpoint_at A service.endpoint))) ≡ o → (m : Instance) →
+  pub pending_here : (o : Option ReceiveRecord) → slice_get (receives_of A (endpoint_at A service.endpoint)) (length (sends_to A (endpoint_at A service.endpoint))) ≡ o → (m : Instance) →
       pending (after_send A t service message fresh) m service.endpoint ≤ pending A m service.endpoint + cond (same_instance (thread_at A t) m) 1 0
   pending_here None met m =
       let p : SendRecord → Bool = λ s. same_instance s.thread m in
-      let q : AskRecord → Bool = λ a. same_instance a.thread m in
+      let q : ReceiveRecord → Bool = λ a. same_instance a.thread m in
       let sends = ap (tally p) (waits_here A t service message fresh met) ∙ tally_push p (waiting_sends A (endpoint_at A service.endpoint)) (record_sent A t service message fresh) in
       let receives : tally q (waiting_receives (after_send A t service message fresh) (endpoint_at A service.endpoint)) ≡ 0 =
       ap (tally q) (drop_all _ (receives_of A (endpoint_at A service.endpoint))
@@ -57,7 +57,7 @@ module _ (A : State) (t : ℕ) (service : Service) (message : Message) (fresh : 
       omega (arith, sends, receives)
   pending_here (Some a) met m =
       let p : SendRecord → Bool = λ s. same_instance s.thread m in
-      let q : AskRecord → Bool = λ a. same_instance a.thread m in
+      let q : ReceiveRecord → Bool = λ a. same_instance a.thread m in
       let sends : tally p (waiting_sends (after_send A t service message fresh) (endpoint_at A service.endpoint)) ≡ 0 = ap (tally p) (drop_all _ (sends_to (after_send A t service message fresh) (endpoint_at A service.endpoint))
       (let lt = get_within _ (receives_of A (endpoint_at A service.endpoint)) a met in
       let long = ap length (sends_here A t service message fresh) ∙ length-append (sends_to A (endpoint_at A service.endpoint)) (record_sent A t service message fresh ∷ []) in
@@ -107,14 +107,14 @@ small_or_ready A t m ready = elim (same_tells (thread_at A t) m) [
 
 module _ (A : State) (t : ℕ) (service : Service) (fresh : A.is_cancelled (A.count + 1) ≡ false) (numbered : ReceivesUpTo A.count A.receives) where
   pub pending_elsewhere' : (m : Instance) (b : ℕ) → b ≢ service.endpoint → pending (after_receive A t service fresh numbered) m b ≡ pending A m b
-  pending_elsewhere' m b ne = ap (λ (qs : List AskRecord). tally (λ (s : SendRecord). same_instance s.thread m) (drop (length qs) (sends_to A (endpoint_at A b))) + tally (λ (a : AskRecord). same_instance a.thread m) (drop (length (sends_to A (endpoint_at A b))) qs))
+  pending_elsewhere' m b ne = ap (λ (qs : List ReceiveRecord). tally (λ (s : SendRecord). same_instance s.thread m) (drop (length qs) (sends_to A (endpoint_at A b))) + tally (λ (a : ReceiveRecord). same_instance a.thread m) (drop (length (sends_to A (endpoint_at A b))) qs))
       (receives_elsewhere A t service fresh numbered (endpoint_at A b) (not_same (endpoint_at A service.endpoint) (endpoint_at A b) (λ d. ne (sym d))))
 
   pub pending_here' : (o : Option SendRecord) → slice_get (sends_to A (endpoint_at A service.endpoint)) (length (receives_of A (endpoint_at A service.endpoint))) ≡ o → (m : Instance) →
       pending (after_receive A t service fresh numbered) m service.endpoint ≤ pending A m service.endpoint + cond (same_instance (thread_at A t) m) 1 0
   pending_here' None met m =
       let p : SendRecord → Bool = λ s. same_instance s.thread m in
-      let q : AskRecord → Bool = λ a. same_instance a.thread m in
+      let q : ReceiveRecord → Bool = λ a. same_instance a.thread m in
       let receives = ap (tally q) (receives_wait A t service fresh numbered met) ∙ tally_push q (waiting_receives A (endpoint_at A service.endpoint)) (record_received A t service fresh numbered) in
       let sends : tally p (waiting_sends (after_receive A t service fresh numbered) (endpoint_at A service.endpoint)) ≡ 0 =
       ap (tally p) (drop_all _ (sends_to A (endpoint_at A service.endpoint))
@@ -124,7 +124,7 @@ module _ (A : State) (t : ℕ) (service : Service) (fresh : A.is_cancelled (A.co
       omega (arith, sends, receives)
   pending_here' (Some s) met m =
       let p : SendRecord → Bool = λ s. same_instance s.thread m in
-      let q : AskRecord → Bool = λ a. same_instance a.thread m in
+      let q : ReceiveRecord → Bool = λ a. same_instance a.thread m in
       let receives : tally q (waiting_receives (after_receive A t service fresh numbered) (endpoint_at A service.endpoint)) ≡ 0 = ap (tally q) (drop_all _ (receives_of (after_receive A t service fresh numbered) (endpoint_at A service.endpoint))
       (let lt = get_within _ (sends_to A (endpoint_at A service.endpoint)) s met in
       let long = ap length (receives_here A t service fresh numbered) ∙ length-append (receives_of A (endpoint_at A service.endpoint)) (record_received A t service fresh numbered ∷ []) in

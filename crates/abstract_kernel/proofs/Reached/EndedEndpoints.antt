@@ -5,9 +5,9 @@ use Rattle.std.proofs.lemmas.Bool.{false≢true, ne_eqb}
 use Rattle.cap_core.specs.declared.profile.ProfileName.{ProfileName}
 use Rattle.cap_core.specs.declared.message.Message.{Message}
 use Rattle.cap_core.specs.declared.refusal.Refusal.{Refusal}
-use Rattle.slot_core.specs.Forest.{Forest}
-use Rattle.slot_core.specs.Entries.{Entry}
-use Rattle.ipc_core.specs.Records.{Instance, SendRecord, AskRecord, same_instance}
+use Rattle.derivation.specs.Forest.{Forest}
+use Rattle.derivation.specs.Entries.{Entry}
+use Rattle.ipc_core.specs.Records.{Instance, SendRecord, ReceiveRecord, same_instance}
 use Rattle.abstract_kernel.specs.declared.call.Call.{Call}
 use Rattle.abstract_kernel.specs.declared.call.Reply.{Reply}
 use Rattle.abstract_kernel.specs.declared.call.Reply.TheVariants.{Dropped, Empty}
@@ -58,7 +58,7 @@ module _ (A : State) (e : Instance) (born : e.birth ≤ A.count) (ended : is_liv
   by_receive t service inv live = record {
     born = omega (arith, born);
     ended = ended;
-    pairs_same = ap (λ (qs : List AskRecord). zip (sends_to A e) qs) (receives_elsewhere A t service (inv.fresh (A.count + 1) (omega arith)) inv.numbered e (another service.endpoint live));
+    pairs_same = ap (λ (qs : List ReceiveRecord). zip (sends_to A e) qs) (receives_elsewhere A t service (inv.fresh (A.count + 1) (omega arith)) inv.numbered e (another service.endpoint live));
   }
 
   where_not_awaited : (b : Bool) (accepted : Outcome) (reply : Reply) → StaysEnded A e accepted → StaysEnded A e (where_awaited A b accepted reply)

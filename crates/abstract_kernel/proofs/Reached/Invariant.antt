@@ -11,7 +11,7 @@ use Rattle.abstract_kernel.specs.declared.call.Call.{Call}
 use Rattle.abstract_kernel.specs.declared.invocation.Invocation.{Invocation}
 use Rattle.abstract_kernel.specs.declared.call.ThreadState.TheVariants.{Ready, Inactive, Sending, Receiving}
 use Rattle.abstract_kernel.specs.declared.call.ThreadState.{ThreadState}
-use Rattle.ipc_core.specs.Records.{AskRecord, Instance, SendRecord}
+use Rattle.ipc_core.specs.Records.{ReceiveRecord, Instance, SendRecord}
 use Rattle.cap_core.specs.declared.profile.ProfileName.{ProfileName}
 use Rattle.abstract_kernel.specs.Private.Effects.{Effect}
 use Rattle.abstract_kernel.specs.Plan.{Plan}
@@ -40,7 +40,7 @@ pub record IsOpen (A : State) (endpoint thread : Instance) : Type 0 where
 abbrev pub SendIsOpen : State → SendRecord → Type 0
 SendIsOpen A s = IsOpen A s.endpoint s.thread
 
-abbrev pub ReceiveIsOpen : State → AskRecord → Type 0
+abbrev pub ReceiveIsOpen : State → ReceiveRecord → Type 0
 ReceiveIsOpen A a = IsOpen A a.endpoint a.thread
 
 -- what holds of each reached state
@@ -53,7 +53,7 @@ pub record Invariant (A : State) : Type 0 where
   pub unshared : Unshared A
   pub endpoint_births : (b : ℕ) → A.endpoint_birth b ≤ A.count
   pub thread_births : (b : ℕ) → A.thread_birth b ≤ A.count
-  pub born : AllByRecursion (λ (a : AskRecord). (a.endpoint.birth ≤ A.count) × (a.thread.birth ≤ A.count)) A.receives
+  pub born : AllByRecursion (λ (a : ReceiveRecord). (a.endpoint.birth ≤ A.count) × (a.thread.birth ≤ A.count)) A.receives
   pub sends_born : AllByRecursion (λ (s : SendRecord). (s.endpoint.birth ≤ A.count) × (s.thread.birth ≤ A.count)) A.sends
   pub receives_open : (e : Instance) → AllByRecursion (ReceiveIsOpen A) (waiting_receives A e)
   pub sends_open : (e : Instance) → AllByRecursion (SendIsOpen A) (waiting_sends A e)
@@ -115,7 +115,7 @@ inv_boot p plan = record {
   alone = λ m b c live live' ne. omega arith;
 }
 
-pub receives_later : (n : ℕ) (receives : List AskRecord) → ReceivesUpTo n receives → ReceivesUpTo (n + 1) receives
+pub receives_later : (n : ℕ) (receives : List ReceiveRecord) → ReceivesUpTo n receives → ReceivesUpTo (n + 1) receives
 receives_later n [] h = tt
 receives_later n (a ∷ receives) h = let le = h.0 in (omega arith, receives_later n receives h.1)
 
@@ -127,12 +127,12 @@ pub all_push : {X : Type 0} (P : X → Type 0) (xs : List X) (x : X) → AllByRe
 all_push P [] x h p = (p, tt)
 all_push P (y ∷ xs) x h p = (h.0, all_push P xs x h.1 p)
 
-pub rising_push : (n : ℕ) (receives : List AskRecord) (a : AskRecord) → Rising receives → ReceivesUpTo n receives → n < a.number → Rising (receives ++ a ∷ [])
+pub rising_push : (n : ℕ) (receives : List ReceiveRecord) (a : ReceiveRecord) → Rising receives → ReceivesUpTo n receives → n < a.number → Rising (receives ++ a ∷ [])
 rising_push n [] a h up lt = (tt, tt)
-rising_push n (x ∷ receives) a h up lt = let le = up.0 in (all_push (λ (b : AskRecord). x.number < b.number) receives a h.0 (omega arith), rising_push n receives a h.1 up.1 lt)
+rising_push n (x ∷ receives) a h up lt = let le = up.0 in (all_push (λ (b : ReceiveRecord). x.number < b.number) receives a h.0 (omega arith), rising_push n receives a h.1 up.1 lt)
 
 -- what holds up to a number holds up to the next
-pub receives_born_later : (n : ℕ) (receives : List AskRecord) → AllByRecursion (λ (a : AskRecord). (a.endpoint.birth ≤ n) × (a.thread.birth ≤ n)) receives → AllByRecursion (λ (a : AskRecord). (a.endpoint.birth ≤ n + 1) × (a.thread.birth ≤ n + 1)) receives
+pub receives_born_later : (n : ℕ) (receives : List ReceiveRecord) → AllByRecursion (λ (a : ReceiveRecord). (a.endpoint.birth ≤ n) × (a.thread.birth ≤ n)) receives → AllByRecursion (λ (a : ReceiveRecord). (a.endpoint.birth ≤ n + 1) × (a.thread.birth ≤ n + 1)) receives
 receives_born_later n [] h = tt
 receives_born_later n (a ∷ receives) h = let e = h.0.0 in let t = h.0.1 in ((omega arith, omega arith), receives_born_later n receives h.1)
 

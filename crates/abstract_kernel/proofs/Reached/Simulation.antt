@@ -15,7 +15,7 @@ use Rattle.abstract_kernel.specs.Step.{outcome, performed, state_after, step}
 use Rattle.abstract_kernel.specs.Boot.{boot}
 use Rattle.abstract_kernel.specs.Decode.{decoded_call}
 use Rattle.cap_core.specs.declared.capability.Cap.{Cap}
-use Rattle.slot_core.specs.Entries.{caps}
+use Rattle.derivation.specs.Entries.{caps}
 use Rattle.abstract_kernel.specs.declared.invocation.NewObjects.{NewObjects}
 use Rattle.abstract_kernel.specs.declared.invocation.CapPlacement.{CapPlacement}
 use Rattle.abstract_kernel.specs.Retyping.{new_bases}

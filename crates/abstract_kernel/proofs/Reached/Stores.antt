@@ -2,8 +2,8 @@
 use Rattle.std.proofs.Common.{◌≡◌, ℕ, Bool, true, false, Option, None, Some, Result, Ok, Err}
 use Rattle.cap_core.specs.declared.profile.ProfileName.{ProfileName}
 use Rattle.cap_core.specs.declared.refusal.Refusal.{Refusal}
-use Rattle.slot_core.specs.Forest.{Forest}
-use Rattle.slot_core.specs.Entries.{Entry}
+use Rattle.derivation.specs.Forest.{Forest}
+use Rattle.derivation.specs.Entries.{Entry}
 use Rattle.abstract_kernel.specs.declared.call.Call.{Call}
 use Rattle.abstract_kernel.specs.declared.call.Reply.{Reply}
 use Rattle.abstract_kernel.specs.declared.call.ThreadState.{ThreadState}

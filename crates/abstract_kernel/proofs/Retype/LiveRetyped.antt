@@ -5,12 +5,12 @@ use Rattle.cap_core.specs.declared.profile.ProfileName.{ProfileName}
 use Rattle.cap_core.specs.declared.capability.Cap.{Cap}
 use Rattle.cap_core.specs.declared.capability.Cap.TheVariants.{Null, Untyped, Endpoint, CNode, Tcb}
 use Rattle.cap_core.specs.Objects.{is_untyped}
-use Rattle.slot_core.specs.Forest.{Forest, preorder}
-use Rattle.slot_core.specs.Entries.{Entry, entry, caps, cap_at, is_full}
-use Rattle.slot_core.specs.Derivation.{retyped, freed, with_free}
-use Rattle.slot_core.proofs.Retyped.{any-retyped, full-retyped}
-use Rattle.slot_core.proofs.Freed.{any-freed, full-freed}
-use Rattle.slot_core.proofs.Holding.{cap-empty}
+use Rattle.derivation.specs.Forest.{Forest, preorder}
+use Rattle.derivation.specs.Entries.{Entry, entry, caps, cap_at, is_full}
+use Rattle.derivation.specs.Derivation.{retyped, freed, with_free}
+use Rattle.derivation.proofs.Slots.Retyped.{any-retyped, full-retyped}
+use Rattle.derivation.proofs.Slots.Freed.{any-freed, full-freed}
+use Rattle.derivation.proofs.Slots.Holding.{cap-empty}
 use Rattle.abstract_kernel.specs.declared.invocation.NewObjects.{NewObjects}
 use Rattle.abstract_kernel.specs.Retyping.{new_caps, with_new, with_objects, new_bases}
 use Rattle.abstract_kernel.specs.Shown.{tcb_base, endpoint_base}

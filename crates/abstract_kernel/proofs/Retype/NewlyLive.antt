@@ -7,11 +7,11 @@ use Rattle.cap_core.specs.declared.profile.ProfileName.{ProfileName}
 use Rattle.cap_core.specs.declared.capability.Cap.{Cap}
 use Rattle.cap_core.specs.declared.capability.Cap.TheVariants.{Null, Untyped, Endpoint, CNode, Tcb}
 use Rattle.cap_core.specs.Objects.{same_object, base_of, end_of, IsLawful}
-use Rattle.slot_core.specs.Forest.{Forest, preorder, descendants}
-use Rattle.slot_core.specs.Entries.{Entry, is_at, caps, slots, cap_at}
-use Rattle.slot_core.specs.Disjoint.{IsDisjoint}
-use Rattle.slot_core.specs.Derivation.{freed, is_named}
-use Rattle.slot_core.proofs.Freed.{named-freed}
+use Rattle.derivation.specs.Forest.{Forest, preorder, descendants}
+use Rattle.derivation.specs.Entries.{Entry, is_at, caps, slots, cap_at}
+use Rattle.derivation.specs.Disjoint.{IsDisjoint}
+use Rattle.derivation.specs.Derivation.{freed, is_named}
+use Rattle.derivation.proofs.Slots.Freed.{named-freed}
 use Rattle.abstract_kernel.specs.declared.invocation.NewObjects.{NewObjects}
 use Rattle.abstract_kernel.specs.Regions.{AreRegions}
 use Rattle.abstract_kernel.specs.Retyping.{new_caps, new_bases}

@@ -5,8 +5,8 @@ use Rattle.std.specs.FinMap.{FinMap, get, insert}
 use Rattle.std.specs.Ordering.{nat_cmp}
 use Rattle.std.proofs.lemmas.Bool.{false≢true, ne_eqb}
 use Rattle.cap_core.specs.declared.profile.ProfileName.{ProfileName}
-use Rattle.slot_core.specs.Entries.{is_full}
-use Rattle.ipc_core.specs.Records.{Instance, SendRecord, AskRecord, same_instance, waiting_list}
+use Rattle.derivation.specs.Entries.{is_full}
+use Rattle.ipc_core.specs.Records.{Instance, SendRecord, ReceiveRecord, same_instance, waiting_list}
 use Rattle.ipc_core.specs.declared.waiter.Waiter.{Waiter}
 use Rattle.abstract_kernel.specs.declared.call.ThreadState.TheVariants.{Ready, Inactive}
 use Rattle.abstract_kernel.specs.declared.invocation.NewObjects.{NewObjects}
@@ -109,7 +109,7 @@ module _ (p : ProfileName) (A : State) (new : NewObjects) (inv : Invariant A) (f
   sends_none e at = filter_none _ A.sends (all_weaker _ _ (λ (s : SendRecord) w. ap (λ (b : Bool). b && not (A.is_cancelled s.number)) (born_before s.endpoint e A.count w.0 at)) A.sends inv.sends_born)
 
   receives_none : (e : Instance) → e.birth ≡ A.count + 1 → receives_of A e ≡ []
-  receives_none e at = filter_none _ A.receives (all_weaker _ _ (λ (a : AskRecord) w. ap (λ (b : Bool). b && not (A.is_cancelled a.number)) (born_before a.endpoint e A.count w.0 at)) A.receives inv.born)
+  receives_none e at = filter_none _ A.receives (all_weaker _ _ (λ (a : ReceiveRecord) w. ap (λ (b : Bool). b && not (A.is_cancelled a.number)) (born_before a.endpoint e A.count w.0 at)) A.receives inv.born)
 
   sends_nowhere : (m : Instance) → m.birth ≡ A.count + 1 → (b : ℕ) → is_sending after_made m b ≡ false
   sends_nowhere m at b = any_none _ (waiting_sends after_made (endpoint_at after_made b)) (all_dropped _ (length (receives_of A (endpoint_at after_made b))) (sends_to A (endpoint_at after_made b))
@@ -117,11 +117,11 @@ module _ (p : ProfileName) (A : State) (new : NewObjects) (inv : Invariant A) (f
 
   receives_nowhere : (m : Instance) → m.birth ≡ A.count + 1 → (b : ℕ) → is_receiving after_made m b ≡ false
   receives_nowhere m at b = any_none _ (waiting_receives after_made (endpoint_at after_made b)) (all_dropped _ (length (sends_to A (endpoint_at after_made b))) (receives_of A (endpoint_at after_made b))
-      (all_kept _ _ A.receives (all_weaker _ _ (λ (a : AskRecord) w. born_before a.thread m A.count w.1 at) A.receives inv.born)))
+      (all_kept _ _ A.receives (all_weaker _ _ (λ (a : ReceiveRecord) w. born_before a.thread m A.count w.1 at) A.receives inv.born)))
 
   inbox_none : (m : Instance) → m.birth ≡ A.count + 1 → inbox_of after_made m ≡ None
-  inbox_none m at = ap (λ (qs : List AskRecord). inbox_with (last_completed (filter_map (pair_of A) qs)))
-      (filter_none _ A.receives (all_weaker _ _ (λ (a : AskRecord) w. born_before a.thread m A.count w.1 at) A.receives inv.born))
+  inbox_none m at = ap (λ (qs : List ReceiveRecord). inbox_with (last_completed (filter_map (pair_of A) qs)))
+      (filter_none _ A.receives (all_weaker _ _ (λ (a : ReceiveRecord) w. born_before a.thread m A.count w.1 at) A.receives inv.born))
 
   -- an endpoint that was made has no queue, and others keep theirs
   nobody_sends : (m : Instance) (b : ℕ) → list_any (λ k. b == k) (new_bases endpoint_base p new) ≡ true → is_sending after_made m b ≡ false
@@ -134,7 +134,7 @@ module _ (p : ProfileName) (A : State) (new : NewObjects) (inv : Invariant A) (f
   nobody_receives m b made =
       let ss = sends_none (endpoint_at after_made b) (endpoint_born b made) in
       let qs = receives_none (endpoint_at after_made b) (endpoint_born b made) in
-      λ i. list_any (λ (a : AskRecord). same_instance a.thread m) (drop (length (ss i)) (qs i))
+      λ i. list_any (λ (a : ReceiveRecord). same_instance a.thread m) (drop (length (ss i)) (qs i))
 
   nobody_waits : (b : ℕ) → list_any (λ k. b == k) (new_bases endpoint_base p new) ≡ true → waiters after_made (endpoint_at after_made b) ≡ []
   nobody_waits b made =
@@ -146,16 +146,16 @@ module _ (p : ProfileName) (A : State) (new : NewObjects) (inv : Invariant A) (f
   none_pending m b made =
       let ss = sends_none (endpoint_at after_made b) (endpoint_born b made) in
       let qs = receives_none (endpoint_at after_made b) (endpoint_born b made) in
-      λ i. tally (λ (s : SendRecord). same_instance s.thread m) (drop (length (qs i)) (ss i)) + tally (λ (a : AskRecord). same_instance a.thread m) (drop (length (ss i)) (qs i))
+      λ i. tally (λ (s : SendRecord). same_instance s.thread m) (drop (length (qs i)) (ss i)) + tally (λ (a : ReceiveRecord). same_instance a.thread m) (drop (length (ss i)) (qs i))
 
   same_pending : (m : Instance) (b : ℕ) → list_any (λ k. b == k) (new_bases endpoint_base p new) ≡ false → pending after_made m b ≡ pending A m b
-  same_pending m b none = ap (λ (e : Instance). tally (λ (s : SendRecord). same_instance s.thread m) (waiting_sends A e) + tally (λ (a : AskRecord). same_instance a.thread m) (waiting_receives A e)) (same_endpoint b none)
+  same_pending m b none = ap (λ (e : Instance). tally (λ (s : SendRecord). same_instance s.thread m) (waiting_sends A e) + tally (λ (a : ReceiveRecord). same_instance a.thread m) (waiting_receives A e)) (same_endpoint b none)
 
   same_sending : (m : Instance) (b : ℕ) → list_any (λ k. b == k) (new_bases endpoint_base p new) ≡ false → is_sending after_made m b ≡ is_sending A m b
   same_sending m b none = ap (λ (e : Instance). list_any (λ (s : SendRecord). same_instance s.thread m) (waiting_sends A e)) (same_endpoint b none)
 
   same_receiving : (m : Instance) (b : ℕ) → list_any (λ k. b == k) (new_bases endpoint_base p new) ≡ false → is_receiving after_made m b ≡ is_receiving A m b
-  same_receiving m b none = ap (λ (e : Instance). list_any (λ (a : AskRecord). same_instance a.thread m) (waiting_receives A e)) (same_endpoint b none)
+  same_receiving m b none = ap (λ (e : Instance). list_any (λ (a : ReceiveRecord). same_instance a.thread m) (waiting_receives A e)) (same_endpoint b none)
 
   by_new : (P : ℕ → Type 0) (b : ℕ) → (list_any (λ k. b == k) (new_bases endpoint_base p new) ≡ true → P b) → (list_any (λ k. b == k) (new_bases endpoint_base p new) ≡ false → P b) → P b
   by_new P b made none = elim (list_any (λ k. b == k) (new_bases endpoint_base p new)) as (λ c. list_any (λ k. b == k) (new_bases endpoint_base p new) ≡ c → P b) [ true ↦ made | false ↦ none ] refl

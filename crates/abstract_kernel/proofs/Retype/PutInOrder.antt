@@ -6,18 +6,18 @@ use Rattle.std.proofs.lemmas.Bool.Decides.{nat_tests}
 use Rattle.cap_core.specs.declared.profile.ProfileName.{ProfileName}
 use Rattle.cap_core.specs.declared.capability.Cap.{Cap}
 use Rattle.cap_core.specs.Objects.{is_untyped, base_of, bits_of, end_of, same_object, contains, in_region, IsLawful}
-use Rattle.slot_core.specs.Forest.{Forest, none, tree, preorder, has, below_those, descendants, ancestors}
-use Rattle.slot_core.specs.Entries.{Entry, entry, is_at, is_full, cap_at, slots}
-use Rattle.slot_core.specs.Derivation.{retyped, is_named}
-use Rattle.slot_core.specs.Disjoint.{IsDisjoint}
-use Rattle.slot_core.proofs.Forests.{each-left_part, each-right_part, each-weaker, each-contained, each-contains, each-from_contained}
-use Rattle.slot_core.proofs.Edits.{entry_at}
-use Rattle.slot_core.proofs.Lines.{ancestors-descend}
-use Rattle.slot_core.proofs.Distinct.{once_at}
-use Rattle.slot_core.proofs.Holding.{cap-entry}
-use Rattle.slot_core.proofs.Disjointness.{AreSame, are_same}
-use Rattle.slot_core.proofs.DisjointRetyped.{disjoint-retyped}
-use Rattle.slot_core.proofs.Retyped.{full-retyped, cap-retyped_other, distinct-retyped, each-retyped}
+use Rattle.derivation.specs.Forest.{Forest, none, tree, preorder, has, below_those, descendants, ancestors}
+use Rattle.derivation.specs.Entries.{Entry, entry, is_at, is_full, cap_at, slots}
+use Rattle.derivation.specs.Derivation.{retyped, is_named}
+use Rattle.derivation.specs.Disjoint.{IsDisjoint}
+use Rattle.derivation.proofs.Trees.Forests.{each-left_part, each-right_part, each-weaker, each-contained, each-contains, each-from_contained}
+use Rattle.derivation.proofs.Slots.Edits.{entry_at}
+use Rattle.derivation.proofs.Trees.Lines.{ancestors-descend}
+use Rattle.derivation.proofs.Slots.Distinct.{once_at}
+use Rattle.derivation.proofs.Slots.Holding.{cap-entry}
+use Rattle.derivation.proofs.Disjoint.Disjointness.{AreSame, are_same}
+use Rattle.derivation.proofs.Disjoint.DisjointRetyped.{disjoint-retyped}
+use Rattle.derivation.proofs.Slots.Retyped.{full-retyped, cap-retyped_other, distinct-retyped, each-retyped}
 use Rattle.abstract_kernel.specs.Regions.{free_of, AreRegions}
 use Rattle.abstract_kernel.specs.Memory.{IsSlotAddress}
 use Rattle.abstract_kernel.specs.Retyping.{with_new}

@@ -6,14 +6,14 @@ use Rattle.std.proofs.lemmas.Bool.Decides.{nat_tests}
 use Rattle.cap_core.specs.declared.profile.ProfileName.{ProfileName}
 use Rattle.cap_core.specs.declared.capability.Cap.{Cap}
 use Rattle.cap_core.specs.Objects.{is_null, is_untyped, base_of, end_of, same_object, contains, in_region}
-use Rattle.slot_core.specs.Forest.{Forest, none, tree, preorder, join, below_those, descendants, below}
-use Rattle.slot_core.specs.Entries.{Entry, entry, is_at, is_full, cap_at, slots}
-use Rattle.slot_core.specs.Derivation.{retyped}
-use Rattle.slot_core.proofs.Forests.{each-append, each-left_part, each-right_part, each-contained, each-from_contained, each-join, each-join_parts}
-use Rattle.slot_core.proofs.Built.{Absent}
-use Rattle.slot_core.proofs.Holding.{cap-entry, none_stands}
-use Rattle.slot_core.proofs.Disjointness.{slot_differs, AreSame, are_same}
-use Rattle.slot_core.proofs.Retyped.{contains-retyped}
+use Rattle.derivation.specs.Forest.{Forest, none, tree, preorder, join, below_those, descendants, below}
+use Rattle.derivation.specs.Entries.{Entry, entry, is_at, is_full, cap_at, slots}
+use Rattle.derivation.specs.Derivation.{retyped}
+use Rattle.derivation.proofs.Trees.Forests.{each-append, each-left_part, each-right_part, each-contained, each-from_contained, each-join, each-join_parts}
+use Rattle.derivation.proofs.Trees.Built.{Absent}
+use Rattle.derivation.proofs.Slots.Holding.{cap-entry, none_stands}
+use Rattle.derivation.proofs.Disjoint.Disjointness.{slot_differs, AreSame, are_same}
+use Rattle.derivation.proofs.Slots.Retyped.{contains-retyped}
 use Rattle.abstract_kernel.specs.Regions.{free_of, IsUsedUp, AreRegions}
 use Rattle.abstract_kernel.proofs.Capabilities.Descendants.{contains-below_those}
 use Rattle.abstract_kernel.proofs.Capabilities.RegionsKept.{region_is}

@@ -13,18 +13,18 @@ use Rattle.cap_core.specs.Kinds.{new_cap, size_of}
 use Rattle.cap_core.specs.Objects.{is_null, is_untyped, base_of, bits_of, end_of, contains, IsLawful}
 use Rattle.mem_core.specs.declared.objects.Placed.{Placed}
 use Rattle.mem_core.specs.Plans.{start_of, object_at, LieInRegion, LieInUntyped}
-use Rattle.slot_core.specs.Forest.{Forest, preorder, descendants}
-use Rattle.slot_core.specs.Entries.{Entry, is_at, cap_at, caps, slots, first_child}
-use Rattle.slot_core.specs.Derivation.{freed, with_free}
-use Rattle.slot_core.specs.Disjoint.{IsDisjoint}
-use Rattle.slot_core.proofs.Forests.{each-contained}
-use Rattle.slot_core.proofs.Renamed.{each-map, each-map_old}
-use Rattle.slot_core.proofs.Edits.{entry_at}
-use Rattle.slot_core.proofs.Holding.{cap-entry}
-use Rattle.slot_core.proofs.FirstChildren.{childless-bare}
-use Rattle.slot_core.proofs.Alike.{IsAlike, alike_freed, contains-alike_first}
-use Rattle.slot_core.proofs.DisjointRenamed.{disjoint-freed}
-use Rattle.slot_core.proofs.Freed.{freed_entry, slot-freed_entry, full-freed, cap-freed_here, distinct-freed, each-freed}
+use Rattle.derivation.specs.Forest.{Forest, preorder, descendants}
+use Rattle.derivation.specs.Entries.{Entry, is_at, cap_at, caps, slots, first_child}
+use Rattle.derivation.specs.Derivation.{freed, with_free}
+use Rattle.derivation.specs.Disjoint.{IsDisjoint}
+use Rattle.derivation.proofs.Trees.Forests.{each-contained}
+use Rattle.derivation.proofs.Trees.Renamed.{each-map, each-map_old}
+use Rattle.derivation.proofs.Slots.Edits.{entry_at}
+use Rattle.derivation.proofs.Slots.Holding.{cap-entry}
+use Rattle.derivation.proofs.Slots.FirstChildren.{childless-bare}
+use Rattle.derivation.proofs.Disjoint.Alike.{IsAlike, alike_freed, contains-alike_first}
+use Rattle.derivation.proofs.Disjoint.DisjointRenamed.{disjoint-freed}
+use Rattle.derivation.proofs.Slots.Freed.{freed_entry, slot-freed_entry, full-freed, cap-freed_here, distinct-freed, each-freed}
 use Rattle.cspace_core.specs.Resolution.{slot_of}
 use Rattle.abstract_kernel.specs.declared.invocation.NewObjects.{NewObjects}
 use Rattle.abstract_kernel.specs.Regions.{free_of, AreRegions}

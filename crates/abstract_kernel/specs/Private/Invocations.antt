@@ -5,9 +5,9 @@ use Rattle.cap_core.specs.declared.profile.ProfileName.{ProfileName}
 use Rattle.cap_core.specs.Objects.{is_untyped, badge_of, IsLawful}
 use Rattle.mem_core.specs.Shapes.{IsLawfulShape}
 use Rattle.mem_core.specs.Plans.{LieInUntyped}
-use Rattle.slot_core.specs.Forest.{Forest}
-use Rattle.slot_core.specs.Entries.{Entry, caps, cap_at, is_full, first_child}
-use Rattle.slot_core.specs.Derivation.{names_same}
+use Rattle.derivation.specs.Forest.{Forest}
+use Rattle.derivation.specs.Entries.{Entry, caps, cap_at, is_full, first_child}
+use Rattle.derivation.specs.Derivation.{names_same}
 use Rattle.cspace_core.specs.Resolution.{slot_of}
 use Rattle.abstract_kernel.specs.declared.invocation.NewObjects.{NewObjects}
 use Rattle.abstract_kernel.specs.declared.invocation.CapPlacement.{CapPlacement}

@@ -4,9 +4,9 @@ use Rattle.std.specs.List.{IsDistinct}
 use Rattle.cap_core.specs.declared.limits.TheConstants.{MAX_MEMORY_BITS}
 use Rattle.cap_core.specs.declared.profile.ProfileName.{ProfileName}
 use Rattle.cap_core.specs.Objects.{IsLawful}
-use Rattle.slot_core.specs.Forest.{Forest}
-use Rattle.slot_core.specs.Entries.{Entry, slots, caps}
-use Rattle.slot_core.specs.Disjoint.{IsDisjoint}
+use Rattle.derivation.specs.Forest.{Forest}
+use Rattle.derivation.specs.Entries.{Entry, slots, caps}
+use Rattle.derivation.specs.Disjoint.{IsDisjoint}
 use Rattle.abstract_kernel.specs.Regions.{AreRegions}
 use Rattle.abstract_kernel.specs.Memory.{IsSlotAddress}
 
