@@ -12,6 +12,7 @@ pub mod Boot
 pub mod Reached
 pub mod Deliveries
 pub mod Cancelling
+pub mod Laws
 pub mod Regions
 pub mod Memory
 pub mod Private
