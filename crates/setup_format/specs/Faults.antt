@@ -1,6 +1,6 @@
 -- The first fault of a set-up, and what a function returned beside what a set-up is read as.
 use Rattle.std.specs.Prelude.{◌≡◌, ℕ, List, Result, Ok, Err, string_bytes}
-use Rattle.kernel_core.specs.declared.plan.PlanDefect.{PlanDefect}
+use Rattle.abstract_kernel.specs.declared.plan.PlanDefect.{PlanDefect}
 use Rattle.setup_format.specs.declared.fault.Wrong.{Wrong}
 use Rattle.setup_format.specs.declared.fault.Wrong.TheVariants.{Unknown, Missing, OtherType, OtherValue}
 use Rattle.setup_format.specs.declared.fault.Place.{Place}

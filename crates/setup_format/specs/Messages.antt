@@ -4,8 +4,8 @@ use Rattle.cap_core.specs.declared.profile.ProfileName.{ProfileName}
 use Rattle.cap_core.specs.declared.limits.TheConstants.{MAX_MESSAGE_WORDS}
 use Rattle.cap_core.specs.declared.message.Message.{Message}
 use Rattle.cap_core.specs.Numbers.{label_bits}
-use Rattle.kernel_core.specs.declared.call.Op.{Op}
-use Rattle.kernel_core.specs.declared.call.Op.TheVariants.{Retype, CapCopy, CapMint, CapMove, CapMutate, Send, NbSend, Recv, NbRecv}
+use Rattle.abstract_kernel.specs.declared.call.Op.{Op}
+use Rattle.abstract_kernel.specs.declared.call.Op.TheVariants.{Retype, CapCopy, CapMint, CapMove, CapMutate, Send, NbSend, Recv, NbRecv}
 use Rattle.setup_format.specs.Views.{CallView}
 
 -- a label of the profile, no more words than a message has, and zeros past them

@@ -5,9 +5,9 @@ use Rattle.cap_core.specs.declared.profile.ProfileName.{ProfileName}
 use Rattle.cap_core.specs.declared.message.Message.{Message}
 use Rattle.cap_core.specs.Numbers.{word_bits}
 use Rattle.cap_core.specs.Rights.{all_rights}
-use Rattle.kernel_core.specs.declared.call.Op.{Op}
-use Rattle.kernel_core.specs.declared.call.Op.TheVariants as ops
-use Rattle.kernel_core.specs.declared.task.TransferArguments.{TransferArguments}
+use Rattle.abstract_kernel.specs.declared.call.Op.{Op}
+use Rattle.abstract_kernel.specs.declared.call.Op.TheVariants as ops
+use Rattle.abstract_kernel.specs.declared.invocation.SlotArguments.{SlotArguments}
 use Rattle.setup_format.specs.declared.fault.Place.{Place}
 use Rattle.setup_format.specs.declared.setup.OpName.{OpName}
 use Rattle.setup_format.specs.declared.setup.OpName.TheVariants.{Retype, CapCopy, CapMint, CapMove, CapMutate, Send, NbSend, Recv, NbRecv}
@@ -53,8 +53,8 @@ retype_at p names place table = do
   Ok (ops.Retype cap kind size_bits root index depth offset count)
 
 -- the CNode that is invoked, and the words by which a copy or a move names its slots: where no depth is given, all the bits of a word are; where no CNode of the source is given, it is the one that is invoked
-unfoldable pub transfer_at : ProfileName → Names → Place → Members → Result (ℕ × TransferArguments) Fault
-transfer_at p names place table = do
+unfoldable pub slots_at : ProfileName → Names → Place → Members → Result (ℕ × SlotArguments) Fault
+slots_at p names place table = do
   cap ← required place table (codes "cap") (word p names)
   index ← required place table (codes "index") (word p names)
   depth ← optional place table (codes "depth") (word_bits p) (word p names)
@@ -65,25 +65,25 @@ transfer_at p names place table = do
 
 unfoldable pub copy_at : ProfileName → Names → Place → Members → Result Op Fault
 copy_at p names place table = do
-  w ← transfer_at p names place table
+  w ← slots_at p names place table
   rights ← optional place table (codes "rights") all_rights rights
   Ok (ops.CapCopy w.0 w.1.index w.1.depth w.1.src_root w.1.src_index w.1.src_depth rights)
 
 unfoldable pub mint_at : ProfileName → Names → Place → Members → Result Op Fault
 mint_at p names place table = do
-  w ← transfer_at p names place table
+  w ← slots_at p names place table
   rights ← optional place table (codes "rights") all_rights rights
   value ← required place table (codes "word") (word p names)
   Ok (ops.CapMint w.0 w.1.index w.1.depth w.1.src_root w.1.src_index w.1.src_depth rights value)
 
 unfoldable pub move_at : ProfileName → Names → Place → Members → Result Op Fault
 move_at p names place table = do
-  w ← transfer_at p names place table
+  w ← slots_at p names place table
   Ok (ops.CapMove w.0 w.1.index w.1.depth w.1.src_root w.1.src_index w.1.src_depth)
 
 unfoldable pub mutate_at : ProfileName → Names → Place → Members → Result Op Fault
 mutate_at p names place table = do
-  w ← transfer_at p names place table
+  w ← slots_at p names place table
   value ← required place table (codes "word") (word p names)
   Ok (ops.CapMutate w.0 w.1.index w.1.depth w.1.src_root w.1.src_index w.1.src_depth value)
 

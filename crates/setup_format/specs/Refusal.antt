@@ -2,8 +2,8 @@
 use Rattle.std.specs.Prelude.{codes, ℕ, ◌+◌, List, ◌++◌, length, Bool, ◌&&◌, ◌||◌, ◌==◌, if◌then◌else◌}
 use Rattle.std.specs.List.{list_all}
 use Rattle.std.specs.Fmt.{decimal}
-use Rattle.kernel_core.specs.declared.plan.PlanDefect.{PlanDefect}
-use Rattle.kernel_core.specs.declared.plan.PlanDefect.TheVariants.{Outside, Unaligned, UntypedOutside, Overlap, Slots}
+use Rattle.abstract_kernel.specs.declared.plan.PlanDefect.{PlanDefect}
+use Rattle.abstract_kernel.specs.declared.plan.PlanDefect.TheVariants.{Outside, Unaligned, UntypedOutside, Overlap, Slots}
 use Rattle.setup_format.specs.declared.limits.TheConstants.{MAX_SHOWN_KEY_BYTES}
 use Rattle.setup_format.specs.declared.fault.Place.{Place}
 use Rattle.setup_format.specs.declared.fault.Place.TheVariants as places

@@ -7,8 +7,8 @@ use Rattle.cap_core.specs.declared.profile.ProfileName.{ProfileName}
 use Rattle.cap_core.specs.declared.profile.ProfileName.TheVariants.{Wide}
 use Rattle.cap_core.specs.declared.limits.TheConstants.{MIN_MEMORY_BITS, MAX_MEMORY_BITS, MIN_ROOT_RADIX, MAX_ROOT_RADIX, MIN_BOOT_THREADS, MAX_BOOT_THREADS, MAX_BOOT_ENDPOINTS, MAX_BOOT_UNTYPEDS, MAX_CLIENTS, MAX_HISTORY_LIMIT}
 use Rattle.cap_core.specs.Numbers.{min_untyped_bits, max_object_bits}
-use Rattle.kernel_core.specs.declared.plan.PlanDefect.{PlanDefect}
-use Rattle.kernel_core.specs.Plan.{Plan, planned, first_defect}
+use Rattle.abstract_kernel.specs.declared.plan.PlanDefect.{PlanDefect}
+use Rattle.abstract_kernel.specs.Plan.{Plan, planned, first_defect}
 use Rattle.setup_format.specs.declared.limits.TheConstants.{FORMAT, MAX_CALLS}
 use Rattle.setup_format.specs.declared.fault.Place.TheVariants as places
 use Rattle.setup_format.specs.declared.setup.Sizes.{Sizes}

@@ -1,7 +1,7 @@
 -- What is seen of a set-up.
 use Rattle.std.specs.Prelude.{ℕ, ◌≤◌, ◌<◌, List, length, All, Option}
-use Rattle.kernel_core.specs.declared.call.Call.{Call}
-use Rattle.kernel_core.specs.Plan.{Plan}
+use Rattle.abstract_kernel.specs.declared.call.Call.{Call}
+use Rattle.abstract_kernel.specs.Plan.{Plan}
 use Rattle.cap_core.specs.declared.limits.TheConstants.{MAX_CLIENTS, MAX_HISTORY_LIMIT}
 use Rattle.setup_format.specs.declared.limits.TheConstants.{MAX_CALLS}
 

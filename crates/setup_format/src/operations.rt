@@ -12,7 +12,7 @@ use crate::setup::{OpName, Words};
 use crate::tables::{label_or, rights_or_all, word_at, word_or, words_or_none};
 use cap_core::{Message, Profile};
 use kernel_core::Op;
-use kernel_core::task::TransferArguments;
+use abstract_kernel::invocation::SlotArguments;
 use toml::Table;
 
 /// The keys of a retype.
@@ -113,13 +113,13 @@ fn retype_at<P: Profile>(names: &[Name], place: Place, table: &Table) -> Result<
 
 /// The address of the CNode by which a copy or a move is made, and the words by which it names its slots. A depth that is
 /// not given is all the bits of a word, and the source's CNode is the one that is invoked where none is given.
-#[tactic(auto, unfolding(crate::specs::Operations::transfer_at))]
-fn transfer_at<P: Profile>(
+#[tactic(auto, unfolding(crate::specs::Operations::slots_at))]
+fn slots_at<P: Profile>(
     names: &[Name],
     place: Place,
     table: &Table,
-) -> Result<(u64, TransferArguments), SetupFault>
-    ensures { Gives (λ w. w) result (spec.transfer_at P.the (names_view names.now) place (table_view table.now)) }
+) -> Result<(u64, SlotArguments), SetupFault>
+    ensures { Gives (λ w. w) result (spec.slots_at P.the (names_view names.now) place (table_view table.now)) }
 {
     let word_bits = u64::from(P::WORD_BITS);
     let cap = word_at::<P>(names, table, place, "cap")?;
@@ -128,7 +128,7 @@ fn transfer_at<P: Profile>(
     let src_root = word_or::<P>(names, table, place, "src_root", cap)?;
     let src_index = word_at::<P>(names, table, place, "src_index")?;
     let src_depth = word_or::<P>(names, table, place, "src_depth", word_bits)?;
-    let slots = TransferArguments {
+    let slots = SlotArguments {
         index,
         depth,
         src_root,
@@ -142,9 +142,9 @@ fn transfer_at<P: Profile>(
 fn copy_at<P: Profile>(names: &[Name], place: Place, table: &Table) -> Result<Op, SetupFault>
     ensures { Gives (λ o. o) result (spec.copy_at P.the (names_view names.now) place (table_view table.now)) }
 {
-    let (cap, slots) = transfer_at::<P>(names, place, table)?;
+    let (cap, slots) = slots_at::<P>(names, place, table)?;
     let rights = rights_or_all(table, place, "rights")?;
-    let TransferArguments {
+    let SlotArguments {
         index,
         depth,
         src_root,
@@ -166,10 +166,10 @@ fn copy_at<P: Profile>(names: &[Name], place: Place, table: &Table) -> Result<Op
 fn mint_at<P: Profile>(names: &[Name], place: Place, table: &Table) -> Result<Op, SetupFault>
     ensures { Gives (λ o. o) result (spec.mint_at P.the (names_view names.now) place (table_view table.now)) }
 {
-    let (cap, slots) = transfer_at::<P>(names, place, table)?;
+    let (cap, slots) = slots_at::<P>(names, place, table)?;
     let rights = rights_or_all(table, place, "rights")?;
     let word = word_at::<P>(names, table, place, "word")?;
-    let TransferArguments {
+    let SlotArguments {
         index,
         depth,
         src_root,
@@ -192,8 +192,8 @@ fn mint_at<P: Profile>(names: &[Name], place: Place, table: &Table) -> Result<Op
 fn move_at<P: Profile>(names: &[Name], place: Place, table: &Table) -> Result<Op, SetupFault>
     ensures { Gives (λ o. o) result (spec.move_at P.the (names_view names.now) place (table_view table.now)) }
 {
-    let (cap, slots) = transfer_at::<P>(names, place, table)?;
-    let TransferArguments {
+    let (cap, slots) = slots_at::<P>(names, place, table)?;
+    let SlotArguments {
         index,
         depth,
         src_root,
@@ -214,9 +214,9 @@ fn move_at<P: Profile>(names: &[Name], place: Place, table: &Table) -> Result<Op
 fn mutate_at<P: Profile>(names: &[Name], place: Place, table: &Table) -> Result<Op, SetupFault>
     ensures { Gives (λ o. o) result (spec.mutate_at P.the (names_view names.now) place (table_view table.now)) }
 {
-    let (cap, slots) = transfer_at::<P>(names, place, table)?;
+    let (cap, slots) = slots_at::<P>(names, place, table)?;
     let word = word_at::<P>(names, table, place, "word")?;
-    let TransferArguments {
+    let SlotArguments {
         index,
         depth,
         src_root,

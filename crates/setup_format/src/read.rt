@@ -2,7 +2,7 @@
 ghost use Rattle.std.specs.Prelude.{◌≡◌, ◌≢◌, ◌≤◌, ◌<◌, map, length, All, IfOk, IfErr};
 ghost use Rattle.toml.specs.View.{table_view};
 ghost use Rattle.cap_core.specs.declared.profile.ProfileName.TheVariants as profile;
-ghost use Rattle.kernel_core.specs.Plan.{IsUntypedSize, IsWithinLimits, IsPlan};
+ghost use Rattle.abstract_kernel.specs.Plan.{IsUntypedSize, IsWithinLimits, IsPlan};
 ghost use Rattle.setup_format.specs.Private.Seen.{names_view};
 ghost use Rattle.setup_format.specs.Faults.{Gives};
 ghost use Rattle.setup_format.specs.Kinds.{each};

@@ -9,14 +9,14 @@ use Rattle.cap_core.specs.Numbers.{slot_bits}
 use Rattle.cap_core.specs.declared.capability.Cap.{Cap}
 use Rattle.cap_core.specs.declared.capability.Cap.TheVariants.{Null, Untyped, Endpoint, CNode, Tcb}
 use Rattle.cap_core.specs.Objects.{is_null}
-use Rattle.slot_core.specs.Entries.{slots, cap_at}
+use Rattle.derivation.specs.Entries.{slots, cap_at}
 use Rattle.ipc_core.specs.Waits.{thread_of}
-use Rattle.kernel_core.specs.declared.call.Call.{Call}
-use Rattle.kernel_core.specs.declared.call.Reply.{Reply}
-use Rattle.kernel_core.specs.declared.call.ThreadState.{ThreadState}
-use Rattle.kernel_core.specs.declared.call.ThreadState.TheVariants.{Ready, Inactive, Sending, Receiving}
-use Rattle.kernel_core.specs.declared.call.Inbox.{Inbox}
-use Rattle.kernel_core.specs.Shown.{Shown, tcb_base, endpoint_base, state_at, inbox_at, waiting_at, has_child}
+use Rattle.abstract_kernel.specs.declared.call.Call.{Call}
+use Rattle.abstract_kernel.specs.declared.call.Reply.{Reply}
+use Rattle.abstract_kernel.specs.declared.call.ThreadState.{ThreadState}
+use Rattle.abstract_kernel.specs.declared.call.ThreadState.TheVariants.{Ready, Inactive, Sending, Receiving}
+use Rattle.abstract_kernel.specs.declared.call.Inbox.{Inbox}
+use Rattle.abstract_kernel.specs.Shown.{Shown, tcb_base, endpoint_base, state_at, inbox_at, waiting_at, has_child}
 use Rattle.setup_format.specs.Views.{CallView}
 use Rattle.setup_report.specs.declared.naming.Naming.{Naming}
 use Rattle.setup_report.specs.Text.{cap_text, numbers_text, op_text, reply_text, begins_as, verdict_text, state_text, inbox_text}

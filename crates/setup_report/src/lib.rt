@@ -2,7 +2,7 @@
 #![tactic(auto)]
 
 ghost use Rattle.std.specs.Prelude.{◌≡◌, ◌<◌, ◌^◌, All, length, IfOk};
-ghost use Rattle.slot_core.specs.Entries.{slots as slots_of};
+ghost use Rattle.derivation.specs.Entries.{slots as slots_of};
 ghost use Rattle.setup_report.specs.Report.{report_of, met_count, expectation_count};
 
 mod calls;

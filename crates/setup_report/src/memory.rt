@@ -2,7 +2,7 @@
 ghost use Rattle.std.specs.Prelude.{◌≡◌, ◌++◌, ◌≤◌, ◌<◌, ◌^◌, All, OnOk, IfOk, flat_map, string_bytes};
 ghost use Rattle.std.specs.BTreeSet.{difference};
 ghost use Rattle.std.specs.Ordering.{nat_cmp};
-ghost use Rattle.slot_core.specs.Entries.{slots as slots_of};
+ghost use Rattle.derivation.specs.Entries.{slots as slots_of};
 ghost use Rattle.setup_report.specs.Report as spec;
 
 use crate::lines::{EndpointLine, SlotLine, ThreadLine};

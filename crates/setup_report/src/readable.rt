@@ -1,9 +1,9 @@
 //! What a report reads of a kernel.
 ghost use Rattle.std.specs.Prelude.{◌≡◌, All, option_map, slice_get};
-ghost use Rattle.slot_core.specs.Entries.{cap_at, slots};
+ghost use Rattle.derivation.specs.Entries.{cap_at, slots};
 ghost use Rattle.ipc_core.specs.Waits.{thread_of};
-ghost use Rattle.kernel_core.specs.Rows.{IsAligned};
-ghost use Rattle.kernel_core.specs.Shown.{Shown, state_at, inbox_at, waiting_at, has_child};
+ghost use Rattle.abstract_kernel.specs.Memory.{IsAligned};
+ghost use Rattle.abstract_kernel.specs.Shown.{Shown, state_at, inbox_at, waiting_at, has_child};
 
 use cap_core::{Cap, Profile};
 use ipc_core::Waiters;

@@ -1,8 +1,8 @@
 //! The full slots of a memory.
 ghost use Rattle.std.specs.Prelude.{◌≡◌, ◌≤◌, ◌<◌, ◌*◌, ◌/◌, ◌^◌, All, IfOk};
 ghost use Rattle.cap_core.specs.Numbers.{slot_size};
-ghost use Rattle.slot_core.specs.Entries.{slots as slots_of};
-ghost use Rattle.kernel_core.specs.Rows.{IsAligned};
+ghost use Rattle.derivation.specs.Entries.{slots as slots_of};
+ghost use Rattle.abstract_kernel.specs.Memory.{IsAligned};
 ghost use Rattle.setup_report.specs.Report as spec;
 
 use crate::readable::Readable;

@@ -10,8 +10,8 @@ use Rattle.cap_core.specs.declared.profile.ProfileName.TheVariants.{Wide}
 use Rattle.cap_core.specs.declared.limits.TheConstants.{MAX_MESSAGE_WORDS}
 use Rattle.cap_core.specs.Numbers.{word_bits, label_bits, min_untyped_bits, max_object_bits}
 use Rattle.cap_core.specs.Rights.{all_rights}
-use Rattle.kernel_core.specs.declared.plan.PlanDefect.{PlanDefect}
-use Rattle.kernel_core.specs.Plan.{Plan, first_defect}
+use Rattle.abstract_kernel.specs.declared.plan.PlanDefect.{PlanDefect}
+use Rattle.abstract_kernel.specs.Plan.{Plan, first_defect}
 use Rattle.setup_format.specs.declared.fault.Wrong.{Wrong}
 use Rattle.setup_format.specs.declared.fault.Wrong.TheVariants.{OtherValue}
 use Rattle.setup_format.specs.declared.fault.Place.{Place}
@@ -28,7 +28,7 @@ use Rattle.setup_format.specs.Faults.{Fault, text, at, layout, Gives}
 use Rattle.setup_format.specs.Kinds.{◌>>=◌, below, number, word, rights, label, each, array_in, item_list, words, filled}
 use Rattle.setup_format.specs.Tables.{at_key, needed, given_or, required, optional, known_only, least_unknown, no_unknown}
 use Rattle.setup_format.specs.Messages.{IsMessage, SendsMessage, HasMessage}
-use Rattle.setup_format.specs.Operations.{retype_at, transfer_at, copy_at, mint_at, move_at, mutate_at, message_at, send_at, nb_send_at, recv_at, nb_recv_at, operation_at}
+use Rattle.setup_format.specs.Operations.{retype_at, slots_at, copy_at, mint_at, move_at, mutate_at, message_at, send_at, nb_send_at, recv_at, nb_recv_at, operation_at}
 use Rattle.setup_format.specs.Setups.{top_keys, untyped_keys, untyped_at, call_at, sizes_of, planned_with, laid_out, laid_out_unless, setup_with, setup_at, setup_of}
 
 -- a fact holds of what is read, and there is no fault of the text
@@ -170,9 +170,9 @@ reads_retype p names place table =
     (λ depth _. then_reads Anything (SendsMessage p) _ _ (reads_required place table (codes "offset") (word p names))
     (λ offset _. then_reads Anything (SendsMessage p) _ _ (reads_required place table (codes "count") (word p names)) (λ count _. tt))))))))
 
-reads_transfer : (p : ProfileName) (names : Names) (place : Place) (table : Members) → Reads Anything (transfer_at p names place table)
-unfolding transfer_at
-reads_transfer p names place table =
+reads_slots : (p : ProfileName) (names : Names) (place : Place) (table : Members) → Reads Anything (slots_at p names place table)
+unfolding slots_at
+reads_slots p names place table =
     then_reads Anything Anything _ _ (reads_required place table (codes "cap") (word p names))
     (λ cap _. then_reads Anything Anything _ _ (reads_required place table (codes "index") (word p names))
     (λ index _. then_reads Anything Anything _ _ (reads_any place table (codes "depth") (word_bits p) (word p names))
@@ -183,25 +183,25 @@ reads_transfer p names place table =
 reads_copy : (p : ProfileName) (names : Names) (place : Place) (table : Members) → Reads (SendsMessage p) (copy_at p names place table)
 unfolding copy_at
 reads_copy p names place table =
-    then_reads Anything (SendsMessage p) _ _ (reads_transfer p names place table)
+    then_reads Anything (SendsMessage p) _ _ (reads_slots p names place table)
     (λ w _. then_reads Anything (SendsMessage p) _ _ (reads_any place table (codes "rights") all_rights rights) (λ given _. tt))
 
 reads_mint : (p : ProfileName) (names : Names) (place : Place) (table : Members) → Reads (SendsMessage p) (mint_at p names place table)
 unfolding mint_at
 reads_mint p names place table =
-    then_reads Anything (SendsMessage p) _ _ (reads_transfer p names place table)
+    then_reads Anything (SendsMessage p) _ _ (reads_slots p names place table)
     (λ w _. then_reads Anything (SendsMessage p) _ _ (reads_any place table (codes "rights") all_rights rights)
     (λ given _. then_reads Anything (SendsMessage p) _ _ (reads_required place table (codes "word") (word p names)) (λ value _. tt)))
 
 reads_move : (p : ProfileName) (names : Names) (place : Place) (table : Members) → Reads (SendsMessage p) (move_at p names place table)
 unfolding move_at
 reads_move p names place table =
-    then_reads Anything (SendsMessage p) _ _ (reads_transfer p names place table) (λ w _. tt)
+    then_reads Anything (SendsMessage p) _ _ (reads_slots p names place table) (λ w _. tt)
 
 reads_mutate : (p : ProfileName) (names : Names) (place : Place) (table : Members) → Reads (SendsMessage p) (mutate_at p names place table)
 unfolding mutate_at
 reads_mutate p names place table =
-    then_reads Anything (SendsMessage p) _ _ (reads_transfer p names place table)
+    then_reads Anything (SendsMessage p) _ _ (reads_slots p names place table)
     (λ w _. then_reads Anything (SendsMessage p) _ _ (reads_required place table (codes "word") (word p names)) (λ value _. tt))
 
 reads_operation : (p : ProfileName) (op : OpName) (names : Names) (place : Place) (table : Members) → Reads (SendsMessage p) (operation_at p op names place table)

@@ -1,8 +1,8 @@
 -- What is seen of the code's own values: of what a kind read, of names and of calls.
 use Rattle.std.specs.Prelude.{ℕ, List, [], ◌∷◌, map, Result, Ok, Err, option_map, string_bytes}
 use Rattle.setup_format.specs.declared.names.Name.{Name}
-use Rattle.kernel_core.specs.declared.call.Call.{Call}
-use Rattle.kernel_core.specs.Plan.{Plan}
+use Rattle.abstract_kernel.specs.declared.call.Call.{Call}
+use Rattle.abstract_kernel.specs.Plan.{Plan}
 use Rattle.setup_format.specs.declared.setup.Caller.{Caller}
 use Rattle.setup_format.specs.declared.setup.SetupCall.{SetupCall}
 use Rattle.setup_format.specs.Names.{Names}

@@ -3,14 +3,14 @@ use Rattle.std.specs.Prelude.{◌≡◌, ℕ, ◌<◌, ◌-◌, ◌/◌, ◌^◌
 use Rattle.std.proofs.Common.{sym, subst}
 use Rattle.cap_core.specs.declared.profile.ProfileName.{ProfileName}
 use Rattle.cap_core.specs.Numbers.{tcb_bits, tcb_size}
-use Rattle.slot_core.specs.Entries.{slots}
+use Rattle.derivation.specs.Entries.{slots}
 use Rattle.ipc_core.specs.Waits.{no_waits}
-use Rattle.kernel_core.specs.Plan.{Plan, IsPlan, first_tcb}
-use Rattle.kernel_core.specs.Boot.{boot, boot_forest}
+use Rattle.abstract_kernel.specs.Plan.{Plan, IsPlan, first_tcb}
+use Rattle.abstract_kernel.specs.Boot.{boot, boot_forest}
 use Rattle.kernel_core.specs.BootRows.{boot_rows}
 use Rattle.kernel_core.specs.Rows.{IsKernel, IsInMemory}
-use Rattle.kernel_core.specs.Shown.{Shown}
-use Rattle.kernel_core.specs.State.{shown}
+use Rattle.abstract_kernel.specs.Shown.{Shown}
+use Rattle.abstract_kernel.specs.State.{shown}
 use Rattle.kernel_core.proofs.Booted.{is_kernel}
 
 -- what is booted lies in the plan's memory

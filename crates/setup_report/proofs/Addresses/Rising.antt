@@ -14,7 +14,7 @@ use Rattle.std.proofs.lemmas.List.Elements.{filter_map-append}
 use Rattle.std.proofs.lemmas.List.Kept.{IsStrictlySortedBy-filter}
 use Rattle.std.proofs.lemmas.Map.Lookups.{btree_set_from_contains, exact_unsigned}
 use Rattle.cap_core.specs.declared.profile.ProfileName.{ProfileName}
-use Rattle.kernel_core.specs.Shown.{Shown}
+use Rattle.abstract_kernel.specs.Shown.{Shown}
 use Rattle.setup_report.specs.declared.naming.Naming.{Naming}
 use Rattle.setup_report.specs.Report.{is_in, rising, full_slots, base_at, bases_named, selfheld}
 

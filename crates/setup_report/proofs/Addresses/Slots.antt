@@ -16,10 +16,10 @@ use Rattle.cap_core.specs.declared.profile.ProfileName.TheVariants.{Wide, Narrow
 use Rattle.cap_core.specs.declared.capability.Cap.TheVariants.{Null}
 use Rattle.cap_core.specs.Numbers.{slot_bits, slot_size}
 use Rattle.cap_core.specs.Objects.{is_null}
-use Rattle.slot_core.specs.Entries.{Entry, slots, cap_at, cap_in}
-use Rattle.slot_core.specs.Forest.{preorder}
-use Rattle.kernel_core.specs.Rows.{IsSlotAddress, IsAligned}
-use Rattle.kernel_core.specs.Shown.{Shown}
+use Rattle.derivation.specs.Entries.{Entry, slots, cap_at, cap_in}
+use Rattle.derivation.specs.Forest.{preorder}
+use Rattle.abstract_kernel.specs.Memory.{IsSlotAddress, IsAligned}
+use Rattle.abstract_kernel.specs.Shown.{Shown}
 use Rattle.kernel_core.proofs.Addresses.{no_cap}
 use Rattle.setup_report.specs.Report.{is_in, rising, is_full, full_slots}
 use Rattle.setup_report.proofs.Addresses.Rising.{rising_same, rising_sorted, in_filter}

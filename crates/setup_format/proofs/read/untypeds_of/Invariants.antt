@@ -1,6 +1,6 @@
 use Rattle.std.proofs.Common.{◌≡◌, ◌+◌, All, map, length, drop}
 use Rattle.toml.specs.View.{table_view}
-use Rattle.kernel_core.specs.Plan.{IsUntypedSize}
+use Rattle.abstract_kernel.specs.Plan.{IsUntypedSize}
 use Rattle.setup_format.specs.Kinds.{each}
 use Rattle.setup_format.specs.Setups.{untyped_at}
 use Rattle.setup_format.proofs.Grammar.Loops.{with_front}

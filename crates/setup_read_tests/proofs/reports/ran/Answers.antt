@@ -1,8 +1,8 @@
 use Rattle.std.proofs.Common.{◌≡◌, ap, ◌∙◌, sym, subst}
 use Rattle.cap_core.specs.declared.profile.ProfileName.TheVariants.{Wide}
-use Rattle.kernel_core.specs.Boot.{boot}
-use Rattle.kernel_core.specs.Rows.{IsInMemory}
-use Rattle.kernel_core.specs.State.{shown}
+use Rattle.abstract_kernel.specs.Boot.{boot}
+use Rattle.abstract_kernel.specs.Memory.{IsInMemory}
+use Rattle.abstract_kernel.specs.State.{shown}
 use Rattle.setup_report.proofs.Addresses.Booted.{boot_in_memory, slots_within}
 use Rattle.setup_read_tests.proofs.reports.ran.Goals as goal
 

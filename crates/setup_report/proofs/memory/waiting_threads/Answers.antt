@@ -1,6 +1,6 @@
 use Rattle.std.proofs.Common.{◌≡◌, length, None, Some, option_map, slice_get, rules}
 use Rattle.ipc_core.specs.Waits.{thread_of}
-use Rattle.kernel_core.specs.Shown.{waiting_at}
+use Rattle.abstract_kernel.specs.Shown.{waiting_at}
 use Rattle.setup_report.proofs.Sequences.Fronts.{front_more, front_all}
 use Rattle.setup_report.proofs.memory.waiting_threads.Goals as goal
 

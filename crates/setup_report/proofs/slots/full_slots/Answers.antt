@@ -2,7 +2,7 @@ use Rattle.std.proofs.Common.{◌≡◌, ◌<◌, ◌*◌, ◌/◌, ◌^◌, tru
 use Rattle.std.specs.List.{filter}
 use Rattle.std.proofs.lemmas.Nat.{pow_pos}
 use Rattle.cap_core.specs.Numbers.{slot_bits, slot_size}
-use Rattle.slot_core.specs.Entries.{slots}
+use Rattle.derivation.specs.Entries.{slots}
 use Rattle.setup_report.specs.Report.{is_full, rising}
 use Rattle.setup_report.proofs.Addresses.Slots.{multiples, some_place, placed, slots_found, found_none, found_full, found_empty, rising_multiples}
 use Rattle.setup_report.proofs.slots.full_slots.Goals as goal

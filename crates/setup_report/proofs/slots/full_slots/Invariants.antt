@@ -1,7 +1,7 @@
 use Rattle.std.proofs.Common.{◌≡◌, ◌<◌, All, filter}
 use Rattle.cap_core.specs.Numbers.{slot_size}
-use Rattle.slot_core.specs.Entries.{slots}
-use Rattle.kernel_core.specs.Rows.{IsAligned}
+use Rattle.derivation.specs.Entries.{slots}
+use Rattle.abstract_kernel.specs.Memory.{IsAligned}
 use Rattle.setup_report.specs.Report.{is_full}
 use Rattle.setup_report.proofs.Addresses.Slots.{multiples}
 use Rattle.setup_report.proofs.slots.full_slots.Given as goal
