@@ -5,3 +5,4 @@ pub mod Capabilities
 pub mod Retype
 pub mod Boot
 pub mod Reached
+pub mod Cancelling

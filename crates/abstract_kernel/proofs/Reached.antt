@@ -3,3 +3,5 @@ pub mod Runs
 pub mod Invariant
 pub mod Stores
 pub mod Simulation
+pub mod NewEndpoints
+pub mod EndedEndpoints

@@ -2,6 +2,7 @@
 use Rattle.std.specs.Prelude.{ℕ, ◌^◌, true, false, cond, ◌&&◌, Option, None, Some, Result, Ok, Err}
 use Rattle.cap_core.specs.declared.profile.ProfileName.{ProfileName}
 use Rattle.cap_core.specs.declared.capability.Cap.{Cap}
+use Rattle.cap_core.specs.declared.capability.Kind.TheVariants as kind
 use Rattle.cap_core.specs.declared.refusal.Refusal.{Refusal}
 use Rattle.cap_core.specs.declared.refusal.Refusal.TheVariants.{IllegalOperation, RevokeFirst}
 use Rattle.cap_core.specs.Objects.{is_untyped, bits_of}
@@ -9,7 +10,6 @@ use Rattle.cap_core.specs.Minting.{masked, with_data}
 use Rattle.derivation.specs.Forest.{Forest}
 use Rattle.derivation.specs.Entries.{Entry, cap_at}
 use Rattle.derivation.specs.Derivation.{derived, moved, freed}
-use Rattle.cspace_core.specs.Resolution.{is_cnode}
 use Rattle.abstract_kernel.specs.declared.invocation.Change.{Change}
 use Rattle.abstract_kernel.specs.declared.invocation.Change.TheVariants.{Copy, Mint, Move, Mutate}
 use Rattle.abstract_kernel.specs.declared.invocation.CapPlacement.{CapPlacement}
@@ -37,7 +37,7 @@ changed_cap p f source (Mutate word) cap = where_set (with_data p true word cap)
 -- the checks in their order, the same for all four
 abbrev pub decoded_placement : ProfileName → Forest Entry → ℕ → Cap → SlotArguments → Change → Result CapPlacement Refusal
 decoded_placement p f thread invoked asked change =
-    where_kind is_cnode invoked >>= λ node.
+    where_kind kind.CNode invoked >>= λ node.
     extra_cap p f thread asked.src_root >>= λ root.
     empty_slot p f node asked.index asked.depth >>= λ slot.
     full_slot p f root asked.src_index asked.src_depth >>= λ source.

@@ -10,6 +10,7 @@ pub mod Step
 pub mod Boot
 pub mod Reached
 pub mod Deliveries
+pub mod Cancelling
 pub mod Regions
 pub mod Memory
 pub mod Private

@@ -1,5 +1,5 @@
 -- The slots and capabilities that the words of a call name, or why there are none.
-use Rattle.std.specs.Prelude.{ℕ, Bool, cond, Result, Ok, Err}
+use Rattle.std.specs.Prelude.{ℕ, Bool, cond, is_some, Result, Ok, Err}
 use Rattle.cap_core.specs.declared.profile.ProfileName.{ProfileName}
 use Rattle.cap_core.specs.declared.capability.Cap.{Cap}
 use Rattle.cap_core.specs.declared.refusal.LookupFault.{LookupFault}
@@ -7,12 +7,15 @@ use Rattle.cap_core.specs.declared.refusal.LookupFault.TheVariants.{MissingCapab
 use Rattle.cap_core.specs.declared.refusal.Refusal.{Refusal}
 use Rattle.cap_core.specs.declared.refusal.Refusal.TheVariants.{InvalidCapability, IllegalOperation, FailedLookup, DeleteFirst}
 use Rattle.cap_core.specs.Numbers.{word_bits}
-use Rattle.cap_core.specs.Objects.{is_null}
+use Rattle.cap_core.specs.declared.capability.Kind.{Kind}
+use Rattle.cap_core.specs.declared.capability.Kind.TheVariants as kind
+use Rattle.cap_core.specs.Objects.{is_null, is_untyped}
 use Rattle.derivation.specs.Forest.{Forest}
 use Rattle.derivation.specs.Entries.{Entry, cap_at}
 use Rattle.cspace_core.specs.Bits.{low_bits}
-use Rattle.cspace_core.specs.Resolution.{Found, resolution}
+use Rattle.cspace_core.specs.Resolution.{Found, is_cnode, resolution}
 use Rattle.cspace_core.specs.Target.{target_slot}
+use Rattle.abstract_kernel.specs.Shown.{tcb_base, endpoint_base}
 
 abbrev pub looked_up : {X : Type 0} → Result X LookupFault → Result X Refusal
 looked_up (Ok x) = Ok x
@@ -39,9 +42,16 @@ held_in f (Err refusal) = Err refusal
 abbrev pub extra_cap : ProfileName → Forest Entry → ℕ → ℕ → Result Cap Refusal
 extra_cap p f thread word = held_in f (invoked_slot p f thread word)
 
+-- a capability of an object of this kind
+abbrev pub is_of_kind : Kind → Cap → Bool
+is_of_kind kind.Untyped cap = is_untyped cap
+is_of_kind kind.Tcb cap = is_some (tcb_base cap)
+is_of_kind kind.Endpoint cap = is_some (endpoint_base cap)
+is_of_kind kind.CNode cap = is_cnode cap
+
 -- the invoked capability, where it is of the kind that the operation asks for
-abbrev pub where_kind : (Cap → Bool) → Cap → Result Cap Refusal
-where_kind is cap = cond (is_null cap) (Err InvalidCapability) (cond (is cap) (Ok cap) (Err IllegalOperation))
+abbrev pub where_kind : Kind → Cap → Result Cap Refusal
+where_kind kind cap = cond (is_null cap) (Err InvalidCapability) (cond (is_of_kind kind cap) (Ok cap) (Err IllegalOperation))
 
 -- a slot that was found, where it is empty, and where it is full
 abbrev pub where_empty : Forest Entry → Result ℕ Refusal → Result ℕ Refusal

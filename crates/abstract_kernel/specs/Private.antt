@@ -2,3 +2,4 @@
 pub mod Effects
 pub mod Invocations
 pub mod Stores
+pub mod Endings

@@ -6,10 +6,12 @@ use Rattle.cap_core.specs.declared.profile.ProfileName.{ProfileName}
 use Rattle.cap_core.specs.declared.capability.Cap.{Cap}
 use Rattle.cap_core.specs.declared.capability.Cap.TheVariants.{Untyped, CNode}
 use Rattle.cap_core.specs.declared.refusal.LookupFault.TheVariants.{MissingCapability}
+use Rattle.cap_core.specs.declared.capability.Kind.TheVariants as kind
 use Rattle.cap_core.specs.declared.refusal.Refusal.{Refusal}
 use Rattle.cap_core.specs.declared.refusal.Refusal.TheVariants.{RangeError, FailedLookup, DeleteFirst}
-use Rattle.cap_core.specs.Objects.{is_null, is_untyped}
+use Rattle.cap_core.specs.Objects.{is_null}
 use Rattle.cap_core.specs.Kinds.{new_cap}
+use Rattle.mem_core.specs.declared.objects.Shape.{Shape}
 use Rattle.mem_core.specs.Shapes.{shape_of}
 use Rattle.mem_core.specs.Plans.{placed_in, object_at}
 use Rattle.derivation.specs.Forest.{Forest}
@@ -45,16 +47,21 @@ first_slot p f offset count (CNode base radix guard) =
     cond (are_slots radix offset count) (where_all_empty p f (slot_of p base offset) count) (Err RangeError)
 first_slot p f offset count cap = Err (FailedLookup MissingCapability)
 
--- the checks in their order, of a retype by the untyped capability in a slot
-abbrev pub decoded_retype : ProfileName → Forest Entry → ℕ → ℕ → Cap → RetypeArguments → Result NewObjects Refusal
-decoded_retype p f thread slot invoked asked =
-    where_kind is_untyped invoked >>= λ untyped.
-    extra_cap p f thread asked.root >>= λ root.
-    shape_of p asked.kind asked.size_bits >>= λ shape.
+-- the rest of the checks of a retype, of the objects' slots and of the room for them
+abbrev pub decoded_objects : ProfileName → Forest Entry → ℕ → Cap → Cap → Shape → RetypeArguments → Result NewObjects Refusal
+decoded_objects p f slot untyped root shape asked =
     node_cap p f root asked.index asked.depth >>= λ node.
     first_slot p f asked.offset asked.count node >>= λ first.
     placed_in (has_child slot f) shape.bits asked.count untyped >>= λ placed.
     Ok (record { untyped = slot; shape = shape; placed = placed; first_slot = first; count = asked.count })
+
+-- the checks in their order, of a retype by the untyped capability in a slot
+abbrev pub decoded_retype : ProfileName → Forest Entry → ℕ → ℕ → Cap → RetypeArguments → Result NewObjects Refusal
+decoded_retype p f thread slot invoked asked =
+    where_kind kind.Untyped invoked >>= λ untyped.
+    extra_cap p f thread asked.root >>= λ root.
+    shape_of p asked.kind asked.size_bits >>= λ shape.
+    decoded_objects p f slot untyped root shape asked
 
 -- the capabilities of the new objects, each with the slot that it goes into
 abbrev pub new_caps : ProfileName → NewObjects → List (ℕ × Cap)

@@ -3,14 +3,14 @@ use cap_core::{Badge, Cap, Message, Rights};
 use mem_core::{Placed, Shape};
 
 /// An endpoint that a call may use, and the badge of the capability by which it does.
-#[derive(Clone, Copy, Debug, PartialEq, Eq)]
+#[derive(Clone, Copy)]
 pub struct Service {
     pub endpoint: u64,
     pub badge: Badge,
 }
 
 /// The words of a retype beside the one that names the untyped.
-#[derive(Clone, Copy, Debug, PartialEq, Eq)]
+#[derive(Clone, Copy)]
 pub struct RetypeArguments {
     pub kind: u64,
     pub size_bits: u64,
@@ -23,7 +23,7 @@ pub struct RetypeArguments {
 
 /// The words by which a copy or a move names its slots: `index` and `depth` from the CNode that is invoked the one that is
 /// filled, the others the source.
-#[derive(Clone, Copy, Debug, PartialEq, Eq)]
+#[derive(Clone, Copy)]
 pub struct SlotArguments {
     pub index: u64,
     pub depth: u64,
@@ -34,7 +34,7 @@ pub struct SlotArguments {
 
 /// What becomes of the source's capability on its way: a copy keeps the rights given, a mint also sets its data by a word, a
 /// move leaves it as it is, and a mutate sets its data.
-#[derive(Clone, Copy, Debug, PartialEq, Eq)]
+#[derive(Clone, Copy)]
 pub enum Change {
     Copy(Rights),
     Mint(Rights, u64),
@@ -44,7 +44,7 @@ pub enum Change {
 
 /// The objects that a retype makes: the address of the slot that holds their untyped, their shape, where they are placed,
 /// the address of the slot that the first one's capability goes into, and how many they are.
-#[derive(Clone, Copy, Debug, PartialEq, Eq)]
+#[derive(Clone, Copy)]
 pub struct NewObjects {
     pub untyped: u64,
     pub shape: Shape,
@@ -54,7 +54,7 @@ pub struct NewObjects {
 }
 
 /// A capability that is derived from the one in the slot at `source`, or moved from it, to the empty slot at `slot`, as `cap`.
-#[derive(Clone, Copy, Debug, PartialEq, Eq)]
+#[derive(Clone, Copy)]
 pub struct CapPlacement {
     pub source: u64,
     pub slot: u64,
@@ -62,7 +62,7 @@ pub struct CapPlacement {
 }
 
 /// What a call whose checks passed does: one variant for each effect that calls have.
-#[derive(Clone, Copy, Debug, PartialEq, Eq)]
+#[derive(Clone, Copy)]
 pub enum Invocation {
     /// Sends a message, and where no receiver waits either waits, with `block`, or drops it.
     Send {

@@ -3,8 +3,9 @@
 #![tactic(auto)]
 
 pub mod call;
-pub mod plan;
 pub mod invocation;
+pub mod laws;
+pub mod plan;
 
 pub use call::{Call, Inbox, Op, Reply, ThreadState};
 pub use plan::PlanDefect;

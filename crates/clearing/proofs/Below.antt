@@ -1,9 +1,9 @@
 -- What stands below and above those that stay, where others have left.
-use Rattle.std.proofs.Common.{◌≡◌, ◌⊎◌, inl, inr, Bool, true, false, not, cond, ◌||◌, List, [], ◌∷◌, ◌++◌, filter, refl, sym, ◌∙◌, ap, subst, arith, append_assoc}
+use Rattle.std.proofs.Common.{◌≡◌, Bool, true, false, not, cond, ◌||◌, List, [], ◌∷◌, ◌++◌, filter, refl, sym, ◌∙◌, ap, subst, arith, append_assoc}
 use Rattle.std.specs.List.{list_any}
 use Rattle.std.proofs.lemmas.List.Folds.{list_any-append}
 use Rattle.std.proofs.lemmas.List.Elements.{filter-append}
-use Rattle.derivation.specs.Forest.{Forest, none, tree, preorder, join, below_those, descendants, has, ancestors}
+use Rattle.derivation.specs.Forest.{Forest, none, tree, preorder, join, below_those, has, ancestors}
 use Rattle.derivation.proofs.Trees.Built.{join-assoc, join-nothing}
 use Rattle.derivation.proofs.Trees.Forests.{preorder-join}
 use Rattle.clearing.specs.Members.{OneAtMost}

@@ -1,6 +1,6 @@
 -- Links that lead along a chain: a slot put in front, and the first one taken out.
-use Rattle.std.proofs.Common.{◌≡◌, ◌⊎◌, inl, inr, ℕ, zero, suc, ◌+◌, ◌*◌, ◌≤◌, ◌<◌, eqb, true, false, nat_lt, List, [], ◌∷◌, map, length, get_or, Option, Some, None, refl, sym, ◌∙◌, ap, subst, arith}
-use Rattle.std.specs.List.{AllByRecursion as Each, IsDistinct}
+use Rattle.std.proofs.Common.{◌≡◌, inl, inr, ℕ, zero, suc, ◌*◌, ◌≤◌, ◌<◌, eqb, true, false, nat_lt, List, [], ◌∷◌, map, length, get_or, Option, Some, None, refl, sym, ◌∙◌, ap, subst, arith}
+use Rattle.std.specs.List.{IsDistinct}
 use Rattle.std.proofs.Math.ListN.{set, length-set}
 use Rattle.std.proofs.Math.Nat.{mul-le-mul_right}
 use Rattle.std.proofs.lemmas.Bool.{eqb-true, ne_eqb}
@@ -42,12 +42,14 @@ chain_same f g here (n ∷ l) e h = (h.0, let P : Option ℕ → Type 0 = λ o. 
 
 chained_is : (links : List (Option Slot)) (here : Option ℕ) (l : List ℕ) → IsChain (next_of links) here l → AreDistinct l → AreBelow (length links) l → (chained links here ≡ l) × IsChained links here
 chained_is links here l h d b =
-    let e : chained links here ≡ l = walk_is (next_of links) (length links) here l h (length_room l (length links) d b) in
-    (e, record {
-      chain = let P : List ℕ → Type 0 = λ q. IsChain (next_of links) here q in subst P (sym e) h;
-      distinct = let P : List ℕ → Type 0 = λ q. AreDistinct q in subst P (sym e) d;
-      below = let P : List ℕ → Type 0 = λ q. AreBelow (length links) q in subst P (sym e) b;
-    })
+    let e : chained links here ≡ l = walk_is (next_of links) (length links) here l h (length_room l (length links) d b) in (
+      e,
+      record {
+        chain = let P : List ℕ → Type 0 = λ q. IsChain (next_of links) here q in subst P (sym e) h;
+        distinct = let P : List ℕ → Type 0 = λ q. AreDistinct q in subst P (sym e) d;
+        below = let P : List ℕ → Type 0 = λ q. AreBelow (length links) q in subst P (sym e) b;
+      },
+    )
 
 pub after_push : (links : List (Option Slot)) (first : Option Slot) (n : ℕ) → IsChained links (place_in first) → (In n (chained links (place_in first)) → ⊥) → n < length links →
     (chained (set links n first) (Some n) ≡ n ∷ chained links (place_in first)) × IsChained (set links n first) (Some n)
@@ -55,19 +57,21 @@ after_push links first n c a w =
     let l = chained links (place_in first) in
     let size : length (set links n first) ≡ length links = length-set links n first in
     let at : next_of (set links n first) n ≡ place_in first = ap place_in (get_or-set_same links n first None w) in
-    chained_is (set links n first) (Some n) (n ∷ l)
-      (refl, let P : Option ℕ → Type 0 = λ o. IsChain (next_of (set links n first)) o l in subst P (sym at)
-        (chain_same (next_of links) (next_of (set links n first)) (place_in first) l
-          (λ m i. sym (ap place_in (get_or-set_other links n m first None (λ e. a (let Q : ℕ → Type 0 = λ k. In k l in subst Q e i))))) c.chain))
-      (a, c.distinct)
-      (let P : ℕ → Type 0 = λ k. AreBelow k (n ∷ l) in subst P (sym size) (w, c.below))
+    chained_is (set links n first) (Some n) (n ∷ l) (
+      refl,
+      let P : Option ℕ → Type 0 = λ o. IsChain (next_of (set links n first)) o l in subst P (sym at)
+          (chain_same (next_of links) (next_of (set links n first)) (place_in first) l
+          (λ m i. sym (ap place_in (get_or-set_other links n m first None (λ e. a (let Q : ℕ → Type 0 = λ k. In k l in subst Q e i))))) c.chain),
+    )
+    (a, c.distinct)
+    (let P : ℕ → Type 0 = λ k. AreBelow k (n ∷ l) in subst P (sym size) (w, c.below))
 
 pub after_pop : (links : List (Option Slot)) (here : Option ℕ) (n : ℕ) → IsChained links here → here ≡ Some n →
     (chained links here ≡ n ∷ chained links (next_of links n)) × IsChained links (next_of links n) × (n < length links)
 after_pop links here n c e = pop_step links here n (chained links here) c.chain c.distinct c.below e
   where
     pop_step : (links : List (Option Slot)) (here : Option ℕ) (n : ℕ) (l : List ℕ) → IsChain (next_of links) here l → AreDistinct l → AreBelow (length links) l → here ≡ Some n →
-      (l ≡ n ∷ chained links (next_of links n)) × IsChained links (next_of links n) × (n < length links)
+        (l ≡ n ∷ chained links (next_of links n)) × IsChained links (next_of links n) × (n < length links)
     pop_step links here n [] h d b e = let z : Some n ≡ None = sym e ∙ h in cc
     pop_step links here n (m ∷ l) h d b e =
         let s : Some m ≡ Some n = sym h.0 ∙ e in
@@ -94,9 +98,9 @@ in_scaled size n (m ∷ l) i = elim i [ inl e ↦ inl (ap (λ k. k * size) e) | 
 
 place_below : (size i n : ℕ) → i * size < n * size → i < n
 place_below size i n h = elim (tells (nat_lt i n)) [
-      inl t ↦ less i n t
-    | inr t ↦ absurd (let x : n * size ≤ i * size = mul-le-mul_right size (most i n t) in omega arith)
-    ]
+  | inl t ↦ less i n t
+  | inr t ↦ absurd (let x : n * size ≤ i * size = mul-le-mul_right size (most i n t) in omega arith)
+]
   where
     less : (i n : ℕ) → nat_lt i n ≡ true → i < n
     less i n t = grind (arith, nat_tests)
@@ -128,9 +132,10 @@ pub popped : (p : ProfileName) (links : List (Option Slot)) (first rest : Option
 popped p links first rest slot i V e r h v c =
     let t = after_pop links (place_in first) slot.place c (ap place_in h) in
     let g : place_in rest ≡ next_of links slot.place = ap place_in (r ∙ ap (λ k. get_or links k None) e) in
-    let P : Option ℕ → Type 0 = λ o. IsChained links o in
-    (subst P (sym g) t.1,
-      sym (ap (λ x. x.0) v) ∙ ap (map (λ n. n * slot_size p)) t.0 ∙ ap (λ o. address_of p slot ∷ map (λ n. n * slot_size p) (chained links o)) (sym g))
+    let P : Option ℕ → Type 0 = λ o. IsChained links o in (
+      subst P (sym g) t.1,
+      sym (ap (λ x. x.0) v) ∙ ap (map (λ n. n * slot_size p)) t.0 ∙ ap (λ o. address_of p slot ∷ map (λ n. n * slot_size p) (chained links o)) (sym g),
+    )
 
 pub pop_within : (links : List (Option Slot)) (first : Option Slot) (slot : Slot) → IsChained links (place_in first) → first ≡ Some slot → slot.place < length links
 pop_within links first slot c h = (after_pop links (place_in first) slot.place c (ap place_in h)).2

@@ -1,12 +1,12 @@
 -- What clearing needs of the full slots follows from what every kernel keeps of them.
-use Rattle.std.proofs.Common.{◌≡◌, ◌⊎◌, inl, inr, ℕ, ◌+◌, ◌^◌, ◌≤◌, ◌<◌, Bool, true, false, not, ◌&&◌, ◌||◌, eqb, List, [], ◌∷◌, map, All, nat_le, refl, sym, ◌∙◌, ap, subst, arith}
+use Rattle.std.proofs.Common.{◌≡◌, ◌⊎◌, inl, inr, ℕ, ◌^◌, ◌≤◌, ◌<◌, Bool, true, false, ◌&&◌, ◌||◌, eqb, List, [], ◌∷◌, map, All, nat_le, refl, sym, ◌∙◌, ap, arith}
 use Rattle.std.specs.List.{AllByRecursion as Each, Contains, IsDistinct}
 use Rattle.std.proofs.lemmas.Bool.Decides.{nat_tests}
 use Rattle.std.proofs.lemmas.List.Elements.{recursion_from_All}
 use Rattle.cap_core.specs.declared.profile.ProfileName.{ProfileName}
 use Rattle.cap_core.specs.declared.capability.Cap.{Cap}
 use Rattle.cap_core.specs.declared.capability.Cap.TheVariants.{Null, Untyped, Endpoint, CNode, Tcb}
-use Rattle.cap_core.specs.Objects.{IsLawful, is_null, is_untyped, same_object, contains, are_apart, base_of, end_of}
+use Rattle.cap_core.specs.Objects.{IsLawful, is_null, is_untyped, same_object, contains, base_of, end_of}
 use Rattle.derivation.specs.Forest.{Forest, preorder}
 use Rattle.derivation.specs.Entries.{Entry, slots, caps}
 use Rattle.derivation.specs.Disjoint.{IsDisjoint, are_disjoint}

@@ -1,6 +1,6 @@
 -- What is kept where some slots are emptied at once: all that every kernel keeps of its full slots.
-use Rattle.std.proofs.Common.{◌≡◌, ◌⊎◌, inl, inr, ℕ, zero, suc, Bool, true, false, not, cond, ◌==◌, ◌||◌, ◌&&◌, eqb, List, [], ◌∷◌, map, filter, All, length, Option, None, Some, refl, sym, ◌∙◌, ap, subst, arith, IsTrue}
-use Rattle.std.specs.List.{AllByRecursion as Each, Contains, IsDistinct, list_any, list_all}
+use Rattle.std.proofs.Common.{◌≡◌, inl, inr, ℕ, zero, suc, Bool, true, false, not, cond, ◌==◌, ◌||◌, ◌&&◌, eqb, List, [], ◌∷◌, map, filter, All, length, refl, sym, ◌∙◌, ap, subst, arith, IsTrue}
+use Rattle.std.specs.List.{AllByRecursion as Each, Contains, IsDistinct, list_any}
 use Rattle.std.proofs.lemmas.Bool.{eqb-true}
 use Rattle.std.proofs.lemmas.List.Elements.{recursion_from_All, All-from_recursion}
 use Rattle.cap_core.specs.declared.profile.ProfileName.{ProfileName}
@@ -9,13 +9,13 @@ use Rattle.derivation.specs.Forest.{Forest, preorder, below_those, descendants, 
 use Rattle.derivation.specs.Entries.{Entry, is_at, slots, first_child}
 use Rattle.derivation.specs.Disjoint.{IsDisjoint, AreInLine, are_disjoint}
 use Rattle.clearing.specs.Slots.{slots_of}
-use Rattle.clearing.specs.Members.{In, AreApart}
-use Rattle.clearing.specs.Least.{full, has_all, IsClosed, cleared}
+use Rattle.clearing.specs.Members.{In}
+use Rattle.clearing.specs.Least.{full, has_all, cleared}
 use Rattle.clearing.specs.Without.{without}
 use Rattle.clearing.specs.Clear.{clear}
 use Rattle.clearing.specs.Revoke.{revoked, revoke}
 use Rattle.clearing.specs.Housed.{is_housed, IsHoused}
-use Rattle.clearing.proofs.Members.{each_in, each_of, any_in, any_of, all_of, in_filter, filter_in, tells, eqb_self}
+use Rattle.clearing.proofs.Members.{each_in, each_of, any_in, any_of, in_filter, filter_in, tells, eqb_self}
 use Rattle.clearing.proofs.Objects.{same_slots}
 use Rattle.clearing.proofs.Without.{preorder-without}
 use Rattle.clearing.proofs.Orders.{apart_of}

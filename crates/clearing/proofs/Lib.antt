@@ -13,3 +13,5 @@ pub mod Clearable
 pub mod Below
 pub mod Kept
 pub mod Chains
+pub mod Steps
+pub mod Selfheld

@@ -1,7 +1,6 @@
 -- Slots that are emptied one after another, in whatever order, leave as all at once.
-use Rattle.std.proofs.Common.{◌≡◌, ◌⊎◌, inl, inr, ℕ, zero, suc, ◌+◌, ◌≤◌, Bool, true, false, not, cond, ◌||◌, ◌&&◌, ◌==◌, List, [], map, eqb, ◌∷◌, ◌++◌, length, refl, sym, ◌∙◌, ap, subst, arith}
-use Rattle.std.specs.List.{IsDistinct, list_any, list_all, AllByRecursion as Each, filter}
-use Rattle.std.proofs.lemmas.Bool.{eqb-true, eq-eqb}
+use Rattle.std.proofs.Common.{◌≡◌, inl, inr, ℕ, Bool, true, false, not, cond, ◌||◌, ◌==◌, List, [], map, eqb, ◌∷◌, refl, sym, ◌∙◌, ap, arith}
+use Rattle.std.specs.List.{IsDistinct, list_any, filter}
 use Rattle.std.proofs.lemmas.Bool.Decides.{nat_tests}
 use Rattle.cap_core.specs.declared.profile.ProfileName.{ProfileName}
 use Rattle.derivation.proofs.Trees.Built.{Absent, Once}

@@ -1,12 +1,16 @@
 -- The slots of an object lie in its range, each once.
-use Rattle.std.proofs.Common.{◌≡◌, ◌⊎◌, inl, inr, ℕ, zero, suc, ◌+◌, ◌-◌, ◌*◌, ◌^◌, ◌≤◌, ◌<◌, List, [], ◌∷◌, ◌++◌, append_assoc, refl, sym, ◌∙◌, ap, subst, arith}
-use Rattle.std.proofs.Math.Nat.{one-le-pow, suc-mul, zero-mul}
-use Rattle.std.proofs.lemmas.Nat.{pow-add}
+use Rattle.std.proofs.Common.{◌≡◌, inl, inr, ℕ, zero, suc, ◌+◌, ◌-◌, ◌*◌, ◌%◌, ◌^◌, ◌≤◌, ◌<◌, Bool, true, false, nat_lt, List, [], ◌∷◌, ◌++◌, append_assoc, refl, sym, ◌∙◌, ap, subst, arith}
+use Rattle.std.proofs.Math.Nat.{one-le-pow, pow-le-pow_right, suc-mul, zero-mul}
+use Rattle.std.proofs.lemmas.Nat.{pow-add, pow_pos, pow_below}
+use Rattle.std.proofs.Math.Pow.{mod-mod-pow}
+use Rattle.std.proofs.lemmas.Bool.Decides.{nat_tests}
 use Rattle.cap_core.specs.declared.profile.ProfileName.{ProfileName}
+use Rattle.cap_core.specs.declared.profile.ProfileName.TheVariants.{Wide, Narrow}
+use Rattle.cap_core.specs.declared.capability.Guard.{Guard}
 use Rattle.cap_core.specs.declared.capability.Cap.{Cap}
 use Rattle.cap_core.specs.declared.capability.Cap.TheVariants.{Null, Untyped, Endpoint, CNode, Tcb}
-use Rattle.cap_core.specs.Numbers.{slot_bits, slot_size, tcb_bits}
-use Rattle.cap_core.specs.Objects.{base_of, bits_of, end_of}
+use Rattle.cap_core.specs.Numbers.{word_bits, slot_bits, slot_size, tcb_bits}
+use Rattle.cap_core.specs.Objects.{IsLawful, base_of, end_of}
 use Rattle.clearing.specs.Members.{In, AreDistinct, AreBelow}
 use Rattle.clearing.specs.Slots.{addresses, slots_of}
 
@@ -110,9 +114,45 @@ next_of_range size base (suc left) count a old now l m e d b h =
     let bytes : now.1 ≡ old.1 = ap (λ x. x.1) is in
     let front : List ℕ × ℕ → List ℕ × ℕ = λ x. (a ∷ x.0, x.1) in
     let put : ℕ → List ℕ × ℕ = λ k. (k ∷ (addresses size (base + left * size + size) rest ++ old.0), old.1) in
-    let below : base + left * size < old.1 = push_within size old.1 base left rest count all b in
-    (
+    let below : base + left * size < old.1 = push_within size old.1 base left rest count all b in (
       (λ i. push_absent size base left rest count old.0 all d (subst Q is (subst P at i))),
       omega (arith, below, at, bytes),
-      ap front is ∙ ap (λ k. put k) at ∙ rw (minus, more) refl
+      ap front is ∙ ap (λ k. put k) at ∙ rw (minus, more) refl,
     )
+
+-- what a lawful capability says of its object's slots
+
+words_most : (p : ProfileName) → word_bits p ≤ 64
+words_most Wide = omega arith
+words_most Narrow = omega arith
+
+slots_some : (p : ProfileName) → 1 ≤ slot_bits p
+slots_some Wide = omega arith
+slots_some Narrow = omega arith
+
+threads_larger : (p : ProfileName) → slot_bits p ≤ tcb_bits p
+threads_larger Wide = omega arith
+threads_larger Narrow = omega arith
+
+still_aligned : (n i j k : ℕ) → i ≡ j + k → n % 2 ^ i ≡ 0 → n % 2 ^ k ≡ 0
+still_aligned n i j k h e =
+    let x : n % 2 ^ (j + k) ≡ 0 = ap (λ m. n % 2 ^ m) (sym h) ∙ e in
+    sym (mod-mod-pow n j k) ∙ ap (λ m. m % 2 ^ k) x ∙ omega (arith, pow_pos k)
+
+pub node_lawful : (p : ProfileName) (base radix : ℕ) (guard : Guard) → IsLawful p (word_bits p) (CNode base radix guard)
+    → (radix < 64) × (base % slot_size p ≡ 0) × (base + 2 ^ radix * slot_size p ≤ 2 ^ word_bits p)
+node_lawful p base radix guard law =
+    let fill = slots_fill p radix in
+    (few (nat_lt radix 64) refl, still_aligned base (slot_bits p + radix) radix (slot_bits p) (omega arith) law.placed.aligned, omega (arith, law.placed.addressed, fill))
+  where
+    few : (b : Bool) → nat_lt radix 64 ≡ b → radix < 64
+    few true e = grind (arith, nat_tests)
+    few false e =
+        let m : 64 ≤ radix = grind (arith, nat_tests) in
+        let x = pow_below (word_bits p) (slot_bits p + radix) (omega (arith, words_most p, slots_some p, m)) in
+        absurd (omega (arith, law.placed.addressed, x))
+
+pub thread_lawful : (p : ProfileName) (base : ℕ) → IsLawful p (word_bits p) (Tcb base) → (base % slot_size p ≡ 0) × (base + slot_size p ≤ 2 ^ word_bits p)
+thread_lawful p base law =
+    let x : 2 ^ slot_bits p ≤ 2 ^ tcb_bits p = pow-le-pow_right (omega arith) (threads_larger p) in
+    (still_aligned base (tcb_bits p) (tcb_bits p - slot_bits p) (slot_bits p) (let h = threads_larger p in omega arith) law.placed.aligned, omega (arith, law.placed.addressed, x))

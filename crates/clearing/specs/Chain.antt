@@ -1,8 +1,10 @@
 -- The slots still to be looked at, as a chain inside a table of links.
-use Rattle.std.specs.Prelude.{◌≡◌, ℕ, zero, suc, ◌*◌, List, [], ◌∷◌, map, length, get_or, Option, Some, None, option_map}
+use Rattle.std.specs.Prelude.{◌≡◌, ℕ, zero, suc, ◌*◌, List, [], ◌∷◌, map, length, get_or}
+use Rattle.std.specs.Prelude.{Option, Some, None, option_map, MatchOption}
 use Rattle.cap_core.specs.declared.profile.ProfileName.{ProfileName}
 use Rattle.cap_core.specs.Numbers.{slot_size}
 use Rattle.slot_core.specs.declared.slot.Slot.{Slot}
+use Rattle.slot_core.specs.Places.{address_of}
 use Rattle.clearing.specs.Members.{AreDistinct, AreBelow}
 
 abbrev pub place_in : Option Slot → Option ℕ
@@ -35,3 +37,7 @@ pub record IsChained (links : List (Option Slot)) (here : Option ℕ) : Type 0 w
 -- the addresses of the slots, from the first on, and how many bytes the slots that have links fill
 abbrev pub chain_seen : ProfileName → List (Option Slot) → Option Slot → List ℕ × ℕ
 chain_seen p links first = (map (λ n. n * slot_size p) (chained links (place_in first)), length links * slot_size p)
+
+-- the first of the slots is taken out, where there is one
+abbrev pub IsTaken : ProfileName → List ℕ → List ℕ → Option Slot → Type 0
+IsTaken p old new slot = MatchOption slot ((old ≡ []) × (new ≡ [])) (λ s. old ≡ address_of p s ∷ new)

@@ -24,7 +24,8 @@ pub record IsLeast (p : ProfileName) (l : List Entry) (s : ℕ) (X : ℕ → Boo
   pub of_full : (n : ℕ) → X n ≡ true → full l n ≡ true
   pub has_it : full l s ≡ true → X s ≡ true
   pub closed : IsClosed p l X
-  pub least : (Y : ℕ → Bool) → (full l s ≡ true → Y s ≡ true) → IsClosed p l Y → (n : ℕ) → X n ≡ true → Y n ≡ true
+  pub least : (Y : ℕ → Bool) → (full l s ≡ true → Y s ≡ true) → IsClosed p l Y →
+      (n : ℕ) → X n ≡ true → Y n ≡ true
 
 -- by rounds: the set, with the full slots of each object all of whose capabilities it has
 abbrev pub grown : ProfileName → List Entry → (ℕ → Bool) → (ℕ → Bool)

@@ -7,3 +7,5 @@ pub mod Revoke
 pub mod Work
 pub mod Housed
 pub mod Chain
+pub mod Laws
+pub mod Calls

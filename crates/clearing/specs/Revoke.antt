@@ -1,5 +1,5 @@
 -- The forest after a slot was revoked.
-use Rattle.std.specs.Prelude.{ℕ, zero, suc, length, Option, Some, None}
+use Rattle.std.specs.Prelude.{ℕ, zero, suc, length, Some, None}
 use Rattle.cap_core.specs.declared.profile.ProfileName.{ProfileName}
 use Rattle.derivation.specs.Forest.{Forest, preorder}
 use Rattle.derivation.specs.Entries.{Entry, first_child}

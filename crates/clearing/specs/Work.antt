@@ -1,10 +1,9 @@
 -- One slot of those still to be looked at while a slot is cleared, and what has to hold of the full slots.
-use Rattle.std.specs.Prelude.{◌≡◌, ◌<◌, ◌%◌, ℕ, Bool, true, false, not, cond, ◌==◌, ◌||◌, ◌&&◌, List, ◌++◌}
+use Rattle.std.specs.Prelude.{◌≡◌, ◌<◌, ℕ, Bool, false, not, cond, ◌==◌, ◌||◌, ◌&&◌, List, ◌++◌}
 use Rattle.std.specs.List.{list_any}
 use Rattle.cap_core.specs.declared.profile.ProfileName.{ProfileName}
 use Rattle.cap_core.specs.declared.capability.Cap.{Cap}
 use Rattle.cap_core.specs.declared.capability.Cap.TheVariants.{Null}
-use Rattle.cap_core.specs.Numbers.{slot_size}
 use Rattle.cap_core.specs.Objects.{is_untyped, same_object}
 use Rattle.derivation.specs.Entries.{Entry, cap_in}
 use Rattle.clearing.specs.Members.{In, AreApart, AreDistinct, AreBelow}
@@ -36,7 +35,7 @@ ends l n = full l n && last_at l n
 abbrev pub list_after : ProfileName → List Entry → ℕ → List ℕ → List ℕ
 list_after p l n W = cond (ends l n) (slots_of p (held l n) ++ W) W
 
--- slots are apart, none is full of Null, and live objects' slots are apart and stand where slots of a memory of so many bytes stand
+-- slots are apart, none is full of Null, live objects' slots are apart, and all lie in a memory of so many bytes
 pub record IsClearable (p : ProfileName) (size : ℕ) (l : List Entry) : Type 0 where
   pub apart : AreApart l
   pub no_null : (a : Entry) → In a l → a.cap ≡ Null → ⊥

@@ -1,9 +1,10 @@
 //! The slots that are still to be looked at while a slot is cleared.
-ghost use Rattle.std.specs.Prelude.{◌≡◌, ◌+◌, ◌*◌, ◌%◌, ◌^◌, ◌<◌, ◌≤◌, ◌∷◌, ◌++◌, [], IfOk, MatchOption};
+ghost use Rattle.std.specs.Prelude.{◌≡◌, ◌+◌, ◌*◌, ◌%◌, ◌^◌, ◌<◌, ◌≤◌, ◌∷◌, ◌++◌, [], IfOk};
 ghost use Rattle.cap_core.specs.Numbers.{slot_size, word_bits};
 ghost use Rattle.slot_core.specs.Places.{address_of};
 ghost use Rattle.clearing.specs.Members.{In, AreDistinct, AreBelow};
 ghost use Rattle.clearing.specs.Slots.{addresses};
+ghost use Rattle.clearing.specs.Chain.{IsTaken};
 
 use cap_core::Profile;
 use slot_core::Slot;
@@ -12,8 +13,8 @@ use std::marker::{Model, PhantomData};
 
 /// Slots in a chain, none of them twice: a link for each slot of the memory, and the first slot.
 ///
-/// Contracts see a chain as the addresses of its slots, from the first on, and as the bytes of the memory whose slots have links.
-/// After it is made no call takes memory.
+/// Contracts see a chain as the addresses of its slots, from the first on, and as the bytes of the memory whose slots
+/// have links. After it is made no call takes memory.
 #[derive(Drop)]
 pub struct SlotChain<P: Profile> {
     links: Vec<Option<Slot>>,
@@ -58,7 +59,7 @@ impl<P: Profile> SlotChain<P> {
 
     /// Takes the first slot out.
     pub fn pop(&mut self) -> Option<Slot>
-        ensures slots { MatchOption result ((self.old.0 ≡ []) × (self.new.0 ≡ [])) (λ s. self.old.0 ≡ address_of P.the s ∷ self.new.0) }
+        ensures slots { IsTaken P.the self.old.0 self.new.0 result }
         ensures memory { self.new.1 ≡ self.old.1 }
     {
         let Some(slot) = self.first else {

@@ -2,8 +2,8 @@
 #![tactic(auto)]
 
 pub mod chain;
-pub mod clear;
+pub mod deletion;
 pub mod laws;
 
 pub use chain::SlotChain;
-pub use clear::Finalise;
+pub use deletion::{Finalise, clear, revoke};

@@ -2,4 +2,3 @@ pub mod Bits
 pub mod Nodes
 pub mod Steps
 pub mod Inside
-mod Memory

@@ -2,16 +2,13 @@
 use Rattle.std.specs.Prelude.{ℕ, ◌≡◌, ◌^◌, ◌<◌, ◌⊎◌}
 use Rattle.cap_core.specs.declared.profile.ProfileName.{ProfileName}
 use Rattle.cap_core.specs.declared.capability.Cap.{Cap}
-use Rattle.cap_core.specs.declared.capability.Cap.TheVariants.{Null, Untyped, Endpoint, CNode, Tcb}
+use Rattle.cap_core.specs.declared.capability.Cap.TheVariants.{CNode}
 use Rattle.cspace_core.specs.Resolution.{slot_of}
 
 -- the address is that of a slot of the CNode that a capability names
 abbrev pub IsSlotOf : ProfileName → Cap → ℕ → Type 0
-IsSlotOf p Null slot = ⊥
-IsSlotOf p (Untyped base bits free) slot = ⊥
-IsSlotOf p (Endpoint base badge rights) slot = ⊥
 IsSlotOf p (CNode base radix guard) slot = (i : ℕ) × ((i < 2 ^ radix) × (slot ≡ slot_of p base i))
-IsSlotOf p (Tcb base) slot = ⊥
+IsSlotOf p _ slot = ⊥
 
 -- the CNode is named by the root or by what some slot holds
 abbrev pub LiesInCNode : ProfileName → (ℕ → Cap) → Cap → ℕ → Type 0

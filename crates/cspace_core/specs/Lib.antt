@@ -3,4 +3,3 @@ pub mod Resolution
 pub mod Resolves
 pub mod Inside
 pub mod Target
-pub mod Memory

@@ -4,7 +4,7 @@ use Rattle.std.specs.Int.Digits.{number_from_digits}
 use Rattle.cap_core.specs.declared.profile.ProfileName.{ProfileName}
 use Rattle.cap_core.specs.declared.capability.Guard.{Guard}
 use Rattle.cap_core.specs.declared.capability.Cap.{Cap}
-use Rattle.cap_core.specs.declared.capability.Cap.TheVariants.{Null, Untyped, Endpoint, CNode, Tcb}
+use Rattle.cap_core.specs.declared.capability.Cap.TheVariants.{CNode}
 use Rattle.cap_core.specs.declared.refusal.LookupFault.{LookupFault}
 use Rattle.cap_core.specs.declared.refusal.LookupFault.TheVariants.{InvalidRoot, DepthMismatch, GuardMismatch}
 use Rattle.cap_core.specs.Numbers.{slot_size}
@@ -13,11 +13,8 @@ use Rattle.slot_core.specs.Places.{address_of}
 use Rattle.cspace_core.specs.Bits.{low_bits, after_front}
 
 abbrev pub is_cnode : Cap → Bool
-is_cnode Null = false
-is_cnode (Untyped base bits free) = false
-is_cnode (Endpoint base badge rights) = false
 is_cnode (CNode base radix guard) = true
-is_cnode (Tcb base) = false
+is_cnode _ = false
 
 -- the slot that one CNode chooses, by its address, and the bits that are left
 pub record Choice : Type 0 where
@@ -49,11 +46,8 @@ choice_after_guard p base radix (Some bits) = choice_by_radix p base radix bits
 
 -- what a capability makes of the bits: a CNode compares its guard and then takes its radix
 abbrev pub choice : ProfileName → Cap → List ℕ → Result Choice LookupFault
-choice p Null bits = Err InvalidRoot
-choice p (Untyped base bits' free) bits = Err InvalidRoot
-choice p (Endpoint base badge rights) bits = Err InvalidRoot
 choice p (CNode base radix guard) bits = choice_after_guard p base radix (after_front (guard_bits guard) bits)
-choice p (Tcb base) bits = Err InvalidRoot
+choice p _ bits = Err InvalidRoot
 
 -- where bits are left and the slot holds a CNode, `there` goes on with both; else the slot is found
 abbrev pub found_or : (ℕ → Cap) → (Cap → List ℕ → Result Found LookupFault) → Result Choice LookupFault → Result Found LookupFault

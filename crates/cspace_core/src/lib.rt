@@ -125,6 +125,3 @@ fn field(word: u64, from: u32, count: u32) -> u64
     // The shift wraps at 64 bits alone, where the count is 0.
     word.wrapping_shr(from) % (1 << count)
 }
-
-#[cfg(test)]
-mod tests;

@@ -9,3 +9,4 @@ pub mod Lines
 pub mod Nested
 pub mod Renamed
 pub mod Standing
+pub mod Without

@@ -5,3 +5,5 @@ pub mod Derivation
 pub mod Disjoint
 pub mod Marked
 pub mod MarkedEdits
+pub mod Without
+pub mod Slots

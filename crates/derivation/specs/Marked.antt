@@ -1,5 +1,5 @@
 -- The marked list: slots with their capabilities and two marks, and the forest that they stand for.
-use Rattle.std.specs.Prelude.{◌≡◌, ◌≢◌, ℕ, ◌*◌, Bool, true, false, cond, not, ◌==◌, ◌&&◌, ◌||◌, List, [], ◌∷◌, map, take, Option, Some, None, ⊤, ◌⊎◌}
+use Rattle.std.specs.Prelude.{◌≡◌, ◌≢◌, ℕ, ◌*◌, Bool, true, false, cond, not, ◌==◌, ◌&&◌, ◌||◌, List, [], ◌∷◌, ◌++◌, map, take, Option, Some, None, ⊤, ◌⊎◌}
 use Rattle.std.specs.List.{AllByRecursion as Each, Contains, prefix_len}
 use Rattle.cap_core.specs.declared.profile.ProfileName.{ProfileName}
 use Rattle.cap_core.specs.declared.capability.Cap.{Cap}
@@ -7,7 +7,8 @@ use Rattle.cap_core.specs.declared.capability.Cap.TheVariants.{Null}
 use Rattle.cap_core.specs.Numbers.{slot_size}
 use Rattle.cap_core.specs.Objects.{is_untyped, badge_of, same_object, in_region, IsLawful}
 use Rattle.derivation.specs.Forest.{Forest, preorder, descendants, counted, runs, renamed, build}
-use Rattle.derivation.specs.Entries.{Entry, entry, is_at}
+use Rattle.derivation.specs.Entries.{Entry, entry, is_at, first_child}
+use Rattle.derivation.specs.Derivation.{is_last}
 use Rattle.derivation.specs.Disjoint.{IsDisjoint}
 
 -- a full slot, by its place among the slots of the memory, its capability, and the two marks
@@ -124,3 +125,37 @@ HasOthersBelow f =
 -- the longest run of followers that a slot is parent of
 abbrev pub run_of : ProfileName → Marked → List Marked → List Marked
 run_of p s followers = take (prefix_len (is_parent p s) followers) followers
+
+-- the descendants of each slot are the longest run of the slots behind it that it is parent of
+abbrev pub HasRunsBelow : ProfileName → List Marked → Type 0
+HasRunsBelow p l =
+    (pre : List Marked) (s : Marked) (post : List Marked) → l ≡ pre ++ s ∷ post →
+    descendants (is_at (s.place * slot_size p)) (forest_of p l) ≡ map (entry_of p) (run_of p s post)
+
+-- the next slot, where s is parent of it
+abbrev pub next_child : ProfileName → Marked → List Marked → Option ℕ
+next_child p s [] = None
+next_child p s (b ∷ l) = cond (is_parent p s b) (Some (b.place * slot_size p)) None
+
+-- the newest child of each slot is the next slot, where it is parent of that, and else it has none
+abbrev pub HasChildrenNext : ProfileName → List Marked → Type 0
+HasChildrenNext p l =
+    (pre : List Marked) (s : Marked) (post : List Marked) → l ≡ pre ++ s ∷ post →
+    first_child (s.place * slot_size p) (forest_of p l) ≡ next_child p s post
+
+-- the slot in front of s names its object
+abbrev pub is_named_before : Marked → List Marked → Bool
+is_named_before s [] = false
+is_named_before s (a ∷ []) = same_object a.cap s.cap
+is_named_before s (a ∷ b ∷ l) = is_named_before s (b ∷ l)
+
+-- the slot behind s names its object
+abbrev pub is_named_behind : Marked → List Marked → Bool
+is_named_behind s [] = false
+is_named_behind s (b ∷ l) = same_object b.cap s.cap
+
+-- each slot's capability is the last of its object where it is untyped, or neither neighbour names the object
+abbrev pub HasLastsAlone : ProfileName → List Marked → Type 0
+HasLastsAlone p l =
+    (pre : List Marked) (s : Marked) (post : List Marked) → l ≡ pre ++ s ∷ post →
+    is_last (s.place * slot_size p) (forest_of p l) ≡ (is_untyped s.cap || not (is_named_before s pre || is_named_behind s post))

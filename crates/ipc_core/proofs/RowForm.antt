@@ -4,3 +4,4 @@ pub mod Queue
 pub mod Served
 pub mod Room
 pub mod Kept
+pub mod Behind

@@ -1,5 +1,5 @@
 -- Who waits where, and how a send and a receive change it.
-use Rattle.std.specs.Prelude.{◌≡◌, ℕ, Bool, cond, ◌==◌, ◌%◌, ◌^◌, ◌<◌, List, [], ◌∷◌, ◌++◌, drop, Option, Some, None}
+use Rattle.std.specs.Prelude.{◌≡◌, ℕ, Bool, cond, ◌==◌, ◌+◌, ◌%◌, ◌^◌, ◌<◌, List, [], ◌∷◌, ◌++◌, drop, slice_get, Option, Some, None, option_map}
 use Rattle.cap_core.specs.declared.profile.ProfileName.{ProfileName}
 use Rattle.cap_core.specs.declared.message.Message.{Message}
 use Rattle.cap_core.specs.declared.capability.Badge.{Badge}
@@ -104,3 +104,12 @@ role_at e (Receiver thread) = Receiving e
 abbrev pub endpoint_of : Role → ℕ
 endpoint_of (Sending e) = e
 endpoint_of (Receiving e) = e
+
+-- the thread that waits at a place of an endpoint's waiting list, 0 the first
+abbrev pub thread_waiting : Waits → ℕ → ℕ → Option ℕ
+thread_waiting w e place = option_map thread_of (slice_get (w.queue e) place)
+
+-- wherever a thread waits, this is the one that waits behind it, if any does
+abbrev pub IsNextBehind : Waits → ℕ → Option ℕ → Type 0
+IsNextBehind w thread next =
+    (e place : ℕ) → thread_waiting w e place ≡ Some thread → next ≡ thread_waiting w e (place + 1)

@@ -95,6 +95,10 @@ impl<P: Profile> Waiters<P> for LinkedWaiters<P> {
     fn waiting(&self, endpoint: u64, place: u64) -> Option<u64> {
         self.tables.waiting_at::<P>(endpoint, place)
     }
+
+    fn next_waiting(&self, thread: u64) -> Option<u64> {
+        self.tables.next_waiting::<P>(thread)
+    }
 }
 
 impl<P: Profile> MakeWaiters<P> for LinkedWaiters<P> {

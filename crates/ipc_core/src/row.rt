@@ -1,8 +1,8 @@
 //! Rows of waiting threads, the first to be served first.
-ghost use Rattle.std.specs.Prelude.{◌≡◌, ◌∷◌, ◌++◌, [], ℕ, ◌<◌, ◌≤◌, List, position, slice_get, vec_len, vec_capacity, None};
+ghost use Rattle.std.specs.Prelude.{◌≡◌, ◌∷◌, ◌++◌, [], ℕ, ◌<◌, ◌≤◌, List, position, slice_get, option_map, find, vec_len, vec_capacity, None};
 ghost use Rattle.cap_core.specs.declared.profile.ProfileName.{ProfileName};
 ghost use Rattle.ipc_core.specs.declared.waiter.Waiter.{Waiter};
-ghost use Rattle.ipc_core.specs.Representation.Rows.{row_thread, row_role, is_at, waiting_at, waits_of, AreDistinct, ArePlaced};
+ghost use Rattle.ipc_core.specs.Representation.Rows.{row_thread, row_role, is_at, waiting_at, waits_of, next_by, AreDistinct, ArePlaced};
 ghost use Rattle.ipc_core.specs.Waits.{first_receiver as receiver_first, first_sender as sender_first, thread_of, served, queued};
 
 use crate::waiter::{Offer, Waiter};
@@ -58,6 +58,29 @@ pub fn first_sender(rows: &[WaitRow], endpoint: u64) -> Option<Offer>
         }),
         _ => None,
     }
+}
+
+/// The thread of the first row of an endpoint.
+fn first_thread(rows: &[WaitRow], endpoint: u64) -> Option<u64>
+    ensures { result ≡ option_map row_thread (find (is_at endpoint) rows.now) }
+{
+    rows.iter()
+        .find(|row| row.endpoint == endpoint)
+        .map(|row| row.waiter.thread())
+}
+
+/// The thread of the first row behind that of a thread, on the same endpoint.
+pub fn next_waiting(rows: &[WaitRow], thread: u64) -> Option<u64>
+    ensures { result ≡ next_by thread rows.now }
+{
+    let mut rest = rows;
+    while let Some((row, later)) = rest.split_first() {
+        if row.waiter.thread() == thread {
+            return first_thread(later, row.endpoint);
+        }
+        rest = later;
+    }
+    None
 }
 
 /// The first that waits on an endpoint waits no more.

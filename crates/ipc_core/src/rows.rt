@@ -4,7 +4,9 @@ ghost use Rattle.cap_core.specs.Numbers.{tcb_size};
 ghost use Rattle.ipc_core.specs.Representation.Rows.{waits_of, AreDistinct, ArePlaced};
 ghost use Rattle.ipc_core.specs.Representation.RowsAgree.{rows_agree};
 
-use crate::row::{WaitRow, first_receiver, first_sender, push_row, remove_first, waiter_at};
+use crate::row::{
+    WaitRow, first_receiver, first_sender, next_waiting, push_row, remove_first, waiter_at,
+};
 use crate::waiter::{Received, Role, Sent, Waiter};
 use crate::waiters::{MakeWaiters, Waiters};
 use cap_core::{Badge, Message, Profile};
@@ -97,6 +99,10 @@ impl<P: Profile> Waiters<P> for RowWaiters<P> {
 
     fn waiting(&self, endpoint: u64, place: u64) -> Option<u64> {
         waiter_at(&self.rows, endpoint, place as usize).map(|waiter| waiter.thread())
+    }
+
+    fn next_waiting(&self, thread: u64) -> Option<u64> {
+        next_waiting(&self.rows, thread)
     }
 }
 

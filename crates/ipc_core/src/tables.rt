@@ -4,7 +4,7 @@ ghost use Rattle.cap_core.specs.Numbers.{tcb_size, endpoint_size};
 ghost use Rattle.ipc_core.specs.declared.waiter.Role.{Role};
 ghost use Rattle.ipc_core.specs.Representation.Chains.{removed};
 ghost use Rattle.ipc_core.specs.Representation.Linked.{HasRow, links_of, set_row, set_endpoint_row, led, led_back, with_next, with_previous, with_role, IsLinked, waits_in, orders_in, waiter_of, free_row, sending_row, receiving_row, receiver_in, offer_in};
-ghost use Rattle.ipc_core.specs.Waits.{endpoint_of, queued, first_receiver as receiver_first, first_sender as sender_first};
+ghost use Rattle.ipc_core.specs.Waits.{endpoint_of, queued, first_receiver as receiver_first, first_sender as sender_first, IsNextBehind};
 ghost use Rattle.ipc_core.specs.Cancelled.{after_cancel_thread, after_cancel_badge, after_cancel_endpoint, is_sender_with};
 
 use crate::waiter::{Offer, Role};
@@ -304,6 +304,20 @@ impl Tables {
             here = self.thread::<P>(thread).next;
         }
         here
+    }
+
+    /// The thread that comes next in the queue of a thread.
+    pub fn next_waiting<P: Profile>(&self, thread: u64) -> Option<u64>
+        requires row { HasRow (tcb_size P.the) self.now.threads.items thread }
+        requires linked { IsLinked P.the self.now }
+        ensures behind { IsNextBehind (waits_in P.the self.now) thread result }
+        ensures nowhere { (waits_in P.the self.now).role thread ≡ None → result ≡ None }
+    {
+        let row = self.thread::<P>(thread);
+        match row.role {
+            Some(_) => row.next,
+            None => None,
+        }
     }
 
     /// The senders with a badge wait no more on an endpoint; the others keep their order.

@@ -1,7 +1,7 @@
 //! What holds the threads that wait.
 ghost use Rattle.std.specs.Prelude.{◌≡◌, ℕ, Bool, true, false, List, ◌≤◌, None, IfOk, option_map, slice_get};
 ghost use Rattle.ipc_core.specs.Records.{SendRecord, ReceiveRecord, waiting_list};
-ghost use Rattle.ipc_core.specs.Waits.{Waits, no_waits, IsEndpointAddress, IsThreadAddress, sent, after_send, received, after_receive, thread_of};
+ghost use Rattle.ipc_core.specs.Waits.{Waits, no_waits, IsEndpointAddress, IsThreadAddress, sent, after_send, received, after_receive, thread_of, IsNextBehind};
 ghost use Rattle.ipc_core.specs.Agreement.{AreRolesAndQueues};
 ghost use Rattle.ipc_core.specs.Pairing.{SendsBy, ReceivesBy};
 ghost use Rattle.ipc_core.specs.Cancelled.{after_cancel_thread, after_cancel_badge, after_cancel_endpoint, waiting_less, is_sent_by, is_received_by, is_sent_with};
@@ -81,6 +81,13 @@ pub trait Waiters<P: Profile> {
     fn waiting(&self, endpoint: u64, place: u64) -> Option<u64>
         requires { IsEndpointAddress P.the (memory_bits self.now) endpoint }
         ensures { result ≡ option_map thread_of (slice_get ((waits self.now).queue endpoint) place) };
+
+    /// The thread that waits behind another one, on the same endpoint: a waiting list is read from its first thread on, each
+    /// thread in turn. None: that thread is the last, or waits nowhere.
+    fn next_waiting(&self, thread: u64) -> Option<u64>
+        requires { IsThreadAddress P.the (memory_bits self.now) thread }
+        ensures behind { IsNextBehind (waits self.now) thread result }
+        ensures nowhere { (waits self.now).role thread ≡ None → result ≡ None };
 
     ghost agree: { (w : Self) → AreRolesAndQueues (waits w) };
 }

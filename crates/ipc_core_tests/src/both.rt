@@ -105,7 +105,10 @@ fn show_the_same<A: Waiters<Wide>, B: Waiters<Wide>>(a: &A, b: &B) -> bool
 {
     for k in 0..8u64 {
         let thread = k * 2048;
-        if a.role(thread) != b.role(thread) || !wait_the_same(a, b, k) {
+        if a.role(thread) != b.role(thread) || a.next_waiting(thread) != b.next_waiting(thread) {
+            return false;
+        }
+        if !wait_the_same(a, b, k) {
             return false;
         }
     }

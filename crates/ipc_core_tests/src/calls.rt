@@ -96,6 +96,26 @@ fn a_badge_is_cancelled(rt: HostRuntime) -> Result<(), Fail> {
 }
 
 #[test]
+fn a_waiting_list_is_read_thread_by_thread(rt: HostRuntime) -> Result<(), Fail> {
+    let steps = [
+        receives(64, 2048),
+        sends(128, 8192, 5),
+        receives(64, 4096),
+        sends(128, 6144, 6),
+        Step::Behind(2048, Some(4096)),
+        Step::Behind(8192, Some(6144)),
+        Step::Behind(4096, None),
+        Step::Behind(6144, None),
+        Step::Behind(0, None),
+        Step::CancelThread(4096),
+        Step::Behind(2048, None),
+        Step::Behind(4096, None),
+    ];
+    assert!(rt; are_met(rt.alloc(), &steps)?);
+    Ok(())
+}
+
+#[test]
 fn a_thread_is_cancelled(rt: HostRuntime) -> Result<(), Fail> {
     let steps = [
         receives(64, 2048),

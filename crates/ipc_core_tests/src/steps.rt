@@ -29,6 +29,8 @@ pub enum Step {
     CancelEndpoint(u64),
     /// Who waits at a place of an endpoint.
     Waiting(u64, u64, Option<u64>),
+    /// Who waits behind a thread.
+    Behind(u64, Option<u64>),
     /// How a thread waits.
     Role(u64, Option<Role>),
 }
@@ -181,6 +183,9 @@ fn is_met<P: Profile, W: Waiters<P>>(waiters: &mut W, step: Step) -> bool
         Step::CancelEndpoint(endpoint) => is_cancelled::<P, W>(waiters, endpoint, None),
         Step::Waiting(endpoint, place, thread) => {
             is_endpoint::<P>(endpoint) && waiters.waiting(endpoint, place) == thread
+        },
+        Step::Behind(thread, next) => {
+            is_thread::<P>(thread) && waiters.next_waiting(thread) == next
         },
         Step::Role(thread, role) => is_thread::<P>(thread) && waiters.role(thread) == role,
     }

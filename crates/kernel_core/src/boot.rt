@@ -3,6 +3,7 @@ ghost use Rattle.std.specs.Prelude.{◌≡◌, ◌+◌, ◌-◌, ◌/◌, ◌^�
 ghost use Rattle.derivation.specs.Forest.{none};
 ghost use Rattle.kernel_core.specs.Private.BootRows.{boot_rows};
 ghost use Rattle.abstract_kernel.specs.State.{shown};
+ghost use Rattle.abstract_kernel.specs.Memory.{IsInMemory};
 ghost use Rattle.cap_core.specs.Numbers.{tcb_bits, tcb_size};
 ghost use Rattle.abstract_kernel.specs.Plan.{IsPlan, IsWithinLimits, first_tcb};
 ghost use Rattle.abstract_kernel.specs.Boot.{root_cap, tcb_caps, endpoint_caps, untyped_caps, boot_caps, with_roots, boot_forest, boot as booted};
@@ -18,14 +19,16 @@ use std::marker::PhantomData;
 
 impl<P: Profile, S: MakeStore<P>, W: MakeWaiters<P>> Kernel<P, S, W> {
     /// A kernel with the objects of a plan, each thread ready with the root CNode as its capability space. The layout is
-    /// this project's profile. All memory of the kernel is taken here.
+    /// this project's profile. What it shows is the abstract boot of the plan, and lies in the plan's memory. All memory of
+    /// the kernel is taken here.
     ///
     /// # Errors
     ///
     /// `AllocError` where memory was wanted and not there.
     pub fn boot(alloc: Global, plan: &BootPlan) -> Result<Kernel<P, S, W>, AllocError>
         requires { IsPlan P.the plan.now }
-        ensures { IfOk result (λ kernel. kernel ≡ shown (booted P.the plan.now)) }
+        ensures shows { IfOk result (λ kernel. kernel ≡ shown (booted P.the plan.now)) }
+        ensures within { IfOk result (λ kernel. IsInMemory P.the plan.now.memory_bits kernel) }
     {
         let caps = root_capabilities::<P>(alloc, plan)?;
         let mut store = S::new(alloc, plan.memory_bits())?;
@@ -170,6 +173,3 @@ fn derive_spaces<P: Profile, S: CapStore<P>>(store: &mut S, plan: &BootPlan)
         store.derive(Slot::of_node::<P>(0, 1), root_slot, cap);
     }
 }
-
-#[cfg(test)]
-mod tests;

@@ -110,7 +110,7 @@ impl<P: Profile, S: CapStore<P> + Drop, W: Waiters<P> + Drop> Kernel<P, S, W> {
     {
         for call in calls {
             let reply = self.step(*call);
-            push_reply(replies, reply);
+            replies.push_reserved(reply);
         }
         self.keeps_apart();
     }
@@ -313,14 +313,4 @@ impl<P: Profile, S: CapStore<P> + Drop, W: Waiters<P> + Drop> Kernel<P, S, W> {
             None
         }
     }
-}
-
-/// Appends a reply, for which there is room.
-fn push_reply(replies: &mut Vec<Reply>, reply: Reply)
-    requires { vec_len replies.old < vec_capacity replies.old }
-    ensures replies { replies.new.items ≡ replies.old.items ++ reply ∷ [] }
-    ensures capacity { vec_capacity replies.old ≤ vec_capacity replies.new }
-    ensures longer { vec_len replies.new ≡ vec_len replies.old + 1 }
-{
-    let _ = replies.push(reply);
 }

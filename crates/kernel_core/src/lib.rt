@@ -12,6 +12,3 @@ mod rows;
 pub use abstract_kernel::{Call, Inbox, Op, Reply, ThreadState, call, invocation};
 pub use kernel::Kernel;
 pub use plan::{BootPlan, PlanDefect};
-
-#[cfg(test)]
-mod tests;

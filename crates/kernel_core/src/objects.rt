@@ -1,19 +1,15 @@
 //! The capabilities and the threads of new objects.
-ghost use Rattle.std.specs.Prelude.{◌≡◌, ℕ, ◌*◌, ◌/◌, ◌%◌, ◌^◌, ◌≤◌, ◌<◌, ◌==◌, length, map, All};
-ghost use Rattle.std.specs.List.{IsDistinct, range_with_len};
+ghost use Rattle.std.specs.Prelude.{◌≡◌, ℕ, ◌*◌, ◌/◌, ◌%◌, ◌^◌, ◌<◌, length, map};
+ghost use Rattle.std.specs.List.{range_with_len};
 ghost use Rattle.std.specs.FinMap.{insert};
-ghost use Rattle.cap_core.specs.declared.limits.TheConstants.{MAX_MEMORY_BITS};
 ghost use Rattle.cap_core.specs.Numbers.{tcb_size};
-ghost use Rattle.cap_core.specs.Objects.{IsLawful};
 ghost use Rattle.mem_core.specs.Plans.{object_at};
-ghost use Rattle.derivation.specs.Entries.{slots, caps};
-ghost use Rattle.derivation.specs.Disjoint.{IsDisjoint};
-ghost use Rattle.abstract_kernel.specs.Regions.{AreRegions};
+ghost use Rattle.derivation.specs.Entries.{slots};
 ghost use Rattle.abstract_kernel.specs.Retyping.{with_objects};
 ghost use Rattle.abstract_kernel.specs.Private.Invocations.{IsRetype};
-ghost use Rattle.abstract_kernel.specs.Memory.{IsSlotAddress};
 ghost use Rattle.kernel_core.specs.Rows.{rows_map};
 ghost use Rattle.kernel_core.specs.Private.NewRows.{new_row, with_rows};
+ghost use Rattle.abstract_kernel.specs.Private.Stores.{IsKernelStore};
 
 use crate::rows::ThreadRow;
 use abstract_kernel::invocation::NewObjects;
@@ -24,13 +20,8 @@ use slot_core::{CapStore, Slot};
 /// Makes objects in an untyped region: it is used up to the end of the last one, and their capabilities are put into their
 /// slots, each the first child of the untyped.
 pub fn make_objects<P: Profile, S: CapStore<P>>(store: &mut S, new: NewObjects)
-    requires most { S.memory_bits store.old ≤ MAX_MEMORY_BITS }
-    requires invocation { IsRetype P.the (S.forest store.old) new }
-    requires regions { AreRegions P.the (S.forest store.old) }
-    requires disjoint { IsDisjoint P.the (S.forest store.old) }
-    requires distinct { IsDistinct (λ (a b : ℕ). a == b) (slots (S.forest store.old)) }
-    requires placed { All (IsSlotAddress P.the (S.memory_bits store.old)) (slots (S.forest store.old)) }
-    requires lawful { All (IsLawful P.the (S.memory_bits store.old)) (caps (S.forest store.old)) }
+    requires store { IsKernelStore P.the (S.memory_bits store.old) (S.forest store.old) }
+    requires retype { IsRetype P.the (S.forest store.old) new }
     ensures forest { S.forest store.new ≡ with_objects P.the new (S.forest store.old) }
     ensures memory { S.memory_bits store.new ≡ S.memory_bits store.old }
 {

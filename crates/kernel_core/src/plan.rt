@@ -221,6 +221,3 @@ impl BootPlan {
         false
     }
 }
-
-#[cfg(test)]
-mod tests;

@@ -10,7 +10,7 @@ use ipc_core::Role;
 
 /// What a kernel keeps of a thread beside how it waits: whether it is inactive where it does not wait, and the last
 /// message that was delivered to it.
-#[derive(Clone, Copy, Debug, PartialEq, Eq)]
+#[derive(Clone, Copy)]
 pub struct ThreadRow {
     pub inactive: bool,
     pub inbox: Option<Inbox>,

@@ -4,3 +4,4 @@ pub mod Keys
 pub mod LookUp
 pub mod Loops
 pub mod Padding
+pub mod Beside

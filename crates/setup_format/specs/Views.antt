@@ -1,7 +1,9 @@
 -- What is seen of a set-up.
-use Rattle.std.specs.Prelude.{ℕ, List, Option}
+use Rattle.std.specs.Prelude.{ℕ, ◌≤◌, ◌<◌, List, length, All, Option}
 use Rattle.abstract_kernel.specs.declared.call.Call.{Call}
 use Rattle.abstract_kernel.specs.Plan.{Plan}
+use Rattle.cap_core.specs.declared.limits.TheConstants.{MAX_CLIENTS, MAX_HISTORY_LIMIT}
+use Rattle.setup_format.specs.declared.limits.TheConstants.{MAX_CALLS}
 
 -- a call, the client that makes it, and what its reply is expected to begin with
 pub record CallView : Type 0 where
@@ -14,3 +16,12 @@ pub record SetupView : Type 0 where
   pub clients : ℕ
   pub limit : ℕ
   pub calls : List CallView
+
+-- the number of clients, the most entries of a history, the number of calls and each call's client lie within their bounds
+pub record IsWithinBounds (s : SetupView) : Type 0 where
+  pub clients_least : 1 ≤ s.clients
+  pub clients_most : s.clients ≤ MAX_CLIENTS
+  pub limit_least : 1 ≤ s.limit
+  pub limit_most : s.limit ≤ MAX_HISTORY_LIMIT
+  pub calls_most : length s.calls ≤ MAX_CALLS
+  pub each_client : All (λ call. call.client < s.clients) s.calls

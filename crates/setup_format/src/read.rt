@@ -1,5 +1,5 @@
 //! A whole set-up, from its text or from the table of it.
-ghost use Rattle.std.specs.Prelude.{◌≡◌, ◌≢◌, ◌≤◌, map, length, All, IfOk, IfErr};
+ghost use Rattle.std.specs.Prelude.{◌≡◌, ◌≢◌, ◌≤◌, ◌<◌, map, length, All, IfOk, IfErr};
 ghost use Rattle.toml.specs.View.{table_view};
 ghost use Rattle.cap_core.specs.declared.profile.ProfileName.TheVariants as profile;
 ghost use Rattle.abstract_kernel.specs.Plan.{IsUntypedSize, IsWithinLimits, IsPlan};
@@ -9,13 +9,14 @@ ghost use Rattle.setup_format.specs.Kinds.{each};
 ghost use Rattle.setup_format.specs.Messages.{HasMessage};
 ghost use Rattle.setup_format.specs.Private.Seen.{call_view};
 ghost use Rattle.setup_format.specs.Private.Sizes.{IsSizes};
+ghost use Rattle.setup_format.specs.Views.{IsWithinBounds};
 ghost use Rattle.setup_format.specs.Setups as spec;
 
 use crate::fault::{Place, SetupFault};
 use crate::limits::{FORMAT, MAX_CALLS};
 use crate::names::Name;
 use crate::operations::{call_keys, operation_at};
-use crate::setup::{Setup, SetupCall, Sizes};
+use crate::setup::{Setup, SetupCall, SetupCalls, Sizes};
 use crate::tables::{
     expect_or_none, known_only, number_at, number_or, op_at, tables_or_none, word_at,
 };
@@ -67,13 +68,15 @@ fn call_at<P: Profile>(
     n: usize,
     table: &Table,
 ) -> Result<SetupCall, SetupFault>
-    ensures { Gives call_view result (spec.call_at P.the (names_view names.now) clients n (table_view table.now)) }
+    requires { 1 ≤ clients }
+    ensures call { Gives call_view result (spec.call_at P.the (names_view names.now) clients n (table_view table.now)) }
+    ensures client { IfOk result (λ r. r.client < clients) }
 {
     let place = Place::Call(n);
     let op = op_at(table, place, "op")?;
     known_only(table, place, call_keys(op))?;
     let thread = word_at::<P>(names, table, place, "thread")?;
-    let client = number_or(table, place, "client", 0, 0, clients.saturating_sub(1))?;
+    let client = number_or(table, place, "client", 0, 0, clients - 1)?;
     let expect = expect_or_none(alloc, table, place, "expect")?;
     let op = operation_at::<P>(op, names, place, table)?;
     Ok(SetupCall {
@@ -88,11 +91,13 @@ fn calls_of<P: Profile>(
     names: &[Name],
     clients: u32,
     tables: &[&Table],
-) -> Result<Vec<SetupCall>, SetupFault>
-    ensures calls { Gives (λ v. map call_view v.items) result (each (spec.call_at P.the (names_view names.now) clients) 1 (map (λ t. table_view t.now) tables.now)) }
-    ensures length { IfOk result (λ v. length v.items ≡ length tables.now) }
+) -> Result<SetupCalls, SetupFault>
+    requires { 1 ≤ clients }
+    ensures calls { Gives (λ v. v) result (each (spec.call_at P.the (names_view names.now) clients) 1 (map (λ t. table_view t.now) tables.now)) }
+    ensures length { IfOk result (λ v. length v ≡ length tables.now) }
+    ensures clients { IfOk result (λ v. All (λ c. c.client < clients) v) }
 {
-    let mut calls = Vec::new(alloc);
+    let mut calls = SetupCalls::new(alloc);
     for (i, table) in tables.iter().enumerate() {
         let call = call_at::<P>(alloc, names, clients, 1 + i, table)?;
         calls.push(call)?;
@@ -155,8 +160,11 @@ fn plan_of<P: Profile>(sizes: Sizes, untypeds: Vec<(u64, u32)>) -> Result<BootPl
 
 /// The most entries of a history: the number of calls, at least 1, where the set-up gives none.
 fn limit_of(given: u32, calls: usize) -> u32
-    requires { calls ≤ MAX_CALLS }
-    ensures { result ≡ spec.limit_of given calls }
+    requires calls { calls ≤ MAX_CALLS }
+    requires given { given ≤ MAX_HISTORY_LIMIT }
+    ensures limit { result ≡ spec.limit_of given calls }
+    ensures least { 1 ≤ result }
+    ensures most { result ≤ MAX_HISTORY_LIMIT }
 {
     if given == 0 {
         (calls as u32).max(1)
@@ -176,16 +184,20 @@ fn setup_with<P: Profile>(
     call: &[&Table],
 ) -> Result<Setup, SetupFault>
     requires sizes { IsSizes sizes }
+    requires least { 1 ≤ clients }
+    requires most { clients ≤ MAX_CLIENTS }
+    requires limit { limit ≤ MAX_HISTORY_LIMIT }
     requires untyped { length untyped.now ≤ MAX_BOOT_UNTYPEDS }
     requires call { length call.now ≤ MAX_CALLS }
     ensures setup { Gives (λ s. s) result (spec.setup_with P.the sizes clients limit (map (λ t. table_view t.now) untyped.now) (map (λ t. table_view t.now) call.now)) }
     ensures plan { IfOk result (λ s. IsPlan P.the s.plan) }
+    ensures bounds { IfOk result IsWithinBounds }
 {
     let untypeds = untypeds_of::<P>(alloc, untyped)?;
     let plan = plan_of::<P>(sizes, untypeds)?;
     let calls = calls_of::<P>(alloc, &[], clients, call)?;
     let limit = limit_of(limit, calls.len());
-    Ok(Setup::new(alloc, plan, clients, limit, calls)?)
+    Ok(Setup::new(plan, clients, limit, calls))
 }
 
 /// What a table is read as whose format and keys are known.
@@ -193,6 +205,7 @@ fn setup_with<P: Profile>(
 fn setup_at<P: Profile>(alloc: Global, table: &Table) -> Result<Setup, SetupFault>
     ensures setup { Gives (λ s. s) result (spec.setup_at P.the (table_view table.now)) }
     ensures plan { IfOk result (λ s. IsPlan P.the s.plan) }
+    ensures bounds { IfOk result IsWithinBounds }
 {
     let sizes = sizes_of(table)?;
     let clients = number_or(table, Place::Top, "clients", 1, 1, MAX_CLIENTS)?;
@@ -215,6 +228,7 @@ fn setup_at<P: Profile>(alloc: Global, table: &Table) -> Result<Setup, SetupFaul
 fn setup_of(alloc: Global, table: &Table) -> Result<Setup, SetupFault>
     ensures setup { Gives (λ s. s) result (spec.setup_of (table_view table.now)) }
     ensures plan { IfOk result (λ s. IsPlan profile.Wide s.plan) }
+    ensures bounds { IfOk result IsWithinBounds }
 {
     let _format = number_at(table, Place::Top, "format", FORMAT, FORMAT)?;
     known_only(
@@ -246,6 +260,7 @@ fn setup_of(alloc: Global, table: &Table) -> Result<Setup, SetupFault>
 pub fn read_table(alloc: Global, table: &Table) -> Result<Setup, SetupFault>
     ensures setup { Gives (λ s. s) result (spec.setup_of (table_view table.now)) }
     ensures plan { IfOk result (λ s. IsPlan profile.Wide s.plan) }
+    ensures bounds { IfOk result IsWithinBounds }
     ensures messages { IfOk result (λ s. All (HasMessage profile.Wide) s.calls) }
     ensures never_text { IfErr result (λ e. e ≢ SetupFault.Text) }
 {
@@ -261,6 +276,7 @@ pub fn read_table(alloc: Global, table: &Table) -> Result<Setup, SetupFault>
 pub fn read_setup(alloc: Global, bytes: &[u8]) -> Result<Setup, SetupFault>
     ensures setup { Gives (λ s. s) result (spec.setup_of_bytes bytes.now) }
     ensures plan { IfOk result (λ s. IsPlan profile.Wide s.plan) }
+    ensures bounds { IfOk result IsWithinBounds }
     ensures messages { IfOk result (λ s. All (HasMessage profile.Wide) s.calls) }
 {
     let Ok(text) = std::str::from_utf8(bytes) else {

@@ -1,5 +1,5 @@
 //! What a set-up is.
-ghost use Rattle.std.specs.Prelude.{◌≡◌, ◌<◌, ◌≤◌, map, length, IfOk, Some, option_map, option_copied, slice_get};
+ghost use Rattle.std.specs.Prelude.{◌≡◌, ◌<◌, ◌≤◌, map, length, Some, option_map, option_copied, slice_get};
 
 use cap_core::limits::{MAX_MEMORY_BITS, MAX_MESSAGE_WORDS, MIN_MEMORY_BITS};
 use kernel_core::{BootPlan, Call};
@@ -44,6 +44,90 @@ pub struct SetupCall {
     pub expect: Option<String>,
 }
 
+/// The client that makes a call, and how it expects the reply to begin.
+#[derive(Drop)]
+pub struct Caller {
+    pub client: u32,
+    pub expect: Option<String>,
+}
+
+/// The calls of a set-up, in order, and beside each its caller.
+#[derive(Drop)]
+pub struct SetupCalls {
+    calls: Vec<Call>,
+    callers: Vec<Caller>,
+}
+
+impl Model for SetupCalls {
+    ghost use Rattle.std.specs.Prelude.{◌≡◌, List, length};
+    ghost use Rattle.setup_format.specs.Views.{CallView};
+    ghost use Rattle.setup_format.specs.Private.Seen.{call_views};
+
+    ghost Value = { List CallView };
+
+    ghost view = { λ s. call_views s.calls.items s.callers.items };
+
+    ghost invariant = { λ s. length s.calls.items ≡ length s.callers.items };
+}
+
+impl SetupCalls {
+    ghost use Rattle.std.specs.Prelude.{[], ◌∷◌, ◌++◌, OnOk};
+    ghost use Rattle.setup_format.specs.Private.Seen.{call_view};
+
+    pub fn new(alloc: Global) -> SetupCalls
+        ensures { result ≡ [] }
+    {
+        SetupCalls {
+            calls: Vec::new(alloc),
+            callers: Vec::new(alloc),
+        }
+    }
+
+    pub fn push(&mut self, row: SetupCall) -> Result<(), AllocError>
+        ensures { OnOk result (self.new ≡ self.old ++ call_view row ∷ []) }
+    {
+        self.calls.reserve(1)?;
+        self.callers.reserve(1)?;
+        let SetupCall {
+            call,
+            client,
+            expect,
+        } = row;
+        self.calls.push_reserved(call);
+        self.callers.push_reserved(Caller { client, expect });
+        Ok(())
+    }
+
+    pub fn len(&self) -> usize
+        ensures { result ≡ length self.now }
+    {
+        self.calls.len()
+    }
+
+    pub fn calls(&self) -> &[Call]
+        ensures { result.now ≡ map (λ c. c.call) self.now }
+    {
+        self.calls.as_slice()
+    }
+
+    pub fn client_of(&self, i: usize) -> u32
+        requires { i < length self.now }
+        ensures { option_map (λ c. c.client) (slice_get self.now i) ≡ Some result }
+    {
+        self.callers[i].client
+    }
+
+    pub fn expect(&self, i: usize) -> Option<&str>
+        requires { i < length self.now }
+        ensures { option_map (λ c. c.expect) (slice_get self.now i) ≡ Some (option_copied result) }
+    {
+        match &self.callers[i].expect {
+            None => None,
+            Some(text) => Some(text.as_str()),
+        }
+    }
+}
+
 /// A set-up: the plan of a boot, whose memory has 2^`MIN_MEMORY_BITS` to 2^`MAX_MEMORY_BITS` bytes, and the calls that are
 /// then made.
 #[derive(Drop)]
@@ -51,45 +135,38 @@ pub struct Setup {
     plan: BootPlan,
     clients: u32,
     limit: u32,
-    calls: Vec<Call>,
-    rows: Vec<SetupCall>,
+    calls: SetupCalls,
 }
 
 impl Model for Setup {
-    ghost use Rattle.std.specs.Prelude.{◌≡◌, ◌≤◌, map};
+    ghost use Rattle.std.specs.Prelude.{◌≤◌};
     ghost use Rattle.cap_core.specs.declared.limits.TheConstants.{MIN_MEMORY_BITS, MAX_MEMORY_BITS};
-    ghost use Rattle.setup_format.specs.Views.{SetupView};
-    ghost use Rattle.setup_format.specs.Private.Seen.{call_view};
+    ghost use Rattle.setup_format.specs.Views.{SetupView, IsWithinBounds};
+    ghost use Rattle.setup_format.specs.Private.Seen.{setup_view};
 
     ghost Value = { SetupView };
 
-    ghost view = { λ s. record { plan = s.plan; clients = s.clients; limit = s.limit; calls = map call_view s.rows.items } };
+    ghost view = { λ s. setup_view s.plan s.clients s.limit s.calls };
 
-    ghost invariant = { λ s. (s.calls.items ≡ map (λ r. r.call) s.rows.items) × (MIN_MEMORY_BITS ≤ s.plan.memory_bits) × (s.plan.memory_bits ≤ MAX_MEMORY_BITS) };
+    ghost invariant = { λ s. (MIN_MEMORY_BITS ≤ s.plan.memory_bits) × ((s.plan.memory_bits ≤ MAX_MEMORY_BITS) × IsWithinBounds (setup_view s.plan s.clients s.limit s.calls)) };
 }
 
 impl Setup {
-    ghost use Rattle.setup_format.specs.Private.Seen.{call_view};
+    ghost use Rattle.setup_format.specs.Views.{IsWithinBounds};
+    ghost use Rattle.setup_format.specs.Private.Seen.{setup_view};
 
-    pub(crate) fn new(
-        alloc: Global,
-        plan: BootPlan,
-        clients: u32,
-        limit: u32,
-        rows: Vec<SetupCall>,
-    ) -> Result<Setup, AllocError>
+    pub(crate) fn new(plan: BootPlan, clients: u32, limit: u32, calls: SetupCalls) -> Setup
         requires least { MIN_MEMORY_BITS ≤ plan.memory_bits }
         requires most { plan.memory_bits ≤ MAX_MEMORY_BITS }
-        ensures { IfOk result (λ s. s ≡ record { plan = plan; clients = clients; limit = limit; calls = map call_view rows.items }) }
+        requires bounds { IsWithinBounds (setup_view plan clients limit calls) }
+        ensures { result ≡ setup_view plan clients limit calls }
     {
-        let calls = calls_in(alloc, rows.as_slice())?;
-        Ok(Setup {
+        Setup {
             plan,
             clients,
             limit,
             calls,
-            rows,
-        })
+        }
     }
 
     /// What the kernel is booted from.
@@ -101,16 +178,18 @@ impl Setup {
         &self.plan
     }
 
-    /// How many clients make the calls, 1 to 8.
+    /// How many clients make the calls.
     pub fn clients(&self) -> u32
-        ensures { result ≡ self.now.clients }
+        ensures clients { result ≡ self.now.clients }
+        ensures bounds { IsWithinBounds self.now }
     {
         self.clients
     }
 
     /// The most entries of a history of the calls.
     pub fn limit(&self) -> u32
-        ensures { result ≡ self.now.limit }
+        ensures limit { result ≡ self.now.limit }
+        ensures bounds { IsWithinBounds self.now }
     {
         self.limit
     }
@@ -119,7 +198,7 @@ impl Setup {
     pub fn calls(&self) -> &[Call]
         ensures { result.now ≡ map (λ c. c.call) self.now.calls }
     {
-        self.calls.as_slice()
+        self.calls.calls()
     }
 
     /// The client that makes the call at place `i`, 0 the first.
@@ -127,7 +206,7 @@ impl Setup {
         requires { i < length self.now.calls }
         ensures { option_map (λ c. c.client) (slice_get self.now.calls i) ≡ Some result }
     {
-        self.rows[i].client
+        self.calls.client_of(i)
     }
 
     /// How the reply to the call at place `i`, 0 the first, is expected to begin; `None` where nothing is expected.
@@ -135,15 +214,6 @@ impl Setup {
         requires { i < length self.now.calls }
         ensures { option_map (λ c. c.expect) (slice_get self.now.calls i) ≡ Some (option_copied result) }
     {
-        match &self.rows[i].expect {
-            None => None,
-            Some(text) => Some(text.as_str()),
-        }
+        self.calls.expect(i)
     }
-}
-
-fn calls_in(alloc: Global, rows: &[SetupCall]) -> Result<Vec<Call>, AllocError>
-    ensures { IfOk result (λ v. v.items ≡ map (λ r. r.call) rows.now) }
-{
-    rows.iter().map(|row| row.call).collect(alloc)
 }

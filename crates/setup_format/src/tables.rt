@@ -70,11 +70,16 @@ pub fn number_or(
     low: u32,
     high: u32,
 ) -> Result<u32, SetupFault>
-    ensures { Gives (λ n. n) result (spec.optional place (table_view table.now) key.now default (kind.number low high)) }
+    ensures number { Gives (λ n. n) result (spec.optional place (table_view table.now) key.now default (kind.number low high)) }
+    ensures least { low ≤ default → IfOk result (λ n. low ≤ n) }
+    ensures most { default ≤ high → IfOk result (λ n. n ≤ high) }
 {
     match find(table, key) {
         None => Ok(default),
-        Some(value) => at_key(place, key, number(value, low, high)),
+        Some(value) => {
+            let n = at_key(place, key, number(value, low, high))?;
+            Ok(n)
+        }
     }
 }
 

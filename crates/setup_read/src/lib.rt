@@ -4,4 +4,4 @@
 pub use setup_format::{
     Key, Place, Setup, SetupFault, Wrong, fault, limits, read_setup, read_table, setup,
 };
-pub use setup_report::{ExpectationCount, expectations, report};
+pub use setup_report::{ExpectationCount, counted_report, expectations, report};

@@ -19,7 +19,7 @@ use Rattle.abstract_kernel.specs.declared.call.Inbox.{Inbox}
 use Rattle.abstract_kernel.specs.Shown.{Shown, tcb_base, endpoint_base, state_at, inbox_at, waiting_at, has_child}
 use Rattle.setup_format.specs.Views.{CallView}
 use Rattle.setup_report.specs.declared.naming.Naming.{Naming}
-use Rattle.setup_report.specs.Text.{cap_text, numbers_text, op_text, reply_text, is_met, verdict_text, state_text, inbox_text}
+use Rattle.setup_report.specs.Text.{cap_text, numbers_text, op_text, reply_text, begins_as, verdict_text, state_text, inbox_text}
 
 abbrev pub line : List ℕ → List ℕ
 line text = text ++ codes "\n"
@@ -28,7 +28,7 @@ line text = text ++ codes "\n"
 
 abbrev pub call_text : ℕ → Call → Reply → Option (List ℕ) → List ℕ
 call_text number call reply expected =
-    decimal number ++ (codes " " ++ (decimal call.thread ++ (codes " " ++ (op_text call.op ++ (codes ": " ++ (reply_text reply ++ verdict_text expected reply))))))
+    decimal number ++ (codes " " ++ (decimal call.thread ++ (codes " " ++ (op_text call.op ++ (codes ": " ++ (reply_text reply ++ verdict_text expected (reply_text reply)))))))
 
 abbrev pub call_lines : ℕ → List CallView → List Reply → List ℕ
 call_lines number [] replies = []
@@ -38,12 +38,12 @@ call_lines number (call ∷ calls) (reply ∷ replies) =
 
 -- ---- expectations: how many calls have one, and how many replies meet theirs
 
-abbrev pub is_expected : Option (List ℕ) → Reply → Bool
-is_expected None reply = false
-is_expected (Some expected) reply = is_met expected reply
+abbrev pub is_met : Option (List ℕ) → List ℕ → Bool
+is_met None text = false
+is_met (Some expected) text = begins_as text expected
 
-abbrev pub one_met : Option (List ℕ) → Reply → ℕ
-one_met expected reply = if is_expected expected reply then 1 else 0
+abbrev pub one_met : Option (List ℕ) → List ℕ → ℕ
+one_met expected text = if is_met expected text then 1 else 0
 
 abbrev pub one_expected : Option (List ℕ) → ℕ
 one_expected expected = if is_some expected then 1 else 0
@@ -51,7 +51,7 @@ one_expected expected = if is_some expected then 1 else 0
 abbrev pub met_count : List CallView → List Reply → ℕ
 met_count [] replies = 0
 met_count (call ∷ calls) [] = 0
-met_count (call ∷ calls) (reply ∷ replies) = one_met call.expect reply + met_count calls replies
+met_count (call ∷ calls) (reply ∷ replies) = one_met call.expect (reply_text reply) + met_count calls replies
 
 abbrev pub expectation_count : List CallView → List Reply → ℕ
 expectation_count [] replies = 0

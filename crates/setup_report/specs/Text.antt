@@ -74,14 +74,11 @@ reply_text (Delivered endpoint from to badge message) =
 abbrev pub begins_as : List ℕ → List ℕ → Bool
 begins_as text expected = pointwise nat_eq text expected || starts_with nat_eq text (expected ++ codes " ")
 
-abbrev pub is_met : List ℕ → Reply → Bool
-is_met expected reply = begins_as (reply_text reply) expected
-
--- what is said of an expectation, where a call has one
-abbrev pub verdict_text : Option (List ℕ) → Reply → List ℕ
-verdict_text None reply = []
-verdict_text (Some expected) reply =
-    if is_met expected reply then codes " [met]" else codes " [not met: " ++ (expected ++ codes "]")
+-- what is said of an expectation, where a call has one, by the text of the reply
+abbrev pub verdict_text : Option (List ℕ) → List ℕ → List ℕ
+verdict_text None text = []
+verdict_text (Some expected) text =
+    if begins_as text expected then codes " [met]" else codes " [not met: " ++ (expected ++ codes "]")
 
 -- ---- threads
 

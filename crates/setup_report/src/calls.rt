@@ -1,8 +1,8 @@
-//! The calls of a set-up with their replies, a line for each.
+//! The calls of a set-up with their replies, a line for each, and how many of their expectations are met.
 ghost use Rattle.std.specs.Prelude.{◌≡◌, ◌++◌, ◌+◌, ◌<◌, length, IfOk, OnOk, string_bytes, option_copied};
 ghost use Rattle.setup_report.specs.Text as text;
 ghost use Rattle.setup_report.specs.Report as spec;
-ghost use Rattle.setup_report.specs.Private.Verdicts.{text_of_verdict};
+ghost use Rattle.setup_report.specs.Private.Verdicts.{text_of_verdict, met_of_verdict, expected_of_verdict};
 
 use crate::lines::Verdict;
 use crate::text::{ReplyText, op_text};
@@ -11,38 +11,64 @@ use setup_format::Setup;
 use std::alloc::{AllocError, Global};
 use std::fmt::Write;
 
-/// Whether a reply's text is the expected one, or begins with it followed by a space.
-fn is_met(alloc: Global, expected: &str, reply: Reply) -> Result<bool, AllocError>
-    ensures { IfOk result (λ b. b ≡ text.is_met expected.now reply) }
-{
-    let shown = ReplyText(reply).to_string(alloc)?;
-    if shown.as_str() == expected {
-        return Ok(true);
-    }
-    let spaced = format!(in alloc; "{expected} ")?;
-    Ok(shown.as_bytes().starts_with(spaced.as_bytes()))
+/// How many calls have an expectation, and how many of these are met.
+#[derive(Clone, Copy)]
+pub struct ExpectationCount {
+    pub met: usize,
+    pub expected: usize,
 }
 
-fn verdict<'a>(
-    alloc: Global,
-    expected: Option<&'a str>,
-    reply: Reply,
-) -> Result<Verdict<'a>, AllocError>
-    ensures { IfOk result (λ v. text_of_verdict v ≡ text.verdict_text (option_copied expected.entry) reply) }
+/// Whether a text is the expected one, or begins with it followed by a space.
+#[tactic(auto, using(crate::proofs::Sequences::Begins::begins_not, crate::proofs::Sequences::Begins::begins_whole, crate::proofs::Sequences::Begins::begins_first))]
+fn is_met(shown: &str, expected: &str) -> bool
+    ensures { result ≡ text.begins_as shown.now expected.now }
+{
+    match shown.as_bytes().strip_prefix(expected.as_bytes()) {
+        None => false,
+        Some([]) => true,
+        Some([byte, ..]) => *byte == b' ',
+    }
+}
+
+/// What is said of an expectation, by the text of the reply.
+fn verdict<'a>(shown: &str, expected: Option<&'a str>) -> Verdict<'a>
+    ensures text { text_of_verdict result ≡ text.verdict_text (option_copied expected.entry) shown.now }
+    ensures met { met_of_verdict result ≡ spec.one_met (option_copied expected.entry) shown.now }
+    ensures expected { expected_of_verdict result ≡ spec.one_expected (option_copied expected.entry) }
 {
     match expected {
-        None => Ok(Verdict::None),
+        None => Verdict::None,
         Some(expected) => {
-            if is_met(alloc, expected, reply)? {
-                Ok(Verdict::Met)
+            if is_met(shown, expected) {
+                Verdict::Met
             } else {
-                Ok(Verdict::NotMet(expected))
+                Verdict::NotMet(expected)
             }
         }
     }
 }
 
-/// Adds the line of a call.
+fn count(verdict: Verdict<'_>) -> ExpectationCount
+    ensures met { result.met ≡ met_of_verdict verdict.entry }
+    ensures expected { result.expected ≡ expected_of_verdict verdict.entry }
+{
+    match verdict {
+        Verdict::None => ExpectationCount {
+            met: 0,
+            expected: 0,
+        },
+        Verdict::Met => ExpectationCount {
+            met: 1,
+            expected: 1,
+        },
+        Verdict::NotMet(_) => ExpectationCount {
+            met: 0,
+            expected: 1,
+        },
+    }
+}
+
+/// Adds the line of a call, and counts its expectation.
 fn add_call(
     alloc: Global,
     out: &mut String,
@@ -50,37 +76,39 @@ fn add_call(
     call: &Call,
     expected: Option<&str>,
     reply: Reply,
-) -> Result<(), AllocError>
-    ensures { OnOk result (string_bytes out.new ≡ string_bytes out.old ++ spec.line (spec.call_text number call.now reply (option_copied expected.entry))) }
+) -> Result<ExpectationCount, AllocError>
+    ensures line { OnOk result (string_bytes out.new ≡ string_bytes out.old ++ spec.line (spec.call_text number call.now reply (option_copied expected.entry))) }
+    ensures met { IfOk result (λ e. e.met ≡ spec.one_met (option_copied expected.entry) (text.reply_text reply)) }
+    ensures expected { IfOk result (λ e. e.expected ≡ spec.one_expected (option_copied expected.entry)) }
 {
     let thread = call.thread;
     let op = op_text(&call.op);
-    let verdict = verdict(alloc, expected, reply)?;
-    let reply = ReplyText(reply);
-    writeln!(out, "{number} {thread} {op}: {reply}{verdict}")
+    let shown = ReplyText(reply).to_string(alloc)?;
+    let verdict = verdict(shown.as_str(), expected);
+    writeln!(out, "{number} {thread} {op}: {shown}{verdict}")?;
+    Ok(count(verdict))
 }
 
-/// Adds a line for each call of a set-up.
+/// Adds a line for each call of a set-up, and counts the expectations.
 pub fn add_calls(
     alloc: Global,
     out: &mut String,
     setup: &Setup,
     replies: &[Reply],
-) -> Result<(), AllocError>
+) -> Result<ExpectationCount, AllocError>
     requires { length replies.now ≡ length setup.now.calls }
-    ensures { OnOk result (string_bytes out.new ≡ string_bytes out.old ++ spec.call_lines 1 setup.now.calls replies.now) }
+    ensures lines { OnOk result (string_bytes out.new ≡ string_bytes out.old ++ spec.call_lines 1 setup.now.calls replies.now) }
+    ensures met { IfOk result (λ e. e.met ≡ spec.met_count setup.now.calls replies.now) }
+    ensures expected { IfOk result (λ e. e.expected ≡ spec.expectation_count setup.now.calls replies.now) }
 {
+    let mut met = 0;
+    let mut expected = 0;
     for (i, call) in setup.calls().iter().enumerate() {
-        add_call(alloc, out, i + 1, call, setup.expect(i), replies[i])?;
+        let one = add_call(alloc, out, i + 1, call, setup.expect(i), replies[i])?;
+        met += one.met;
+        expected += one.expected;
     }
-    Ok(())
-}
-
-/// How many calls have an expectation, and how many of these are met.
-#[derive(Clone, Copy, Debug, PartialEq, Eq)]
-pub struct ExpectationCount {
-    pub met: usize,
-    pub expected: usize,
+    Ok(ExpectationCount { met, expected })
 }
 
 fn expectation(
@@ -88,23 +116,14 @@ fn expectation(
     expected: Option<&str>,
     reply: Reply,
 ) -> Result<ExpectationCount, AllocError>
-    ensures met { IfOk result (λ e. e.met ≡ spec.one_met (option_copied expected.entry) reply) }
+    ensures met { IfOk result (λ e. e.met ≡ spec.one_met (option_copied expected.entry) (text.reply_text reply)) }
     ensures expected { IfOk result (λ e. e.expected ≡ spec.one_expected (option_copied expected.entry)) }
 {
-    match expected {
-        None => Ok(ExpectationCount {
-            met: 0,
-            expected: 0,
-        }),
-        Some(expected) => {
-            let met = if is_met(alloc, expected, reply)? {
-                1
-            } else {
-                0
-            };
-            Ok(ExpectationCount { met, expected: 1 })
-        }
+    if expected.is_none() {
+        return Ok(count(Verdict::None));
     }
+    let shown = ReplyText(reply).to_string(alloc)?;
+    Ok(count(verdict(shown.as_str(), expected)))
 }
 
 /// Counts the expectations of a set-up's calls, given the reply to each.

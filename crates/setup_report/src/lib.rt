@@ -3,7 +3,7 @@
 
 ghost use Rattle.std.specs.Prelude.{◌≡◌, ◌<◌, ◌^◌, All, length, IfOk};
 ghost use Rattle.derivation.specs.Entries.{slots as slots_of};
-ghost use Rattle.setup_report.specs.Report.{report_of};
+ghost use Rattle.setup_report.specs.Report.{report_of, met_count, expectation_count};
 
 mod calls;
 mod lines;
@@ -26,12 +26,12 @@ use std::fmt::Write;
 /// line for each live thread, each live endpoint, each full slot and each CNode that only slots of its own name, each by
 /// rising address; and how many of the expectations are met.
 ///
-/// `replies` has the reply to each call, in order, and the full slots of `kernel` lie in the set-up's memory. The lines, and what is read of a kernel, are this project's profile.
+/// `replies` has the reply to each call, in order, and the full slots of `kernel` lie in the set-up's memory. The lines, and
+/// what is read of a kernel, are this project's profile.
 ///
 /// # Errors
 ///
 /// Memory was refused.
-#[tactic(auto, unfolding(crate::specs::Report::report_of))]
 pub fn report<P: Profile, S: CapStore<P> + Drop, W: Waiters<P> + Drop>(
     alloc: Global,
     setup: &Setup,
@@ -42,12 +42,33 @@ pub fn report<P: Profile, S: CapStore<P> + Drop, W: Waiters<P> + Drop>(
     requires slots { All (λ a. a < 2 ^ setup.now.plan.memory_bits) (slots_of kernel.now.derivations) }
     ensures { IfOk result (λ v. v.items ≡ report_of P.the setup.now.calls replies.now kernel.now) }
 {
+    let (text, _) = counted_report(alloc, setup, replies, kernel)?;
+    Ok(text)
+}
+
+/// The report of a run, as `report` gives it, and the count of its expectations, as `expectations` gives it.
+///
+/// # Errors
+///
+/// Memory was refused.
+#[tactic(auto, unfolding(crate::specs::Report::report_of))]
+pub fn counted_report<P: Profile, S: CapStore<P> + Drop, W: Waiters<P> + Drop>(
+    alloc: Global,
+    setup: &Setup,
+    replies: &[Reply],
+    kernel: &Kernel<P, S, W>,
+) -> Result<(Vec<u8>, ExpectationCount), AllocError>
+    requires replies { length replies.now ≡ length setup.now.calls }
+    requires slots { All (λ a. a < 2 ^ setup.now.plan.memory_bits) (slots_of kernel.now.derivations) }
+    ensures report { IfOk result (λ r. r.0.items ≡ report_of P.the setup.now.calls replies.now kernel.now) }
+    ensures met { IfOk result (λ r. r.1.met ≡ met_count setup.now.calls replies.now) }
+    ensures expected { IfOk result (λ r. r.1.expected ≡ expectation_count setup.now.calls replies.now) }
+{
     let mut out = String::new(alloc);
-    calls::add_calls(alloc, &mut out, setup, replies)?;
+    let count = calls::add_calls(alloc, &mut out, setup, replies)?;
     memory::add_state::<P, Kernel<P, S, W>>(alloc, &mut out, setup.plan().memory_bits(), kernel)?;
-    let count = expectations(alloc, setup, replies)?;
     let met = count.met;
     let expected = count.expected;
     writeln!(out, "expected {met} of {expected}")?;
-    Ok(out.into_bytes())
+    Ok((out.into_bytes(), count))
 }

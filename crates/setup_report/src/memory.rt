@@ -68,10 +68,10 @@ fn add_slot<P: Profile, K: Readable<P>>(
 /// Adds a line for each of some slots.
 fn add_slots<P: Profile, K: Readable<P>>(
     out: &mut String,
-    slots: &BTreeSet<u64>,
+    slots: &[u64],
     kernel: &K,
 ) -> Result<(), AllocError>
-    ensures { OnOk result (string_bytes out.new ≡ string_bytes out.old ++ flat_map (spec.slot_line (K.shown kernel.now)) slots.now.keys) }
+    ensures { OnOk result (string_bytes out.new ≡ string_bytes out.old ++ flat_map (spec.slot_line (K.shown kernel.now)) slots.now) }
 {
     for slot in slots {
         add_slot::<P, K>(out, *slot, kernel)?;
@@ -161,14 +161,15 @@ pub fn add_state<P: Profile, K: Readable<P>>(
     requires slots { All (λ a. a < 2 ^ memory_bits) (slots_of (K.shown kernel.now).derivations) }
     ensures { OnOk result (string_bytes out.new ≡ string_bytes out.old ++ spec.state_lines P.the (K.shown kernel.now)) }
 {
-    let slots = full_slots::<P, K>(alloc, memory_bits, kernel)?;
-    let threads = bases_named::<P, K>(alloc, Naming::Thread, &slots, kernel)?;
-    let endpoints = bases_named::<P, K>(alloc, Naming::Endpoint, &slots, kernel)?;
-    let own = bases_named::<P, K>(alloc, Naming::OwnNode, &slots, kernel)?;
-    let others = bases_named::<P, K>(alloc, Naming::OtherNode, &slots, kernel)?;
+    let full = full_slots::<P, K>(alloc, memory_bits, kernel)?;
+    let slots = full.as_slice();
+    let threads = bases_named::<P, K>(alloc, Naming::Thread, slots, kernel)?;
+    let endpoints = bases_named::<P, K>(alloc, Naming::Endpoint, slots, kernel)?;
+    let own = bases_named::<P, K>(alloc, Naming::OwnNode, slots, kernel)?;
+    let others = bases_named::<P, K>(alloc, Naming::OtherNode, slots, kernel)?;
     add_threads::<P, K>(out, &threads, kernel)?;
     add_endpoints::<P, K>(alloc, out, &endpoints, kernel)?;
-    add_slots::<P, K>(out, &slots, kernel)?;
+    add_slots::<P, K>(out, slots, kernel)?;
     add_selfheld(out, &own, &others)?;
     Ok(())
 }

@@ -8,7 +8,7 @@ use std::alloc::{AllocError, Global};
 use std::collections::BTreeSet;
 
 /// Which objects a slot is asked for that its capability may name.
-#[derive(Clone, Copy, Debug, PartialEq, Eq)]
+#[derive(Clone, Copy)]
 pub enum Naming {
     /// A thread.
     Thread,
@@ -64,10 +64,10 @@ fn base_named<P: Profile>(naming: Naming, slot: u64, cap: Cap) -> Option<u64>
 pub fn bases_named<P: Profile, K: Readable<P>>(
     alloc: Global,
     naming: Naming,
-    slots: &BTreeSet<u64>,
+    slots: &[u64],
     kernel: &K,
 ) -> Result<BTreeSet<u64>, AllocError>
-    ensures { IfOk result (λ s. s.keys ≡ spec.rising (filter_map (spec.base_at P.the naming (K.shown kernel.now)) slots.now.keys)) }
+    ensures { IfOk result (λ s. s.keys ≡ spec.rising (filter_map (spec.base_at P.the naming (K.shown kernel.now)) slots.now)) }
 {
     let mut bases = BTreeSet::new(alloc);
     for slot in slots {

@@ -9,7 +9,6 @@ use crate::readable::Readable;
 use cap_core::limits::{MAX_MEMORY_BITS, MIN_MEMORY_BITS};
 use cap_core::{Cap, Profile};
 use std::alloc::{AllocError, Global};
-use std::collections::BTreeSet;
 
 /// How many slots have room in a memory of 2^`memory_bits` bytes.
 fn places<P: Profile>(memory_bits: u32) -> u64
@@ -36,24 +35,24 @@ fn is_full<P: Profile, K: Readable<P>>(slot: u64, kernel: &K) -> bool
     !matches!(kernel.cap_at(slot), Cap::Null)
 }
 
-/// The full slots of a kernel whose full slots lie in a memory of 2^`memory_bits` bytes.
+/// The full slots, by rising address, of a kernel whose full slots lie in a memory of 2^`memory_bits` bytes.
 pub fn full_slots<P: Profile, K: Readable<P>>(
     alloc: Global,
     memory_bits: u32,
     kernel: &K,
-) -> Result<BTreeSet<u64>, AllocError>
+) -> Result<Vec<u64>, AllocError>
     requires least { MIN_MEMORY_BITS ≤ memory_bits }
     requires most { memory_bits ≤ MAX_MEMORY_BITS }
     requires slots { All (λ a. a < 2 ^ memory_bits) (slots_of (K.shown kernel.now).derivations) }
-    ensures { IfOk result (λ s. s.keys ≡ spec.rising (spec.full_slots (K.shown kernel.now))) }
+    ensures { IfOk result (λ v. v.items ≡ spec.rising (spec.full_slots (K.shown kernel.now))) }
 {
-    let mut slots = BTreeSet::new(alloc);
+    let mut slots = Vec::new(alloc);
     for place in 0..places::<P>(memory_bits) {
         let slot = address::<P>(place, memory_bits);
         if !is_full::<P, K>(slot, kernel) {
             continue;
         }
-        slots.insert(slot)?;
+        slots.push(slot)?;
     }
     Ok(slots)
 }

@@ -8,3 +8,5 @@ pub use Rattle.derivation.specs.MarkedEdits
 pub mod Places
 pub mod Rows
 pub mod Links
+pub mod Calls
+pub mod TableEdits

@@ -27,6 +27,10 @@ previous_of links i = place_in (link_at links i).previous
 abbrev pub row_of : List Link → ℕ → Marked
 row_of links i = marked i (link_at links i).cap (link_at links i).revocable (link_at links i).first_badged
 
+-- what a row has beside its neighbours, at no place of its own
+abbrev pub unplaced : Link → Marked
+unplaced link = marked 0 link.cap link.revocable link.first_badged
+
 -- the first of a list, and `behind` where it has none
 abbrev pub head_or : List ℕ → Option ℕ → Option ℕ
 head_or [] behind = behind

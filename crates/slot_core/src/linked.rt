@@ -12,7 +12,8 @@ use cap_core::{Cap, Profile};
 use std::alloc::{AllocError, Global};
 use std::marker::{Model, PhantomData};
 
-/// The linked form of a capability store: a row for each slot of the memory, and the first and the last slot of the list.
+/// The linked form of a capability store: a row for each slot of the memory, and the first and the last slot of the
+/// list.
 #[derive(Drop)]
 pub struct LinkedStore<P: Profile> {
     links: Vec<Link>,
@@ -35,7 +36,17 @@ impl<P: Profile> Model for LinkedStore<P> {
 }
 
 impl<P: Profile> CapStore<P> for LinkedStore<P> {
+    ghost use Rattle.std.specs.Prelude.{◌^◌, ◌<◌, true, false};
+    ghost use Rattle.cap_core.specs.Objects.{IsLawful, is_untyped, badge_of, contains};
+    ghost use Rattle.slot_core.specs.Places.{address_of};
+    ghost use Rattle.slot_core.specs.Calls.{held, is_filled, rooted_at, retyped_at, derived_at, moved_at, freed_at};
+    ghost use Rattle.slot_core.specs.Calls.{emptied_at};
+    ghost use Rattle.slot_core.specs.Calls.{KeepsBadge, IsChildless};
+    ghost use Rattle.derivation.specs.Derivation.{with_free, names_same, is_named};
+    ghost use Rattle.derivation.specs.Disjoint.{IsDisjoint};
     ghost use Rattle.derivation.specs.Marked.{forest_of};
+    ghost use Rattle.derivation.specs.MarkedEdits.{appended, object_behind, derived_behind, moved_to};
+    ghost use Rattle.derivation.specs.MarkedEdits.{freed_at as freed_in, taken_out};
 
     ghost forest = { λ s. forest_of P.the s.0 };
 
@@ -46,12 +57,33 @@ impl<P: Profile> CapStore<P> for LinkedStore<P> {
         row(&self.links, slot).cap
     }
 
-    fn put_root(&mut self, slot: Slot, cap: Cap) {
+    fn put_root(&mut self, slot: Slot, cap: Cap)
+        requires within { address_of P.the slot < 2 ^ self.old.1 }
+        requires empty { is_filled P.the slot (forest_of P.the self.old.0) ≡ false }
+        requires lawful { IsLawful P.the (self.old.1) cap }
+        requires unnamed { is_named cap (forest_of P.the self.old.0) ≡ false }
+        requires disjoint { IsDisjoint P.the (rooted_at P.the slot cap (forest_of P.the self.old.0)) }
+        ensures list { self.new.0 ≡ appended slot.place cap self.old.0 }
+        ensures forest { forest_of P.the self.new.0 ≡ rooted_at P.the slot cap (forest_of P.the self.old.0) }
+        ensures memory { self.new.1 ≡ self.old.1 }
+    {
         append(&mut self.links, &mut self.first, &mut self.last, slot, cap);
     }
 
     #[inline(always)]
-    fn derive(&mut self, source: Slot, slot: Slot, cap: Cap) {
+    fn derive(&mut self, source: Slot, slot: Slot, cap: Cap)
+        requires source { is_filled P.the source (forest_of P.the self.old.0) ≡ true }
+        requires within { address_of P.the slot < 2 ^ self.old.1 }
+        requires empty { is_filled P.the slot (forest_of P.the self.old.0) ≡ false }
+        requires lawful { IsLawful P.the (self.old.1) cap }
+        requires same { names_same (held P.the source (forest_of P.the self.old.0)) cap ≡ true }
+        requires badge { KeepsBadge (held P.the source (forest_of P.the self.old.0)) cap }
+        requires childless { IsChildless P.the source cap (forest_of P.the self.old.0) }
+        requires disjoint { IsDisjoint P.the (derived_at P.the source slot cap (forest_of P.the self.old.0)) }
+        ensures list { self.new.0 ≡ derived_behind source.place slot.place cap self.old.0 }
+        ensures forest { forest_of P.the self.new.0 ≡ derived_at P.the source slot cap (forest_of P.the self.old.0) }
+        ensures memory { self.new.1 ≡ self.old.1 }
+    {
         let marks = is_new_original(row(&self.links, source).cap, cap);
         insert_after(
             &mut self.links,
@@ -64,7 +96,18 @@ impl<P: Profile> CapStore<P> for LinkedStore<P> {
         );
     }
 
-    fn put_new(&mut self, parent: Slot, slot: Slot, cap: Cap) {
+    fn put_new(&mut self, parent: Slot, slot: Slot, cap: Cap)
+        requires parent { is_untyped (held P.the parent (forest_of P.the self.old.0)) ≡ true }
+        requires contains { contains P.the (held P.the parent (forest_of P.the self.old.0)) cap ≡ true }
+        requires within { address_of P.the slot < 2 ^ self.old.1 }
+        requires empty { is_filled P.the slot (forest_of P.the self.old.0) ≡ false }
+        requires lawful { IsLawful P.the (self.old.1) cap }
+        requires unnamed { is_named cap (forest_of P.the self.old.0) ≡ false }
+        requires disjoint { IsDisjoint P.the (retyped_at P.the parent slot cap (forest_of P.the self.old.0)) }
+        ensures list { self.new.0 ≡ object_behind parent.place slot.place cap self.old.0 }
+        ensures forest { forest_of P.the self.new.0 ≡ retyped_at P.the parent slot cap (forest_of P.the self.old.0) }
+        ensures memory { self.new.1 ≡ self.old.1 }
+    {
         let marks = true;
         insert_after(
             &mut self.links,
@@ -78,7 +121,18 @@ impl<P: Profile> CapStore<P> for LinkedStore<P> {
     }
 
     #[inline(always)]
-    fn relocate(&mut self, source: Slot, slot: Slot, cap: Cap) {
+    fn relocate(&mut self, source: Slot, slot: Slot, cap: Cap)
+        requires source { is_filled P.the source (forest_of P.the self.old.0) ≡ true }
+        requires within { address_of P.the slot < 2 ^ self.old.1 }
+        requires empty { is_filled P.the slot (forest_of P.the self.old.0) ≡ false }
+        requires lawful { IsLawful P.the (self.old.1) cap }
+        requires same { names_same (held P.the source (forest_of P.the self.old.0)) cap ≡ true }
+        requires badge { badge_of cap ≡ badge_of (held P.the source (forest_of P.the self.old.0)) }
+        requires disjoint { IsDisjoint P.the (moved_at P.the source slot cap (forest_of P.the self.old.0)) }
+        ensures list { self.new.0 ≡ moved_to source.place slot.place cap self.old.0 }
+        ensures forest { forest_of P.the self.new.0 ≡ moved_at P.the source slot cap (forest_of P.the self.old.0) }
+        ensures memory { self.new.1 ≡ self.old.1 }
+    {
         replace(
             &mut self.links,
             &mut self.first,
@@ -89,11 +143,22 @@ impl<P: Profile> CapStore<P> for LinkedStore<P> {
         );
     }
 
-    fn set_free(&mut self, slot: Slot, free: u64) {
+    fn set_free(&mut self, slot: Slot, free: u64)
+        requires untyped { is_untyped (held P.the slot (forest_of P.the self.old.0)) ≡ true }
+        requires lawful { IsLawful P.the (self.old.1) (with_free free (held P.the slot (forest_of P.the self.old.0))) }
+        ensures list { self.new.0 ≡ freed_in slot.place free self.old.0 }
+        ensures forest { forest_of P.the self.new.0 ≡ freed_at P.the slot free (forest_of P.the self.old.0) }
+        ensures memory { self.new.1 ≡ self.old.1 }
+    {
         free_from(&mut self.links, slot, free);
     }
 
-    fn remove(&mut self, slot: Slot) {
+    fn remove(&mut self, slot: Slot)
+        requires full { is_filled P.the slot (forest_of P.the self.old.0) ≡ true }
+        ensures list { self.new.0 ≡ taken_out slot.place self.old.0 }
+        ensures forest { forest_of P.the self.new.0 ≡ emptied_at P.the slot (forest_of P.the self.old.0) }
+        ensures memory { self.new.1 ≡ self.old.1 }
+    {
         unlink(&mut self.links, &mut self.first, &mut self.last, slot);
     }
 
@@ -128,7 +193,8 @@ impl<P: Profile> MakeStore<P> for LinkedStore<P> {
     }
 
     fn copy(&self, alloc: Global) -> Result<LinkedStore<P>, AllocError> {
-        // Each field is named and bound at its type, so a field more, of a tree or of further marks, would not compile.
+        // Each field is named and bound at its type, so a field more, of a tree or of further marks, would not
+        // compile.
         let LinkedStore {
             links,
             first,
@@ -151,13 +217,13 @@ impl<P: Profile> MakeStore<P> for LinkedStore<P> {
 }
 
 impl<P: Profile> LinkedStore<P> {
-    ghost use Rattle.std.specs.Prelude.{◌≡◌, ◌*◌, ◌<◌, ◌^◌, None, List, ◌∷◌, ◌++◌, map};
+    ghost use Rattle.std.specs.Prelude.{◌≡◌, ◌<◌, ◌^◌, None};
     ghost use Rattle.slot_core.specs.Places.{address_of};
     ghost use Rattle.slot_core.specs.Links.{place_in};
-    ghost use Rattle.derivation.specs.Marked.{Marked, row_in, previous_in, next_in, entry_of, forest_of, run_of, StandsForEntries, HasOthersBelow};
-    ghost use Rattle.derivation.specs.Forest.{Forest, descendants};
-    ghost use Rattle.derivation.specs.Entries.{Entry, is_at};
-    ghost use Rattle.cap_core.specs.Numbers.{slot_size};
+    ghost use Rattle.derivation.specs.Marked.{row_in, previous_in, next_in, forest_of, StandsForEntries};
+    ghost use Rattle.derivation.specs.Marked.{HasRunsBelow, HasChildrenNext, HasLastsAlone, HasOthersBelow};
+    ghost use Rattle.derivation.specs.Forest.{Forest};
+    ghost use Rattle.derivation.specs.Entries.{Entry};
 
     /// A slot's row in the list; an empty slot's has no capability, no neighbours and no mark.
     pub fn link(&self, slot: Slot) -> Link
@@ -171,13 +237,17 @@ impl<P: Profile> LinkedStore<P> {
         row(&self.links, slot)
     }
 
-    /// Derivation without a tree. Whatever calls a store has had, the rows that `link` answers stand for its forest, where
-    /// revocable is originality, and for no other. The descendants of a slot are the longest run of the slots behind it that
-    /// it is parent of. An original capability with no badge has all other capabilities of its object below it.
+    /// Derivation without a tree. Whatever calls a store has had, the rows that `link` answers stand for its forest,
+    /// where revocable is originality, and for no other. The descendants of a slot are the longest run of the slots
+    /// behind it that it is parent of, and its newest child is the next slot, where it is parent of that. A
+    /// capability is the last of its object where it is untyped, or neither neighbour names the object. An original
+    /// capability with no badge has all other capabilities of its object below it.
     pub fn stands_for_its_forest(&self)
         ensures stands { StandsForEntries P.the self.now.0 (forest_of P.the self.now.0) }
         ensures alone { (f : Forest Entry) → StandsForEntries P.the self.now.0 f → f ≡ forest_of P.the self.now.0 }
-        ensures descendants { (pre : List Marked) (s : Marked) (post : List Marked) → self.now.0 ≡ pre ++ s ∷ post → descendants (is_at (s.place * slot_size P.the)) (forest_of P.the self.now.0) ≡ map (entry_of P.the) (run_of P.the s post) }
+        ensures descendants { HasRunsBelow P.the self.now.0 }
+        ensures children { HasChildrenNext P.the self.now.0 }
+        ensures lasts { HasLastsAlone P.the self.now.0 }
         ensures below { HasOthersBelow (forest_of P.the self.now.0) }
     {
         // The type's promise is known once a field is read.

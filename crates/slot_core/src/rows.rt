@@ -38,8 +38,8 @@ impl Row {
     }
 }
 
-/// The plain form of a capability store: the full slots in the preorder of their forest, with room for every slot of the
-/// memory.
+/// The plain form of a capability store: the full slots in the preorder of their forest, with room for every slot of
+/// the memory.
 #[derive(Drop)]
 pub struct RowStore<P: Profile> {
     rows: Vec<Row>,

@@ -36,7 +36,8 @@ impl PartialEq for Slot {
 }
 
 impl Slot {
-    /// The slot at an address, or `None` where the address is no multiple of a slot's size, or no word of the profile.
+    /// The slot at an address, or `None` where the address is no multiple of a slot's size, or no word of the
+    /// profile.
     pub fn at<P: Profile>(address: u64) -> Option<Slot>
         ensures slot { IfSome result (λ s. s.place * slot_size P.the ≡ address) }
         ensures word { IfSome result (λ s. address < 2 ^ word_bits P.the) }
@@ -64,7 +65,7 @@ impl Slot {
     }
 
     /// The slot's place in a table with one row a slot of the memory.
-    pub(crate) fn index(self) -> usize
+    pub fn index(self) -> usize
         ensures { result ≡ self.place }
     {
         self.place as usize

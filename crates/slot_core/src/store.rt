@@ -3,9 +3,12 @@ ghost use Rattle.std.specs.Prelude.{◌≡◌, ℕ, ◌^◌, ◌<◌, ◌≤◌,
 ghost use Rattle.cap_core.specs.Objects.{IsLawful, is_untyped, badge_of, contains};
 ghost use Rattle.cap_core.specs.declared.capability.Cap.TheVariants.{Null};
 ghost use Rattle.slot_core.specs.Places.{address_of};
+ghost use Rattle.slot_core.specs.Calls.{held, is_filled, newest_child, rooted_at, retyped_at, derived_at, moved_at};
+ghost use Rattle.slot_core.specs.Calls.{freed_at, emptied_at};
+ghost use Rattle.slot_core.specs.Calls.{KeepsBadge, IsChildless};
 ghost use Rattle.derivation.specs.Forest.{Forest, none};
-ghost use Rattle.derivation.specs.Entries.{Entry, cap_at, is_full, first_child as first_child_of};
-ghost use Rattle.derivation.specs.Derivation.{derived, rooted, retyped, moved, freed, with_free, emptied, names_same, is_named, is_last as is_last_of};
+ghost use Rattle.derivation.specs.Entries.{Entry};
+ghost use Rattle.derivation.specs.Derivation.{with_free, names_same, is_named, is_last as is_last_of};
 ghost use Rattle.derivation.specs.Disjoint.{IsDisjoint};
 
 use crate::slot::Slot;
@@ -13,10 +16,11 @@ use cap_core::limits::{MAX_MEMORY_BITS, MIN_MEMORY_BITS};
 use cap_core::{Cap, Profile};
 use std::alloc::{AllocError, Global};
 
-/// Slots with capabilities, and the forest of their derivation (seL4 Reference Manual, on the capability derivation tree).
+/// Slots with capabilities, and the forest of their derivation (seL4 Reference Manual, on the capability derivation
+/// tree).
 ///
-/// Contracts see a store as its derivation forest, whose entries are the full slots with their capabilities and whether
-/// each is original, and as the bits of its memory's size. No call takes memory.
+/// Contracts see a store as its derivation forest, whose entries are the full slots with their capabilities and
+/// whether each is original, and as the bits of its memory's size. No call takes memory.
 pub trait CapStore<P: Profile> {
     ghost forest: { Self → Forest Entry };
 
@@ -24,79 +28,81 @@ pub trait CapStore<P: Profile> {
 
     /// The capability in a slot: `Null` in an empty slot and past the end of the memory.
     fn get(&self, slot: Slot) -> Cap
-        ensures cap { result ≡ cap_at (forest self.now) (address_of P.the slot) }
+        ensures cap { result ≡ held P.the slot (forest self.now) }
         ensures lawful { (result ≡ Null) ⊎ IsLawful P.the (memory_bits self.now) result }
         ensures past { 2 ^ memory_bits self.now ≤ address_of P.the slot → result ≡ Null };
 
     /// Puts a capability that is derived from none into an empty slot: a tree of its own, original, the last one.
     fn put_root(&mut self, slot: Slot, cap: Cap)
         requires within { address_of P.the slot < 2 ^ memory_bits self.old }
-        requires empty { is_full (address_of P.the slot) (forest self.old) ≡ false }
+        requires empty { is_filled P.the slot (forest self.old) ≡ false }
         requires lawful { IsLawful P.the (memory_bits self.old) cap }
         requires unnamed { is_named cap (forest self.old) ≡ false }
-        requires disjoint { IsDisjoint P.the (rooted (address_of P.the slot) cap (forest self.old)) }
-        ensures forest { forest self.new ≡ rooted (address_of P.the slot) cap (forest self.old) }
+        requires disjoint { IsDisjoint P.the (rooted_at P.the slot cap (forest self.old)) }
+        ensures forest { forest self.new ≡ rooted_at P.the slot cap (forest self.old) }
         ensures memory { memory_bits self.new ≡ memory_bits self.old };
 
-    /// Puts the capability of a new object into an empty slot: the first child of the untyped in `parent`, and original.
+    /// Puts the capability of a new object into an empty slot: the first child of the untyped in `parent`, and
+    /// original.
     fn put_new(&mut self, parent: Slot, slot: Slot, cap: Cap)
-        requires parent { is_untyped (cap_at (forest self.old) (address_of P.the parent)) ≡ true }
-        requires contains { contains P.the (cap_at (forest self.old) (address_of P.the parent)) cap ≡ true }
+        requires parent { is_untyped (held P.the parent (forest self.old)) ≡ true }
+        requires contains { contains P.the (held P.the parent (forest self.old)) cap ≡ true }
         requires within { address_of P.the slot < 2 ^ memory_bits self.old }
-        requires empty { is_full (address_of P.the slot) (forest self.old) ≡ false }
+        requires empty { is_filled P.the slot (forest self.old) ≡ false }
         requires lawful { IsLawful P.the (memory_bits self.old) cap }
         requires unnamed { is_named cap (forest self.old) ≡ false }
-        requires disjoint { IsDisjoint P.the (retyped (address_of P.the parent) (address_of P.the slot) cap (forest self.old)) }
-        ensures forest { forest self.new ≡ retyped (address_of P.the parent) (address_of P.the slot) cap (forest self.old) }
+        requires disjoint { IsDisjoint P.the (retyped_at P.the parent slot cap (forest self.old)) }
+        ensures forest { forest self.new ≡ retyped_at P.the parent slot cap (forest self.old) }
         ensures memory { memory_bits self.new ≡ memory_bits self.old };
 
     /// Puts a capability that is derived from the one in `source` into the empty slot `slot`: the first child of an
     /// original source, and the next sibling of another. It is original where it is untyped or has another badge.
     fn derive(&mut self, source: Slot, slot: Slot, cap: Cap)
-        requires source { is_full (address_of P.the source) (forest self.old) ≡ true }
+        requires source { is_filled P.the source (forest self.old) ≡ true }
         requires within { address_of P.the slot < 2 ^ memory_bits self.old }
-        requires empty { is_full (address_of P.the slot) (forest self.old) ≡ false }
+        requires empty { is_filled P.the slot (forest self.old) ≡ false }
         requires lawful { IsLawful P.the (memory_bits self.old) cap }
-        requires same { names_same (cap_at (forest self.old) (address_of P.the source)) cap ≡ true }
-        requires badge { (badge_of cap ≡ badge_of (cap_at (forest self.old) (address_of P.the source))) ⊎ (badge_of (cap_at (forest self.old) (address_of P.the source)) ≡ 0) }
-        requires childless { is_untyped cap ≡ true → first_child_of (address_of P.the source) (forest self.old) ≡ None }
-        requires disjoint { IsDisjoint P.the (derived (address_of P.the source) (address_of P.the slot) cap (forest self.old)) }
-        ensures forest { forest self.new ≡ derived (address_of P.the source) (address_of P.the slot) cap (forest self.old) }
+        requires same { names_same (held P.the source (forest self.old)) cap ≡ true }
+        requires badge { KeepsBadge (held P.the source (forest self.old)) cap }
+        requires childless { IsChildless P.the source cap (forest self.old) }
+        requires disjoint { IsDisjoint P.the (derived_at P.the source slot cap (forest self.old)) }
+        ensures forest { forest self.new ≡ derived_at P.the source slot cap (forest self.old) }
         ensures memory { memory_bits self.new ≡ memory_bits self.old };
 
-    /// Moves a capability from `source` to the empty slot `slot`, as `cap`, which names the same object with the same badge.
-    /// It keeps its place in the forest and whether it is original; `source` is empty afterwards.
+    /// Moves a capability from `source` to the empty slot `slot`, as `cap`, which names the same object with the same
+    /// badge. It keeps its place in the forest and whether it is original; `source` is empty afterwards.
     fn relocate(&mut self, source: Slot, slot: Slot, cap: Cap)
-        requires source { is_full (address_of P.the source) (forest self.old) ≡ true }
+        requires source { is_filled P.the source (forest self.old) ≡ true }
         requires within { address_of P.the slot < 2 ^ memory_bits self.old }
-        requires empty { is_full (address_of P.the slot) (forest self.old) ≡ false }
+        requires empty { is_filled P.the slot (forest self.old) ≡ false }
         requires lawful { IsLawful P.the (memory_bits self.old) cap }
-        requires same { names_same (cap_at (forest self.old) (address_of P.the source)) cap ≡ true }
-        requires badge { badge_of cap ≡ badge_of (cap_at (forest self.old) (address_of P.the source)) }
-        requires disjoint { IsDisjoint P.the (moved (address_of P.the source) (address_of P.the slot) cap (forest self.old)) }
-        ensures forest { forest self.new ≡ moved (address_of P.the source) (address_of P.the slot) cap (forest self.old) }
+        requires same { names_same (held P.the source (forest self.old)) cap ≡ true }
+        requires badge { badge_of cap ≡ badge_of (held P.the source (forest self.old)) }
+        requires disjoint { IsDisjoint P.the (moved_at P.the source slot cap (forest self.old)) }
+        ensures forest { forest self.new ≡ moved_at P.the source slot cap (forest self.old) }
         ensures memory { memory_bits self.new ≡ memory_bits self.old };
 
     /// Sets the free index, in bytes, of the untyped capability in a slot.
     fn set_free(&mut self, slot: Slot, free: u64)
-        requires untyped { is_untyped (cap_at (forest self.old) (address_of P.the slot)) ≡ true }
-        requires lawful { IsLawful P.the (memory_bits self.old) (with_free free (cap_at (forest self.old) (address_of P.the slot))) }
-        ensures forest { forest self.new ≡ freed (address_of P.the slot) free (forest self.old) }
+        requires untyped { is_untyped (held P.the slot (forest self.old)) ≡ true }
+        requires lawful { IsLawful P.the (memory_bits self.old) (with_free free (held P.the slot (forest self.old))) }
+        ensures forest { forest self.new ≡ freed_at P.the slot free (forest self.old) }
         ensures memory { memory_bits self.new ≡ memory_bits self.old };
 
     /// Empties a full slot; its children take its place in the forest, in their order.
     fn remove(&mut self, slot: Slot)
-        requires full { is_full (address_of P.the slot) (forest self.old) ≡ true }
-        ensures forest { forest self.new ≡ emptied (address_of P.the slot) (forest self.old) }
+        requires full { is_filled P.the slot (forest self.old) ≡ true }
+        ensures forest { forest self.new ≡ emptied_at P.the slot (forest self.old) }
         ensures memory { memory_bits self.new ≡ memory_bits self.old };
 
     /// The newest child of a slot; an empty slot has none.
     fn first_child(&self, slot: Slot) -> Option<Slot>
-        ensures { option_map (address_of P.the) result ≡ first_child_of (address_of P.the slot) (forest self.now) };
+        ensures { option_map (address_of P.the) result ≡ newest_child P.the slot (forest self.now) };
 
-    /// Whether the capability in a full slot is the last of its object: it is untyped, or no other slot names the object.
+    /// Whether the capability in a full slot is the last of its object: it is untyped, or no other slot names the
+    /// object.
     fn is_last(&self, slot: Slot) -> bool
-        requires full { is_full (address_of P.the slot) (forest self.now) ≡ true }
+        requires full { is_filled P.the slot (forest self.now) ≡ true }
         ensures { result ≡ is_last_of (address_of P.the slot) (forest self.now) };
 }
 

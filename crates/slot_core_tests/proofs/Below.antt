@@ -5,7 +5,7 @@ use Rattle.derivation.specs.Forest.{Forest, none, tree, preorder, join, below_th
 use Rattle.slot_core_tests.specs.TestForests.{HoldsBelow}
 use Rattle.derivation.proofs.Trees.Forests.{each-append, each-left_part, each-right_part, each-join, each-weaker}
 use Rattle.derivation.proofs.Trees.Built.{preorder-renamed}
-use Rattle.derivation.proofs.Disjoint.DisjointEdits.{each-out}
+use Rattle.derivation.proofs.Slots.Emptied.{each-out}
 use Rattle.derivation.proofs.Trees.Above.{has-any}
 
 pub holds-join : {A : Type 0} (R : A → A → Type 0) (f g : Forest A) → HoldsBelow R f → HoldsBelow R g → HoldsBelow R (join f g)

@@ -27,12 +27,12 @@ use Rattle.derivation.proofs.Slots.Distinct.{once_at, distinct-rooted, distinct-
 use Rattle.derivation.proofs.Trees.Built.{Absent, Once, once-right_part}
 use Rattle.derivation.proofs.Trees.Lines.{once-left_part}
 use Rattle.derivation.proofs.Slots.Holding.{cap-entry, original_in-one}
-use Rattle.derivation.proofs.Disjoint.Disjointness.{AreSame, are_same, disjoint-none, disjoint-rooted, apart_contains}
+use Rattle.derivation.proofs.Disjoint.Disjointness.{same_number, AreSame, are_same, disjoint-none, disjoint-rooted, apart_contains}
 use Rattle.derivation.proofs.Disjoint.Alike.{IsAlike, alike_self, alike_named, alike_freed, contains-alike_second, contains-alike}
 use Rattle.derivation.proofs.Disjoint.DisjointDerived.{disjoint-derived_named}
 use Rattle.derivation.proofs.Disjoint.DisjointRetyped.{contains-through, disjoint-retyped}
-use Rattle.derivation.proofs.Disjoint.DisjointRenamed.{disjoint-moved}
-use Rattle.derivation.proofs.Disjoint.DisjointEdits.{disjoint-freed, disjoint-emptied}
+use Rattle.derivation.proofs.Disjoint.DisjointRenamed.{disjoint-freed, disjoint-moved}
+use Rattle.derivation.proofs.Disjoint.DisjointEmptied.{disjoint-emptied}
 use Rattle.derivation.proofs.Slots.FirstChildren.{childless-bare}
 use Rattle.derivation.proofs.Trees.Above.{each-below_those}
 use Rattle.slot_core_tests.proofs.Below.{Takes, holds-root, holds-below, holds-after, holds-out, holds-renamed, each-descendant, each-ancestor}
@@ -76,9 +76,6 @@ each-slot p f P h g = each-from_contained (λ (e : Entry). (i : ℕ) × (e.slot 
         (t.placed.0, t.placed.2, subst Q (ap (cap_at f) (sym t.placed.2) ∙ cap-entry f e h.distinct m) (g t.placed.0 t.placed.1))
 
 -- ranges
-
-same_number : (n : ℕ) → (n == n) ≡ true
-same_number n = grind (arith, nat_tests)
 
 not_less : (n : ℕ) → nat_le n n ≡ true
 not_less n = grind (arith, nat_tests)

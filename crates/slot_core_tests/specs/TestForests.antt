@@ -1,12 +1,12 @@
 -- What the tests keep of a store while they go through a sequence of calls.
-use Rattle.std.specs.Prelude.{◌≡◌, ℕ, ◌*◌, ◌<◌, Bool, true, not, nat_le, eqb, ◌||◌, ⊤}
+use Rattle.std.specs.Prelude.{◌≡◌, ℕ, ◌*◌, ◌<◌, Bool, true, false, not, nat_le, eqb, ◌||◌, ⊤}
 use Rattle.std.specs.List.{AllByRecursion as Each, IsDistinct}
 use Rattle.cap_core.specs.declared.profile.ProfileName.{ProfileName}
 use Rattle.cap_core.specs.declared.capability.Cap.{Cap}
 use Rattle.cap_core.specs.Numbers.{slot_size}
 use Rattle.cap_core.specs.Objects.{IsLawful, is_null, is_untyped, contains, are_apart, base_of, end_of}
 use Rattle.derivation.specs.Forest.{Forest, none, tree, preorder}
-use Rattle.derivation.specs.Entries.{Entry, slots}
+use Rattle.derivation.specs.Entries.{Entry, is_at, slots}
 use Rattle.derivation.specs.Disjoint.{IsDisjoint}
 
 -- R holds between each and all that stands below it
@@ -38,3 +38,8 @@ is_clear p cap held = is_null held || are_apart p held cap
 -- what a slot holds lies outside the region, or ends in front of a capability's object
 abbrev pub leaves_room : ProfileName → Cap → Cap → Cap → Bool
 leaves_room p region cap held = is_null held || (not (contains p region held) || nat_le (end_of p held) (base_of cap))
+
+-- all but what stands at the parent's place lies outside the region, or ends in front of a capability's object
+abbrev pub HasRoom : ProfileName → ℕ → Cap → Cap → Forest Entry → Type 0
+HasRoom p parent region cap f =
+    Each (λ (e : Entry). is_at (parent * slot_size p) e ≡ false → leaves_room p region cap e.cap ≡ true) (preorder f)

@@ -68,7 +68,8 @@ fn answers<P: Profile, S: CapStore<P>>(
     held_by(store.get(slot::<P>(index))) == what && store.first_child(slot::<P>(index)) == child
 }
 
-// An endpoint's capability in slot 0; below it one with a badge in slot 1, and in front of that copies in slots 2 and 3.
+// An endpoint's capability in slot 0; below it one with a badge in slot 1, and in front of that copies in slots 2 and
+// 3.
 fn family<P: Profile, S: MakeStore<P>>(alloc: Global) -> Result<S, AllocError> {
     let mut store = new_store::<P, S>(alloc)?;
     put_root::<P, S>(&mut store, 0, object::<P>(512, 4));
@@ -92,8 +93,8 @@ fn holds_its_family<P: Profile, S: MakeStore<P>>(
     Ok(())
 }
 
-// An untyped region in slot 0, of whose first bytes an endpoint is made in slot 1; a badged capability of that is derived in
-// slot 2 and moves to slot 3.
+// An untyped region in slot 0, of whose first bytes an endpoint is made in slot 1; a badged capability of that is
+// derived in slot 2 and moves to slot 3.
 fn region<P: Profile, S: MakeStore<P>>(alloc: Global) -> Result<S, AllocError>
     ensures memory { IfOk result (λ s. S.memory_bits s ≡ 12) }
     ensures forest { IfOk result (λ s. IsTestForest P.the (S.forest s)) }

@@ -2,13 +2,16 @@
 ghost use Rattle.std.specs.Prelude.{◌≡◌, ◌<◌, ◌*◌, ◌+◌, ◌≤◌, ◌%◌, ◌⊎◌, true, false, IfSome, IfOk, None};
 ghost use Rattle.std.specs.List.{AllByRecursion as Each};
 ghost use Rattle.cap_core.specs.Numbers.{slot_size};
-ghost use Rattle.cap_core.specs.Objects.{IsLawful, is_null as is_null_in, is_untyped as is_untyped_in, badge_of, base_of, end_of, contains, are_apart};
+ghost use Rattle.cap_core.specs.Objects.{IsLawful, is_null as is_null_in, is_untyped as is_untyped_in, badge_of};
+ghost use Rattle.cap_core.specs.Objects.{base_of, end_of, contains, are_apart};
 ghost use Rattle.cap_core.specs.declared.capability.Cap.TheVariants.{Null};
 ghost use Rattle.derivation.specs.Forest.{preorder};
 ghost use Rattle.derivation.specs.Entries.{Entry, is_at, is_full, first_child};
 ghost use Rattle.derivation.specs.Derivation.{names_same};
 ghost use Rattle.slot_core.specs.Places.{address_of};
-ghost use Rattle.slot_core_tests.specs.TestForests.{IsTestForest, is_clear as is_clear_in, leaves_room as leaves_room_in};
+ghost use Rattle.slot_core.specs.Calls.{IsChildless};
+ghost use Rattle.slot_core_tests.specs.TestForests.{HasRoom, IsTestForest, is_clear as is_clear_in};
+ghost use Rattle.slot_core_tests.specs.TestForests.{leaves_room as leaves_room_in};
 
 use cap_core::{Badge, Cap, Guard, Profile, Rights, in_region, range_of};
 use slot_core::{CapStore, MakeStore, Slot};
@@ -47,7 +50,8 @@ pub fn is_untyped(cap: Cap) -> bool
     }
 }
 
-/// A new object at an address: an untyped region of 2^6 or, where it fits, of 2^8 or 2^10 bytes, a CNode or an endpoint.
+/// A new object at an address: an untyped region of 2^6 or, where it fits, of 2^8 or 2^10 bytes, a CNode or an
+/// endpoint.
 pub fn object<P: Profile>(base: u64, choice: u64) -> Cap
     requires aligned { base % 64 ≡ 0 }
     requires end { base + 64 ≤ 4096 }
@@ -145,7 +149,7 @@ pub fn has_room<P: Profile, S: CapStore<P>>(store: &S, parent: u64, region: Cap,
     requires cap { IsLawful P.the 12 cap }
     requires memory { S.memory_bits store.now ≡ 12 }
     requires forest { IsTestForest P.the (S.forest store.now) }
-    ensures { result ≡ true → Each (λ (e : Entry). is_at (parent * slot_size P.the) e ≡ false → leaves_room_in P.the region cap e.cap ≡ true) (preorder (S.forest store.now)) }
+    ensures { result ≡ true → HasRoom P.the parent region cap (S.forest store.now) }
 {
     for i in 0..16 {
         if i != parent && !leaves_room::<P>(region, cap, store.get(slot::<P>(i))) {
@@ -155,7 +159,8 @@ pub fn has_room<P: Profile, S: CapStore<P>>(store: &S, parent: u64, region: Cap,
     true
 }
 
-/// Puts a capability that is derived from none into a slot, if the slot is empty and the object is apart from all others.
+/// Puts a capability that is derived from none into a slot, if the slot is empty and the object is apart from all
+/// others.
 pub fn put_root<P: Profile, S: CapStore<P>>(store: &mut S, target: u64, cap: Cap)
     requires target { target < 16 }
     requires lawful { IsLawful P.the 12 cap }
@@ -187,8 +192,8 @@ pub fn set_free<P: Profile, S: CapStore<P>>(store: &mut S, source: u64, free: u6
     store.set_free(at, free);
 }
 
-/// The capability of a new object at the first free byte of an untyped region, if that is a multiple of 64 and the object lies
-/// in the region.
+/// The capability of a new object at the first free byte of an untyped region, if that is a multiple of 64 and the
+/// object lies in the region.
 pub fn next_object<P: Profile>(region: Cap, choice: u64) -> Option<Cap>
     requires { (region ≡ Null) ⊎ IsLawful P.the 12 region }
     ensures lawful { IfSome result (λ cap. IsLawful P.the 12 cap) }
@@ -208,7 +213,8 @@ pub fn next_object<P: Profile>(region: Cap, choice: u64) -> Option<Cap>
     }
 }
 
-/// Puts a new object's capability into an empty slot, below an untyped one, if there is room, and counts that as used.
+/// Puts a new object's capability into an empty slot, below an untyped one, if there is room, and counts that as
+/// used.
 pub fn put_new<P: Profile, S: CapStore<P>>(store: &mut S, source: u64, target: u64, choice: u64)
     requires source { source < 16 }
     requires target { target < 16 }
@@ -253,7 +259,7 @@ pub fn rebadged<P: Profile>(cap: Cap, badge: u64) -> Cap
 
 /// Whether a capability may be derived from the one in a slot: an untyped one only where the slot has no child.
 pub fn may_derive<P: Profile, S: CapStore<P>>(store: &S, source: Slot, cap: Cap) -> bool
-    ensures { result ≡ true → is_untyped_in cap ≡ true → first_child (address_of P.the source) (S.forest store.now) ≡ None }
+    ensures { result ≡ true → IsChildless P.the source cap (S.forest store.now) }
 {
     !is_untyped(cap) || store.first_child(source).is_none()
 }

@@ -1,4 +1,5 @@
-//! Tests of the capability stores: what they answer to each call, and that both forms answer alike through sequences of calls.
+//! Tests of the capability stores: what they answer to each call, and that both forms answer alike through sequences
+//! of calls.
 #![tactic(auto)]
 
 #[cfg(test)]

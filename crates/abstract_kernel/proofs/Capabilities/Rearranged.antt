@@ -1,6 +1,6 @@
 -- Capabilities are rearranged, and the same objects are live: what is shown after.
-use Rattle.std.proofs.Common.{◌≡◌, ℕ, ◌≤◌, true, cond, ◌==◌, List, [], ◌∷◌, find, refl, sym, ◌∙◌, arith, inl, inr}
-use Rattle.std.specs.List.{list_any, AllByRecursion}
+use Rattle.std.proofs.Common.{◌≡◌, ℕ, ◌≤◌, true, cond, ◌==◌, find, refl, sym, ◌∙◌, arith, inl, inr}
+use Rattle.std.specs.List.{list_any}
 use Rattle.std.proofs.lemmas.Bool.Decides.{eqb_tells}
 use Rattle.derivation.specs.Forest.{Forest}
 use Rattle.derivation.specs.Entries.{Entry}
@@ -13,7 +13,8 @@ use Rattle.abstract_kernel.specs.Step as spec
 use Rattle.abstract_kernel.specs.Private.Effects.{done, rearranged}
 use Rattle.abstract_kernel.proofs.Messages.DeliveredSend.{pending}
 use Rattle.abstract_kernel.proofs.Lists.Searches.{find_agrees, table_agrees, some_tally}
-use Rattle.abstract_kernel.proofs.Reached.Invariant.{Invariant, IsShown, list_shown, receives_later, sends_later, receives_born_later, sends_born_later}
+use Rattle.abstract_kernel.proofs.Lists.Rising.{all_weaker}
+use Rattle.abstract_kernel.proofs.Reached.Invariant.{Invariant, IsOpen, SendIsOpen, ReceiveIsOpen, IsShown, list_shown, receives_later, sends_later, receives_born_later, sends_born_later}
 
 -- a thread waits on one live endpoint at most
 module _ (A : State) (inv : Invariant A) (m : Instance) where
@@ -69,20 +70,19 @@ module _ (A : State) (f : Forest Entry) (inv : Invariant A)
     thread_births = λ b. let le = inv.thread_births b in omega arith;
     born = receives_born_later A.count A.receives inv.born;
     sends_born = sends_born_later A.count A.sends inv.sends_born;
-    awake = inv.awake;
-    sends_awake = inv.sends_awake;
-    known = receives_known A.receives inv.known;
-    sends_known = sends_still_known A.sends inv.sends_known;
+    sends_rising = inv.sends_rising;
+    unshared = inv.unshared;
+    receives_open = λ e. all_weaker (ReceiveIsOpen A) (ReceiveIsOpen after_rearranged) (λ a o. still_open a.endpoint a.thread o) (waiting_receives A e) (inv.receives_open e);
+    sends_open = λ e. all_weaker (SendIsOpen A) (SendIsOpen after_rearranged) (λ s o. still_open s.endpoint s.thread o) (waiting_sends A e) (inv.sends_open e);
     once = λ m b live. inv.once m b (sym (endpoints b) ∙ live);
     alone = λ m b c live live' ne. inv.alone m b c (sym (endpoints b) ∙ live) (sym (endpoints c) ∙ live') ne;
   }
     where
-      receives_known : (receives : List ReceiveRecord) → AllByRecursion (λ (a : ReceiveRecord). (a.thread ≡ thread_at A a.thread.base) × (list_any (λ k. a.thread.base == k) (threads_of A.derivations) ≡ true)) receives →
-          AllByRecursion (λ (a : ReceiveRecord). (a.thread ≡ thread_at after_rearranged a.thread.base) × (list_any (λ k. a.thread.base == k) (threads_of f) ≡ true)) receives
-      receives_known [] h = tt
-      receives_known (a ∷ receives) h = ((h.0.0, threads a.thread.base ∙ h.0.1), receives_known receives h.1)
-
-      sends_still_known : (sends : List SendRecord) → AllByRecursion (λ (s : SendRecord). (s.thread ≡ thread_at A s.thread.base) × (list_any (λ k. s.thread.base == k) (threads_of A.derivations) ≡ true)) sends →
-          AllByRecursion (λ (s : SendRecord). (s.thread ≡ thread_at after_rearranged s.thread.base) × (list_any (λ k. s.thread.base == k) (threads_of f) ≡ true)) sends
-      sends_still_known [] h = tt
-      sends_still_known (s ∷ sends) h = ((h.0.0, threads s.thread.base ∙ h.0.1), sends_still_known sends h.1)
+      still_open : (e m : Instance) → IsOpen A e m → IsOpen after_rearranged e m
+      still_open e m o = record {
+        endpoint_is = o.endpoint_is;
+        endpoint_live = endpoints e.base ∙ o.endpoint_live;
+        thread_is = o.thread_is;
+        thread_live = threads m.base ∙ o.thread_live;
+        awake = o.awake;
+      }

@@ -17,9 +17,10 @@ use Rattle.cspace_core.specs.Bits.{low_bits}
 use Rattle.cspace_core.specs.Resolution.{Found, is_cnode, resolution}
 use Rattle.cspace_core.specs.Target.{found_whole, target_slot}
 use Rattle.cspace_core.proofs.Inside.{found_within}
+use Rattle.cap_core.specs.declared.capability.Kind.{Kind}
 use Rattle.abstract_kernel.specs.Checks.{◌>>=◌}
 use Rattle.abstract_kernel.specs.Memory.{IsSlotAddress}
-use Rattle.abstract_kernel.specs.Lookups.{where_kind, where_empty, where_full, held_in}
+use Rattle.abstract_kernel.specs.Lookups.{is_of_kind, where_kind, where_empty, where_full, held_in}
 
 -- where a check passes, so did those before it
 pub passed : {X Y : Type 0} (r : Result X Refusal) (next : X → Result Y Refusal) (y : Y) → (r >>= next) ≡ Ok y → (x : X) × ((r ≡ Ok x) × (next x ≡ Ok y))
@@ -43,11 +44,11 @@ whatever H (Ok x) h = h
 whatever H (Err y) h = tt
 
 -- the invoked capability is of the kind that is asked for
-pub kind_passed : (is : Cap → Bool) (cap found : Cap) → where_kind is cap ≡ Ok found → (is cap ≡ true) × (cap ≡ found)
-kind_passed is cap found h =
-    let full = cond_failed (is_null cap) (cond (is cap) (Ok cap) (Err IllegalOperation)) InvalidCapability found h in
-    let kind = cond_passed (is cap) (Ok cap) IllegalOperation found full.1 in
-    (kind.0, ok_same cap found kind.1)
+pub kind_passed : (kind : Kind) (cap found : Cap) → where_kind kind cap ≡ Ok found → (is_of_kind kind cap ≡ true) × (cap ≡ found)
+kind_passed kind cap found h =
+    let full = cond_failed (is_null cap) (cond (is_of_kind kind cap) (Ok cap) (Err IllegalOperation)) InvalidCapability found h in
+    let is = cond_passed (is_of_kind kind cap) (Ok cap) IllegalOperation found full.1 in
+    (is.0, ok_same cap found is.1)
 
 -- what a slot holds, where all capabilities are lawful
 lawful_in : (P : Cap → Type 0) (slot : ℕ) (es : List Entry) → All P (map (λ (e : Entry). e.cap) es) → (cap_in slot es ≡ Null) ⊎ P (cap_in slot es)

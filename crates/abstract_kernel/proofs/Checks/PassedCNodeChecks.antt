@@ -15,6 +15,7 @@ use Rattle.derivation.specs.Forest.{Forest}
 use Rattle.derivation.specs.Entries.{Entry, caps, cap_at, first_child}
 use Rattle.derivation.specs.Derivation.{names_same}
 use Rattle.cspace_core.specs.Resolution.{is_cnode}
+use Rattle.cap_core.specs.declared.capability.Kind.TheVariants as kind
 use Rattle.abstract_kernel.specs.declared.invocation.Change.{Change}
 use Rattle.abstract_kernel.specs.declared.invocation.Change.TheVariants.{Copy, Mint, Move, Mutate}
 use Rattle.abstract_kernel.specs.declared.invocation.CapPlacement.{CapPlacement}
@@ -184,7 +185,7 @@ record IsFound (p : ProfileName) (f : Forest Entry) (change : Change) (placement
 placement_found : (p : ProfileName) (f : Forest Entry) (thread slot : ℕ) (asked : SlotArguments) (change : Change) (placement : CapPlacement) →
     decoded_placement p f thread (cap_at f slot) asked change ≡ Ok placement → IsFound p f change placement
 placement_found p f thread slot asked change placement h =
-    let node = passed (where_kind is_cnode (cap_at f slot)) _ placement h in
+    let node = passed (where_kind kind.CNode (cap_at f slot)) _ placement h in
     let root = passed (extra_cap p f thread asked.src_root) _ placement node.1.1 in
     let target = passed (empty_slot p f node.0 asked.index asked.depth) _ placement root.1.1 in
     let source = passed (full_slot p f root.0 asked.src_index asked.src_depth) _ placement target.1.1 in
@@ -192,7 +193,7 @@ placement_found p f thread slot asked change placement h =
     let found : CapPlacement = record { source = source.0; slot = target.0; cap = made.0 } in
     let same : found ≡ placement = ok_same found placement made.1.1 in
     let empty = empty_passed f _ target.0 target.1.0 in
-    let invoked = (kind_passed is_cnode (cap_at f slot) node.0 node.1.0).1 in
+    let invoked = (kind_passed kind.CNode (cap_at f slot) node.0 node.1.0).1 in
     subst (IsFound p f change) same
     (record {
       full = full_passed f _ source.0 source.1.0;

@@ -14,6 +14,7 @@ use Rattle.derivation.specs.Entries.{Entry, caps, cap_at}
 use Rattle.cspace_core.specs.Resolution.{slot_of}
 use Rattle.cspace_core.specs.Target.{target_slot}
 use Rattle.cspace_core.proofs.Nodes.{lawful_node}
+use Rattle.cap_core.specs.declared.capability.Kind.TheVariants as kind
 use Rattle.abstract_kernel.specs.Checks.{◌>>=◌}
 use Rattle.abstract_kernel.specs.declared.call.Op.{Op}
 use Rattle.abstract_kernel.specs.declared.call.Op.TheVariants as op
@@ -72,24 +73,24 @@ node_held p f root node index depth false held h = held_passed f (target_slot p 
 retype_shows : (p : ProfileName) (memory : ℕ) (f : Forest Entry) → All (IsLawful p memory) (caps f) → (thread slot : ℕ) (asked : RetypeArguments) (new : NewObjects) →
     decoded_retype p f thread slot (cap_at f slot) asked ≡ Ok new → IsRetype p f new
 retype_shows p memory f all thread slot asked new h =
-    let untyped = passed (where_kind is_untyped (cap_at f slot)) _ new h in
+    let untyped = passed (where_kind kind.Untyped (cap_at f slot)) _ new h in
     let root = passed (extra_cap p f thread asked.root) _ new untyped.1.1 in
     let shape = passed (shape_of p asked.kind asked.size_bits) _ new root.1.1 in
     let node = passed (node_cap p f root.0 asked.index asked.depth) _ new shape.1.1 in
     let first = passed (first_slot p f asked.offset asked.count node.0) _ new node.1.1 in
     let placed = passed (placed_in (has_child slot f) shape.0.bits asked.count untyped.0) _ new first.1.1 in
     let found : NewObjects = record { untyped = slot; shape = shape.0; placed = placed.0; first_slot = first.0; count = asked.count } in
-    let kind = kind_passed is_untyped (cap_at f slot) untyped.0 untyped.1.0 in
+    let found_kind = kind_passed kind.Untyped (cap_at f slot) untyped.0 untyped.1.0 in
     let filled = first_passed p f asked.offset asked.count first.0 node.0 first.1.0 in
     let held = held_passed f (invoked_slot p f thread asked.root) root.0 root.1.0 in
     let there = node_held p f root.0 node.0 asked.index asked.depth (asked.depth == 0) held node.1.0 in
     subst (IsRetype p f) (ok_same found new placed.1.1)
     (record {
-      untyped = kind.0;
+      untyped = found_kind.0;
       shape = lawful_shape p asked.kind asked.size_bits shape.0 shape.1.0;
       some = filled.some;
       most = filled.most;
-      placed = subst (λ cap. LieInUntyped cap (has_child slot f) shape.0.bits asked.count placed.0) (sym kind.1)
+      placed = subst (λ cap. LieInUntyped cap (has_child slot f) shape.0.bits asked.count placed.0) (sym found_kind.1)
           (placed_lie (has_child slot f) shape.0.bits asked.count untyped.0 placed.0 filled.some placed.1.0);
       empty = λ i low. empty_at p memory f all (slot_of p first.0 i) (filled.empty i low);
       slots = λ m lawful i low. filled.slots m (subst (λ cap. (cap ≡ Null) ⊎ IsLawful p m cap) there.1 (lawful_at p m f lawful there.0)) i low;

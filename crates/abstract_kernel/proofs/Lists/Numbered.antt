@@ -3,11 +3,17 @@ use Rattle.std.proofs.Common.{◌≡◌, ℕ, suc, zero, ◌+◌, ◌<◌, Bool,
 use Rattle.std.specs.List.{list_any, zip, AllByRecursion}
 use Rattle.std.proofs.lemmas.Bool.{ne_eqb}
 use Rattle.ipc_core.specs.Records.{ReceiveRecord, SendRecord}
+use Rattle.abstract_kernel.proofs.Lists.Rising.{Rises}
+
+abbrev pub send_number : SendRecord → ℕ
+send_number s = s.number
+
+abbrev pub receive_number : ReceiveRecord → ℕ
+receive_number a = a.number
 
 -- each receive has a lower number than those after it
 abbrev pub Rising : List ReceiveRecord → Type 0
-Rising [] = Unit {0}
-Rising (a ∷ receives) = AllByRecursion (λ (b : ReceiveRecord). a.number < b.number) receives × Rising receives
+Rising receives = Rises receive_number receives
 
 abbrev pub Member : ReceiveRecord → List ReceiveRecord → Type 0
 Member a [] = ⊥

@@ -7,9 +7,8 @@ use Rattle.abstract_kernel.specs.Step as spec
 use Rattle.abstract_kernel.proofs.Messages.WaitingSend.{after_send, shown_waits, no_receiver, a_receiver}
 use Rattle.abstract_kernel.proofs.Messages.DeliveredSend.{pending, shown_delivers}
 use Rattle.abstract_kernel.proofs.Messages.DeliveredReceive.{shown_serves, list_left}
-use Rattle.abstract_kernel.proofs.Lists.Paired.{all_get, all_kept, get_within}
+use Rattle.abstract_kernel.proofs.Lists.Paired.{get_within}
 use Rattle.abstract_kernel.proofs.Messages.WaitsOnce.{pending_elsewhere, pending_here, pending_elsewhere', pending_here', once_kept, alone_kept, small_or_ready}
-use Rattle.abstract_kernel.proofs.Lists.Numbered.{member_get, member_filter, all_at}
 use Rattle.abstract_kernel.specs.declared.invocation.Invocation.TheVariants.{Send, Receive}
 use Rattle.abstract_kernel.specs.declared.invocation.Service.{Service}
 use Rattle.abstract_kernel.specs.declared.call.ThreadState.TheVariants.{Ready, Inactive, Sending, Receiving}
@@ -27,7 +26,17 @@ use Rattle.ipc_core.specs.declared.waiter.Waiter.TheVariants.{Receiver, Sender}
 use Rattle.abstract_kernel.specs.Shown.{Shown, endpoints_of, inbox_at, threads_of, waiting_at}
 use Rattle.abstract_kernel.specs.State.{State, receives_of, endpoint_at, inbox_of, sends_to, shown, first_of, state_of, thread_at, waiters}
 use Rattle.abstract_kernel.specs.Step.{Outcome, receive_record, is_receive_awaited, is_send_awaited, performed, receive_accepted, send_accepted, send_record, where_awaited}
-use Rattle.abstract_kernel.proofs.Reached.Invariant.{Invariant, Passes, list_shown, inbox_shown, IsShown, receives_later, sends_later, all_push, rising_push, receives_born_later, sends_born_later, inv_refused}
+use Rattle.abstract_kernel.proofs.Lists.Rising.{has_number, rises_push, has_number_push, numbers_below, all_weaker, all_dropped_push, all_dropped_more}
+use Rattle.std.proofs.lemmas.Bool.Decides.{eqb_tells}
+use Rattle.std.proofs.lemmas.Bool.{false≢true}
+use Rattle.std.proofs.Common.{◌≤◌, ◌<◌, ◌||◌, subst, inl, inr, length-append}
+use Rattle.std.specs.List.{AllByRecursion}
+use Rattle.abstract_kernel.proofs.Messages.WaitingSend.{same_tells, sends_here, sends_elsewhere}
+use Rattle.abstract_kernel.proofs.Messages.WaitingReceive.{receives_here, receives_elsewhere}
+use Rattle.abstract_kernel.specs.State.{waiting_sends, waiting_receives}
+use Rattle.abstract_kernel.proofs.Lists.Numbered.{send_number, receive_number}
+use Rattle.abstract_kernel.proofs.Lists.Paired.{drop_get}
+use Rattle.abstract_kernel.proofs.Reached.Invariant.{Invariant, IsOpen, SendIsOpen, ReceiveIsOpen, Passes, list_shown, inbox_shown, IsShown, receives_later, sends_later, all_push, rising_push, receives_born_later, sends_born_later, inv_refused}
 
 -- an operation that is not awaited leaves no trace
 unawaited : (A : State) (x : Effect) (b : Bool) (accepted : Outcome) (reply : Reply) → b ≡ false → x ≡ unchanged (shown A) reply → IsShown x (where_awaited A b accepted reply)
@@ -80,9 +89,8 @@ module _ (A : State) (t : ℕ) (service : Service) (message : Message) (inv : In
       let list = list_shown A service.endpoint endpoint_live in
       let exact : send_effect (shown A) t service message block (waiting_at (shown A) service.endpoint) ≡ send_to_first (shown A) t service message (waiters A e) block (Some a.thread.base) =
       ap (send_effect (shown A) t service message block) list ∙ ap (send_to_first (shown A) t service message (waiters A e) block) (a_receiver (sends_to A e) (receives_of A e) (send_record A t service message) a met) in
-      let asked = member_filter _ A.receives a (member_get (receives_of A e) _ a met) in
-      let known = all_at _ A.receives a inv.known asked.0 in
-      let shows = shown_delivers A t service message fresh inv.sends_numbered inv.numbered inv.rising a met endpoint_live inv.once inv.alone (all_at _ A.receives a inv.awake asked.0) known.0 known.1 in (
+      let waits = (subst (AllByRecursion (ReceiveIsOpen A)) (drop_get (length (sends_to A e)) (receives_of A e) a met) (inv.receives_open e)).0 in
+      let shows = shown_delivers A t service message fresh inv.sends_numbered inv.numbered inv.rising a met endpoint_live inv.once inv.alone waits.awake waits.thread_is waits.thread_live in (
         ap (λ (o : Effect). o.reply) exact ∙ sym (ap (spec.reply_to_send (send_record A t service message)) met),
         ap (λ (o : Effect). o.after) exact ∙ sym shows,
       )
@@ -128,9 +136,9 @@ module _ (A : State) (t : ℕ) (service : Service) (inv : Invariant A) (ready : 
       let first : first_sender (waiters A from) ≡ Some offer = ap first_sender (list_left A t service fresh inv.sends_numbered inv.numbered s met) in
       let exact : receive_effect (shown A) t service block (waiting_at (shown A) service.endpoint) ≡ receive_from_first (shown A) t service (waiters A from) block (Some offer) =
       ap (receive_effect (shown A) t service block) list ∙ ap (receive_from_first (shown A) t service (waiters A from) block) first in
-      let known = all_get _ (sends_to A from) _ s (all_kept _ _ A.sends inv.sends_known) met in
-      let shows = shown_serves A t service fresh inv.sends_numbered inv.numbered s met endpoint_live ready inv.once inv.alone (all_get _ (sends_to A from) _ s (all_kept _ _ A.sends inv.sends_awake) met) known.0 known.1 thread_live in
-      let inbox : inbox_at (shown A) s.thread.base ≡ inbox_of A s.thread = inbox_shown A s.thread.base known.1 ∙ ap (inbox_of A) (sym known.0) in
+      let waits = (subst (AllByRecursion (SendIsOpen A)) (drop_get (length (receives_of A from)) (sends_to A from) s met) (inv.sends_open from)).0 in
+      let shows = shown_serves A t service fresh inv.sends_numbered inv.numbered s met endpoint_live ready inv.once inv.alone waits.awake waits.thread_is waits.thread_live thread_live in
+      let inbox : inbox_at (shown A) s.thread.base ≡ inbox_of A s.thread = inbox_shown A s.thread.base waits.thread_live ∙ ap (inbox_of A) (sym waits.thread_is) in
       let v = shown A in
       let w : Option Inbox → Shown = λ i. record v { threads = insert v.threads s.thread.base (record { state = Ready; inbox = i }) } in (
         ap (λ (o : Effect). o.reply) exact ∙ sym (ap (spec.reply_to_receive (receive_record A t service)) met),
@@ -167,8 +175,8 @@ ready_awake None (Some e) idle h = cc
 ready_awake None None true h = cc
 ready_awake None None false h = refl
 
-inv_sent : (A : State) (t : ℕ) (service : Service) (message : Message) → Invariant A → state_of A (thread_at A t) ≡ Ready → list_any (λ k. t == k) (threads_of A.derivations) ≡ true → Invariant (send_accepted A t service message).state
-inv_sent A t service message inv ready thread_live = record {
+inv_sent : (A : State) (t : ℕ) (service : Service) (message : Message) → Invariant A → state_of A (thread_at A t) ≡ Ready → list_any (λ k. t == k) (threads_of A.derivations) ≡ true → list_any (λ k. service.endpoint == k) (endpoints_of A.derivations) ≡ true → Invariant (send_accepted A t service message).state
+inv_sent A t service message inv ready thread_live endpoint_live = record {
   fresh = λ n lt. inv.fresh n (omega arith);
   numbered = receives_later A.count A.receives inv.numbered;
   sends_numbered = all_push _ A.sends (send_record A t service message) (sends_later A.count A.sends inv.sends_numbered) (omega arith);
@@ -177,10 +185,10 @@ inv_sent A t service message inv ready thread_live = record {
   thread_births = λ b. let le = inv.thread_births b in omega arith;
   born = receives_born_later A.count A.receives inv.born;
   sends_born = all_push _ A.sends (send_record A t service message) (sends_born_later A.count A.sends inv.sends_born) (let e = inv.endpoint_births service.endpoint in omega arith, let b = inv.thread_births t in omega arith);
-  awake = inv.awake;
-  sends_awake = all_push _ A.sends (send_record A t service message) inv.sends_awake (ready_awake _ _ _ ready);
-  known = inv.known;
-  sends_known = all_push _ A.sends (send_record A t service message) inv.sends_known (refl, thread_live);
+  sends_rising = rises_push send_number A.count A.sends (send_record A t service message) inv.sends_rising inv.sends_numbered (omega arith);
+  unshared = λ n there. by_last (has_number send_number A.sends n) (A.count + 1 == n) n (sym (has_number_push send_number A.sends (send_record A t service message) n) ∙ there) refl refl;
+  receives_open = receives_still_open;
+  sends_open = sends_still_open;
   once = λ m. once_kept live (pending A m) (pending after m) service.endpoint _ (pending_elsewhere A t service message fresh m) (pending_here A t service message fresh _ refl m) (small_or_ready A t m ready) (inv.once m) (inv.alone m);
   alone = λ m. alone_kept live (pending A m) (pending after m) service.endpoint _ (pending_elsewhere A t service message fresh m) (pending_here A t service message fresh _ refl m) (small_or_ready A t m ready) (inv.once m) (inv.alone m);
 }
@@ -194,8 +202,43 @@ inv_sent A t service message inv ready thread_live = record {
     after : State
     after = after_send A t service message fresh
 
-inv_received : (A : State) (t : ℕ) (service : Service) → Invariant A → state_of A (thread_at A t) ≡ Ready → list_any (λ k. t == k) (threads_of A.derivations) ≡ true → Invariant (receive_accepted A t service).state
-inv_received A t service inv ready thread_live = record {
+    -- a number that the new send does not have is that of an earlier one
+    by_last : (b c : Bool) (n : ℕ) → (b || c) ≡ true → has_number send_number A.sends n ≡ b → (A.count + 1 == n) ≡ c → has_number receive_number A.receives n ≡ false
+    by_last true c n h earlier last = inv.unshared n earlier
+    by_last false true n h earlier last = elim (eqb_tells (A.count + 1) n) [
+      | inl w ↦ numbers_below receive_number n A.receives (all_weaker (λ (a : ReceiveRecord). a.number ≤ A.count) (λ (a : ReceiveRecord). a.number < n) (λ a le. let is = w.1 in omega (arith, le, is)) A.receives inv.numbered)
+      | inr w ↦ absurd (false≢true (sym w.0 ∙ last))
+    ]
+    by_last false false n h earlier last = absurd (false≢true h)
+
+    still_open : (e m : Instance) → IsOpen A e m → IsOpen after e m
+    still_open e m o = record { endpoint_is = o.endpoint_is; endpoint_live = o.endpoint_live; thread_is = o.thread_is; thread_live = o.thread_live; awake = o.awake }
+
+    now_open : SendIsOpen after (send_record A t service message)
+    now_open = record { endpoint_is = refl; endpoint_live = endpoint_live; thread_is = refl; thread_live = thread_live; awake = ready_awake _ _ _ ready }
+
+    sends_still_open : (e : Instance) → AllByRecursion (SendIsOpen after) (waiting_sends after e)
+    sends_still_open e =
+        let were : AllByRecursion (SendIsOpen after) (waiting_sends A e) = all_weaker (SendIsOpen A) (SendIsOpen after) (λ s o. still_open s.endpoint s.thread o) (waiting_sends A e) (inv.sends_open e) in
+        elim (same_tells (endpoint_at A service.endpoint) e) [
+          | inl w ↦ subst (λ (m : Instance). AllByRecursion (SendIsOpen after) (waiting_sends A m) → AllByRecursion (SendIsOpen after) (waiting_sends after m)) w
+              (λ all. subst (λ (ss : List SendRecord). AllByRecursion (SendIsOpen after) (drop (length (receives_of A (endpoint_at A service.endpoint))) ss)) (sym (sends_here A t service message fresh))
+              (all_dropped_push (SendIsOpen after) (length (receives_of A (endpoint_at A service.endpoint))) (sends_to A (endpoint_at A service.endpoint)) (send_record A t service message) all now_open)) were
+          | inr w ↦ subst (λ (ss : List SendRecord). AllByRecursion (SendIsOpen after) (drop (length (receives_of A e)) ss)) (sym (sends_elsewhere A t service message fresh e w)) were
+        ]
+
+    receives_still_open : (e : Instance) → AllByRecursion (ReceiveIsOpen after) (waiting_receives after e)
+    receives_still_open e =
+        let were : AllByRecursion (ReceiveIsOpen after) (waiting_receives A e) = all_weaker (ReceiveIsOpen A) (ReceiveIsOpen after) (λ a o. still_open a.endpoint a.thread o) (waiting_receives A e) (inv.receives_open e) in
+        elim (same_tells (endpoint_at A service.endpoint) e) [
+          | inl w ↦ subst (λ (m : Instance). AllByRecursion (ReceiveIsOpen after) (waiting_receives A m) → AllByRecursion (ReceiveIsOpen after) (waiting_receives after m)) w
+              (λ all. all_dropped_more (ReceiveIsOpen after) (length (sends_to A (endpoint_at A service.endpoint))) (length (sends_to after (endpoint_at A service.endpoint))) (receives_of A (endpoint_at A service.endpoint))
+              (let long = ap length (sends_here A t service message fresh) ∙ length-append (sends_to A (endpoint_at A service.endpoint)) (send_record A t service message ∷ []) in omega (arith, long)) all) were
+          | inr w ↦ subst (λ (ss : List SendRecord). AllByRecursion (ReceiveIsOpen after) (drop (length ss) (receives_of A e))) (sym (sends_elsewhere A t service message fresh e w)) were
+        ]
+
+inv_received : (A : State) (t : ℕ) (service : Service) → Invariant A → state_of A (thread_at A t) ≡ Ready → list_any (λ k. t == k) (threads_of A.derivations) ≡ true → list_any (λ k. service.endpoint == k) (endpoints_of A.derivations) ≡ true → Invariant (receive_accepted A t service).state
+inv_received A t service inv ready thread_live endpoint_live = record {
   fresh = λ n lt. inv.fresh n (omega arith);
   numbered = all_push _ A.receives (receive_record A t service) (receives_later A.count A.receives inv.numbered) (omega arith);
   sends_numbered = sends_later A.count A.sends inv.sends_numbered;
@@ -204,10 +247,10 @@ inv_received A t service inv ready thread_live = record {
   thread_births = λ b. let le = inv.thread_births b in omega arith;
   born = all_push _ A.receives (receive_record A t service) (receives_born_later A.count A.receives inv.born) (let e = inv.endpoint_births service.endpoint in omega arith, let b = inv.thread_births t in omega arith);
   sends_born = sends_born_later A.count A.sends inv.sends_born;
-  awake = all_push _ A.receives (receive_record A t service) inv.awake (ready_awake _ _ _ ready);
-  sends_awake = inv.sends_awake;
-  known = all_push _ A.receives (receive_record A t service) inv.known (refl, thread_live);
-  sends_known = inv.sends_known;
+  sends_rising = inv.sends_rising;
+  unshared = λ n there. has_number_push receive_number A.receives (receive_record A t service) n ∙ by_last n there (A.count + 1 == n) refl;
+  receives_open = receives_still_open;
+  sends_open = sends_still_open;
   once = λ m. once_kept live (pending A m) (pending after m) service.endpoint _ (pending_elsewhere' A t service fresh inv.numbered m) (pending_here' A t service fresh inv.numbered _ refl m) (small_or_ready A t m ready) (inv.once m) (inv.alone m);
   alone = λ m. alone_kept live (pending A m) (pending after m) service.endpoint _ (pending_elsewhere' A t service fresh inv.numbered m) (pending_here' A t service fresh inv.numbered _ refl m) (small_or_ready A t m ready) (inv.once m) (inv.alone m);
 }
@@ -221,14 +264,48 @@ inv_received A t service inv ready thread_live = record {
     after : State
     after = after_receive A t service fresh inv.numbered
 
+    -- no send has the number of the new receive
+    by_last : (n : ℕ) → has_number send_number A.sends n ≡ true → (c : Bool) → (A.count + 1 == n) ≡ c → (has_number receive_number A.receives n || c) ≡ false
+    by_last n there true last = elim (eqb_tells (A.count + 1) n) [
+      | inl w ↦ absurd (false≢true (sym (numbers_below send_number n A.sends (all_weaker (λ (s : SendRecord). s.number ≤ A.count) (λ (s : SendRecord). s.number < n) (λ s le. let is = w.1 in omega (arith, le, is)) A.sends inv.sends_numbered)) ∙ there))
+      | inr w ↦ absurd (false≢true (sym w.0 ∙ last))
+    ]
+    by_last n there false last = ap (λ (b : Bool). b || false) (inv.unshared n there)
+
+    still_open : (e m : Instance) → IsOpen A e m → IsOpen after e m
+    still_open e m o = record { endpoint_is = o.endpoint_is; endpoint_live = o.endpoint_live; thread_is = o.thread_is; thread_live = o.thread_live; awake = o.awake }
+
+    now_open : ReceiveIsOpen after (receive_record A t service)
+    now_open = record { endpoint_is = refl; endpoint_live = endpoint_live; thread_is = refl; thread_live = thread_live; awake = ready_awake _ _ _ ready }
+
+    receives_still_open : (e : Instance) → AllByRecursion (ReceiveIsOpen after) (waiting_receives after e)
+    receives_still_open e =
+        let were : AllByRecursion (ReceiveIsOpen after) (waiting_receives A e) = all_weaker (ReceiveIsOpen A) (ReceiveIsOpen after) (λ a o. still_open a.endpoint a.thread o) (waiting_receives A e) (inv.receives_open e) in
+        elim (same_tells (endpoint_at A service.endpoint) e) [
+          | inl w ↦ subst (λ (m : Instance). AllByRecursion (ReceiveIsOpen after) (waiting_receives A m) → AllByRecursion (ReceiveIsOpen after) (waiting_receives after m)) w
+              (λ all. subst (λ (qs : List ReceiveRecord). AllByRecursion (ReceiveIsOpen after) (drop (length (sends_to A (endpoint_at A service.endpoint))) qs)) (sym (receives_here A t service fresh inv.numbered))
+              (all_dropped_push (ReceiveIsOpen after) (length (sends_to A (endpoint_at A service.endpoint))) (receives_of A (endpoint_at A service.endpoint)) (receive_record A t service) all now_open)) were
+          | inr w ↦ subst (λ (qs : List ReceiveRecord). AllByRecursion (ReceiveIsOpen after) (drop (length (sends_to A e)) qs)) (sym (receives_elsewhere A t service fresh inv.numbered e w)) were
+        ]
+
+    sends_still_open : (e : Instance) → AllByRecursion (SendIsOpen after) (waiting_sends after e)
+    sends_still_open e =
+        let were : AllByRecursion (SendIsOpen after) (waiting_sends A e) = all_weaker (SendIsOpen A) (SendIsOpen after) (λ s o. still_open s.endpoint s.thread o) (waiting_sends A e) (inv.sends_open e) in
+        elim (same_tells (endpoint_at A service.endpoint) e) [
+          | inl w ↦ subst (λ (m : Instance). AllByRecursion (SendIsOpen after) (waiting_sends A m) → AllByRecursion (SendIsOpen after) (waiting_sends after m)) w
+              (λ all. all_dropped_more (SendIsOpen after) (length (receives_of A (endpoint_at A service.endpoint))) (length (receives_of after (endpoint_at A service.endpoint))) (sends_to A (endpoint_at A service.endpoint))
+              (let long = ap length (receives_here A t service fresh inv.numbered) ∙ length-append (receives_of A (endpoint_at A service.endpoint)) (receive_record A t service ∷ []) in omega (arith, long)) all) were
+          | inr w ↦ subst (λ (qs : List ReceiveRecord). AllByRecursion (SendIsOpen after) (drop (length qs) (sends_to A e))) (sym (receives_elsewhere A t service fresh inv.numbered e w)) were
+        ]
+
 inv_awaited : (A : State) (awaited : Bool) (accepted : Outcome) (reply : Reply) → Invariant A → Invariant accepted.state → Invariant (where_awaited A awaited accepted reply).state
 inv_awaited A true accepted reply inv kept = kept
 inv_awaited A false accepted reply inv kept = inv_refused A inv
 
 pub inv_sends : (p : ProfileName) (A : State) (t : ℕ) (service : Service) (message : Message) (block : Bool) → Invariant A → Passes A t (Send service message block) → Invariant (performed p A t (Send service message block)).state
-inv_sends p A t service message true inv pass = inv_sent A t service message inv pass.ready pass.thread_live
-inv_sends p A t service message false inv pass = inv_awaited A (is_send_awaited A (endpoint_at A service.endpoint)) (send_accepted A t service message) Dropped inv (inv_sent A t service message inv pass.ready pass.thread_live)
+inv_sends p A t service message true inv pass = inv_sent A t service message inv pass.ready pass.thread_live pass.endpoint_live
+inv_sends p A t service message false inv pass = inv_awaited A (is_send_awaited A (endpoint_at A service.endpoint)) (send_accepted A t service message) Dropped inv (inv_sent A t service message inv pass.ready pass.thread_live pass.endpoint_live)
 
 pub inv_receives : (p : ProfileName) (A : State) (t : ℕ) (service : Service) (block : Bool) → Invariant A → Passes A t (Receive service block) → Invariant (performed p A t (Receive service block)).state
-inv_receives p A t service true inv pass = inv_received A t service inv pass.ready pass.thread_live
-inv_receives p A t service false inv pass = inv_awaited A (is_receive_awaited A (endpoint_at A service.endpoint)) (receive_accepted A t service) Empty inv (inv_received A t service inv pass.ready pass.thread_live)
+inv_receives p A t service true inv pass = inv_received A t service inv pass.ready pass.thread_live pass.endpoint_live
+inv_receives p A t service false inv pass = inv_awaited A (is_receive_awaited A (endpoint_at A service.endpoint)) (receive_accepted A t service) Empty inv (inv_received A t service inv pass.ready pass.thread_live pass.endpoint_live)

@@ -5,7 +5,8 @@ use Rattle.abstract_kernel.proofs.Messages.WaitingReceive.{ReceivesUpTo}
 use Rattle.abstract_kernel.proofs.Checks.LiveEndpoints.{HasLiveEndpoint, found_live}
 use Rattle.abstract_kernel.proofs.Lists.Tables.{get_table}
 use Rattle.abstract_kernel.proofs.Messages.DeliveredSend.{SendsUpTo, pending}
-use Rattle.abstract_kernel.proofs.Lists.Numbered.{Rising}
+use Rattle.abstract_kernel.proofs.Lists.Numbered.{Rising, send_number, receive_number}
+use Rattle.abstract_kernel.proofs.Lists.Rising.{Rises, has_number, all_weaker}
 use Rattle.abstract_kernel.specs.declared.call.Call.{Call}
 use Rattle.abstract_kernel.specs.declared.invocation.Invocation.{Invocation}
 use Rattle.abstract_kernel.specs.declared.call.ThreadState.TheVariants.{Ready, Inactive, Sending, Receiving}
@@ -16,7 +17,7 @@ use Rattle.abstract_kernel.specs.Private.Effects.{Effect}
 use Rattle.abstract_kernel.specs.Plan.{Plan}
 use Rattle.cap_core.specs.declared.refusal.Refusal.{Refusal}
 use Rattle.abstract_kernel.specs.Shown.{ThreadView, endpoints_of, inbox_at, threads_of, waiting_at}
-use Rattle.abstract_kernel.specs.State.{State, endpoint_at, inbox_of, shown, state_of, thread_at, thread_view, waiters}
+use Rattle.abstract_kernel.specs.State.{State, endpoint_at, inbox_of, shown, state_of, thread_at, thread_view, waiters, waiting_receives, waiting_sends}
 use Rattle.ipc_core.specs.declared.waiter.Waiter.{Waiter}
 use Rattle.abstract_kernel.specs.Step.{Outcome, counted}
 use Rattle.abstract_kernel.specs.Boot.{boot}
@@ -24,20 +25,38 @@ use Rattle.abstract_kernel.specs.Decode.{service_word}
 use Rattle.abstract_kernel.specs.Lookups.{invoked_slot}
 use Rattle.abstract_kernel.specs.Decode.{decoded_call, decoded_op, where_live, where_ready}
 
+-- no send and no receive have a number in common
+abbrev pub Unshared : State → Type 0
+Unshared A = (n : ℕ) → has_number send_number A.sends n ≡ true → has_number receive_number A.receives n ≡ false
+
+-- a record that is open: its endpoint and its thread are live and were not made anew, and its thread is not idle
+pub record IsOpen (A : State) (endpoint thread : Instance) : Type 0 where
+  pub endpoint_is : endpoint ≡ endpoint_at A endpoint.base
+  pub endpoint_live : list_any (λ k. endpoint.base == k) (endpoints_of A.derivations) ≡ true
+  pub thread_is : thread ≡ thread_at A thread.base
+  pub thread_live : list_any (λ k. thread.base == k) (threads_of A.derivations) ≡ true
+  pub awake : A.is_idle thread ≡ false
+
+abbrev pub SendIsOpen : State → SendRecord → Type 0
+SendIsOpen A s = IsOpen A s.endpoint s.thread
+
+abbrev pub ReceiveIsOpen : State → ReceiveRecord → Type 0
+ReceiveIsOpen A a = IsOpen A a.endpoint a.thread
+
 -- what holds of each reached state
 pub record Invariant (A : State) : Type 0 where
   pub fresh : (n : ℕ) → A.count < n → A.is_cancelled n ≡ false
   pub numbered : ReceivesUpTo A.count A.receives
   pub sends_numbered : SendsUpTo A.count A.sends
   pub rising : Rising A.receives
+  pub sends_rising : Rises send_number A.sends
+  pub unshared : Unshared A
   pub endpoint_births : (b : ℕ) → A.endpoint_birth b ≤ A.count
   pub thread_births : (b : ℕ) → A.thread_birth b ≤ A.count
   pub born : AllByRecursion (λ (a : ReceiveRecord). (a.endpoint.birth ≤ A.count) × (a.thread.birth ≤ A.count)) A.receives
   pub sends_born : AllByRecursion (λ (s : SendRecord). (s.endpoint.birth ≤ A.count) × (s.thread.birth ≤ A.count)) A.sends
-  pub awake : AllByRecursion (λ (a : ReceiveRecord). A.is_idle a.thread ≡ false) A.receives
-  pub sends_awake : AllByRecursion (λ (s : SendRecord). A.is_idle s.thread ≡ false) A.sends
-  pub known : AllByRecursion (λ (a : ReceiveRecord). (a.thread ≡ thread_at A a.thread.base) × (list_any (λ k. a.thread.base == k) (threads_of A.derivations) ≡ true)) A.receives
-  pub sends_known : AllByRecursion (λ (s : SendRecord). (s.thread ≡ thread_at A s.thread.base) × (list_any (λ k. s.thread.base == k) (threads_of A.derivations) ≡ true)) A.sends
+  pub receives_open : (e : Instance) → AllByRecursion (ReceiveIsOpen A) (waiting_receives A e)
+  pub sends_open : (e : Instance) → AllByRecursion (SendIsOpen A) (waiting_sends A e)
   pub once : (m : Instance) (b : ℕ) → list_any (λ k. b == k) (endpoints_of A.derivations) ≡ true → pending A m b ≤ 1
   pub alone : (m : Instance) (b c : ℕ) → list_any (λ k. b == k) (endpoints_of A.derivations) ≡ true → list_any (λ k. c == k) (endpoints_of A.derivations) ≡ true → b ≢ c → pending A m b + pending A m c ≤ 1
 
@@ -84,14 +103,14 @@ inv_boot p plan = record {
   numbered = tt;
   sends_numbered = tt;
   rising = tt;
+  sends_rising = tt;
+  unshared = λ n there. refl;
   endpoint_births = λ b. omega arith;
   thread_births = λ b. omega arith;
   born = tt;
   sends_born = tt;
-  awake = tt;
-  sends_awake = tt;
-  known = tt;
-  sends_known = tt;
+  receives_open = λ e. tt;
+  sends_open = λ e. tt;
   once = λ m b live. omega arith;
   alone = λ m b c live live' ne. omega arith;
 }
@@ -121,20 +140,24 @@ pub sends_born_later : (n : ℕ) (sends : List SendRecord) → AllByRecursion (�
 sends_born_later n [] h = tt
 sends_born_later n (s ∷ sends) h = let e = h.0.0 in let t = h.0.1 in ((omega arith, omega arith), sends_born_later n sends h.1)
 
+-- an open record, in a state with more or other things
+open_counted : (A : State) (e t : Instance) → IsOpen A e t → IsOpen (counted A) e t
+open_counted A e t o = record { endpoint_is = o.endpoint_is; endpoint_live = o.endpoint_live; thread_is = o.thread_is; thread_live = o.thread_live; awake = o.awake }
+
 pub inv_refused : (A : State) → Invariant A → Invariant (counted A)
 inv_refused A inv = record {
   fresh = λ n lt. inv.fresh n (omega arith);
   numbered = receives_later A.count A.receives inv.numbered;
   sends_numbered = sends_later A.count A.sends inv.sends_numbered;
   rising = inv.rising;
+  sends_rising = inv.sends_rising;
+  unshared = inv.unshared;
   endpoint_births = λ b. let le = inv.endpoint_births b in omega arith;
   thread_births = λ b. let le = inv.thread_births b in omega arith;
   born = receives_born_later A.count A.receives inv.born;
   sends_born = sends_born_later A.count A.sends inv.sends_born;
-  awake = inv.awake;
-  sends_awake = inv.sends_awake;
-  known = inv.known;
-  sends_known = inv.sends_known;
+  receives_open = λ e. all_weaker (ReceiveIsOpen A) (ReceiveIsOpen (counted A)) (λ a o. open_counted A a.endpoint a.thread o) (waiting_receives A e) (inv.receives_open e);
+  sends_open = λ e. all_weaker (SendIsOpen A) (SendIsOpen (counted A)) (λ s o. open_counted A s.endpoint s.thread o) (waiting_sends A e) (inv.sends_open e);
   once = inv.once;
   alone = inv.alone;
 }

@@ -40,11 +40,11 @@ pub record Reached (p : ProfileName) (memory : ℕ) (A : State) : Type 0 where
 
 module _ (p : ProfileName) (memory : ℕ) (A : State) (t : ℕ) (reached : Reached p memory A) where
   -- the same objects are live
-  derived_same : (placement : CapPlacement) → IsDerivation p A.derivations placement → (base_of : Cap → Option ℕ) → IsBase base_of → (q : ℕ)
+  pub derived_same : (placement : CapPlacement) → IsDerivation p A.derivations placement → (base_of : Cap → Option ℕ) → IsBase base_of → (q : ℕ)
       → list_any (λ k. q == k) (filter_map base_of (caps (with_derived p placement A.derivations))) ≡ list_any (λ k. q == k) (filter_map base_of (caps A.derivations))
   derived_same placement is base_of base q = live-derived base_of base p placement A.derivations is.ends.full is.ends.same q
 
-  moved_same : (placement : CapPlacement) → IsMove p A.derivations placement → (base_of : Cap → Option ℕ) → IsBase base_of → (q : ℕ)
+  pub moved_same : (placement : CapPlacement) → IsMove p A.derivations placement → (base_of : Cap → Option ℕ) → IsBase base_of → (q : ℕ)
       → list_any (λ k. q == k) (filter_map base_of (caps (with_moved placement A.derivations))) ≡ list_any (λ k. q == k) (filter_map base_of (caps A.derivations))
   moved_same placement is base_of base q = live-moved base_of base placement A.derivations reached.store.slots_distinct is.ends.same q
 
@@ -86,7 +86,7 @@ inv_outcome : (p : ProfileName) (memory : ℕ) (A : State) (call : Call) (r : Re
 inv_outcome p memory A call (Err refusal) h reached = inv_refused A reached.records
 inv_outcome p memory A call (Ok invocation) h reached = inv_performed p memory A call.thread reached invocation (passes p A call invocation h) (checked_edit p memory A call invocation reached.store h)
 
-reached_step : (p : ProfileName) (memory : ℕ) (A : State) (call : Call) → Reached p memory A → Reached p memory (step p A call).state
+pub reached_step : (p : ProfileName) (memory : ℕ) (A : State) (call : Call) → Reached p memory A → Reached p memory (step p A call).state
 reached_step p memory A call reached = record {
   store = outcome_store p memory A call (decoded_call p (shown A) call) refl reached.store;
   records = inv_outcome p memory A call (decoded_call p (shown A) call) refl reached;

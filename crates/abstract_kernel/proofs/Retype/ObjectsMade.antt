@@ -1,5 +1,5 @@
 -- Objects are made where none was live: what is shown after.
-use Rattle.std.proofs.Common.{◌≡◌, ◌≢◌, ℕ, ◌+◌, ◌≤◌, Bool, true, false, not, cond, ◌==◌, ◌&&◌, ◌||◌, List, [], ◌∷◌, filter, find, drop, length, zero, suc, Option, None, Some, refl, sym, ap, ◌∙◌, arith, unwrap_or, eq-eqb}
+use Rattle.std.proofs.Common.{◌≡◌, ◌≢◌, ℕ, ◌+◌, ◌≤◌, Bool, true, false, not, cond, ◌==◌, ◌&&◌, ◌||◌, List, [], ◌∷◌, filter, find, drop, length, Option, None, Some, refl, sym, ap, ◌∙◌, arith, unwrap_or, eq-eqb}
 use Rattle.std.specs.List.{list_any, filter_map, AllByRecursion}
 use Rattle.std.specs.FinMap.{FinMap, get, insert}
 use Rattle.std.specs.Ordering.{nat_cmp}
@@ -22,21 +22,8 @@ use Rattle.abstract_kernel.proofs.Lists.Tables.{get_table, get_after, same_nat_m
 use Rattle.abstract_kernel.proofs.Lists.Searches.{find_agrees, table_agrees}
 use Rattle.abstract_kernel.proofs.Capabilities.Rearranged.{sends_once, receives_once}
 use Rattle.abstract_kernel.proofs.Retype.LiveRetyped.{live-objects, endpoint_base-freed, tcb_base-freed}
-use Rattle.abstract_kernel.proofs.Reached.Invariant.{Invariant, IsShown, list_shown, receives_later, sends_later, receives_born_later, sends_born_later}
-
--- tests
-
-or_false : (b : Bool) → (b || false) ≡ b
-or_false true = refl
-or_false false = refl
-
-or_true : (b : Bool) → (b || true) ≡ true
-or_true true = refl
-or_true false = refl
-
-and_false : (b : Bool) → (b && false) ≡ false
-and_false true = refl
-and_false false = refl
+use Rattle.abstract_kernel.proofs.Lists.Rising.{or_false, or_true, and_false, any_none, all_dropped, all_weaker}
+use Rattle.abstract_kernel.proofs.Reached.Invariant.{Invariant, IsOpen, SendIsOpen, ReceiveIsOpen, IsShown, list_shown, receives_later, sends_later, receives_born_later, sends_born_later}
 
 -- an object that was made before is not one of a later number
 born_before : (m e : Instance) (n : ℕ) → m.birth ≤ n → e.birth ≡ n + 1 → same_instance m e ≡ false
@@ -47,20 +34,6 @@ born_before m e n le at = ap (λ (b : Bool). (m.base == e.base) && b) (ne_eqb m.
 filter_none : {X : Type 0} (p : X → Bool) (xs : List X) → AllByRecursion (λ (x : X). p x ≡ false) xs → filter p xs ≡ []
 filter_none p [] h = refl
 filter_none p (x ∷ xs) h = ap (λ (b : Bool). cond b (x ∷ filter p xs) (filter p xs)) h.0 ∙ filter_none p xs h.1
-
-any_none : {X : Type 0} (p : X → Bool) (xs : List X) → AllByRecursion (λ (x : X). p x ≡ false) xs → list_any p xs ≡ false
-any_none p [] h = refl
-any_none p (x ∷ xs) h = ap (λ (b : Bool). b || list_any p xs) h.0 ∙ any_none p xs h.1
-
-all_dropped : {X : Type 0} (P : X → Type 0) (n : ℕ) (xs : List X) → AllByRecursion P xs → AllByRecursion P (drop n xs)
-all_dropped P zero [] h = tt
-all_dropped P (suc n) [] h = tt
-all_dropped P zero (x ∷ xs) h = h
-all_dropped P (suc n) (x ∷ xs) h = all_dropped P n xs h.1
-
-all_weaker : {X : Type 0} (P Q : X → Type 0) → ((x : X) → P x → Q x) → (xs : List X) → AllByRecursion P xs → AllByRecursion Q xs
-all_weaker P Q f [] h = tt
-all_weaker P Q f (x ∷ xs) h = (f x h.0, all_weaker P Q f xs h.1)
 
 -- new threads in the map of threads
 get_threads : (bases : List ℕ) (threads : FinMap nat_cmp ThreadView) (q : ℕ) → get (with_threads bases threads) q ≡ cond (list_any (λ k. q == k) bases) (Some new_thread) (get threads q)
@@ -284,30 +257,19 @@ module _ (p : ProfileName) (A : State) (new : NewObjects) (inv : Invariant A) (f
     thread_births = λ b. born_by A.thread_birth (new_bases tcb_base p new) b (inv.thread_births b);
     born = receives_born_later A.count A.receives inv.born;
     sends_born = sends_born_later A.count A.sends inv.sends_born;
-    awake = receives_awake A.receives inv.known inv.awake;
-    sends_awake = sends_still_awake A.sends inv.sends_known inv.sends_awake;
-    known = receives_known A.receives inv.known;
-    sends_known = sends_still_known A.sends inv.sends_known;
+    sends_rising = inv.sends_rising;
+    unshared = inv.unshared;
+    receives_open = λ e. all_weaker (ReceiveIsOpen A) (ReceiveIsOpen after_made) (λ a o. still_open a.endpoint a.thread o) (waiting_receives A e) (inv.receives_open e);
+    sends_open = λ e. all_weaker (SendIsOpen A) (SendIsOpen after_made) (λ s o. still_open s.endpoint s.thread o) (waiting_sends A e) (inv.sends_open e);
     once = at_most_one;
     alone = one_of_two;
   }
     where
-      receives_known : (receives : List ReceiveRecord) → AllByRecursion (λ (a : ReceiveRecord). (a.thread ≡ thread_at A a.thread.base) × (list_any (λ k. a.thread.base == k) (threads_of A.derivations) ≡ true)) receives →
-          AllByRecursion (λ (a : ReceiveRecord). (a.thread ≡ thread_at after_made a.thread.base) × (list_any (λ k. a.thread.base == k) (threads_of after_made.derivations) ≡ true)) receives
-      receives_known [] h = tt
-      receives_known (a ∷ receives) h = ((h.0.0 ∙ sym (same_thread a.thread.base (old_thread a.thread.base h.0.1)), still_thread a.thread.base h.0.1), receives_known receives h.1)
-
-      sends_still_known : (sends : List SendRecord) → AllByRecursion (λ (s : SendRecord). (s.thread ≡ thread_at A s.thread.base) × (list_any (λ k. s.thread.base == k) (threads_of A.derivations) ≡ true)) sends →
-          AllByRecursion (λ (s : SendRecord). (s.thread ≡ thread_at after_made s.thread.base) × (list_any (λ k. s.thread.base == k) (threads_of after_made.derivations) ≡ true)) sends
-      sends_still_known [] h = tt
-      sends_still_known (s ∷ sends) h = ((h.0.0 ∙ sym (same_thread s.thread.base (old_thread s.thread.base h.0.1)), still_thread s.thread.base h.0.1), sends_still_known sends h.1)
-
-      receives_awake : (receives : List ReceiveRecord) → AllByRecursion (λ (a : ReceiveRecord). (a.thread ≡ thread_at A a.thread.base) × (list_any (λ k. a.thread.base == k) (threads_of A.derivations) ≡ true)) receives →
-          AllByRecursion (λ (a : ReceiveRecord). A.is_idle a.thread ≡ false) receives → AllByRecursion (λ (a : ReceiveRecord). after_made.is_idle a.thread ≡ false) receives
-      receives_awake [] h k = tt
-      receives_awake (a ∷ receives) h k = (idle_kept a.thread (old_thread a.thread.base h.0.1) ∙ k.0, receives_awake receives h.1 k.1)
-
-      sends_still_awake : (sends : List SendRecord) → AllByRecursion (λ (s : SendRecord). (s.thread ≡ thread_at A s.thread.base) × (list_any (λ k. s.thread.base == k) (threads_of A.derivations) ≡ true)) sends →
-          AllByRecursion (λ (s : SendRecord). A.is_idle s.thread ≡ false) sends → AllByRecursion (λ (s : SendRecord). after_made.is_idle s.thread ≡ false) sends
-      sends_still_awake [] h k = tt
-      sends_still_awake (s ∷ sends) h k = (idle_kept s.thread (old_thread s.thread.base h.0.1) ∙ k.0, sends_still_awake sends h.1 k.1)
+      still_open : (e m : Instance) → IsOpen A e m → IsOpen after_made e m
+      still_open e m o = record {
+        endpoint_is = o.endpoint_is ∙ sym (same_endpoint e.base (old_endpoint e.base o.endpoint_live));
+        endpoint_live = still_endpoint e.base o.endpoint_live;
+        thread_is = o.thread_is ∙ sym (same_thread m.base (old_thread m.base o.thread_live));
+        thread_live = still_thread m.base o.thread_live;
+        awake = idle_kept m (old_thread m.base o.thread_live) ∙ o.awake;
+      }

@@ -1,5 +1,5 @@
 -- A new object within the unused part of an untyped region keeps live objects disjoint.
-use Rattle.std.proofs.Common.{◌≡◌, ℕ, ◌+◌, ◌≤◌, ◌^◌, Bool, true, false, cond, ◌&&◌, ◌||◌, ◌==◌, eqb, nat_le, List, inl, inr, refl, sym, ◌∙◌, ap, subst, arith}
+use Rattle.std.proofs.Common.{◌≡◌, ℕ, ◌+◌, ◌≤◌, ◌^◌, Bool, true, false, ◌&&◌, ◌||◌, ◌==◌, eqb, nat_le, List, inl, inr, refl, sym, ◌∙◌, ap, subst, arith}
 use Rattle.std.specs.List.{AllByRecursion as Each, Contains, list_any, IsDistinct}
 use Rattle.std.proofs.Math.Nat.{one-le-pow}
 use Rattle.std.proofs.lemmas.Bool.Decides.{nat_tests}
@@ -12,7 +12,7 @@ use Rattle.derivation.specs.Derivation.{retyped}
 use Rattle.derivation.specs.Disjoint.{are_disjoint, AreInLine, IsDisjoint}
 use Rattle.derivation.proofs.Trees.Forests.{each-contained, each-contains, ancestors-below, each-below_those_below}
 use Rattle.derivation.proofs.Slots.Edits.{entry_at}
-use Rattle.derivation.proofs.Disjoint.Disjointness.{AreSame, are_same, are_disjoint-swap, are_disjoint-self, slot_differs}
+use Rattle.derivation.proofs.Disjoint.Disjointness.{are_same, are_disjoint-swap, are_disjoint-self, slot_differs}
 use Rattle.derivation.proofs.Slots.Distinct.{once_at}
 use Rattle.derivation.proofs.Trees.Above.{each-below_those}
 use Rattle.derivation.proofs.Slots.Holding.{cap-entry, none_stands}

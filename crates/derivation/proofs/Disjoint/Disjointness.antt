@@ -1,6 +1,6 @@
 -- Which puts keep live objects disjoint.
-use Rattle.std.proofs.Common.{◌≡◌, ℕ, ◌+◌, ◌≤◌, ◌^◌, Bool, true, false, cond, ◌&&◌, ◌||◌, ◌==◌, List, [], ◌∷◌, inl, inr, refl, sym, ◌∙◌, ap, subst, arith, IsTrue, nat_le}
-use Rattle.std.specs.List.{AllByRecursion as Each, Contains, list_any}
+use Rattle.std.proofs.Common.{◌≡◌, ℕ, ◌+◌, ◌≤◌, ◌^◌, Bool, true, false, cond, ◌&&◌, ◌||◌, ◌==◌, List, inl, inr, refl, sym, ◌∙◌, ap, subst, arith, IsTrue, nat_le}
+use Rattle.std.specs.List.{Contains}
 use Rattle.std.proofs.Math.Nat.{one-le-pow}
 use Rattle.std.proofs.lemmas.Bool.{and_parts, eqb-true}
 use Rattle.std.proofs.lemmas.Bool.Decides.{nat_tests}
@@ -13,6 +13,7 @@ use Rattle.derivation.specs.Entries.{Entry, entry, is_at, is_full, cap_at, is_or
 use Rattle.derivation.specs.Derivation.{derived, derived_entry, rooted, names_same}
 use Rattle.derivation.specs.Disjoint.{are_disjoint, AreInLine, IsDisjoint}
 use Rattle.derivation.proofs.Trees.Forests.{each-contained, each-contains, below_those-root, ancestors-root, ancestors-below, ancestors-after, each-below_those_below, each-below_those_after}
+use Rattle.derivation.proofs.Trees.Lines.{any_none}
 use Rattle.derivation.proofs.Slots.Edits.{contains-rooted, contains-derived, entry_at}
 
 -- two tests of which one passes, in the other order
@@ -62,7 +63,7 @@ pub are_apart-swap : (p : ProfileName) (a b : Cap) → are_apart p a b ≡ are_a
 are_apart-swap p a b = or_swap (nat_le (end_of p a) (base_of b)) (nat_le (end_of p b) (base_of a))
 
 -- a capability's object and itself
-same_number : (n : ℕ) → (n == n) ≡ true
+pub same_number : (n : ℕ) → (n == n) ≡ true
 same_number n = grind (arith, nat_tests)
 
 or_true : (t : Bool) → (t || true) ≡ true
@@ -186,18 +187,10 @@ disjoint-rooted p slot cap f d n apart = record { objects = objects; lines = lin
 
 -- an entry's slot is not an empty one
 pub slot_differs : (slot : ℕ) (f : Forest Entry) (u : Entry) → is_full slot f ≡ false → Contains (preorder f) u → (slot == u.slot) ≡ false
-slot_differs slot f u h m = each-contained (λ (e : Entry). (slot == e.slot) ≡ false) (preorder f) u (go (preorder f) h) m
+slot_differs slot f u h m = other_way slot u.slot (each-contained (λ (e : Entry). is_at slot e ≡ false) (preorder f) u (any_none (is_at slot) (preorder f) h) m)
   where
-    front : (i : ℕ) (c : Bool) → ((i == slot) || c) ≡ false → (slot == i) ≡ false
-    front i c h = grind (arith, nat_tests)
-
-    rest : (b c : Bool) → (b || c) ≡ false → c ≡ false
-    rest true c h = cc
-    rest false c h = h
-
-    go : (l : List Entry) → list_any (is_at slot) l ≡ false → Each (λ (e : Entry). (slot == e.slot) ≡ false) l
-    go [] h = tt
-    go (e ∷ l) h = (front e.slot (list_any (is_at slot) l) h, go l (rest (e.slot == slot) (list_any (is_at slot) l) h))
+    other_way : (i j : ℕ) → (j == i) ≡ false → (i == j) ≡ false
+    other_way i j e = grind (arith, nat_tests)
 
 -- entries that stand in one line still do
 pub in_line-derived : (source slot : ℕ) (cap : Cap) (f : Forest Entry) (u c : Entry) → (slot == u.slot) ≡ false → AreInLine f u c → AreInLine (derived source slot cap f) u c

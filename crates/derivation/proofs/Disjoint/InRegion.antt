@@ -8,7 +8,7 @@ use Rattle.cap_core.specs.declared.capability.Cap.{Cap}
 use Rattle.cap_core.specs.declared.capability.Cap.TheVariants.{Null, Untyped, Endpoint, CNode, Tcb}
 use Rattle.cap_core.specs.Objects.{is_null, is_untyped, badge_of, base_of, bits_of, same_object, contains, in_region}
 use Rattle.derivation.specs.Derivation.{names_same}
-use Rattle.derivation.proofs.Disjoint.Disjointness.{same_object-swap, AreSame, are_same}
+use Rattle.derivation.proofs.Disjoint.Disjointness.{same_object-swap, same_number, AreSame, are_same}
 
 -- two capabilities of one object or of one untyped region
 pub record NamesOne (p : ProfileName) (a b : Cap) : Type 0 where
@@ -96,9 +96,6 @@ region-transitive p Null b c h k = absurd (let n : false ≡ true = h in cc)
 region-transitive p (Endpoint i badge rights) b c h k = (same_one p (Endpoint i badge rights) b h).by c ∙ k
 region-transitive p (CNode i radix guard) b c h k = (same_one p (CNode i radix guard) b h).by c ∙ k
 region-transitive p (Tcb i) b c h k = (same_one p (Tcb i) b h).by c ∙ k
-
-same_number : (n : ℕ) → (n == n) ≡ true
-same_number n = grind (arith, nat_tests)
 
 not_less : (n : ℕ) → nat_le n n ≡ true
 not_less n = grind (arith, nat_tests)

@@ -14,10 +14,11 @@ use Rattle.derivation.specs.Derivation.{rooted, retyped, moved, freed, emptied, 
 use Rattle.derivation.specs.Disjoint.{IsDisjoint}
 use Rattle.derivation.specs.MarkedEdits.{handed_on}
 use Rattle.derivation.specs.Marked.{Marked, marked, at_place, with_cap, with_mark, entry_of, forest_of, stands_at, IsGathered, IsLed, IsNamedFirst, HasMarks, IsMarkedList}
-use Rattle.derivation.proofs.Trees.Forests.{each-left_part, each-right_part, each-append}
+use Rattle.derivation.proofs.Trees.Forests.{each-left_part, each-right_part, each-append, each-weaker}
 use Rattle.derivation.proofs.Trees.Built.{Absent, Once, StopsAtOnce, at_one}
 use Rattle.derivation.proofs.Disjoint.Disjointness.{same_object-swap}
-use Rattle.derivation.proofs.Disjoint.DisjointEdits.{disjoint-freed, disjoint-emptied}
+use Rattle.derivation.proofs.Disjoint.DisjointRenamed.{disjoint-freed}
+use Rattle.derivation.proofs.Disjoint.DisjointEmptied.{disjoint-emptied}
 use Rattle.derivation.proofs.Disjoint.InRegion.{NamesOne, names_one, untyped_one, untyped-badge}
 use Rattle.derivation.proofs.Marked.MarkedPuts.{retype_below, root_behind}
 use Rattle.derivation.proofs.Marked.MarkedRenamed.{names-self, IsSameRow, row-self, forest_renamed, gathered-renamed, led-renamed, first-renamed, marks-renamed}
@@ -58,12 +59,8 @@ front_others : (p : ProfileName) (xs ys : List Marked) → AreApart p (xs ++ ys)
 front_others p [] ys h = tt
 front_others p (x ∷ xs) ys h = (each-right_part (λ (b : Marked). stands_at p x.place b ≡ false) xs ys h.0, front_others p xs ys h.1)
 
-each-through : (P Q : Marked → Type 0) → ((a : Marked) → P a → Q a) → (l : List Marked) → Each P l → Each Q l
-each-through P Q f [] h = tt
-each-through P Q f (a ∷ l) h = (f a h.0, each-through P Q f l h.1)
-
 back_others : (p : ProfileName) (pre : List Marked) (u : Marked) (post : List Marked) → AreApart p (pre ++ u ∷ post) → Each (IsOther p pre u) post
-back_others p [] u post h = each-through (λ (b : Marked). stands_at p u.place b ≡ false) (IsOther p [] u) (λ b k. (tt, other_way p u b k)) post h.0
+back_others p [] u post h = each-weaker (λ (b : Marked). stands_at p u.place b ≡ false) (IsOther p [] u) (λ b k. (tt, other_way p u b k)) post h.0
 back_others p (x ∷ pre) u post h =
     both post (each-right_part (λ (b : Marked). stands_at p x.place b ≡ false) pre (u ∷ post) h.0).1 (back_others p pre u post h.1)
   where
@@ -155,8 +152,8 @@ retyped_list p memory pre u post n cap k apart untyped inside lawful empty named
 
     front_outside : Each (λ (a : Marked). in_region p a.cap u.cap ≡ false → in_region p a.cap cap ≡ false) pre
     front_outside = retype_outside p pre u post n cap r
-        (each-through (λ (a : Marked). Absent (stands_at p a.place) (u ∷ post)) (λ (a : Marked). Absent (stands_at p a.place) post) (λ a h. h.1) pre (front_others p pre (u ∷ post) apart))
-        (each-through (λ (a : Marked). Absent (stands_at p a.place) (u ∷ post)) (λ (a : Marked). stands_at p a.place u ≡ false) (λ a h. h.0) pre (front_others p pre (u ∷ post) apart))
+        (each-weaker (λ (a : Marked). Absent (stands_at p a.place) (u ∷ post)) (λ (a : Marked). Absent (stands_at p a.place) post) (λ a h. h.1) pre (front_others p pre (u ∷ post) apart))
+        (each-weaker (λ (a : Marked). Absent (stands_at p a.place) (u ∷ post)) (λ (a : Marked). stands_at p a.place u ≡ false) (λ a h. h.0) pre (front_others p pre (u ∷ post) apart))
         (λ first a rest e. let w : AreApart p (first ++ a ∷ rest) = (let Q : List Marked → Type 0 = AreApart p in subst Q (sym e) (apart-front p pre (u ∷ post) apart)) in
         (absent-front p first a rest w, (apart-back p first (a ∷ rest) w).0))
 

@@ -14,6 +14,9 @@ use Rattle.derivation.specs.Derivation.{rooted, retyped, is_named}
 use Rattle.derivation.specs.Disjoint.{IsDisjoint}
 use Rattle.derivation.specs.Marked.{Marked, is_parent, entry_of, forest_of, stands_at}
 use Rattle.derivation.proofs.Trees.Forests.{each-contained, each-contains, contains-root_old, contains-root_new, below_those-root, ancestors-root}
+use Rattle.derivation.proofs.Trees.Renamed.{each-map}
+use Rattle.derivation.proofs.Trees.Lines.{any_none}
+use Rattle.derivation.proofs.Disjoint.Disjointness.{same_number}
 use Rattle.derivation.proofs.Trees.Built.{Absent, Once, once-split, preorder-build, preorder-renamed}
 use Rattle.derivation.proofs.Slots.Distinct.{IsInserted, inserted-below}
 use Rattle.derivation.proofs.Disjoint.InRegion.{region_same}
@@ -28,10 +31,6 @@ pub each-mapped : {A B : Type 0} (Q : B → Type 0) (w : A → B) (l : List A) �
 each-mapped Q w [] h = tt
 each-mapped Q w (a ∷ l) h = (h.0, each-mapped Q w l h.1)
 
-pub each-map : {A B : Type 0} (Q : B → Type 0) (w : A → B) (l : List A) → Each (λ a. Q (w a)) l → Each Q (map w l)
-each-map Q w [] h = tt
-each-map Q w (a ∷ l) h = (h.0, each-map Q w l h.1)
-
 pub each-entry : (p : ProfileName) (Q : Entry → Type 0) (l : List Marked) → Each Q (preorder (forest_of p l)) → Each (λ (a : Marked). Q (entry_of p a)) l
 each-entry p Q l h = each-mapped Q (entry_of p) l (let P : List Entry → Type 0 = Each Q in subst P (entries_of p l) h)
 
@@ -41,23 +40,11 @@ each-from_entry p Q l h = let P : List Entry → Type 0 = Each Q in subst P (sym
 pub members : (p : ProfileName) (l : List Marked) → Each (λ (a : Marked). Contains (preorder (forest_of p l)) (entry_of p a)) l
 members p l = each-entry p (Contains (preorder (forest_of p l))) l (each-contains (preorder (forest_of p l)))
 
-pub none_passes : {A : Type 0} (q : A → Bool) (l : List A) → list_any q l ≡ false → Each (λ a. q a ≡ false) l
-none_passes q [] h = tt
-none_passes {A} q (a ∷ l) h = (front (q a) (list_any q l) h, none_passes q l (rest (q a) (list_any q l) h))
-  where
-    front : (b c : Bool) → (b || c) ≡ false → b ≡ false
-    front true c h = h
-    front false c h = refl
-
-    rest : (b c : Bool) → (b || c) ≡ false → c ≡ false
-    rest true c h = cc
-    rest false c h = h
-
 pub absent_at : (p : ProfileName) (n : ℕ) (l : List Marked) → is_full (n * slot_size p) (forest_of p l) ≡ false → Absent (stands_at p n) l
-absent_at p n l h = each-entry p (λ (e : Entry). is_at (n * slot_size p) e ≡ false) l (none_passes (is_at (n * slot_size p)) (preorder (forest_of p l)) h)
+absent_at p n l h = each-entry p (λ (e : Entry). is_at (n * slot_size p) e ≡ false) l (any_none (is_at (n * slot_size p)) (preorder (forest_of p l)) h)
 
 pub unnamed : (p : ProfileName) (cap : Cap) (l : List Marked) → is_named cap (forest_of p l) ≡ false → Each (λ (a : Marked). same_object a.cap cap ≡ false) l
-unnamed p cap l h = each-entry p (λ (e : Entry). same_object e.cap cap ≡ false) l (none_passes (λ (e : Entry). same_object e.cap cap) (preorder (forest_of p l)) h)
+unnamed p cap l h = each-entry p (λ (e : Entry). same_object e.cap cap ≡ false) l (any_none (λ (e : Entry). same_object e.cap cap) (preorder (forest_of p l)) h)
 
 -- in the region of an untyped one is what it contains
 pub region_contains : (p : ProfileName) (a c : Cap) → is_untyped a ≡ true → in_region p a c ≡ true → contains p a c ≡ true
@@ -75,9 +62,6 @@ outside_by p a b other not_in = typed (is_untyped a) refl
     typed false z = region_same p a b z ∙ other
     typed true z =
         (elim (in_region p a b) as (λ c. in_region p a b ≡ c → c ≡ false) [ true ↦ λ e. absurd (not_in z (region_contains p a b z e)) | false ↦ λ e. refl ]) refl
-
-same_number : (n : ℕ) → (n == n) ≡ true
-same_number n = eq-eqb n n refl
 
 -- a slot at an address that no entry has stands in no line
 pub nowhere : (n : ℕ) (l : List Entry) (x : Entry) → x.slot ≡ n → Each (λ (e : Entry). (e.slot == n) ≡ false) l → Contains l x → ⊥
@@ -98,7 +82,7 @@ root_outside p l n cap d empty named = go l (members p l) (absent_at p n l empty
     x = entry (n * slot_size p) cap true
 
     none : Each (λ (e : Entry). (e.slot == n * slot_size p) ≡ false) (preorder f)
-    none = none_passes (is_at (n * slot_size p)) (preorder f) empty
+    none = any_none (is_at (n * slot_size p)) (preorder f) empty
 
     not_in : (a : Marked) → Contains (preorder f) (entry_of p a) → stands_at p n a ≡ false → is_untyped a.cap ≡ true → contains p a.cap cap ≡ true → ⊥
     not_in a m s u c =

@@ -12,15 +12,14 @@ use Rattle.derivation.specs.Marked.{Marked, is_parent, entry_of, forest_of, IsFr
 use Rattle.derivation.proofs.Trees.Forests.{contains-below_old, ancestors-below}
 use Rattle.derivation.proofs.Trees.Built.{Absent, at_one, preorder-build, preorder-renamed, build-below_those, renamed-below_those}
 use Rattle.derivation.proofs.Trees.Nested.{whole-nested, nested-build, each-taken}
-use Rattle.derivation.proofs.Disjoint.Disjointness.{same_object-swap}
+use Rattle.derivation.proofs.Disjoint.Disjointness.{same_object-swap, same_number}
 use Rattle.derivation.proofs.Disjoint.InRegion.{region-transitive}
 use Rattle.derivation.proofs.Marked.Parents.{parent_parts, parent-transitive}
-use Rattle.derivation.proofs.Trees.Above.{each-below_those, each-ancestors, each-taken_part, ancestors_before, below_those-new, ancestors-new, below_those-other, ancestors-renamed}
-use Rattle.derivation.proofs.Marked.MarkedLines.{each-map, each-from_entry, members, none_passes, absent_at, unnamed, outside_by, nowhere, IsRetype, new_is_there}
+use Rattle.derivation.proofs.Trees.Above.{each-below_those, each-ancestors, each-taken_part, ancestors_before, below_those-new, ancestors-new, below_those-other}
+use Rattle.derivation.proofs.Trees.Renamed.{ancestors-renamed, each-map}
+use Rattle.derivation.proofs.Trees.Lines.{any_none}
+use Rattle.derivation.proofs.Marked.MarkedLines.{each-from_entry, members, absent_at, unnamed, outside_by, nowhere, IsRetype, new_is_there}
 use Rattle.derivation.proofs.Marked.MarkedKept.{Outside, front-behind, front-at}
-
-same_number : (n : ℕ) → (n == n) ≡ true
-same_number n = eq-eqb n n refl
 
 -- it stands at another place than all in front, and than u
 abbrev pub IsOther : ProfileName → List Marked → Marked → Marked → Type 0
@@ -53,7 +52,7 @@ retype_takes_none p pre u post n cap r others =
     back P (a ∷ m) h = back P m h.1
 
     absent : Absent q (preorder f)
-    absent = none_passes q (preorder f) r.empty
+    absent = any_none q (preorder f) r.empty
 
     above : (h : Marked) → IsOther p pre u h → Each (λ (e : Entry). (e.slot == h.place * slot_size p) ≡ false) (ancestors q (below is x f))
     above h o =
@@ -106,7 +105,7 @@ retype_outside p pre u post n cap r others own apart =
     front P (a ∷ m) h = (h.0, front P m h.1)
 
     none : Each (λ (e : Entry). (e.slot == n * slot_size p) ≡ false) (preorder f)
-    none = none_passes (is_at (n * slot_size p)) (preorder f) r.empty
+    none = any_none (is_at (n * slot_size p)) (preorder f) r.empty
 
     -- u does not stand below a
     apart_below : (first : List Marked) (a : Marked) (rest : List Marked) → first ++ a ∷ rest ≡ pre → Absent (stands_at p a.place) post → stands_at p a.place u ≡ false

@@ -1,5 +1,5 @@
 -- Each call's edit of the marked list: what the list keeps, and what the edit is to its forest.
-use Rattle.std.proofs.Common.{◌≡◌, ◌≢◌, ℕ, ◌*◌, Bool, true, false, cond, not, ◌||◌, ◌==◌, eq-eqb, List, [], ◌∷◌, ◌++◌, map, Some, None, ◌⊎◌, inl, inr, refl, sym, ◌∙◌, ap, subst}
+use Rattle.std.proofs.Common.{◌≡◌, ◌≢◌, ℕ, ◌*◌, Bool, true, false, cond, not, ◌||◌, ◌==◌, List, [], ◌∷◌, ◌++◌, map, Some, None, ◌⊎◌, inl, inr, refl, sym, ◌∙◌, ap, subst}
 use Rattle.std.specs.Prelude.{option_map}
 use Rattle.std.specs.List.{AllByRecursion as Each}
 use Rattle.std.proofs.lemmas.Bool.{eqb-true}
@@ -14,14 +14,12 @@ use Rattle.derivation.specs.Derivation.{derived, is_new_original, names_same}
 use Rattle.derivation.specs.Disjoint.{IsDisjoint}
 use Rattle.derivation.specs.Marked.{Marked, marked, is_parent, entry_of, forest_of, stands_at, IsLed, IsNamedFirst, HasMarks, IsMarkedList}
 use Rattle.derivation.proofs.Trees.Built.{Absent, StopsAtOnce, renamed-below_those, build-below_those, tops-renamed, tops-taken, next_passing, first_of, below_those_none, preorder-build}
+use Rattle.derivation.proofs.Disjoint.Disjointness.{same_number}
 use Rattle.derivation.proofs.Disjoint.InRegion.{names_one, region-self, region_same, same_one, named_typed, untyped-badge}
 use Rattle.derivation.proofs.Marked.Parents.{badge_fits_from, parent_from}
 use Rattle.derivation.proofs.Marked.MarkedPuts.{IsDerived, badge_typed, derive_below, derive_after}
 use Rattle.derivation.proofs.Marked.MarkedKept.{each-back, gathered-derive, led-back, led-put}
 use Rattle.derivation.proofs.Marked.MarkedLines.{entries_of}
-
-same_number : (n : ℕ) → (n == n) ≡ true
-same_number n = eq-eqb n n refl
 
 -- what is read off the forest at a place where s stands
 

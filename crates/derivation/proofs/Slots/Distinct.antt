@@ -8,6 +8,7 @@ use Rattle.derivation.specs.Forest.{Forest, none, tree, preorder, below, after}
 use Rattle.derivation.specs.Entries.{Entry, entry, is_at, is_full, is_original, slots}
 use Rattle.derivation.specs.Derivation.{derived, derived_entry, rooted}
 use Rattle.derivation.proofs.Trees.Forests.{preorder-root}
+use Rattle.derivation.proofs.Trees.Lines.{any_none}
 use Rattle.derivation.proofs.Trees.Built.{Absent, Once, once-right_part, fixed-below, fixed-after}
 
 -- one list is the other with x at one more place
@@ -28,18 +29,6 @@ none_later {A} is (x ∷ xs) ys o h =
     right : (zs : List A) → Absent is (zs ++ ys) → Absent is ys
     right [] k = k
     right (z ∷ zs) k = right zs k.1
-
-absent_of : {A : Type 0} (is : A → Bool) (l : List A) → list_any is l ≡ false → Absent is l
-absent_of is [] h = tt
-absent_of is (a ∷ l) h = (front (is a) (list_any is l) h, absent_of is l (rest (is a) (list_any is l) h))
-  where
-    front : (b c : Bool) → (b || c) ≡ false → b ≡ false
-    front true c h = h
-    front false c h = refl
-
-    rest : (b c : Bool) → (b || c) ≡ false → c ≡ false
-    rest true c h = cc
-    rest false c h = h
 
 any_right : {A : Type 0} (is : A → Bool) (xs ys : List A) → list_any is xs ≡ false → list_any is (xs ++ ys) ≡ true → list_any is ys ≡ true
 any_right is [] ys h k = k
@@ -73,7 +62,7 @@ inserted-below {A} is x (tree a k r) o h =
       | true ↦ λ g. record { front = a ∷ []; rest = preorder k ++ preorder r; old = refl; new = refl }
       | false ↦ λ g. (elim (list_any is (preorder k)) as (λ d. list_any is (preorder k) ≡ d → IsInserted x (a ∷ (preorder k ++ preorder r)) (a ∷ (preorder (below is x k) ++ preorder (below is x r)))) [
         | true ↦ λ e. rw (fixed-below is x r (none_later is (preorder k) (preorder r) o.1 e)) (inserted_below x a (preorder k) (preorder r) (preorder (below is x k)) (inserted-below is x k (once_left (preorder k) (preorder r) o.1) e))
-        | false ↦ λ e. rw (fixed-below is x k (absent_of is (preorder k) e)) (inserted_beside x a (preorder k) (preorder r) (preorder (below is x r)) (inserted-below is x r (once-right_part is (preorder k) (preorder r) o.1) (any_right is (preorder k) (preorder r) e g)))
+        | false ↦ λ e. rw (fixed-below is x k (any_none is (preorder k) e)) (inserted_beside x a (preorder k) (preorder r) (preorder (below is x r)) (inserted-below is x r (once-right_part is (preorder k) (preorder r) o.1) (any_right is (preorder k) (preorder r) e g)))
       ]) refl
     ]) h
   where
@@ -92,7 +81,7 @@ inserted-after {A} is x (tree a k r) o h =
       | true ↦ λ g. record { front = a ∷ preorder k; rest = preorder r; old = refl; new = refl }
       | false ↦ λ g. (elim (list_any is (preorder k)) as (λ d. list_any is (preorder k) ≡ d → IsInserted x (a ∷ (preorder k ++ preorder r)) (a ∷ (preorder (after is x k) ++ preorder (after is x r)))) [
         | true ↦ λ e. rw (fixed-after is x r (none_later is (preorder k) (preorder r) o.1 e)) (inserted_below x a (preorder k) (preorder r) (preorder (after is x k)) (inserted-after is x k (once_left (preorder k) (preorder r) o.1) e))
-        | false ↦ λ e. rw (fixed-after is x k (absent_of is (preorder k) e)) (inserted_beside x a (preorder k) (preorder r) (preorder (after is x r)) (inserted-after is x r (once-right_part is (preorder k) (preorder r) o.1) (any_right is (preorder k) (preorder r) e g)))
+        | false ↦ λ e. rw (fixed-after is x k (any_none is (preorder k) e)) (inserted_beside x a (preorder k) (preorder r) (preorder (after is x r)) (inserted-after is x r (once-right_part is (preorder k) (preorder r) o.1) (any_right is (preorder k) (preorder r) e g)))
       ]) refl
     ]) h
   where
@@ -140,7 +129,7 @@ distinct_inserted : (x : Entry) (l m : List Entry) → IsInserted x l m → IsDi
 distinct_inserted x l m i d h =
     let P : List Entry → Type 0 = λ k. IsDistinct eqb (map (λ (e : Entry). e.slot) k) in
     let Q : List Entry → Type 0 = Absent (is_at x.slot) in
-    subst P (sym i.new) (distinct_put x i.front i.rest (subst P i.old d) (subst Q i.old (absent_of (is_at x.slot) l h)))
+    subst P (sym i.new) (distinct_put x i.front i.rest (subst P i.old d) (subst Q i.old (any_none (is_at x.slot) l h)))
 
 pub distinct-rooted : (slot : ℕ) (cap : Cap) (f : Forest Entry) → IsDistinct eqb (slots f) → is_full slot f ≡ false → IsDistinct eqb (slots (rooted slot cap f))
 distinct-rooted slot cap f d h =

@@ -101,7 +101,7 @@ cap_in-same a l m h = sym (cap_in-filter a l) ∙ ap (cap_in a) h ∙ cap_in-fil
 original_in-same : (a : ℕ) (l m : List Entry) → filter (is_at a) l ≡ filter (is_at a) m → original_in a l ≡ original_in a m
 original_in-same a l m h = sym (original_in-filter a l) ∙ ap (original_in a) h ∙ original_in-filter a m
 
-other_at : (a slot : ℕ) → a ≢ slot → (slot == a) ≡ false
+pub other_at : (a slot : ℕ) → a ≢ slot → (slot == a) ≡ false
 other_at a slot h = grind (arith, nat_tests)
 
 entries-rooted : (a slot : ℕ) (cap : Cap) (f : Forest Entry) → a ≢ slot → filter (is_at a) (preorder (rooted slot cap f)) ≡ filter (is_at a) (preorder f)

@@ -8,6 +8,8 @@ use Rattle.cap_core.specs.declared.capability.Cap.TheVariants.{Null}
 use Rattle.derivation.specs.Forest.{Forest, none, tree, preorder, join, out}
 use Rattle.derivation.specs.Entries.{Entry, is_at, is_full, cap_at, is_original, slots}
 use Rattle.derivation.specs.Derivation.{emptied}
+use Rattle.derivation.specs.Without.{without}
+use Rattle.derivation.proofs.Trees.Without.{out_once}
 use Rattle.derivation.proofs.Trees.Forests.{each-append, each-left_part, each-right_part, each-weaker, each-contained, each-contains, preorder-join}
 use Rattle.derivation.proofs.Trees.Built.{Absent, Once, once-right_part}
 use Rattle.derivation.proofs.Slots.Distinct.{once_at}
@@ -146,3 +148,7 @@ distinct_out is (tree a k r) d =
 
 pub distinct-emptied : (slot : ℕ) (f : Forest Entry) → IsDistinct eqb (slots f) → IsDistinct eqb (slots (emptied slot f))
 distinct-emptied slot f d = distinct_out (is_at slot) f d
+
+-- where slots are distinct, to empty one is to take out all that stand at it
+pub emptied-without : (slot : ℕ) (f : Forest Entry) → IsDistinct eqb (slots f) → emptied slot f ≡ without (is_at slot) f
+emptied-without slot f d = out_once (is_at slot) f (once_at slot (preorder f) d)

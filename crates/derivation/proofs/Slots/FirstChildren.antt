@@ -1,5 +1,5 @@
 -- The newest child of a slot after a put.
-use Rattle.std.proofs.Common.{◌≡◌, ℕ, Bool, true, false, cond, ◌||◌, eqb, List, [], ◌∷◌, ◌++◌, Some, None, refl, sym, ◌∙◌, ap, arith}
+use Rattle.std.proofs.Common.{◌≡◌, ℕ, Bool, true, false, cond, ◌||◌, ◌++◌, Some, None, refl, sym, ◌∙◌, ap, arith}
 use Rattle.std.specs.List.{Contains, list_any}
 use Rattle.std.proofs.lemmas.List.Folds.{list_any-append}
 use Rattle.cap_core.specs.declared.capability.Cap.{Cap}
@@ -7,15 +7,11 @@ use Rattle.derivation.specs.Forest.{Forest, none, tree, preorder, join, tops, be
 use Rattle.derivation.specs.Entries.{Entry, entry, is_at, is_full, is_original, first_child, first_slot}
 use Rattle.derivation.specs.Derivation.{retyped, derived, derived_entry}
 use Rattle.derivation.proofs.Trees.Built.{fixed-below, below_those_none}
-use Rattle.derivation.proofs.Trees.Lines.{any_none}
+use Rattle.derivation.proofs.Trees.Lines.{any_none, one_of}
 
 first_join : (g h : Forest Entry) (s : ℕ) → first_slot (tops g) ≡ Some s → first_slot (tops (join g h)) ≡ Some s
 first_join none h s e = cc
 first_join (tree a k r) h s e = e
-
-one_of : (b c : Bool) → (b || c) ≡ true → b ≡ false → c ≡ true
-one_of true c h k = cc
-one_of false c h k = h
 
 first-below : (is : Entry → Bool) (x : Entry) (f : Forest Entry) → list_any is (preorder f) ≡ true → first_slot (tops (below_those is (below is x f))) ≡ Some x.slot
 first-below is x none h = cc

@@ -6,7 +6,8 @@ use Rattle.cap_core.specs.declared.capability.Cap.{Cap}
 use Rattle.cap_core.specs.declared.capability.Cap.TheVariants.{Null}
 use Rattle.derivation.specs.Forest.{Forest, preorder}
 use Rattle.derivation.specs.Entries.{Entry, is_at, is_full, cap_at, cap_in, original_in, slots}
-use Rattle.derivation.proofs.Trees.Forests.{each-contained}
+use Rattle.derivation.proofs.Trees.Lines.{any_none}
+use Rattle.derivation.proofs.Trees.Forests.{each-contained, each-weaker}
 
 front_false : (b c : Bool) → (b || c) ≡ false → b ≡ false
 front_false true c h = h
@@ -62,13 +63,10 @@ original_in-one a original (e ∷ l) h k =
 -- an empty slot
 
 pub none_stands : (a : ℕ) (l : List Entry) → list_any (is_at a) l ≡ false → Each (λ (e : Entry). (e.slot == a) ≡ false) l
-none_stands a [] h = tt
-none_stands a (e ∷ l) h = (front_false (e.slot == a) (list_any (is_at a) l) h, none_stands a l (rest_false (e.slot == a) (list_any (is_at a) l) h))
+none_stands a l h = any_none (is_at a) l h
 
 pub all_of_none : (P : Entry → Type 0) (a : ℕ) (l : List Entry) → list_any (is_at a) l ≡ false → Each (λ (e : Entry). (e.slot == a) ≡ true → P e) l
-all_of_none P a [] h = tt
-all_of_none P a (e ∷ l) h =
-    ((λ t. absurd (let n : (e.slot == a) ≡ false = front_false (e.slot == a) (list_any (is_at a) l) h in cc)), all_of_none P a l (rest_false (e.slot == a) (list_any (is_at a) l) h))
+all_of_none P a l h = each-weaker (λ (e : Entry). (e.slot == a) ≡ false) (λ (e : Entry). (e.slot == a) ≡ true → P e) (λ e n t. absurd (let no' : true ≡ false = sym t ∙ n in cc)) l (none_stands a l h)
 
 pub cap-empty : (a : ℕ) (f : Forest Entry) → is_full a f ≡ false → cap_at f a ≡ Null
 cap-empty a f h = go (preorder f) h

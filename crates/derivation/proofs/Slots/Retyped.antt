@@ -8,6 +8,7 @@ use Rattle.derivation.specs.Forest.{Forest, preorder}
 use Rattle.derivation.specs.Entries.{Entry, entry, is_at, is_full, cap_at, is_original, slots}
 use Rattle.derivation.specs.Derivation.{retyped, is_named}
 use Rattle.derivation.proofs.Trees.Forests.{each-below, contains-below, contains-below_old, any-below, filter-below}
+use Rattle.derivation.proofs.Slots.Edits.{other_at}
 use Rattle.derivation.proofs.Slots.Distinct.{inserted-below, once_at}
 use Rattle.derivation.proofs.Slots.Holding.{cap_in-same_entries, original_in-same_entries, cap_in-one, original_in-one, all_of_none}
 use Rattle.derivation.proofs.Slots.DistinctEntries.{distinct-inserted}
@@ -37,9 +38,6 @@ pub named-retyped : (object : Cap) (parent slot : ℕ) (cap : Cap) (f : Forest E
 named-retyped object parent slot cap f h = any-retyped (λ (e : Entry). same_object e.cap object) parent slot cap f h
 
 -- other slots hold what they held
-
-other_at : (a slot : ℕ) → a ≢ slot → (slot == a) ≡ false
-other_at a slot h = grind (arith, nat_tests)
 
 pub cap-retyped_other : (a parent slot : ℕ) (cap : Cap) (f : Forest Entry) → a ≢ slot → cap_at (retyped parent slot cap f) a ≡ cap_at f a
 cap-retyped_other a parent slot cap f h =

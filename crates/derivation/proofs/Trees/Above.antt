@@ -1,8 +1,8 @@
 -- What stands above an element of a forest: it comes before the element, and a put of a further element changes it as it should.
-use Rattle.std.proofs.Common.{◌≡◌, Bool, true, false, cond, ◌||◌, List, [], ◌∷◌, ◌++◌, map, refl, sym, ◌∙◌, ap, subst}
+use Rattle.std.proofs.Common.{◌≡◌, Bool, true, false, cond, ◌||◌, List, [], ◌∷◌, ◌++◌, refl, sym, ◌∙◌, ap, subst}
 use Rattle.std.specs.List.{AllByRecursion as Each, list_any}
 use Rattle.std.proofs.lemmas.List.Folds.{list_any-append}
-use Rattle.derivation.specs.Forest.{Forest, none, tree, preorder, join, below_those, has, ancestors, below, renamed, taken, left, build}
+use Rattle.derivation.specs.Forest.{Forest, none, tree, preorder, join, below_those, has, ancestors, below, taken, left, build}
 use Rattle.derivation.proofs.Trees.Forests.{preorder-join, each-append, each-left_part, each-right_part, each-join}
 use Rattle.derivation.proofs.Trees.Built.{Absent, Once, preorder-build, once-right_part, once-split, fixed-below}
 use Rattle.derivation.proofs.Trees.BuiltOut.{each-left}
@@ -167,17 +167,3 @@ below_those-other {A} is q x (tree a k r) e d h =
         → below_those q (cond c (tree a (tree x none k) r) (tree a (below is x k) (below is x r))) ≡ join (below_those q k) (below_those q r)
     step true t ek er = rw (t, e)
     step false t ek er = rw (t, ek, er)
-
--- under other names
-
-has-renamed : {A B : Type 0} (w : A → B) (is : B → Bool) (f : Forest A) → has is (renamed w f) ≡ has (λ a. is (w a)) f
-has-renamed w is none = refl
-has-renamed w is (tree a k r) = rw (has-renamed w is k, has-renamed w is r)
-
-pub ancestors-renamed : {A B : Type 0} (w : A → B) (is : B → Bool) (f : Forest A) → ancestors is (renamed w f) ≡ map w (ancestors (λ a. is (w a)) f)
-ancestors-renamed w is none = refl
-ancestors-renamed w is (tree a k r) =
-    rw (has-renamed w is k) (elim (has (λ b. is (w b)) k) as (λ c. cond c (w a ∷ ancestors is (renamed w k)) (ancestors is (renamed w r)) ≡ map w (cond c (a ∷ ancestors (λ b. is (w b)) k) (ancestors (λ b. is (w b)) r))) [
-      | true ↦ ap (λ l. w a ∷ l) (ancestors-renamed w is k)
-      | false ↦ ancestors-renamed w is r
-    ])

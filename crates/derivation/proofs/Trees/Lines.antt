@@ -1,5 +1,5 @@
 -- What stands above and below an element that is put into a forest.
-use Rattle.std.proofs.Common.{◌≡◌, Bool, true, false, cond, ◌||◌, List, [], ◌∷◌, ◌++◌, refl, sym, ◌∙◌, ap, subst}
+use Rattle.std.proofs.Common.{◌≡◌, Bool, true, false, cond, ◌||◌, List, [], ◌∷◌, ◌++◌, refl, sym, ◌∙◌, ap}
 use Rattle.std.specs.List.{AllByRecursion as Each, list_any}
 use Rattle.std.proofs.lemmas.List.Folds.{list_any-append}
 use Rattle.derivation.specs.Forest.{Forest, none, tree, preorder, join, below_those, has, ancestors, below, after}
@@ -38,7 +38,7 @@ absent_behind {A} is (x ∷ xs) ys o h =
       | false ↦ λ e g. absent_behind is xs ys o.1 g
     ]) refl h
 
-one_of : (b c : Bool) → (b || c) ≡ true → b ≡ false → c ≡ true
+pub one_of : (b c : Bool) → (b || c) ≡ true → b ≡ false → c ≡ true
 one_of true c h k = cc
 one_of false c h k = h
 

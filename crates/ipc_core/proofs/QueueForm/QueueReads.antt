@@ -1,5 +1,5 @@
 -- What is read along a queue in tables.
-use Rattle.std.proofs.Common.{◌≡◌, ℕ, ◌≤◌, zero, suc, List, [], ◌∷◌, map, Option, Some, None, option_map, slice_get, refl, sym, ap, subst, ◌∙◌, arith}
+use Rattle.std.proofs.Common.{◌≡◌, ℕ, ◌+◌, ◌≤◌, zero, suc, List, [], ◌∷◌, map, Option, Some, None, option_map, slice_get, refl, sym, ap, subst, ◌∙◌, arith}
 use Rattle.std.specs.List.{AllByRecursion as Each}
 use Rattle.cap_core.specs.declared.profile.ProfileName.{ProfileName}
 use Rattle.cap_core.specs.declared.message.Message.{Message}
@@ -9,11 +9,11 @@ use Rattle.ipc_core.specs.declared.waiter.Waiter.{Waiter}
 use Rattle.ipc_core.specs.declared.waiter.Role.{Role}
 use Rattle.ipc_core.specs.declared.waiter.Role.TheVariants.{Sending, Receiving}
 use Rattle.ipc_core.specs.declared.tables.Tables.{Tables}
-use Rattle.ipc_core.specs.Waits.{endpoint_of, first_receiver, first_sender}
+use Rattle.ipc_core.specs.Waits.{thread_of, endpoint_of, first_receiver, first_sender, IsNextBehind}
 use Rattle.ipc_core.specs.Representation.Chains.{IsChain}
-use Rattle.ipc_core.specs.Representation.Linked.{Links, HasRow, links_of, waiter_in, waiter_of, orders_in, IsLinked, receiver_by, receiver_in, offer_by, offer_in}
+use Rattle.ipc_core.specs.Representation.Linked.{Links, HasRow, links_of, waiter_in, waiter_of, orders_in, waits_in, IsLinked, receiver_by, receiver_in, offer_by, offer_in}
 use Rattle.ipc_core.proofs.QueueForm.Chains.{chain-head, head_of}
-use Rattle.ipc_core.proofs.QueueForm.Queues.{some_of}
+use Rattle.ipc_core.proofs.QueueForm.Queues.{some_of, thread_of_waiter}
 
 each_get : (P : ℕ → Type 0) (list : List ℕ) (i t : ℕ) → Each P list → slice_get list i ≡ Some t → P t
 each_get P [] i t all is = cc
@@ -112,3 +112,22 @@ module _ (p : ProfileName) (tables : Tables) (linked : IsLinked p tables) (e : �
       some (x ∷ list) is at =
           let d : x ≡ t = cc in
           by_role t (l.thread t).badge (l.thread t).message (map waiter list) (l.thread t).role at ∙ ap (λ y. first_sender (waiter y ∷ map waiter list)) (sym d)
+
+  -- the thread at a place, whether read off the queue or off who waits
+  there : (list : List ℕ) (i : ℕ) → option_map thread_of (slice_get (map waiter list) i) ≡ slice_get list i
+  there [] i = refl
+  there (t ∷ list) zero = ap Some (thread_of_waiter (l.thread t) t)
+  there (t ∷ list) (suc i) = there list i
+
+  pub queue_behind : (t : ℕ) → IsNextBehind (waits_in p tables) t (l.thread t).next
+  queue_behind t = λ q i is.
+      let more : suc i ≡ i + 1 = omega arith in
+      chain_next (λ t. (l.thread t).next) (λ t. (l.thread t).previous) None (l.endpoint q).first (orders_in p tables q) (l.endpoint q).last (linked.chain q) i t
+      (sym (there (orders_in p tables q) i) ∙ is)
+      ∙ sym (there (orders_in p tables q) (suc i)) ∙ ap (λ k. option_map thread_of (slice_get (map waiter (orders_in p tables q)) k)) more
+
+  pub free_behind : (t : ℕ) → (l.thread t).role ≡ None → IsNextBehind (waits_in p tables) t None
+  free_behind t free = λ q i is.
+      let at : option_map endpoint_of (l.thread t).role ≡ Some q =
+      each_get (λ t. option_map endpoint_of (l.thread t).role ≡ Some q) (orders_in p tables q) i t (linked.members q) (sym (there (orders_in p tables q) i) ∙ is) in
+      absurd (let none : option_map endpoint_of None ≡ Some q = sym (ap (option_map endpoint_of) free) ∙ at in cc)

@@ -1,5 +1,5 @@
 -- What rows of waiting threads stand for, the first to be served first.
-use Rattle.std.specs.Prelude.{◌≢◌, ℕ, Bool, ◌==◌, List, map, filter, find, option_map, All, AllPairs}
+use Rattle.std.specs.Prelude.{◌≢◌, ℕ, Bool, ◌==◌, cond, List, [], ◌∷◌, map, filter, find, Option, None, option_map, All, AllPairs}
 use Rattle.cap_core.specs.declared.profile.ProfileName.{ProfileName}
 use Rattle.ipc_core.specs.declared.waiter.Waiter.{Waiter}
 use Rattle.ipc_core.specs.declared.waiter.Role.{Role}
@@ -24,6 +24,12 @@ waiting_at rows e = map (λ (row : WaitRow). row.waiter) (filter (is_at e) rows)
 
 abbrev pub waits_of : List WaitRow → Waits
 waits_of rows = record { queue = waiting_at rows; role = λ t. option_map row_role (find (is_of t) rows) }
+
+-- the thread of the first row behind that of a thread, on the same endpoint
+abbrev pub next_by : ℕ → List WaitRow → Option ℕ
+next_by thread [] = None
+next_by thread (row ∷ rows) =
+    cond (is_of thread row) (option_map row_thread (find (is_at row.endpoint) rows)) (next_by thread rows)
 
 -- no thread has two rows
 abbrev pub AreDistinct : List WaitRow → Type 0

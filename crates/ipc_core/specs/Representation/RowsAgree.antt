@@ -18,12 +18,11 @@ each_at P [] all = tt
 each_at P (r ∷ rows) all = (all 0 r (omega arith), each_at P rows (λ k d less. all (suc k) d (omega arith)))
 
 -- no later row is of the first row's thread, and so on
-Differ : List WaitRow → Type 0
+abbrev pub Differ : List WaitRow → Type 0
 Differ [] = Unit {0}
 Differ (r ∷ rows) = Each (λ x. row_thread x ≢ row_thread r) rows × Differ rows
 
-differ : (rows : List WaitRow) → AreDistinct rows → Differ rows
-unfolding Differ
+pub differ : (rows : List WaitRow) → AreDistinct rows → Differ rows
 differ [] distinct = tt
 differ (r ∷ rows) distinct = (
   each_at (λ x. row_thread x ≢ row_thread r) rows (λ k d less same. distinct 0 (suc k) d (omega arith) (omega arith) (sym same)),
@@ -36,7 +35,6 @@ each_both P Q R f (x ∷ rows) p q = (f x p.0 q.0, each_both P Q R f rows p.1 q.
 
 -- each row is the one that is found by its thread
 found : (rows : List WaitRow) → Differ rows → Each (λ x. find (is_of (row_thread x)) rows ≡ Some x) rows
-unfolding Differ
 found [] differ = tt
 found (r ∷ rows) differ = (
   ap (λ b. cond b (Some r) (find (is_of (row_thread r)) rows)) (eq-eqb (row_thread r) (row_thread r) refl),
@@ -90,11 +88,10 @@ in_queue (x ∷ rows) t r is = elim (eqb_tells (row_thread x) t) [
     either true c h = or_true (is_of t x) (list_any (is_thread t) (waiting_at rows (endpoint_of r))) h
 
 -- the waiters of rows, of which the first is on this endpoint or is not
-with_first : ℕ → WaitRow → List WaitRow → Bool → List Waiter
+abbrev pub with_first : ℕ → WaitRow → List WaitRow → Bool → List Waiter
 with_first e r rows here = map (λ (row : WaitRow). row.waiter) (cond here (r ∷ filter (is_at e) rows) (filter (is_at e) rows))
 
 lacks_at : (e t : ℕ) (rows : List WaitRow) → Each (λ x. row_thread x ≢ t) rows → Lacks t (map thread_of (waiting_at rows e))
-unfolding with_first
 lacks_at e t [] each = tt
 lacks_at e t (x ∷ rows) each = either (x.endpoint == e) (lacks_at e t rows each.1)
   where
@@ -104,7 +101,6 @@ lacks_at e t (x ∷ rows) each = either (x.endpoint == e) (lacks_at e t rows eac
 
 -- the threads of those on an endpoint differ
 apart_at : (e : ℕ) (rows : List WaitRow) → Differ rows → IsApart (map thread_of (waiting_at rows e))
-unfolding Differ with_first
 apart_at e [] differ = tt
 apart_at e (r ∷ rows) differ = either (r.endpoint == e) (lacks_at e (row_thread r) rows differ.0) (apart_at e rows differ.1)
   where

@@ -7,6 +7,11 @@ use Rattle.cap_core.specs.declared.refusal.Refusal.{Refusal}
 use Rattle.cap_core.specs.Objects.{IsLawful}
 use Rattle.derivation.specs.Forest.{Forest}
 use Rattle.derivation.specs.Entries.{Entry, caps}
+use Rattle.abstract_kernel.specs.declared.call.Reply.{Reply}
+use Rattle.abstract_kernel.specs.Memory.{IsInMemory}
+use Rattle.abstract_kernel.specs.Regions.{IsForest}
+use Rattle.abstract_kernel.specs.Private.Effects.{performed_effect}
+use Rattle.abstract_kernel.proofs.Capabilities.StaysInMemory.{invocation_within}
 use Rattle.abstract_kernel.specs.declared.call.Op.{Op}
 use Rattle.abstract_kernel.specs.declared.call.Op.TheVariants as op
 use Rattle.abstract_kernel.specs.declared.invocation.Invocation.{Invocation}
@@ -41,3 +46,19 @@ invocation_passed p memory f rows w v thread o (Err refusal) all view is = tt
 invocation_passed p memory f rows w v thread o (Ok invocation) all view is =
     subst (λ (u : Shown). IsInvocation p u invocation) view
     (invocation_shown p f rows w invocation (found_live p f thread o (invoked_slot p f thread (service_word o)) invocation (sym is)) (invoked_edit p memory f all thread o invocation (sym is)))
+
+-- an invocation is performed, which is known by its case
+pub record IsPerformed (p : ProfileName) (v w : Shown) (t : ℕ) (done : Invocation) (reply : Reply) : Type 0 where
+  pub reply_is : reply ≡ (performed_effect p v t done).reply
+  pub after_is : w ≡ (performed_effect p v t done).after
+  pub within : (memory : ℕ) → IsInMemory p memory v → IsInMemory p memory w
+
+pub performed_as : (p : ProfileName) (v w : Shown) (t : ℕ) (done kind : Invocation) (reply : Reply) → done ≡ kind → IsForest p v.derivations → IsInvocation p v done →
+    reply ≡ (performed_effect p v t kind).reply → w ≡ (performed_effect p v t kind).after → IsPerformed p v w t done reply
+performed_as p v w t done kind reply is forest allowed replied after =
+    let shows = after ∙ sym (ap (λ (k : Invocation). (performed_effect p v t k).after) is) in
+    record {
+      reply_is = replied ∙ sym (ap (λ (k : Invocation). (performed_effect p v t k).reply) is);
+      after_is = shows;
+      within = invocation_within p v w t done forest allowed shows;
+    }

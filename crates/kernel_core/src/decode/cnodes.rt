@@ -6,14 +6,12 @@ ghost use Rattle.derivation.specs.Entries.{cap_at};
 ghost use Rattle.slot_core.specs.Places.{address_of};
 ghost use Rattle.ipc_core.specs.Waits.{IsThreadAddress};
 ghost use Rattle.cap_core.specs.Minting.{with_data};
-ghost use Rattle.cspace_core.specs.Resolution.{is_cnode};
-ghost use Rattle.abstract_kernel.specs.Lookups.{where_kind};
 ghost use Rattle.abstract_kernel.specs.CNodes.{decoded_placement, changed_cap, where_derivable, where_set};
 
-use crate::decode::lookup::{empty_slot, extra_capability, full_slot};
+use crate::decode::lookup::{empty_slot, extra_capability, full_slot, of_kind};
 use abstract_kernel::invocation::{CapPlacement, Change, SlotArguments};
 use cap_core::limits::MAX_MEMORY_BITS;
-use cap_core::{Cap, Profile, Refusal, mask, set_data};
+use cap_core::{Cap, Kind, Profile, Refusal, mask, set_data};
 use slot_core::{CapStore, Slot};
 
 /// The placement that an operation on a CNode asks for, or the first check that fails: the invoked capability is a CNode's, the
@@ -32,7 +30,7 @@ pub fn decode_placement<P: Profile, S: CapStore<P>>(
     requires lawful { (invoked ≡ Null) ⊎ IsLawful P.the (S.memory_bits store.now) invoked }
     ensures { result ≡ decoded_placement P.the (S.forest store.now) thread invoked asked change }
 {
-    let node = cnode(invoked)?;
+    let node = of_kind(invoked, Kind::CNode)?;
     let root = extra_capability::<P, S>(store, thread, asked.src_root)?;
     let slot = empty_slot::<P, S>(store, node, asked.index, asked.depth)?;
     let source = full_slot::<P, S>(store, root, asked.src_index, asked.src_depth)?;
@@ -86,16 +84,5 @@ fn derivable<P: Profile, S: CapStore<P>>(store: &S, source: Slot, cap: Cap) -> R
             }
         }
         _ => Ok(cap),
-    }
-}
-
-/// The invoked capability, where it is a CNode's.
-fn cnode(invoked: Cap) -> Result<Cap, Refusal>
-    ensures { result ≡ where_kind is_cnode invoked }
-{
-    match invoked {
-        Cap::Null => Err(Refusal::InvalidCapability),
-        Cap::CNode { .. } => Ok(invoked),
-        _ => Err(Refusal::IllegalOperation),
     }
 }

@@ -11,7 +11,7 @@ ghost use Rattle.cspace_core.specs.Inside.{LiesInCNode};
 ghost use Rattle.derivation.specs.Entries.{cap_at};
 
 use cap_core::limits::MAX_MEMORY_BITS;
-use cap_core::{Cap, LookupFault, Profile, Refusal};
+use cap_core::{Cap, Kind, LookupFault, Profile, Refusal};
 use cspace_core::{resolve, target};
 use slot_core::{CapStore, Slot};
 
@@ -72,6 +72,24 @@ pub fn extra_capability<P: Profile, S: CapStore<P>>(
 {
     let slot = named_slot::<P, S>(store, thread, word)?;
     Ok(store.get(slot))
+}
+
+/// The invoked capability, where it is of the kind that the operation asks for.
+pub fn of_kind(invoked: Cap, kind: Kind) -> Result<Cap, Refusal>
+    ensures { result ≡ where_kind kind invoked }
+{
+    let is_wanted = match invoked {
+        Cap::Null => return Err(Refusal::InvalidCapability),
+        Cap::Untyped { .. } => kind == Kind::Untyped,
+        Cap::Endpoint { .. } => kind == Kind::Endpoint,
+        Cap::CNode { .. } => kind == Kind::CNode,
+        Cap::Tcb { .. } => kind == Kind::Tcb,
+    };
+    if is_wanted {
+        Ok(invoked)
+    } else {
+        Err(Refusal::IllegalOperation)
+    }
 }
 
 /// The empty slot that an operation names by an index and a depth from a capability.

@@ -2,7 +2,7 @@
 ghost use Rattle.std.specs.Prelude.{◌≡◌, ◌≤◌, ◌<◌, ◌⊎◌, ◌*◌, ◌+◌, ◌%◌, ◌^◌, IfOk};
 ghost use Rattle.cap_core.specs.Numbers.{slot_size, word_bits};
 ghost use Rattle.cspace_core.specs.Resolution.{slot_of};
-ghost use Rattle.cap_core.specs.Objects.{IsLawful, is_untyped};
+ghost use Rattle.cap_core.specs.Objects.{IsLawful};
 ghost use Rattle.cap_core.specs.declared.capability.Cap.TheVariants.{Null};
 ghost use Rattle.derivation.specs.Entries.{cap_at};
 ghost use Rattle.slot_core.specs.Places.{address_of};
@@ -10,15 +10,14 @@ ghost use Rattle.ipc_core.specs.Waits.{IsThreadAddress};
 ghost use Rattle.cap_core.specs.declared.limits.TheConstants.{MAX_RETYPE_COUNT};
 ghost use Rattle.mem_core.specs.Shapes.{IsShape};
 ghost use Rattle.mem_core.specs.Plans.{IsRetypable};
-ghost use Rattle.abstract_kernel.specs.Lookups.{where_kind};
 ghost use Rattle.abstract_kernel.specs.Shown.{has_child};
-ghost use Rattle.abstract_kernel.specs.Retyping.{decoded_retype, node_cap, first_slot as first_slot_of, are_slots, some_full};
 ghost use Rattle.mem_core.specs.Plans.{placed_in};
+ghost use Rattle.abstract_kernel.specs.Retyping.{decoded_retype, decoded_objects, node_cap, first_slot as first_slot_of, are_slots, some_full};
 
-use crate::decode::lookup::extra_capability;
+use crate::decode::lookup::{extra_capability, of_kind};
 use abstract_kernel::invocation::{NewObjects, RetypeArguments};
 use cap_core::limits::{MAX_MEMORY_BITS, MAX_RETYPE_COUNT};
-use cap_core::{Cap, LookupFault, Profile, Refusal};
+use cap_core::{Cap, Kind, LookupFault, Profile, Refusal};
 use cspace_core::target;
 use mem_core::{Placed, Shape, plan, shape};
 use slot_core::{CapStore, Slot};
@@ -36,9 +35,26 @@ pub fn decode_retype<P: Profile, S: CapStore<P>>(
     requires thread { IsThreadAddress P.the (S.memory_bits store.now) thread }
     ensures { result ≡ decoded_retype P.the (S.forest store.now) thread (address_of P.the slot) (cap_at (S.forest store.now) (address_of P.the slot)) asked }
 {
-    let untyped = untyped_in(store.get(slot))?;
+    let untyped = of_kind(store.get(slot), Kind::Untyped)?;
     let root = extra_capability::<P, S>(store, thread, asked.root)?;
     let shape = shape::<P>(asked.kind, asked.size_bits)?;
+    decode_objects::<P, S>(store, slot, untyped, root, shape, asked)
+}
+
+/// The rest of the checks: of the slots that are filled, and of the room for the objects.
+fn decode_objects<P: Profile, S: CapStore<P>>(
+    store: &S,
+    slot: Slot,
+    untyped: Cap,
+    root: Cap,
+    shape: Shape,
+    asked: RetypeArguments,
+) -> Result<NewObjects, Refusal>
+    requires untyped { IsRetypable untyped }
+    requires lawful { (root ≡ Null) ⊎ IsLawful P.the (S.memory_bits store.now) root }
+    requires shape { IsShape shape }
+    ensures { result ≡ decoded_objects P.the (S.forest store.now) (address_of P.the slot) untyped root shape asked }
+{
     let node = node_for::<P, S>(store, root, asked.index, asked.depth)?;
     let first_slot = first_slot::<P, S>(store, node, asked.offset, asked.count)?;
     let placed = place::<P, S>(store, slot, untyped, shape, asked.count)?;
@@ -49,17 +65,6 @@ pub fn decode_retype<P: Profile, S: CapStore<P>>(
         first_slot,
         count: asked.count,
     })
-}
-
-/// The invoked capability, where it is an untyped one.
-fn untyped_in(invoked: Cap) -> Result<Cap, Refusal>
-    ensures { result ≡ where_kind is_untyped invoked }
-{
-    match invoked {
-        Cap::Null => Err(Refusal::InvalidCapability),
-        Cap::Untyped { .. } => Ok(invoked),
-        _ => Err(Refusal::IllegalOperation),
-    }
 }
 
 /// The capability of the CNode whose slots are filled.

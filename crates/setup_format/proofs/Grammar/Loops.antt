@@ -8,11 +8,9 @@ use Rattle.toml.specs.declared.value.Value.{Value}
 use Rattle.setup_format.specs.declared.fault.SetupFault.{SetupFault}
 use Rattle.setup_format.specs.declared.fault.SetupFault.TheVariants as faults
 use Rattle.setup_format.specs.declared.fault.Wrong.TheVariants.{OtherValue}
-use Rattle.setup_format.specs.declared.setup.SetupCall.{SetupCall}
 use Rattle.cap_core.specs.declared.profile.ProfileName.{ProfileName}
 use Rattle.cap_core.specs.declared.limits.TheConstants.{MAX_MESSAGE_WORDS}
 use Rattle.setup_format.specs.Names.{Names}
-use Rattle.setup_format.specs.Private.Seen.{call_view}
 use Rattle.setup_format.specs.Faults.{Fault, Fails}
 use Rattle.setup_format.specs.Kinds.{◌>>=◌, each, item_list, array_in, between, word, words, filled, tables, table_in}
 
@@ -85,8 +83,3 @@ words_are p names d xs e = rw (← e) refl
 
 pub tables_are : (low high : ℕ) (d : Data) (xs : List Data) → Ok xs ≡ array_in low high (as_array d) → tables low high d ≡ each (λ _ x. table_in (as_table x)) 0 xs
 tables_are low high d xs e = rw (← e) refl
-
--- the calls of what is seen
-pub calls_seen : (rs : List SetupCall) → map (λ r. r.call) rs ≡ map (λ c. c.call) (map call_view rs)
-calls_seen [] = refl
-calls_seen (r ∷ rs) = ap (λ cs. r.call ∷ cs) (calls_seen rs)

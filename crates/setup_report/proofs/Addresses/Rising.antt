@@ -1,8 +1,6 @@
 -- Addresses in rising order.
-use Rattle.std.proofs.Common.{◌≡◌, ℕ, Bool, true, false, cond, not, ◌&&◌, ◌||◌, ◌==◌, List, [], ◌∷◌, ◌++◌, Option, None, Some, filter_map, map, refl, sym, ap, ◌∙◌, ◌⊎◌, inl, inr, append-nil, append_assoc}
+use Rattle.std.proofs.Common.{◌≡◌, ℕ, Bool, true, false, cond, not, ◌&&◌, ◌||◌, ◌==◌, List, [], ◌∷◌, ◌++◌, Option, None, Some, filter_map, take, length, get_or, ◌+◌, ◌<◌, refl, sym, ap, ◌∙◌, ◌⊎◌, inl, inr, append-nil, append_assoc}
 use Rattle.std.specs.List.{AllByRecursion, filter, flat_map, list_any, cons_option}
-use Rattle.std.specs.Borrow.{Bor}
-use Rattle.std.specs.Map.Iter.{deref}
 use Rattle.std.specs.List.Sorted.{IsStrictlySortedBy}
 use Rattle.std.specs.Ordering.{nat_cmp, match_ordering, ordering_reverse}
 use Rattle.std.specs.Cmp.{nat_cmp_total, unsigned_tied}
@@ -11,7 +9,7 @@ use Rattle.std.specs.BTreeSet.{BTreeSet, contains, difference, insert_key}
 use Rattle.std.specs.FinMap.{nat_cmp-IsAntisymmetric}
 use Rattle.std.proofs.lemmas.Bool.Decides.{eqb_tells}
 use Rattle.std.proofs.lemmas.List.Folds.{list_any-append}
-use Rattle.std.proofs.lemmas.List.{map_push}
+use Rattle.std.proofs.lemmas.List.{take_more}
 use Rattle.std.proofs.lemmas.List.Elements.{filter_map-append}
 use Rattle.std.proofs.lemmas.List.Kept.{IsStrictlySortedBy-filter}
 use Rattle.std.proofs.lemmas.Map.Lookups.{btree_set_from_contains, exact_unsigned}
@@ -99,6 +97,10 @@ rising_same xs ys h =
     same_rising (rising xs) (rising ys) (sorted_rising xs) (sorted_rising ys)
     (λ q. any_rising (λ a. q == a) xs ∙ h q ∙ sym (any_rising (λ a. q == a) ys))
 
+-- a list that rises is in rising order
+pub rising_sorted : (xs : List ℕ) → IsStrictlySortedBy nat_cmp xs → rising xs ≡ xs
+rising_sorted xs h = same_rising (rising xs) xs (sorted_rising xs) h (λ q. any_rising (λ a. q == a) xs)
+
 -- one address more
 pub rising_push : (xs : List ℕ) (x : ℕ) → rising (xs ++ x ∷ []) ≡ insert_key nat_cmp (rising xs) x
 rising_push xs x = rising_same (xs ++ x ∷ []) (x ∷ xs) (λ q. list_any-append (λ a. q == a) xs (x ∷ []) ∙ last (is_in q xs) (q == x))
@@ -160,15 +162,15 @@ named_rising f xs =
 named_last : (f : ℕ → Option ℕ) (xs : List ℕ) (x : ℕ) (o : Option ℕ) → f x ≡ o → filter_map f (xs ++ x ∷ []) ≡ filter_map f xs ++ cons_option o []
 named_last f xs x o e = filter_map-append f xs (x ∷ []) ∙ ap (λ o. filter_map f xs ++ cons_option o []) e
 
-pub named_some : (f : ℕ → Option ℕ) (xs : List (Bor ℕ)) (x : Bor ℕ) (base : ℕ) (before after : List ℕ) → before ≡ rising (filter_map f (map deref xs)) → f x.now ≡ Some base → after ≡ insert_key nat_cmp before base → after ≡ rising (filter_map f (map deref (xs ++ x ∷ [])))
-named_some f xs x base before after e is h =
+pub named_some : (f : ℕ → Option ℕ) (xs : List ℕ) (i d base : ℕ) (before after : List ℕ) → i < length xs → before ≡ rising (filter_map f (take i xs)) → f (get_or xs i d) ≡ Some base → after ≡ insert_key nat_cmp before base → after ≡ rising (filter_map f (take (i + 1) xs))
+named_some f xs i d base before after lt e is h =
     h ∙ ap (λ l. insert_key nat_cmp l base) e
-    ∙ sym (rising_push (filter_map f (map deref xs)) base)
-    ∙ ap rising (sym (ap (filter_map f) (map_push deref xs x) ∙ named_last f (map deref xs) x.now (Some base) is))
+    ∙ sym (rising_push (filter_map f (take i xs)) base)
+    ∙ ap rising (sym (ap (filter_map f) (take_more xs i d lt) ∙ named_last f (take i xs) (get_or xs i d) (Some base) is))
 
-pub named_none : (f : ℕ → Option ℕ) (xs : List (Bor ℕ)) (x : Bor ℕ) (before : List ℕ) → before ≡ rising (filter_map f (map deref xs)) → f x.now ≡ None → before ≡ rising (filter_map f (map deref (xs ++ x ∷ [])))
-named_none f xs x before e is =
-    e ∙ ap rising (sym (ap (filter_map f) (map_push deref xs x) ∙ named_last f (map deref xs) x.now None is ∙ append-nil (filter_map f (map deref xs))))
+pub named_none : (f : ℕ → Option ℕ) (xs : List ℕ) (i d : ℕ) (before : List ℕ) → i < length xs → before ≡ rising (filter_map f (take i xs)) → f (get_or xs i d) ≡ None → before ≡ rising (filter_map f (take (i + 1) xs))
+named_none f xs i d before lt e is =
+    e ∙ ap rising (sym (ap (filter_map f) (take_more xs i d lt) ∙ named_last f (take i xs) (get_or xs i d) None is ∙ append-nil (filter_map f (take i xs))))
 
 -- ---- what the full slots name
 

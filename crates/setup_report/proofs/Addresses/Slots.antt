@@ -4,9 +4,11 @@ use Rattle.std.proofs.Math.Nat.{pow-le-pow_right, mul-le-mul_right, div-mul-le_s
 use Rattle.std.proofs.lemmas.Bool.{lt-ltb, ne_eqb}
 use Rattle.std.proofs.lemmas.Bool.Decides.{eqb_tells}
 use Rattle.std.proofs.lemmas.Nat.{pow_pos, pow-add}
-use Rattle.std.specs.List.{filter}
+use Rattle.std.specs.List.{filter, AllByRecursion}
+use Rattle.std.specs.List.Sorted.{IsStrictlySortedBy}
+use Rattle.std.specs.declared.cmp.Ordering.TheVariants.{Less, Equal, Greater}
+use Rattle.std.proofs.lemmas.List.Kept.{IsStrictlySortedBy-filter}
 use Rattle.std.specs.Ordering.{nat_cmp}
-use Rattle.std.specs.BTreeSet.{insert_key}
 use Rattle.std.proofs.lemmas.List.Folds.{list_any-append}
 use Rattle.std.proofs.lemmas.List.Elements.{filter-append}
 use Rattle.cap_core.specs.declared.profile.ProfileName.{ProfileName}
@@ -20,7 +22,7 @@ use Rattle.abstract_kernel.specs.Memory.{IsSlotAddress, IsAligned}
 use Rattle.abstract_kernel.specs.Shown.{Shown}
 use Rattle.kernel_core.proofs.Addresses.{no_cap}
 use Rattle.setup_report.specs.Report.{is_in, rising, is_full, full_slots}
-use Rattle.setup_report.proofs.Addresses.Rising.{rising_same, rising_push, in_filter}
+use Rattle.setup_report.proofs.Addresses.Rising.{rising_same, rising_sorted, in_filter}
 
 -- ---- numbers
 
@@ -127,10 +129,45 @@ slots_found p memory v least placed =
     ∙ sym (unless (is_in q (slots v.derivations)) (λ out. not_full v q (absent q (preorder v.derivations) out) full)))
     ∙ sym (in_filter (is_full v) q (slots v.derivations)))
 
--- one place more: its slot is full, or it is not
-pub found_none : (test : ℕ → Bool) (size : ℕ) (keys : List ℕ) → keys ≡ [] → keys ≡ rising (filter test (multiples size 0))
+-- ---- the multiples of a size rise
+
+abbrev IsBelow : ℕ → ℕ → Type 0
+IsBelow k y = nat_cmp y k ≡ Less
+
+lt_Less : (x y : ℕ) → x < y → nat_cmp x y ≡ Less
+lt_Less x y lt = ap (λ b. cond b Less (cond (x == y) Equal Greater)) (lt-ltb x y lt)
+
+all_push : (P : ℕ → Type 0) (xs : List ℕ) (k : ℕ) → AllByRecursion P xs → P k → AllByRecursion P (xs ++ k ∷ [])
+all_push P [] k h p = (p, tt)
+all_push P (x ∷ xs) k h p = (h.0, all_push P xs k h.1 p)
+
+sorted_push : (xs : List ℕ) (k : ℕ) → AllByRecursion (IsBelow k) xs → IsStrictlySortedBy nat_cmp xs → IsStrictlySortedBy nat_cmp (xs ++ k ∷ [])
+unfolding IsStrictlySortedBy
+sorted_push [] k h s = (tt, tt)
+sorted_push (x ∷ xs) k h s = (all_push (λ y. nat_cmp x y ≡ Less) xs k s.0 h.0, sorted_push xs k h.1 s.1)
+
+multiples_below : (size n m : ℕ) → 0 < size → n ≤ m → AllByRecursion (IsBelow (m * size)) (multiples size n)
 unfolding multiples
-found_none test size keys e = e
+multiples_below size zero m some le = tt
+multiples_below size (suc n) m some le =
+    let next : (n + 1) * size ≤ m * size = mul-le-mul_right size (omega arith) in
+    let below : n * size < m * size = omega arith in
+    all_push (IsBelow (m * size)) (multiples size n) (n * size) (multiples_below size n m some (omega arith)) (lt_Less (n * size) (m * size) below)
+
+sorted_multiples : (size n : ℕ) → 0 < size → IsStrictlySortedBy nat_cmp (multiples size n)
+unfolding multiples IsStrictlySortedBy
+sorted_multiples size zero some = tt
+sorted_multiples size (suc n) some = sorted_push (multiples size n) (n * size) (multiples_below size n n some (omega arith)) (sorted_multiples size n some)
+
+-- those of them that pass a test are in rising order as they are
+pub rising_multiples : (test : ℕ → Bool) (size n : ℕ) → 0 < size → filter test (multiples size n) ≡ rising (filter test (multiples size n))
+rising_multiples test size n some =
+    sym (rising_sorted (filter test (multiples size n)) (IsStrictlySortedBy-filter nat_cmp test (multiples size n) (sorted_multiples size n some)))
+
+-- one place more: its slot is full, or it is not
+pub found_none : (test : ℕ → Bool) (size : ℕ) (found : List ℕ) → found ≡ [] → found ≡ filter test (multiples size 0)
+unfolding multiples
+found_none test size found e = e
 
 more : (test : ℕ → Bool) (size n : ℕ) (b : Bool) → test (n * size) ≡ b → filter test (multiples size (n + 1)) ≡ filter test (multiples size n) ++ cond b (n * size ∷ []) []
 unfolding multiples
@@ -139,13 +176,10 @@ more test size n b e =
     ∙ filter-append test (multiples size n) (n * size ∷ [])
     ∙ ap (λ c. filter test (multiples size n) ++ cond c (n * size ∷ []) []) e
 
-pub found_full : (test : ℕ → Bool) (size n : ℕ) (before after : List ℕ) {slot : ℕ} → slot ≡ n * size → before ≡ rising (filter test (multiples size n)) → test (n * size) ≡ true → after ≡ insert_key nat_cmp before slot → after ≡ rising (filter test (multiples size (n + 1)))
+pub found_full : (test : ℕ → Bool) (size n : ℕ) (before after : List ℕ) {slot : ℕ} → slot ≡ n * size → before ≡ filter test (multiples size n) → test (n * size) ≡ true → after ≡ before ++ slot ∷ [] → after ≡ filter test (multiples size (n + 1))
 found_full test size n before after {slot} at e full h =
-    h ∙ ap (λ k. insert_key nat_cmp before k) at ∙ ap (λ l. insert_key nat_cmp l (n * size)) e
-    ∙ sym (rising_push (filter test (multiples size n)) (n * size))
-    ∙ ap rising (sym (more test size n true full))
+    h ∙ ap (λ k. before ++ k ∷ []) at ∙ ap (λ l. l ++ n * size ∷ []) e ∙ sym (more test size n true full)
 
-pub found_empty : (test : ℕ → Bool) (size n : ℕ) (before : List ℕ) → before ≡ rising (filter test (multiples size n)) → test (n * size) ≡ false → before ≡ rising (filter test (multiples size (n + 1)))
+pub found_empty : (test : ℕ → Bool) (size n : ℕ) (before : List ℕ) → before ≡ filter test (multiples size n) → test (n * size) ≡ false → before ≡ filter test (multiples size (n + 1))
 found_empty test size n before e empty =
-    e ∙ ap rising (sym (append-nil (filter test (multiples size n))))
-    ∙ ap rising (sym (more test size n false empty))
+    e ∙ sym (append-nil (filter test (multiples size n))) ∙ sym (more test size n false empty)

@@ -7,7 +7,8 @@ use Rattle.std.proofs.lemmas.Option.{slice_get_within, slice_get_cases, get_or_f
 use Rattle.abstract_kernel.specs.declared.call.Call.{Call}
 use Rattle.abstract_kernel.specs.declared.call.Reply.{Reply}
 use Rattle.setup_format.specs.Views.{CallView}
-use Rattle.setup_report.specs.Report.{line, call_text, call_lines, is_expected, one_met, one_expected, met_count, expectation_count}
+use Rattle.setup_report.specs.Text.{reply_text}
+use Rattle.setup_report.specs.Report.{line, call_text, call_lines, is_met, one_met, one_expected, met_count, expectation_count}
 
 -- the call at a place, and what is expected of its reply
 pub record IsCallAt (calls : List CallView) (i : ℕ) (call : Call) (expected : Option (List ℕ)) : Type 0 where
@@ -80,13 +81,13 @@ expected_at calls i expected f =
     (λ none. absurd (let h : Some expected ≡ None = sym f ∙ ap (option_map (λ (c : CallView). c.expect)) none.1 in cc))
     ((slice_get_cases calls i).1)
 
-pub met_more : (calls : List CallView) (replies : List Reply) (i : ℕ) (expected : Option (List ℕ)) (reply : Reply) → option_map (λ (c : CallView). c.expect) (slice_get calls i) ≡ Some expected → slice_get replies i ≡ Some reply → met_count (drop i calls) (drop i replies) ≡ one_met expected reply + met_count (drop (i + 1) calls) (drop (i + 1) replies)
+pub met_more : (calls : List CallView) (replies : List Reply) (i : ℕ) (expected : Option (List ℕ)) (reply : Reply) → option_map (λ (c : CallView). c.expect) (slice_get calls i) ≡ Some expected → slice_get replies i ≡ Some reply → met_count (drop i calls) (drop i replies) ≡ one_met expected (reply_text reply) + met_count (drop (i + 1) calls) (drop (i + 1) replies)
 met_more calls replies i expected reply x r =
     let at : IsExpectedAt calls i expected = expected_at calls i expected x in
     ap (λ cs. met_count cs (drop i replies)) at.there
     ∙ ap (λ rs. met_count (at.view ∷ drop (suc i) calls) rs) (reply_at replies i reply r)
-    ∙ ap (λ e. one_met e reply + met_count (drop (suc i) calls) (drop (suc i) replies)) at.expected_is
-    ∙ ap (λ n. one_met expected reply + met_count (drop n calls) (drop n replies)) (sym (add-one i))
+    ∙ ap (λ e. one_met e (reply_text reply) + met_count (drop (suc i) calls) (drop (suc i) replies)) at.expected_is
+    ∙ ap (λ n. one_met expected (reply_text reply) + met_count (drop n calls) (drop n replies)) (sym (add-one i))
 
 pub expectation_more : (calls : List CallView) (replies : List Reply) (i : ℕ) (expected : Option (List ℕ)) (reply : Reply) → option_map (λ (c : CallView). c.expect) (slice_get calls i) ≡ Some expected → slice_get replies i ≡ Some reply → expectation_count (drop i calls) (drop i replies) ≡ one_expected expected + expectation_count (drop (i + 1) calls) (drop (i + 1) replies)
 expectation_more calls replies i expected reply x r =
@@ -96,8 +97,8 @@ expectation_more calls replies i expected reply x r =
     ∙ ap (λ e. one_expected e + expectation_count (drop (suc i) calls) (drop (suc i) replies)) at.expected_is
     ∙ ap (λ n. one_expected expected + expectation_count (drop n calls) (drop n replies)) (sym (add-one i))
 
-pub one_met-le : (expected : Option (List ℕ)) (reply : Reply) → one_met expected reply ≤ 1
-one_met-le expected reply = elim (is_expected expected reply) as (λ b. (if b then 1 else 0) ≤ 1) [ true ↦ omega arith | false ↦ omega arith ]
+pub one_met-le : (expected : Option (List ℕ)) (text : List ℕ) → one_met expected text ≤ 1
+one_met-le expected text = elim (is_met expected text) as (λ b. (if b then 1 else 0) ≤ 1) [ true ↦ omega arith | false ↦ omega arith ]
 
 pub one_expected-le : (expected : Option (List ℕ)) → one_expected expected ≤ 1
 one_expected-le None = omega arith

@@ -7,3 +7,14 @@ abbrev pub text_of_verdict : Verdict → List ℕ
 text_of_verdict V.None = []
 text_of_verdict V.Met = codes " [met]"
 text_of_verdict (V.NotMet expected) = codes " [not met: " ++ (expected.now ++ codes "]")
+
+-- how many expectations it is told of that they are met, and how many there are
+abbrev pub met_of_verdict : Verdict → ℕ
+met_of_verdict V.None = 0
+met_of_verdict V.Met = 1
+met_of_verdict (V.NotMet expected) = 0
+
+abbrev pub expected_of_verdict : Verdict → ℕ
+expected_of_verdict V.None = 0
+expected_of_verdict V.Met = 1
+expected_of_verdict (V.NotMet expected) = 1

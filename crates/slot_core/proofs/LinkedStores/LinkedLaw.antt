@@ -1,41 +1,37 @@
--- Derivation without a tree: what a marked list stands for.
-use Rattle.std.proofs.Common.{◌≡◌, ℕ, ◌*◌, List, ◌∷◌, ◌++◌, map, Option, refl, sym, ◌∙◌, ap, subst, eq-eqb}
+-- Derivation without a tree, in a store's own list: what `stands_for_its_forest` says of it.
+use Rattle.std.proofs.Common.{◌≡◌, ℕ, ◌*◌, List, ◌∷◌, ◌++◌, Option, ◌∙◌, ap, subst}
 use Rattle.cap_core.specs.declared.profile.ProfileName.{ProfileName}
 use Rattle.cap_core.specs.Numbers.{slot_size}
 use Rattle.slot_core.specs.declared.linked.table.Link.{Link}
-use Rattle.derivation.specs.Forest.{Forest, preorder, descendants, build}
-use Rattle.derivation.specs.Entries.{Entry, is_at}
-use Rattle.derivation.specs.Marked.{Marked, is_parent, entry_of, forest_of, stands_at, IsGathered, IsNamedFirst, StandsForEntries, HasOthersBelow, run_of}
+use Rattle.derivation.specs.Forest.{descendants}
+use Rattle.derivation.specs.Entries.{is_at, first_child}
+use Rattle.derivation.specs.Derivation.{is_last}
+use Rattle.derivation.specs.Marked.{Marked, forest_of, IsGathered, IsNamedFirst, HasOthersBelow, HasRunsBelow, HasChildrenNext, HasLastsAlone}
 use Rattle.slot_core.specs.Links.{order_of, rows_of, IsLinkedStore}
-use Rattle.derivation.proofs.Trees.Built.{preorder-renamed, build-below_those, renamed-below_those}
-use Rattle.derivation.proofs.Marked.Parents.{parent-transitive}
-use Rattle.derivation.proofs.Trees.Standing.{one_fits, stands-build, counted-renamed, taken_run}
 use Rattle.derivation.proofs.Marked.MarkedSteps.{StandsIn}
 use Rattle.derivation.proofs.Marked.MarkedEdits.{AreApart, stands_in}
-use Rattle.slot_core.proofs.LinkedStores.LinkedSteps.{apart_rows}
+use Rattle.derivation.proofs.Marked.MarkedLaw.{run_below}
+use Rattle.derivation.proofs.Marked.MarkedReads.{child_told, last_told}
 use Rattle.derivation.proofs.Marked.OneObject.{below_open}
+use Rattle.slot_core.proofs.LinkedStores.LinkedSteps.{apart_rows}
 
-pub stands_for : (p : ProfileName) (l : List Marked) → StandsForEntries p l (forest_of p l)
-stands_for p l = counted-renamed (entry_of p) (build (is_parent p) l) ∙ ap (map (λ (r : Marked × ℕ). (entry_of p r.0, r.1))) (stands-build (is_parent p) (parent-transitive p) l)
+stands_there : (p : ProfileName) (links : List Link) (first last : Option ℕ) (value : List Marked) → rows_of links first ≡ value → IsLinkedStore p links first last
+    → (pre : List Marked) (s : Marked) (post : List Marked) → value ≡ pre ++ s ∷ post → StandsIn p pre s post
+stands_there p links first last value v inv pre s post e = let A : List Marked → Type 0 = AreApart p in stands_in p pre s post (subst A (v ∙ e) (apart_rows p links (order_of links first) inv.linked.apart))
 
-pub no_other : (p : ProfileName) (l : List Marked) (f : Forest Entry) → StandsForEntries p l f → f ≡ forest_of p l
-no_other p l f h = one_fits f (forest_of p l) (h ∙ sym (stands_for p l))
-
-pub run_below : (p : ProfileName) (pre : List Marked) (s : Marked) (post : List Marked) → StandsIn p pre s post
-    → descendants (is_at (s.place * slot_size p)) (forest_of p (pre ++ s ∷ post)) ≡ map (entry_of p) (run_of p s post)
-run_below p pre s post st =
-    ap preorder (renamed-below_those (entry_of p) (is_at (s.place * slot_size p)) (build (is_parent p) (pre ++ s ∷ post)))
-    ∙ preorder-renamed (entry_of p) _
-    ∙ ap (λ (f : Forest Marked). map (entry_of p) (preorder f)) (build-below_those (is_parent p) (stands_at p s.place) pre s post (eq-eqb (s.place * slot_size p) (s.place * slot_size p) refl) st.front st.back)
-    ∙ ap (map (entry_of p)) (taken_run (is_parent p) (parent-transitive p) s post)
-
-pub run_in_store : (p : ProfileName) (links : List Link) (first last : Option ℕ) (value : List Marked) → rows_of links first ≡ value → IsLinkedStore p links first last
-    → (pre : List Marked) (s : Marked) (post : List Marked) → value ≡ pre ++ s ∷ post
-    → descendants (is_at (s.place * slot_size p)) (forest_of p value) ≡ map (entry_of p) (run_of p s post)
+pub run_in_store : (p : ProfileName) (links : List Link) (first last : Option ℕ) (value : List Marked) → rows_of links first ≡ value → IsLinkedStore p links first last → HasRunsBelow p value
 run_in_store p links first last value v inv pre s post e =
-    let A : List Marked → Type 0 = AreApart p in
-    let a : AreApart p (pre ++ s ∷ post) = subst A (v ∙ e) (apart_rows p links (order_of links first) inv.linked.apart) in
-    ap (λ (l : List Marked). descendants (is_at (s.place * slot_size p)) (forest_of p l)) e ∙ run_below p pre s post (stands_in p pre s post a)
+    ap (λ (l : List Marked). descendants (is_at (s.place * slot_size p)) (forest_of p l)) e ∙ run_below p pre s post (stands_there p links first last value v inv pre s post e)
+
+pub child_in_store : (p : ProfileName) (links : List Link) (first last : Option ℕ) (value : List Marked) → rows_of links first ≡ value → IsLinkedStore p links first last → HasChildrenNext p value
+child_in_store p links first last value v inv pre s post e =
+    ap (λ (l : List Marked). first_child (s.place * slot_size p) (forest_of p l)) e ∙ child_told p pre s post (stands_there p links first last value v inv pre s post e)
+
+pub last_in_store : (p : ProfileName) (links : List Link) (first last : Option ℕ) (value : List Marked) → rows_of links first ≡ value → IsLinkedStore p links first last → HasLastsAlone p value
+last_in_store p links first last value v inv pre s post e =
+    let G : List Marked → Type 0 = IsGathered p in
+    ap (λ (l : List Marked). is_last (s.place * slot_size p) (forest_of p l)) e
+    ∙ last_told p pre s post (subst G (v ∙ e) inv.kept.gathered) (stands_there p links first last value v inv pre s post e)
 
 pub below_in_store : (p : ProfileName) (links : List Link) (first last : Option ℕ) (value : List Marked) → rows_of links first ≡ value → IsLinkedStore p links first last
     → HasOthersBelow (forest_of p value)

@@ -14,12 +14,14 @@ use Rattle.derivation.specs.Entries.{Entry, is_at, is_full, cap_at, first_child}
 use Rattle.derivation.specs.Derivation.{derived, rooted, retyped, moved, emptied, is_new_original, names_same, is_named}
 use Rattle.derivation.specs.Disjoint.{IsDisjoint}
 use Rattle.derivation.specs.Marked.{Marked, marked, at_place, with_cap, entry_of, forest_of, stands_at, IsMarkedList}
+use Rattle.slot_core.specs.TableEdits.{PutsBehind, Appends, TakesOut, Replaces}
 use Rattle.slot_core.specs.Links.{next_of, previous_of, row_of, head_or, last_or, Lacks, IsApart, IsLinked, order_of, rows_of, exponent, memory_of, IsLinkedStore}
 use Rattle.derivation.proofs.Trees.Built.{Absent}
 use Rattle.slot_core.proofs.LinkedStores.Chains.{each-at}
-use Rattle.slot_core.proofs.LinkedStores.Linkings.{walked, map-parts, StandsBetween, between, PutsBehind, inserted, Appends, appended}
-use Rattle.slot_core.proofs.LinkedStores.Unlinkings.{TakesOut, removed, Replaces, replaced}
-use Rattle.derivation.specs.MarkedEdits.{handed_on}
+use Rattle.slot_core.proofs.LinkedStores.Linkings.{walked, map-parts, StandsBetween, between, inserted, appended}
+use Rattle.slot_core.proofs.LinkedStores.Unlinkings.{removed, replaced}
+use Rattle.derivation.specs.MarkedEdits.{appended as list_appended, object_behind, derived_behind, moved_to, handed_on, taken_out}
+use Rattle.derivation.proofs.Marked.ListEdits.{put_behind-at, derived_behind-at, changed_at-at, taken_out-at}
 use Rattle.derivation.proofs.Marked.MarkedLines.{entries_of, absent_at}
 use Rattle.derivation.proofs.Marked.MarkedSteps.{StandsIn, cap_standing, derived_list}
 use Rattle.derivation.proofs.Marked.MarkedEdits.{AreApart, stands_in, rooted_list, retyped_list, moved_list, removed_list}
@@ -167,24 +169,34 @@ last_within p links first last inv =
     let Q : Option ℕ → Type 0 = λ o. IfSome o (λ i. i < length links) in
     subst Q (sym inv.linked.ends) (if_last (length links) None (order_of links first) tt inv.linked.within)
 
+-- what the table is after a call: a store with that list, which stands for that forest, and the memory as it was
+pub record Becomes (p : ProfileName) (links : List Link) (first last : Option ℕ) (bits : ℕ) (rows : List Marked) (f : Forest Entry) : Type 0 where
+  pub kept : IsLinkedStore p links first last
+  pub list : rows_of links first ≡ rows
+  pub memory : memory_of p links ≡ bits
+  pub forest : forest_of p (rows_of links first) ≡ f
+
 -- a store, of what its list is
-pub finished : (p : ProfileName) (links links' : List Link) (first' last' : Option ℕ) (order : List ℕ) (rows : List Marked) (f : Forest Entry) → 2 ^ memory_of p links ≡ length links * slot_size p
-    → length links' ≡ length links → IsLinked links' first' last' order → map (row_of links') order ≡ rows → IsMarkedList p (memory_of p links) rows → forest_of p rows ≡ f
-    → IsLinkedStore p links' first' last' × (forest_of p (rows_of links' first') ≡ f)
-finished p links links' first' last' order rows f size long ok is kept e =
+pub finished : (p : ProfileName) (links links' : List Link) (first' last' : Option ℕ) (order : List ℕ) (rows list : List Marked) (f : Forest Entry) → 2 ^ memory_of p links ≡ length links * slot_size p
+    → length links' ≡ length links → IsLinked links' first' last' order → map (row_of links') order ≡ rows → list ≡ rows → IsMarkedList p (memory_of p links) rows → forest_of p rows ≡ f
+    → Becomes p links' first' last' (memory_of p links) list f
+finished p links links' first' last' order rows list f size long ok is named kept e =
     let o : order_of links' first' ≡ order = walked links' first' last' order ok in
     let is' : rows_of links' first' ≡ rows = ap (map (row_of links')) o ∙ is in
     let memory : memory_of p links' ≡ memory_of p links = ap (λ n. slot_bits p + exponent n n) long in
     let L : List ℕ → Type 0 = IsLinked links' first' last' in
     let K : List Marked → Type 0 = IsMarkedList p (memory_of p links) in
-    let M : ℕ → Type 0 = λ m. IsMarkedList p m (rows_of links' first') in (
-      record {
+    let M : ℕ → Type 0 = λ m. IsMarkedList p m (rows_of links' first') in
+    record {
+      kept = record {
         linked = subst L (sym o) ok;
         kept = subst M (sym memory) (subst K (sym is') kept);
         size = ap (λ n. 2 ^ n) memory ∙ size ∙ ap (λ n. n * slot_size p) (sym long);
-      },
-      ap (forest_of p) is' ∙ e,
-    )
+      };
+      list = is' ∙ sym named;
+      memory = memory;
+      forest = ap (forest_of p) is' ∙ e;
+    }
 
 -- the store's calls
 
@@ -192,19 +204,19 @@ pub rooted_store : (p : ProfileName) (links links' : List Link) (first first' la
     → n * slot_size p < 2 ^ memory_of p links → is_full (n * slot_size p) (forest_of p (rows_of links first)) ≡ false → IsLawful p (memory_of p links) cap
     → is_named cap (forest_of p (rows_of links first)) ≡ false → IsDisjoint p (rooted (n * slot_size p) cap (forest_of p (rows_of links first)))
     → Appends links links' first first' last last' n (marked n cap true true)
-    → IsLinkedStore p links' first' last' × (forest_of p (rows_of links' first') ≡ rooted (n * slot_size p) cap (forest_of p (rows_of links first)))
+    → Becomes p links' first' last' (memory_of p links) (list_appended n cap (rows_of links first)) (rooted (n * slot_size p) cap (forest_of p (rows_of links first)))
 rooted_store p links links' first first' last last' n cap inv within empty lawful named dis w =
     let a = appended links links' first first' last last' (order_of links first) n (marked n cap true true) inv.linked (empty_lacks p links first n empty) (place_within p (2 ^ memory_of p links) (length links) n inv.size within) w in
     let k = rooted_list p (memory_of p links) (rows_of links first) n cap inv.kept lawful empty named dis in
-    finished p links links' first' last' (order_of links first ++ n ∷ []) (rows_of links first ++ marked n cap true true ∷ []) (rooted (n * slot_size p) cap (forest_of p (rows_of links first)))
-    inv.size w.size a.0 a.1 k.0 k.1
+    finished p links links' first' last' (order_of links first ++ n ∷ []) (rows_of links first ++ marked n cap true true ∷ []) (list_appended n cap (rows_of links first)) (rooted (n * slot_size p) cap (forest_of p (rows_of links first)))
+    inv.size w.size a.0 a.1 refl k.0 k.1
 
 pub retyped_store : (p : ProfileName) (links links' : List Link) (first first' last last' : Option ℕ) (u n : ℕ) (cap : Cap) → IsLinkedStore p links first last → Splits p links first last u
     → is_untyped (cap_at (forest_of p (rows_of links first)) (u * slot_size p)) ≡ true → contains p (cap_at (forest_of p (rows_of links first)) (u * slot_size p)) cap ≡ true
     → n * slot_size p < 2 ^ memory_of p links → is_full (n * slot_size p) (forest_of p (rows_of links first)) ≡ false → IsLawful p (memory_of p links) cap
     → is_named cap (forest_of p (rows_of links first)) ≡ false → IsDisjoint p (retyped (u * slot_size p) (n * slot_size p) cap (forest_of p (rows_of links first)))
     → PutsBehind links links' first first' last last' u n (marked n cap true true)
-    → IsLinkedStore p links' first' last' × (forest_of p (rows_of links' first') ≡ retyped (u * slot_size p) (n * slot_size p) cap (forest_of p (rows_of links first)))
+    → Becomes p links' first' last' (memory_of p links) (object_behind u n cap (rows_of links first)) (retyped (u * slot_size p) (n * slot_size p) cap (forest_of p (rows_of links first)))
 retyped_store p links links' first first' last last' u n cap inv s untyped inside within empty lawful named dis w =
     let R : ℕ → Marked = row_of links in
     let rows : List Marked = map R s.pre ++ R u ∷ map R s.post in
@@ -218,8 +230,8 @@ retyped_store p links links' first first' last last' u n cap inv s untyped insid
     let a = inserted links links' first first' last last' s.pre u n s.post (marked n cap true true) s.linked (subst L s.order (empty_lacks p links first n empty))
     (place_within p (2 ^ memory_of p links) (length links) n inv.size within) w in
     let k = retyped_list p (memory_of p links) (map R s.pre) (R u) (map R s.post) n cap s.kept s.apart (subst U c untyped) (subst C c inside) lawful (subst F s.rows empty) (subst N s.rows named) (subst D s.rows dis) in
-    finished p links links' first' last' (s.pre ++ u ∷ n ∷ s.post) (map R s.pre ++ R u ∷ marked n cap true true ∷ map R s.post) (retyped (u * slot_size p) (n * slot_size p) cap (forest_of p (rows_of links first)))
-    inv.size w.size a.0 a.1 k.0 (k.1 ∙ ap (λ (l : List Marked). retyped (u * slot_size p) (n * slot_size p) cap (forest_of p l)) (sym s.rows))
+    finished p links links' first' last' (s.pre ++ u ∷ n ∷ s.post) (map R s.pre ++ R u ∷ marked n cap true true ∷ map R s.post) (object_behind u n cap (rows_of links first)) (retyped (u * slot_size p) (n * slot_size p) cap (forest_of p (rows_of links first)))
+    inv.size w.size a.0 a.1 (ap (object_behind u n cap) s.rows ∙ put_behind-at p (marked n cap true true) (map R s.pre) (R u) (map R s.post) s.stands.front) k.0 (k.1 ∙ ap (λ (l : List Marked). retyped (u * slot_size p) (n * slot_size p) cap (forest_of p l)) (sym s.rows))
 
 pub derived_store : (p : ProfileName) (links links' : List Link) (first first' last last' : Option ℕ) (s n : ℕ) (cap : Cap) (o : Bool) → IsLinkedStore p links first last → Splits p links first last s
     → o ≡ is_new_original (row_of links s).cap cap → n * slot_size p < 2 ^ memory_of p links → is_full (n * slot_size p) (forest_of p (rows_of links first)) ≡ false → IsLawful p (memory_of p links) cap
@@ -228,7 +240,7 @@ pub derived_store : (p : ProfileName) (links links' : List Link) (first first' l
     → (is_untyped cap ≡ true → first_child (s * slot_size p) (forest_of p (rows_of links first)) ≡ None)
     → IsDisjoint p (derived (s * slot_size p) (n * slot_size p) cap (forest_of p (rows_of links first)))
     → PutsBehind links links' first first' last last' s n (marked n cap o o)
-    → IsLinkedStore p links' first' last' × (forest_of p (rows_of links' first') ≡ derived (s * slot_size p) (n * slot_size p) cap (forest_of p (rows_of links first)))
+    → Becomes p links' first' last' (memory_of p links) (derived_behind s n cap (rows_of links first)) (derived (s * slot_size p) (n * slot_size p) cap (forest_of p (rows_of links first)))
 derived_store p links links' first first' last last' s n cap o inv sp is within empty lawful same badge childless dis w =
     let R : ℕ → Marked = row_of links in
     let x : Marked = marked n cap (is_new_original (R s).cap cap) (is_new_original (R s).cap cap) in
@@ -243,15 +255,15 @@ derived_store p links links' first first' last last' s n cap o inv sp is within 
     let a = inserted links links' first first' last last' sp.pre s n sp.post x sp.linked (subst L sp.order (empty_lacks p links first n empty))
     (place_within p (2 ^ memory_of p links) (length links) n inv.size within) w' in
     let k = derived_list p (memory_of p links) (map R sp.pre) (R s) (map R sp.post) n cap sp.kept sp.stands lawful (subst S c same) (subst B c badge) (subst H sp.rows childless) (subst D sp.rows dis) in
-    finished p links links' first' last' (sp.pre ++ s ∷ n ∷ sp.post) (map R sp.pre ++ R s ∷ x ∷ map R sp.post) (derived (s * slot_size p) (n * slot_size p) cap (forest_of p (rows_of links first)))
-    inv.size w.size a.0 a.1 k.0 (k.1 ∙ ap (λ (l : List Marked). derived (s * slot_size p) (n * slot_size p) cap (forest_of p l)) (sym sp.rows))
+    finished p links links' first' last' (sp.pre ++ s ∷ n ∷ sp.post) (map R sp.pre ++ R s ∷ x ∷ map R sp.post) (derived_behind s n cap (rows_of links first)) (derived (s * slot_size p) (n * slot_size p) cap (forest_of p (rows_of links first)))
+    inv.size w.size a.0 a.1 (ap (derived_behind s n cap) sp.rows ∙ derived_behind-at p n cap (map R sp.pre) (R s) (map R sp.post) sp.stands.front) k.0 (k.1 ∙ ap (λ (l : List Marked). derived (s * slot_size p) (n * slot_size p) cap (forest_of p l)) (sym sp.rows))
 
 pub moved_store : (p : ProfileName) (links links' : List Link) (first first' last last' : Option ℕ) (s n : ℕ) (cap : Cap) → IsLinkedStore p links first last → Splits p links first last s
     → n * slot_size p < 2 ^ memory_of p links → is_full (n * slot_size p) (forest_of p (rows_of links first)) ≡ false → IsLawful p (memory_of p links) cap
     → names_same (cap_at (forest_of p (rows_of links first)) (s * slot_size p)) cap ≡ true → badge_of cap ≡ badge_of (cap_at (forest_of p (rows_of links first)) (s * slot_size p))
     → IsDisjoint p (moved (s * slot_size p) (n * slot_size p) cap (forest_of p (rows_of links first)))
     → Replaces links links' first first' last last' s n cap
-    → IsLinkedStore p links' first' last' × (forest_of p (rows_of links' first') ≡ moved (s * slot_size p) (n * slot_size p) cap (forest_of p (rows_of links first)))
+    → Becomes p links' first' last' (memory_of p links) (moved_to s n cap (rows_of links first)) (moved (s * slot_size p) (n * slot_size p) cap (forest_of p (rows_of links first)))
 moved_store p links links' first first' last last' s n cap inv sp within empty lawful same badge dis w =
     let R : ℕ → Marked = row_of links in
     let c : cap_at (forest_of p (rows_of links first)) (s * slot_size p) ≡ (R s).cap = cap_split p links first last s sp in
@@ -261,28 +273,28 @@ moved_store p links links' first first' last last' s n cap inv sp within empty l
     let a = replaced links links' first first' last last' sp.pre s n sp.post cap sp.linked (subst L sp.order (empty_lacks p links first n empty))
     (place_within p (2 ^ memory_of p links) (length links) n inv.size within) w in
     let k = moved_list p (memory_of p links) (map R sp.pre) (R s) (map R sp.post) n cap sp.kept sp.stands lawful (subst S c same) (badge ∙ ap badge_of c) (subst D sp.rows dis) in
-    finished p links links' first' last' (sp.pre ++ n ∷ sp.post) (map R sp.pre ++ at_place n (with_cap cap (R s)) ∷ map R sp.post) (moved (s * slot_size p) (n * slot_size p) cap (forest_of p (rows_of links first)))
-    inv.size w.size a.0 a.1 k.0 (k.1 ∙ ap (λ (l : List Marked). moved (s * slot_size p) (n * slot_size p) cap (forest_of p l)) (sym sp.rows))
+    finished p links links' first' last' (sp.pre ++ n ∷ sp.post) (map R sp.pre ++ at_place n (with_cap cap (R s)) ∷ map R sp.post) (moved_to s n cap (rows_of links first)) (moved (s * slot_size p) (n * slot_size p) cap (forest_of p (rows_of links first)))
+    inv.size w.size a.0 a.1 (ap (moved_to s n cap) sp.rows ∙ changed_at-at p (λ (r : Marked). at_place n (with_cap cap r)) (map R sp.pre) (R s) (map R sp.post) sp.stands.front) k.0 (k.1 ∙ ap (λ (l : List Marked). moved (s * slot_size p) (n * slot_size p) cap (forest_of p l)) (sym sp.rows))
 
 pub emptied_store : (p : ProfileName) (links links' : List Link) (first first' last last' : Option ℕ) (s : ℕ) → IsLinkedStore p links first last → Splits p links first last s
     → TakesOut links links' first first' last last' s
-    → IsLinkedStore p links' first' last' × (forest_of p (rows_of links' first') ≡ emptied (s * slot_size p) (forest_of p (rows_of links first)))
+    → Becomes p links' first' last' (memory_of p links) (taken_out s (rows_of links first)) (emptied (s * slot_size p) (forest_of p (rows_of links first)))
 emptied_store p links links' first first' last last' s inv sp w =
     let R : ℕ → Marked = row_of links in
     let a = removed links links' first first' last last' sp.pre s sp.post sp.linked w in
     let k = removed_list p (memory_of p links) (map R sp.pre) (R s) (map R sp.post) sp.kept sp.apart in
-    finished p links links' first' last' (sp.pre ++ sp.post) (map R sp.pre ++ handed_on (R s).first_badged (map R sp.post)) (emptied (s * slot_size p) (forest_of p (rows_of links first)))
-    inv.size w.size a.0 a.1 k.0 (k.1 ∙ ap (λ (l : List Marked). emptied (s * slot_size p) (forest_of p l)) (sym sp.rows))
+    finished p links links' first' last' (sp.pre ++ sp.post) (map R sp.pre ++ handed_on (R s).first_badged (map R sp.post)) (taken_out s (rows_of links first)) (emptied (s * slot_size p) (forest_of p (rows_of links first)))
+    inv.size w.size a.0 a.1 (ap (taken_out s) sp.rows ∙ taken_out-at p (map R sp.pre) (R s) (map R sp.post) sp.stands.front) k.0 (k.1 ∙ ap (λ (l : List Marked). emptied (s * slot_size p) (forest_of p l)) (sym sp.rows))
 
 -- seen through the slice of a vector
-pub through : (p : ProfileName) (old mid new k : List Link) (first last first' last' : Option ℕ) (value : List Marked × ℕ) (edit : Forest Entry → Forest Entry)
+pub through : (p : ProfileName) (old mid new k : List Link) (first last first' last' : Option ℕ) (value : List Marked × ℕ) (list : List Marked → List Marked) (edit : Forest Entry → Forest Entry)
     → mid ≡ old → k ≡ new → (rows_of old first, memory_of p old) ≡ value → IsLinkedStore p old first last
-    → ((rows_of mid first, memory_of p mid) ≡ value → IsLinkedStore p mid first last → IsLinkedStore p new first' last' × (forest_of p (rows_of new first') ≡ edit (forest_of p (rows_of mid first))))
-    → IsLinkedStore p k first' last' × (forest_of p (rows_of k first') ≡ edit (forest_of p value.0))
-through p old mid new k first last first' last' value edit e ek v inv step =
+    → ((rows_of mid first, memory_of p mid) ≡ value → IsLinkedStore p mid first last → Becomes p new first' last' (memory_of p mid) (list (rows_of mid first)) (edit (forest_of p (rows_of mid first))))
+    → Becomes p k first' last' value.1 (list value.0) (edit (forest_of p value.0))
+through p old mid new k first last first' last' value list edit e ek v inv step =
     let V : List Link → Type 0 = λ m. (rows_of m first, memory_of p m) ≡ value in
     let I : List Link → Type 0 = λ m. IsLinkedStore p m first last in
-    let I' : List Link → Type 0 = λ m. IsLinkedStore p m first' last' in
+    let B : List Link → Type 0 = λ m. Becomes p m first' last' value.1 (list value.0) (edit (forest_of p value.0)) in
+    let C : List Marked × ℕ → Type 0 = λ x. Becomes p new first' last' x.1 (list x.0) (edit (forest_of p x.0)) in
     let v' : (rows_of mid first, memory_of p mid) ≡ value = subst V (sym e) v in
-    let r : IsLinkedStore p new first' last' × (forest_of p (rows_of new first') ≡ edit (forest_of p (rows_of mid first))) = step v' (subst I (sym e) inv) in
-    (subst I' (sym ek) r.0, ap (λ m. forest_of p (rows_of m first')) ek ∙ r.1 ∙ ap (λ (n : List Marked × ℕ). edit (forest_of p n.0)) v')
+    subst B (sym ek) (subst C v' (step v' (subst I (sym e) inv)))

@@ -3,6 +3,7 @@ use Rattle.std.proofs.Common.{◌≡◌, ◌≢◌, ℕ, ◌<◌, List, [], ◌�
 use Rattle.std.specs.List.{AllByRecursion as Each}
 use Rattle.slot_core.specs.declared.linked.table.Link.{Link}
 use Rattle.derivation.specs.Marked.{Marked}
+use Rattle.slot_core.specs.TableEdits.{PutsBehind, Appends}
 use Rattle.slot_core.specs.Links.{next_of, previous_of, row_of, head_or, last_or, AreLinked, Lacks, IsApart, IsFree, IsLinked, order_of}
 use Rattle.derivation.proofs.Trees.Forests.{each-left_part, each-right_part}
 use Rattle.slot_core.proofs.LinkedStores.Chains.{each-both, each-one, head-append, last-append, linked-front_part, linked-back_part, linked-append, not_head, not_last, linked-same, linked-front, linked-back, walk_is, few, apart-front_part, apart-back_part, apart-lacks, apart-before, lacks-front}
@@ -67,21 +68,6 @@ between links first last pre s post ok =
       not_front = lacks-front pre s post ok.apart;
       not_back = tail.0;
     }
-
--- x is linked in behind s
-pub record PutsBehind (links links' : List Link) (first first' last last' : Option ℕ) (s x : ℕ) (row : Marked) : Type 0 where
-  pub next : (i : ℕ) → i ≢ s → i ≢ x → next_of links' i ≡ next_of links i
-  pub next_source : s ≢ x → next_of links' s ≡ Some x
-  pub next_slot : s ≢ x → next_of links' x ≡ next_of links s
-  pub previous : (i : ℕ) → i ≢ x → (next_of links s ≡ Some i → ⊥) → previous_of links' i ≡ previous_of links i
-  pub previous_slot : (next_of links s ≡ Some x → ⊥) → previous_of links' x ≡ Some s
-  pub previous_next : (n : ℕ) → next_of links s ≡ Some n → previous_of links' n ≡ Some x
-  pub last_none : next_of links s ≡ None → last' ≡ Some x
-  pub last_some : (n : ℕ) → next_of links s ≡ Some n → last' ≡ last
-  pub first_same : first' ≡ first
-  pub rows : (i : ℕ) → i ≢ x → row_of links' i ≡ row_of links i
-  pub row_slot : row_of links' x ≡ row
-  pub size : length links' ≡ length links
 
 pub inserted : (links links' : List Link) (first first' last last' : Option ℕ) (pre : List ℕ) (s x : ℕ) (post : List ℕ) (row : Marked)
     → IsLinked links first last (pre ++ s ∷ post) → Lacks x (pre ++ s ∷ post) → x < length links → PutsBehind links links' first first' last last' s x row
@@ -173,20 +159,6 @@ inserted links links' first first' last last' pre s x post row ok k lx w = (
         ∙ ap (λ (r : Marked). map (row_of links) pre ++ r ∷ row_of links' x ∷ map (row_of links') post) es
         ∙ ap (λ (r : Marked). map (row_of links) pre ++ row_of links s ∷ r ∷ map (row_of links') post) w.row_slot
         ∙ ap (λ (l : List Marked). map (row_of links) pre ++ row_of links s ∷ row ∷ l) eb
-
--- x is linked in at the end
-pub record Appends (links links' : List Link) (first first' last last' : Option ℕ) (x : ℕ) (row : Marked) : Type 0 where
-  pub next : (i : ℕ) → (last ≡ Some i → ⊥) → i ≢ x → next_of links' i ≡ next_of links i
-  pub next_last : (i : ℕ) → last ≡ Some i → i ≢ x → next_of links' i ≡ Some x
-  pub next_slot : (last ≡ Some x → ⊥) → next_of links' x ≡ None
-  pub previous : (i : ℕ) → i ≢ x → previous_of links' i ≡ previous_of links i
-  pub previous_slot : previous_of links' x ≡ last
-  pub first_none : last ≡ None → first' ≡ Some x
-  pub first_some : (n : ℕ) → last ≡ Some n → first' ≡ first
-  pub last_slot : last' ≡ Some x
-  pub rows : (i : ℕ) → i ≢ x → row_of links' i ≡ row_of links i
-  pub row_slot : row_of links' x ≡ row
-  pub size : length links' ≡ length links
 
 pub appended : (links links' : List Link) (first first' last last' : Option ℕ) (l : List ℕ) (x : ℕ) (row : Marked)
     → IsLinked links first last l → Lacks x l → x < length links → Appends links links' first first' last last' x row

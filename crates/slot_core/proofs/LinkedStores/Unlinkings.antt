@@ -3,31 +3,14 @@ use Rattle.std.proofs.Common.{◌≡◌, ◌≢◌, ℕ, ◌<◌, Bool, true, fa
 use Rattle.std.specs.List.{AllByRecursion as Each}
 use Rattle.std.proofs.lemmas.Bool.{eqb-true}
 use Rattle.cap_core.specs.declared.capability.Cap.{Cap}
-use Rattle.cap_core.specs.declared.capability.Cap.TheVariants.{Null}
 use Rattle.slot_core.specs.declared.linked.table.Link.{Link}
-use Rattle.derivation.specs.Marked.{Marked, marked, at_place, with_cap, with_mark}
+use Rattle.derivation.specs.Marked.{Marked, at_place, with_cap, with_mark}
 use Rattle.derivation.specs.MarkedEdits.{handed_on}
+use Rattle.slot_core.specs.TableEdits.{TakesOut, Replaces}
 use Rattle.slot_core.specs.Links.{next_of, previous_of, row_of, head_or, last_or, Lacks, IsApart, IsFree, IsLinked}
 use Rattle.derivation.proofs.Trees.Forests.{each-left_part, each-right_part}
 use Rattle.slot_core.proofs.LinkedStores.Chains.{each-both, each-one, head-append, last-append, linked-append, not_head, not_last, linked-front, linked-back, each-insert, each-without, apart-insert, apart-without, lacks-with}
 use Rattle.slot_core.proofs.LinkedStores.Linkings.{map-same, map-parts, last_is, StandsBetween, between}
-
--- s is taken out
-pub record TakesOut (links links' : List Link) (first first' last last' : Option ℕ) (s : ℕ) : Type 0 where
-  pub next : (i : ℕ) → i ≢ s → (previous_of links s ≡ Some i → ⊥) → next_of links' i ≡ next_of links i
-  pub next_previous : (i : ℕ) → previous_of links s ≡ Some i → i ≢ s → next_of links' i ≡ next_of links s
-  pub first_none : previous_of links s ≡ None → first' ≡ next_of links s
-  pub first_some : (i : ℕ) → previous_of links s ≡ Some i → first' ≡ first
-  pub previous : (i : ℕ) → i ≢ s → (next_of links s ≡ Some i → ⊥) → previous_of links' i ≡ previous_of links i
-  pub previous_next : (i : ℕ) → next_of links s ≡ Some i → i ≢ s → previous_of links' i ≡ previous_of links s
-  pub last_none : next_of links s ≡ None → last' ≡ previous_of links s
-  pub last_some : (i : ℕ) → next_of links s ≡ Some i → last' ≡ last
-  pub rows : (i : ℕ) → i ≢ s → (next_of links s ≡ Some i → ⊥) → row_of links' i ≡ row_of links i
-  pub row_next : (i : ℕ) → next_of links s ≡ Some i → i ≢ s → row_of links' i ≡ with_mark (row_of links s).first_badged (row_of links i)
-  pub row : row_of links' s ≡ marked s Null false false
-  pub next_slot : next_of links' s ≡ None
-  pub previous_slot : previous_of links' s ≡ None
-  pub size : length links' ≡ length links
 
 pub removed : (links links' : List Link) (first first' last last' : Option ℕ) (pre : List ℕ) (s : ℕ) (post : List ℕ)
     → IsLinked links first last (pre ++ s ∷ post) → TakesOut links links' first first' last last' s
@@ -114,25 +97,6 @@ removed links links' first first' last last' pre s post ok w = (
         map-parts (row_of links') pre post
         ∙ ap (λ (m : List Marked). m ++ map (row_of links') post) ef
         ∙ ap (λ (m : List Marked). map (row_of links) pre ++ m) (back_rows post b.next b.not_back b.back_apart)
-
--- x stands in the place of s
-pub record Replaces (links links' : List Link) (first first' last last' : Option ℕ) (s x : ℕ) (cap : Cap) : Type 0 where
-  pub next : (i : ℕ) → i ≢ s → i ≢ x → (previous_of links s ≡ Some i → ⊥) → next_of links' i ≡ next_of links i
-  pub next_previous : (i : ℕ) → previous_of links s ≡ Some i → i ≢ s → i ≢ x → next_of links' i ≡ Some x
-  pub next_slot : x ≢ s → (previous_of links s ≡ Some x → ⊥) → next_of links' x ≡ next_of links s
-  pub previous : (i : ℕ) → i ≢ s → i ≢ x → (next_of links s ≡ Some i → ⊥) → previous_of links' i ≡ previous_of links i
-  pub previous_next : (i : ℕ) → next_of links s ≡ Some i → i ≢ s → i ≢ x → previous_of links' i ≡ Some x
-  pub previous_slot : x ≢ s → (next_of links s ≡ Some x → ⊥) → previous_of links' x ≡ previous_of links s
-  pub first_none : previous_of links s ≡ None → first' ≡ Some x
-  pub first_some : (i : ℕ) → previous_of links s ≡ Some i → first' ≡ first
-  pub last_none : next_of links s ≡ None → last' ≡ Some x
-  pub last_some : (i : ℕ) → next_of links s ≡ Some i → last' ≡ last
-  pub rows : (i : ℕ) → i ≢ s → i ≢ x → row_of links' i ≡ row_of links i
-  pub row_slot : x ≢ s → row_of links' x ≡ at_place x (with_cap cap (row_of links s))
-  pub row : row_of links' s ≡ marked s Null false false
-  pub next_source : next_of links' s ≡ None
-  pub previous_source : previous_of links' s ≡ None
-  pub size : length links' ≡ length links
 
 pub replaced : (links links' : List Link) (first first' last last' : Option ℕ) (pre : List ℕ) (s x : ℕ) (post : List ℕ) (cap : Cap)
     → IsLinked links first last (pre ++ s ∷ post) → Lacks x (pre ++ s ∷ post) → x < length links → Replaces links links' first first' last last' s x cap

@@ -3,8 +3,10 @@ ghost use Rattle.std.specs.Prelude.{◌≡◌, ◌≢◌, ℕ, ◌<◌, length, 
 ghost use Rattle.cap_core.specs.declared.capability.Cap.TheVariants.{Null};
 ghost use Rattle.cap_core.specs.Objects.{same_object as is_same_object};
 ghost use Rattle.derivation.specs.Derivation.{with_free as freed_cap};
-ghost use Rattle.derivation.specs.Marked.{marked, at_place, with_cap, with_mark, is_parent as is_parent_in, badge_fits as badge_fits_in};
-ghost use Rattle.slot_core.specs.Links.{next_of, previous_of, link_at, row_of, place_in};
+ghost use Rattle.derivation.specs.Marked.{marked, at_place, with_cap, with_mark, is_parent as is_parent_in};
+ghost use Rattle.derivation.specs.Marked.{badge_fits as badge_fits_in};
+ghost use Rattle.slot_core.specs.TableEdits.{PutsBehind, Appends, TakesOut, Replaces, Frees};
+ghost use Rattle.slot_core.specs.Links.{unplaced, next_of, previous_of, link_at, row_of, place_in};
 
 use crate::derived::{badge_of, with_free};
 use crate::slot::Slot;
@@ -129,18 +131,8 @@ pub fn insert_after(
     requires source_in { source.place < length links.old }
     requires slot_in { slot.place < length links.old }
     requires next_in { IfSome (next_of links.old source.place) (λ n. n < length links.old) }
-    ensures next { (i : ℕ) → i ≢ source.place → i ≢ slot.place → next_of links.new i ≡ next_of links.old i }
-    ensures next_source { source.place ≢ slot.place → next_of links.new source.place ≡ Some slot.place }
-    ensures next_slot { source.place ≢ slot.place → next_of links.new slot.place ≡ next_of links.old source.place }
-    ensures previous { (i : ℕ) → i ≢ slot.place → (next_of links.old source.place ≡ Some i → ⊥) → previous_of links.new i ≡ previous_of links.old i }
-    ensures previous_slot { (next_of links.old source.place ≡ Some slot.place → ⊥) → previous_of links.new slot.place ≡ Some source.place }
-    ensures previous_next { (n : ℕ) → next_of links.old source.place ≡ Some n → previous_of links.new n ≡ Some slot.place }
-    ensures last_none { next_of links.old source.place ≡ None → place_in last.new ≡ Some slot.place }
-    ensures last_some { (n : ℕ) → next_of links.old source.place ≡ Some n → place_in last.new ≡ place_in last.old }
-    ensures first { place_in first.new ≡ place_in first.old }
-    ensures rows { (i : ℕ) → i ≢ slot.place → row_of links.new i ≡ row_of links.old i }
-    ensures row { row_of links.new slot.place ≡ marked slot.place cap marks marks }
-    ensures size { length links.new ≡ length links.old }
+    ensures { PutsBehind links.old links.new (place_in first.old) (place_in first.new)
+        (place_in last.old) (place_in last.new) source.place slot.place (marked slot.place cap marks marks) }
 {
     let next = links[source.index()].next;
     put(
@@ -168,17 +160,8 @@ pub fn append(
 )
     requires slot_in { slot.place < length links.old }
     requires last_in { IfSome (place_in last.old) (λ n. n < length links.old) }
-    ensures next { (i : ℕ) → (place_in last.old ≡ Some i → ⊥) → i ≢ slot.place → next_of links.new i ≡ next_of links.old i }
-    ensures next_last { (i : ℕ) → place_in last.old ≡ Some i → i ≢ slot.place → next_of links.new i ≡ Some slot.place }
-    ensures next_slot { (place_in last.old ≡ Some slot.place → ⊥) → next_of links.new slot.place ≡ None }
-    ensures previous { (i : ℕ) → i ≢ slot.place → previous_of links.new i ≡ previous_of links.old i }
-    ensures previous_slot { previous_of links.new slot.place ≡ place_in last.old }
-    ensures first_none { place_in last.old ≡ None → place_in first.new ≡ Some slot.place }
-    ensures first_some { (n : ℕ) → place_in last.old ≡ Some n → place_in first.new ≡ place_in first.old }
-    ensures last { place_in last.new ≡ Some slot.place }
-    ensures rows { (i : ℕ) → i ≢ slot.place → row_of links.new i ≡ row_of links.old i }
-    ensures row { row_of links.new slot.place ≡ marked slot.place cap true true }
-    ensures size { length links.new ≡ length links.old }
+    ensures { Appends links.old links.new (place_in first.old) (place_in first.new)
+        (place_in last.old) (place_in last.new) slot.place (marked slot.place cap true true) }
 {
     let previous = *last;
     put(
@@ -201,20 +184,8 @@ pub fn unlink(links: &mut [Link], first: &mut Option<Slot>, last: &mut Option<Sl
     requires slot_in { slot.place < length links.old }
     requires next_in { IfSome (next_of links.old slot.place) (λ n. n < length links.old) }
     requires previous_in { IfSome (previous_of links.old slot.place) (λ n. n < length links.old) }
-    ensures next { (i : ℕ) → i ≢ slot.place → (previous_of links.old slot.place ≡ Some i → ⊥) → next_of links.new i ≡ next_of links.old i }
-    ensures next_previous { (i : ℕ) → previous_of links.old slot.place ≡ Some i → i ≢ slot.place → next_of links.new i ≡ next_of links.old slot.place }
-    ensures first_none { previous_of links.old slot.place ≡ None → place_in first.new ≡ next_of links.old slot.place }
-    ensures first_some { (i : ℕ) → previous_of links.old slot.place ≡ Some i → place_in first.new ≡ place_in first.old }
-    ensures previous { (i : ℕ) → i ≢ slot.place → (next_of links.old slot.place ≡ Some i → ⊥) → previous_of links.new i ≡ previous_of links.old i }
-    ensures previous_next { (i : ℕ) → next_of links.old slot.place ≡ Some i → i ≢ slot.place → previous_of links.new i ≡ previous_of links.old slot.place }
-    ensures last_none { next_of links.old slot.place ≡ None → place_in last.new ≡ previous_of links.old slot.place }
-    ensures last_some { (i : ℕ) → next_of links.old slot.place ≡ Some i → place_in last.new ≡ place_in last.old }
-    ensures rows { (i : ℕ) → i ≢ slot.place → (next_of links.old slot.place ≡ Some i → ⊥) → row_of links.new i ≡ row_of links.old i }
-    ensures row_next { (i : ℕ) → next_of links.old slot.place ≡ Some i → i ≢ slot.place → row_of links.new i ≡ with_mark (row_of links.old slot.place).first_badged (row_of links.old i) }
-    ensures row { row_of links.new slot.place ≡ marked slot.place Null false false }
-    ensures next_slot { next_of links.new slot.place ≡ None }
-    ensures previous_slot { previous_of links.new slot.place ≡ None }
-    ensures size { length links.new ≡ length links.old }
+    ensures { TakesOut links.old links.new (place_in first.old) (place_in first.new)
+        (place_in last.old) (place_in last.new) slot.place }
 {
     let row = links[slot.index()];
     lead_on(links, first, row.previous, row.next);
@@ -236,22 +207,8 @@ pub fn replace(
     requires slot_in { slot.place < length links.old }
     requires next_in { IfSome (next_of links.old source.place) (λ n. n < length links.old) }
     requires previous_in { IfSome (previous_of links.old source.place) (λ n. n < length links.old) }
-    ensures next { (i : ℕ) → i ≢ source.place → i ≢ slot.place → (previous_of links.old source.place ≡ Some i → ⊥) → next_of links.new i ≡ next_of links.old i }
-    ensures next_previous { (i : ℕ) → previous_of links.old source.place ≡ Some i → i ≢ source.place → i ≢ slot.place → next_of links.new i ≡ Some slot.place }
-    ensures next_slot { slot.place ≢ source.place → (previous_of links.old source.place ≡ Some slot.place → ⊥) → next_of links.new slot.place ≡ next_of links.old source.place }
-    ensures previous { (i : ℕ) → i ≢ source.place → i ≢ slot.place → (next_of links.old source.place ≡ Some i → ⊥) → previous_of links.new i ≡ previous_of links.old i }
-    ensures previous_next { (i : ℕ) → next_of links.old source.place ≡ Some i → i ≢ source.place → i ≢ slot.place → previous_of links.new i ≡ Some slot.place }
-    ensures previous_slot { slot.place ≢ source.place → (next_of links.old source.place ≡ Some slot.place → ⊥) → previous_of links.new slot.place ≡ previous_of links.old source.place }
-    ensures first_none { previous_of links.old source.place ≡ None → place_in first.new ≡ Some slot.place }
-    ensures first_some { (i : ℕ) → previous_of links.old source.place ≡ Some i → place_in first.new ≡ place_in first.old }
-    ensures last_none { next_of links.old source.place ≡ None → place_in last.new ≡ Some slot.place }
-    ensures last_some { (i : ℕ) → next_of links.old source.place ≡ Some i → place_in last.new ≡ place_in last.old }
-    ensures rows { (i : ℕ) → i ≢ source.place → i ≢ slot.place → row_of links.new i ≡ row_of links.old i }
-    ensures row_slot { slot.place ≢ source.place → row_of links.new slot.place ≡ at_place slot.place (with_cap cap (row_of links.old source.place)) }
-    ensures row { row_of links.new source.place ≡ marked source.place Null false false }
-    ensures next_source { next_of links.new source.place ≡ None }
-    ensures previous_source { previous_of links.new source.place ≡ None }
-    ensures size { length links.new ≡ length links.old }
+    ensures { Replaces links.old links.new (place_in first.old) (place_in first.new)
+        (place_in last.old) (place_in last.new) source.place slot.place cap }
 {
     let row = links[source.index()];
     put(links, slot, Link { cap, ..row });
@@ -263,11 +220,7 @@ pub fn replace(
 /// Sets the free index, in bytes, of an untyped capability in the row of `slot`.
 pub fn free_from(links: &mut [Link], slot: Slot, free: u64)
     requires slot_in { slot.place < length links.old }
-    ensures next { (i : ℕ) → next_of links.new i ≡ next_of links.old i }
-    ensures previous { (i : ℕ) → previous_of links.new i ≡ previous_of links.old i }
-    ensures rows { (i : ℕ) → i ≢ slot.place → row_of links.new i ≡ row_of links.old i }
-    ensures row { row_of links.new slot.place ≡ with_cap (freed_cap free (row_of links.old slot.place).cap) (row_of links.old slot.place) }
-    ensures size { length links.new ≡ length links.old }
+    ensures { Frees links.old links.new slot.place free }
 {
     let row = &mut links[slot.index()];
     row.cap = with_free(row.cap, free);
@@ -295,18 +248,19 @@ pub fn names(links: &[Link], slot: Option<Slot>, cap: Cap) -> bool
     }
 }
 
-/// Whether `a` is parent of `b` in the list (seL4 abstract specification, on the capability derivation tree as a list):
-/// `a` is revocable and has `b` in its region, and where `a` has a badge, `b` has the same and is not first badged.
+/// Whether `a` is parent of `b` in the list (seL4 abstract specification, on the capability derivation tree as a
+/// list): `a` is revocable and has `b` in its region, and where `a` has a badge, `b` has the same and is not first
+/// badged.
 #[inline(always)]
 pub fn is_parent<P: Profile>(a: Link, b: Link) -> bool
-    ensures { result ≡ is_parent_in P.the (marked 0 a.cap a.revocable a.first_badged) (marked 0 b.cap b.revocable b.first_badged) }
+    ensures { result ≡ is_parent_in P.the (unplaced a) (unplaced b) }
 {
     a.revocable && in_region::<P>(a.cap, b.cap) && badge_fits(a, b)
 }
 
 /// Whether `a` has no badge, or `b` has the same and is not the first with it.
 fn badge_fits(a: Link, b: Link) -> bool
-    ensures { result ≡ badge_fits_in (marked 0 a.cap a.revocable a.first_badged) (marked 0 b.cap b.revocable b.first_badged) }
+    ensures { result ≡ badge_fits_in (unplaced a) (unplaced b) }
 {
     let badge = badge_of(a.cap);
     badge == 0 || (badge_of(b.cap) == badge && !b.first_badged)

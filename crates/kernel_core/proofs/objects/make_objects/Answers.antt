@@ -13,17 +13,17 @@ use Rattle.kernel_core.proofs.objects.make_objects.Goals as goal
 
 pub of_node-untyped-requires-clause-aligned : goal.of_node-untyped-requires-clause-aligned
 of_node-untyped-requires-clause-aligned g c =
-    (untyped_placed g.P.Profile.the (g.S.CapStore.memory_bits c.args.store.now) (g.S.CapStore.forest c.args.store.now) c.args.new c.requires.invocation c.requires.most c.requires.placed).aligned
+    (untyped_placed g.P.Profile.the (g.S.CapStore.memory_bits c.args.store.now) (g.S.CapStore.forest c.args.store.now) c.args.new c.requires.retype c.requires.store.memory_most c.requires.store.slots_placed).aligned
 
 pub of_node-untyped-requires-clause-end : goal.of_node-untyped-requires-clause-end
 of_node-untyped-requires-clause-end g c =
-    untyped_end g.P.Profile.the (g.S.CapStore.memory_bits c.args.store.now) (g.S.CapStore.forest c.args.store.now) c.args.new c.requires.invocation c.requires.most c.requires.placed
+    untyped_end g.P.Profile.the (g.S.CapStore.memory_bits c.args.store.now) (g.S.CapStore.forest c.args.store.now) c.args.new c.requires.retype c.requires.store.memory_most c.requires.store.slots_placed
 
 pub set_free-requires-clause-lawful : goal.set_free-requires-clause-lawful
 set_free-requires-clause-lawful g c =
     let at : c.of_node-untyped.result.place * slot_size g.P.Profile.the ≡ c.args.new.untyped = first_slot_at (c.of_node-untyped.result.place * slot_size g.P.Profile.the) c.args.new.untyped (slot_size g.P.Profile.the) c.of_node-untyped.ensures in
     subst (λ (n : ℕ). IsLawful g.P.Profile.the (g.S.CapStore.memory_bits c.args.store.now) (with_free c.args.new.placed.free (cap_at (g.S.CapStore.forest c.args.store.now) n))) (sym at)
-    (freed_lawful g.P.Profile.the (g.S.CapStore.forest c.args.store.now) c.args.new c.requires.invocation (g.S.CapStore.memory_bits c.args.store.now) c.requires.lawful)
+    (freed_lawful g.P.Profile.the (g.S.CapStore.forest c.args.store.now) c.args.new c.requires.retype (g.S.CapStore.memory_bits c.args.store.now) c.requires.store.lawful)
 
 pub loop-i-init : goal.loop-i-init
 loop-i-init g c =
@@ -38,27 +38,27 @@ loop-i-init g c =
       parent = at;
       can = subst (λ (F : Forest Entry). CanMake p memory new.untyped (puts_from p new 0) F) (sym set)
           (subst (λ (l : List (ℕ × Cap)). CanMake p memory new.untyped l (freed new.untyped new.placed.free f)) (sym (puts_start p new))
-          (can_make p f new c.requires.invocation memory c.requires.regions c.requires.disjoint c.requires.distinct c.requires.lawful));
+          (can_make p f new c.requires.retype memory c.requires.store.regions c.requires.store.disjoint c.requires.store.slots_distinct c.requires.store.lawful));
       gives = ap (λ (F : Forest Entry). with_new new.untyped (puts_from p new 0) F) set ∙ ap (λ (l : List (ℕ × Cap)). with_new new.untyped l (freed new.untyped new.placed.free f)) (puts_start p new);
     }
 
 pub overflow_mul-i : goal.overflow_mul-i
 overflow_mul-i g c =
-    let b = object_word g.P.Profile.the (g.S.CapStore.memory_bits c.args.store.now) (g.S.CapStore.forest c.args.store.now) c.args.new c.requires.invocation c.requires.most c.requires.lawful c.loop-i.i c.loop-i-test.true in
+    let b = object_word g.P.Profile.the (g.S.CapStore.memory_bits c.args.store.now) (g.S.CapStore.forest c.args.store.now) c.args.new c.requires.retype c.requires.store.memory_most c.requires.store.lawful c.loop-i.i c.loop-i-test.true in
     omega arith
 
 pub overflow_add-new : goal.overflow_add-new
 overflow_add-new g c =
-    let b = object_word g.P.Profile.the (g.S.CapStore.memory_bits c.args.store.now) (g.S.CapStore.forest c.args.store.now) c.args.new c.requires.invocation c.requires.most c.requires.lawful c.loop-i.i c.loop-i-test.true in
+    let b = object_word g.P.Profile.the (g.S.CapStore.memory_bits c.args.store.now) (g.S.CapStore.forest c.args.store.now) c.args.new c.requires.retype c.requires.store.memory_most c.requires.store.lawful c.loop-i.i c.loop-i-test.true in
     omega arith
 
 pub of_node-requires-clause-aligned : goal.of_node-requires-clause-aligned
 of_node-requires-clause-aligned g c =
-    first_aligned g.P.Profile.the (g.S.CapStore.memory_bits c.args.store.now) (g.S.CapStore.forest c.args.store.now) c.args.new c.requires.invocation c.requires.most c.requires.lawful
+    first_aligned g.P.Profile.the (g.S.CapStore.memory_bits c.args.store.now) (g.S.CapStore.forest c.args.store.now) c.args.new c.requires.retype c.requires.store.memory_most c.requires.store.lawful
 
 pub of_node-requires-clause-end : goal.of_node-requires-clause-end
 of_node-requires-clause-end g c =
-    slot_within_word g.P.Profile.the (g.S.CapStore.memory_bits c.args.store.now) (g.S.CapStore.forest c.args.store.now) c.args.new c.requires.invocation c.requires.most c.requires.lawful c.loop-i.i c.loop-i-test.true
+    slot_within_word g.P.Profile.the (g.S.CapStore.memory_bits c.args.store.now) (g.S.CapStore.forest c.args.store.now) c.args.new c.requires.retype c.requires.store.memory_most c.requires.store.lawful c.loop-i.i c.loop-i-test.true
 
 pub put_new-requires-clause-contains : goal.put_new-requires-clause-contains
 put_new-requires-clause-contains g c = (put_new_next g.P.Profile.the (g.S.CapStore.memory_bits c.args.store.now) (c.of_node-untyped.result.place * slot_size g.P.Profile.the) (c.of_node.result.place * slot_size g.P.Profile.the) c.loop-i.i c.fresh-cap.result c.args.new (g.S.CapStore.forest c.loop-i.store) c.loop-i-test.true c.loop-i.invariant.parent c.of_node.ensures c.fresh-cap.ensures.value c.loop-i.invariant.can).0.contains_is

@@ -1,6 +1,7 @@
 use Rattle.std.proofs.Common.{◌≡◌, Some, slice_get, get_or, option_copied}
 use Rattle.std.proofs.lemmas.Option.{slice_get-get_or}
 use Rattle.abstract_kernel.specs.declared.call.Reply.TheVariants.{Done}
+use Rattle.setup_report.specs.Text.{reply_text}
 use Rattle.setup_report.proofs.Sequences.Calls.{met_more, expectation_more, one_met-le, one_expected-le, count_more, count_within}
 use Rattle.setup_report.proofs.calls.expectations.Goals as goal
 
@@ -12,6 +13,6 @@ loop-i-preserved c =
     record {
       met = count_more _ _ _ _ _ _ c.loop-i.invariant.met (met_more calls replies c.loop-i.i _ _ c.expect.ensures reply) c.in_ok-one.ensures.met;
       expected = count_more _ _ _ _ _ _ c.loop-i.invariant.expected (expectation_more calls replies c.loop-i.i _ _ c.expect.ensures reply) c.in_ok-one.ensures.expected;
-      met_bound = count_within _ _ _ _ c.loop-i.invariant.met_bound c.in_ok-one.ensures.met (one_met-le (option_copied c.expect.result) (get_or replies c.loop-i.i Done));
+      met_bound = count_within _ _ _ _ c.loop-i.invariant.met_bound c.in_ok-one.ensures.met (one_met-le (option_copied c.expect.result) (reply_text (get_or replies c.loop-i.i Done)));
       expected_bound = count_within _ _ _ _ c.loop-i.invariant.expected_bound c.in_ok-one.ensures.expected (one_expected-le (option_copied c.expect.result));
     }

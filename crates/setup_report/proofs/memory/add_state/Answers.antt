@@ -1,4 +1,4 @@
-use Rattle.std.proofs.Common.{string_bytes}
+use Rattle.std.proofs.Common.{string_bytes, ◌∙◌}
 use Rattle.setup_report.specs.declared.naming.Naming.TheVariants as Naming
 use Rattle.setup_report.specs.Report.{thread_line, endpoint_line, slot_line, selfheld_line}
 use Rattle.setup_report.proofs.Addresses.Rising.{four_parts, added_lines, rising_named, rising_difference}
@@ -8,8 +8,8 @@ pub returns : goal.returns
 returns g c =
     let p = g.P.Profile.the in
     let v = g.K.Readable.shown c.args.kernel.now in
-    let full = c.in_ok-slots.slots.keys in
-    let slots = c.in_ok-slots.ensures in
+    let full = c.as_slice-slots.result.now in
+    let slots = c.as_slice-slots.ensures.value ∙ c.in_ok-full.ensures in
     let threads = rising_named p Naming.Thread v c.in_ok-threads.threads.keys full slots c.in_ok-threads.ensures in
     let endpoints = rising_named p Naming.Endpoint v c.in_ok-endpoints.endpoints.keys full slots c.in_ok-endpoints.ensures in
     let own = rising_named p Naming.OwnNode v c.in_ok-own.own.keys full slots c.in_ok-own.ensures in

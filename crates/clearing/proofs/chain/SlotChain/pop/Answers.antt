@@ -1,4 +1,4 @@
-use Rattle.std.proofs.Common.{◌≡◌, ◌<◌, None, length, get_or, ◌∙◌, arith}
+use Rattle.std.proofs.Common.{◌<◌, None, length, ◌∙◌, arith}
 use Rattle.std.proofs.lemmas.List.{get_or_default}
 use Rattle.clearing.proofs.Chains.{popped, pop_within}
 use Rattle.clearing.proofs.chain.SlotChain.pop.Goals as goal

@@ -1,4 +1,4 @@
-use Rattle.std.proofs.Common.{◌≡◌, ◌≤◌, ◌-◌, ◌∙◌, ap, arith}
+use Rattle.std.proofs.Common.{◌∙◌, arith}
 use Rattle.cap_core.specs.Numbers.{slot_size}
 use Rattle.clearing.proofs.Ranges.{next_of_range}
 use Rattle.clearing.proofs.chain.SlotChain.push_node.Goals as goal

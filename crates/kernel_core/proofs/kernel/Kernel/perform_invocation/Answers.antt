@@ -1,8 +1,8 @@
-use Rattle.std.proofs.Common.{sym, ap, subst, ◌∙◌}
+-- Each kind of invocation is performed by its own method, whose clauses are those of its case.
+use Rattle.std.proofs.Common.{subst}
 use Rattle.abstract_kernel.specs.declared.invocation.Invocation.{Invocation}
-use Rattle.abstract_kernel.specs.Private.Effects.{performed_effect}
 use Rattle.abstract_kernel.specs.Private.Invocations.{IsInvocation}
-use Rattle.abstract_kernel.proofs.Capabilities.StaysInMemory.{invocation_within}
+use Rattle.kernel_core.proofs.Capabilities.ShownInvocations.{performed_as}
 use Rattle.kernel_core.proofs.kernel.Kernel.perform_invocation.Goals as goal
 
 pub send-requires : goal.send-requires
@@ -10,57 +10,37 @@ send-requires g c = record { ready = c.requires.ready; live = subst (λ (k : Inv
 
 pub returns-in-Send : goal.returns-in-Send
 returns-in-Send g c =
-    let after = c.send.ensures.after ∙ sym (ap (λ (k : Invocation). (performed_effect g.P.Profile.the c.args.self.now c.args.thread k).after) c.in-Send.is) in
-    record {
-      reply = c.send.ensures.reply ∙ sym (ap (λ (k : Invocation). (performed_effect g.P.Profile.the c.args.self.now c.args.thread k).reply) c.in-Send.is);
-      after = after;
-      within = invocation_within g.P.Profile.the c.args.self.now _ c.args.thread c.args.invocation c.requires.forest c.requires.invocation after;
-    }
+    let done = performed_as g.P.Profile.the c.args.self.now _ c.args.thread c.args.invocation _ _ c.in-Send.is c.requires.forest c.requires.invocation c.send.ensures.reply c.send.ensures.after in
+    record { reply = done.reply_is; after = done.after_is; within = done.within }
 
 pub recv-requires : goal.recv-requires
 recv-requires g c = record { ready = c.requires.ready; live = subst (λ (k : Invocation). IsInvocation g.P.Profile.the c.args.self.now k) c.in-Receive.is c.requires.invocation }
 
 pub returns-in-Receive : goal.returns-in-Receive
 returns-in-Receive g c =
-    let after = c.recv.ensures.after ∙ sym (ap (λ (k : Invocation). (performed_effect g.P.Profile.the c.args.self.now c.args.thread k).after) c.in-Receive.is) in
-    record {
-      reply = c.recv.ensures.reply ∙ sym (ap (λ (k : Invocation). (performed_effect g.P.Profile.the c.args.self.now c.args.thread k).reply) c.in-Receive.is);
-      after = after;
-      within = invocation_within g.P.Profile.the c.args.self.now _ c.args.thread c.args.invocation c.requires.forest c.requires.invocation after;
-    }
+    let done = performed_as g.P.Profile.the c.args.self.now _ c.args.thread c.args.invocation _ _ c.in-Receive.is c.requires.forest c.requires.invocation c.recv.ensures.reply c.recv.ensures.after in
+    record { reply = done.reply_is; after = done.after_is; within = done.within }
 
 pub retype-requires : goal.retype-requires
 retype-requires g c = subst (λ (k : Invocation). IsInvocation g.P.Profile.the c.args.self.now k) c.in-Retype.is c.requires.invocation
 
 pub returns-in-Retype : goal.returns-in-Retype
 returns-in-Retype g c =
-    let after = c.retype.ensures.after ∙ sym (ap (λ (k : Invocation). (performed_effect g.P.Profile.the c.args.self.now c.args.thread k).after) c.in-Retype.is) in
-    record {
-      reply = c.retype.ensures.reply ∙ sym (ap (λ (k : Invocation). (performed_effect g.P.Profile.the c.args.self.now c.args.thread k).reply) c.in-Retype.is);
-      after = after;
-      within = invocation_within g.P.Profile.the c.args.self.now _ c.args.thread c.args.invocation c.requires.forest c.requires.invocation after;
-    }
+    let done = performed_as g.P.Profile.the c.args.self.now _ c.args.thread c.args.invocation _ _ c.in-Retype.is c.requires.forest c.requires.invocation c.retype.ensures.reply c.retype.ensures.after in
+    record { reply = done.reply_is; after = done.after_is; within = done.within }
 
 pub derive-requires : goal.derive-requires
 derive-requires g c = subst (λ (k : Invocation). IsInvocation g.P.Profile.the c.args.self.now k) c.in-Derive.is c.requires.invocation
 
 pub returns-in-Derive : goal.returns-in-Derive
 returns-in-Derive g c =
-    let after = c.derive.ensures.after ∙ sym (ap (λ (k : Invocation). (performed_effect g.P.Profile.the c.args.self.now c.args.thread k).after) c.in-Derive.is) in
-    record {
-      reply = c.derive.ensures.reply ∙ sym (ap (λ (k : Invocation). (performed_effect g.P.Profile.the c.args.self.now c.args.thread k).reply) c.in-Derive.is);
-      after = after;
-      within = invocation_within g.P.Profile.the c.args.self.now _ c.args.thread c.args.invocation c.requires.forest c.requires.invocation after;
-    }
+    let done = performed_as g.P.Profile.the c.args.self.now _ c.args.thread c.args.invocation _ _ c.in-Derive.is c.requires.forest c.requires.invocation c.derive.ensures.reply c.derive.ensures.after in
+    record { reply = done.reply_is; after = done.after_is; within = done.within }
 
 pub relocate-requires : goal.relocate-requires
 relocate-requires g c = subst (λ (k : Invocation). IsInvocation g.P.Profile.the c.args.self.now k) c.in-Move.is c.requires.invocation
 
 pub returns-in-Move : goal.returns-in-Move
 returns-in-Move g c =
-    let after = c.relocate.ensures.after ∙ sym (ap (λ (k : Invocation). (performed_effect g.P.Profile.the c.args.self.now c.args.thread k).after) c.in-Move.is) in
-    record {
-      reply = c.relocate.ensures.reply ∙ sym (ap (λ (k : Invocation). (performed_effect g.P.Profile.the c.args.self.now c.args.thread k).reply) c.in-Move.is);
-      after = after;
-      within = invocation_within g.P.Profile.the c.args.self.now _ c.args.thread c.args.invocation c.requires.forest c.requires.invocation after;
-    }
+    let done = performed_as g.P.Profile.the c.args.self.now _ c.args.thread c.args.invocation _ _ c.in-Move.is c.requires.forest c.requires.invocation c.relocate.ensures.reply c.relocate.ensures.after in
+    record { reply = done.reply_is; after = done.after_is; within = done.within }

@@ -13,8 +13,8 @@ loop-call-preserved g c =
     let i = c.loop-call.call-index in
     record {
       room = omega arith;
-      so_far = λ A r s. (run_more p A calls i _ _ _ _ _ _ c.loop-call-test.true (c.step-reply.ensures.stands (state_after p A (take i calls)) (reached_after p A (take i calls) r) (c.loop-call.invariant.stands A r s)) (c.loop-call.invariant.so_far A r s) c.push_reply.ensures.replies).0;
-      stands = λ A r s. (run_more p A calls i _ _ _ _ _ _ c.loop-call-test.true (c.step-reply.ensures.stands (state_after p A (take i calls)) (reached_after p A (take i calls) r) (c.loop-call.invariant.stands A r s)) (c.loop-call.invariant.so_far A r s) c.push_reply.ensures.replies).1;
+      so_far = λ A r s. (run_more p A calls i _ _ _ _ _ _ c.loop-call-test.true (c.step-reply.ensures.stands (state_after p A (take i calls)) (reached_after p A (take i calls) r) (c.loop-call.invariant.stands A r s)) (c.loop-call.invariant.so_far A r s) c.push_reserved.ensures.items).0;
+      stands = λ A r s. (run_more p A calls i _ _ _ _ _ _ c.loop-call-test.true (c.step-reply.ensures.stands (state_after p A (take i calls)) (reached_after p A (take i calls) r) (c.loop-call.invariant.stands A r s)) (c.loop-call.invariant.so_far A r s) c.push_reserved.ensures.items).1;
       within = λ memory h. c.step-reply.ensures.within memory (c.loop-call.invariant.within memory h);
     }
 

@@ -22,12 +22,13 @@ invariant_of-self g c =
     (derived_call g.P.Profile.the c.self.inside.links.items c.deref_mut.result.now c.insert_after.new.links _ (place_in c.self.inside.first) (place_in c.insert_after.new.first) (place_in c.self.inside.last) (place_in c.insert_after.new.last) c.args.source.place c.args.slot.place c.args.cap c.is_new_original-marks.result c.args.self.now
     c.deref_mut.ensures.value (with_items_is c.self.inside.links c.insert_after.new.links (h.size ∙ c.deref_mut.ensures.len)) c.self.view_is c.self.invariant
     c.requires.source (c.is_new_original-marks.ensures ∙ ap (λ l. is_new_original l.cap c.args.cap) (c.row.ensures ∙ ap (λ m. link_at m c.args.source.place) c.deref.ensures.value)) c.requires.within c.requires.empty c.requires.lawful c.requires.same c.requires.badge c.requires.childless c.requires.disjoint
-    (record { next = h.next; next_source = h.next_source; next_slot = h.next_slot; previous = h.previous; previous_slot = h.previous_slot; previous_next = h.previous_next; last_none = h.last_none; last_some = h.last_some; first_same = h.first; rows = h.rows; row_slot = h.row; size = h.size })).0
+    h).kept
 
-pub returns-clause-forest : goal.returns-clause-forest
-returns-clause-forest g c =
+pub returns : goal.returns
+returns g c =
     let h = c.insert_after.ensures in
-    (derived_call g.P.Profile.the c.self.inside.links.items c.deref_mut.result.now c.insert_after.new.links _ (place_in c.self.inside.first) (place_in c.insert_after.new.first) (place_in c.self.inside.last) (place_in c.insert_after.new.last) c.args.source.place c.args.slot.place c.args.cap c.is_new_original-marks.result c.args.self.now
+    let b = derived_call g.P.Profile.the c.self.inside.links.items c.deref_mut.result.now c.insert_after.new.links _ (place_in c.self.inside.first) (place_in c.insert_after.new.first) (place_in c.self.inside.last) (place_in c.insert_after.new.last) c.args.source.place c.args.slot.place c.args.cap c.is_new_original-marks.result c.args.self.now
     c.deref_mut.ensures.value (with_items_is c.self.inside.links c.insert_after.new.links (h.size ∙ c.deref_mut.ensures.len)) c.self.view_is c.self.invariant
     c.requires.source (c.is_new_original-marks.ensures ∙ ap (λ l. is_new_original l.cap c.args.cap) (c.row.ensures ∙ ap (λ m. link_at m c.args.source.place) c.deref.ensures.value)) c.requires.within c.requires.empty c.requires.lawful c.requires.same c.requires.badge c.requires.childless c.requires.disjoint
-    (record { next = h.next; next_source = h.next_source; next_slot = h.next_slot; previous = h.previous; previous_slot = h.previous_slot; previous_next = h.previous_next; last_none = h.last_none; last_some = h.last_some; first_same = h.first; rows = h.rows; row_slot = h.row; size = h.size })).1
+    h in
+    record { list = b.list; forest = b.forest; memory = b.memory }

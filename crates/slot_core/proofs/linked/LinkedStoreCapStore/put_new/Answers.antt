@@ -20,12 +20,13 @@ invariant_of-self g c =
     (retyped_call g.P.Profile.the c.self.inside.links.items c.deref_mut.result.now c.insert_after.new.links _ (place_in c.self.inside.first) (place_in c.insert_after.new.first) (place_in c.self.inside.last) (place_in c.insert_after.new.last) c.args.parent.place c.args.slot.place c.args.cap c.args.self.now
     c.deref_mut.ensures.value (with_items_is c.self.inside.links c.insert_after.new.links (h.size ∙ c.deref_mut.ensures.len)) c.self.view_is c.self.invariant
     c.requires.parent c.requires.contains c.requires.within c.requires.empty c.requires.lawful c.requires.unnamed c.requires.disjoint
-    (record { next = h.next; next_source = h.next_source; next_slot = h.next_slot; previous = h.previous; previous_slot = h.previous_slot; previous_next = h.previous_next; last_none = h.last_none; last_some = h.last_some; first_same = h.first; rows = h.rows; row_slot = h.row; size = h.size })).0
+    h).kept
 
-pub returns-clause-forest : goal.returns-clause-forest
-returns-clause-forest g c =
+pub returns : goal.returns
+returns g c =
     let h = c.insert_after.ensures in
-    (retyped_call g.P.Profile.the c.self.inside.links.items c.deref_mut.result.now c.insert_after.new.links _ (place_in c.self.inside.first) (place_in c.insert_after.new.first) (place_in c.self.inside.last) (place_in c.insert_after.new.last) c.args.parent.place c.args.slot.place c.args.cap c.args.self.now
+    let b = retyped_call g.P.Profile.the c.self.inside.links.items c.deref_mut.result.now c.insert_after.new.links _ (place_in c.self.inside.first) (place_in c.insert_after.new.first) (place_in c.self.inside.last) (place_in c.insert_after.new.last) c.args.parent.place c.args.slot.place c.args.cap c.args.self.now
     c.deref_mut.ensures.value (with_items_is c.self.inside.links c.insert_after.new.links (h.size ∙ c.deref_mut.ensures.len)) c.self.view_is c.self.invariant
     c.requires.parent c.requires.contains c.requires.within c.requires.empty c.requires.lawful c.requires.unnamed c.requires.disjoint
-    (record { next = h.next; next_source = h.next_source; next_slot = h.next_slot; previous = h.previous; previous_slot = h.previous_slot; previous_next = h.previous_next; last_none = h.last_none; last_some = h.last_some; first_same = h.first; rows = h.rows; row_slot = h.row; size = h.size })).1
+    h in
+    record { list = b.list; forest = b.forest; memory = b.memory }

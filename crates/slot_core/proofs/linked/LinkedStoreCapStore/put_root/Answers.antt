@@ -18,12 +18,13 @@ invariant_of-self g c =
     (rooted_call g.P.Profile.the c.self.inside.links.items c.deref_mut.result.now c.append.new.links _ (place_in c.self.inside.first) (place_in c.append.new.first) (place_in c.self.inside.last) (place_in c.append.new.last) c.args.slot.place c.args.cap c.args.self.now
     c.deref_mut.ensures.value (with_items_is c.self.inside.links c.append.new.links (h.size ∙ c.deref_mut.ensures.len)) c.self.view_is c.self.invariant
     c.requires.within c.requires.empty c.requires.lawful c.requires.unnamed c.requires.disjoint
-    (record { next = h.next; next_last = h.next_last; next_slot = h.next_slot; previous = h.previous; previous_slot = h.previous_slot; first_none = h.first_none; first_some = h.first_some; last_slot = h.last; rows = h.rows; row_slot = h.row; size = h.size })).0
+    h).kept
 
-pub returns-clause-forest : goal.returns-clause-forest
-returns-clause-forest g c =
+pub returns : goal.returns
+returns g c =
     let h = c.append.ensures in
-    (rooted_call g.P.Profile.the c.self.inside.links.items c.deref_mut.result.now c.append.new.links _ (place_in c.self.inside.first) (place_in c.append.new.first) (place_in c.self.inside.last) (place_in c.append.new.last) c.args.slot.place c.args.cap c.args.self.now
+    let b = rooted_call g.P.Profile.the c.self.inside.links.items c.deref_mut.result.now c.append.new.links _ (place_in c.self.inside.first) (place_in c.append.new.first) (place_in c.self.inside.last) (place_in c.append.new.last) c.args.slot.place c.args.cap c.args.self.now
     c.deref_mut.ensures.value (with_items_is c.self.inside.links c.append.new.links (h.size ∙ c.deref_mut.ensures.len)) c.self.view_is c.self.invariant
     c.requires.within c.requires.empty c.requires.lawful c.requires.unnamed c.requires.disjoint
-    (record { next = h.next; next_last = h.next_last; next_slot = h.next_slot; previous = h.previous; previous_slot = h.previous_slot; first_none = h.first_none; first_some = h.first_some; last_slot = h.last; rows = h.rows; row_slot = h.row; size = h.size })).1
+    h in
+    record { list = b.list; forest = b.forest; memory = b.memory }

@@ -25,12 +25,13 @@ invariant_of-self g c =
     (moved_call g.P.Profile.the c.self.inside.links.items c.deref_mut.result.now c.replace.new.links _ (place_in c.self.inside.first) (place_in c.replace.new.first) (place_in c.self.inside.last) (place_in c.replace.new.last) c.args.source.place c.args.slot.place c.args.cap c.args.self.now
     c.deref_mut.ensures.value (with_items_is c.self.inside.links c.replace.new.links (h.size ∙ c.deref_mut.ensures.len)) c.self.view_is c.self.invariant
     c.requires.source c.requires.within c.requires.empty c.requires.lawful c.requires.same c.requires.badge c.requires.disjoint
-    (record { next = h.next; next_previous = h.next_previous; next_slot = h.next_slot; previous = h.previous; previous_next = h.previous_next; previous_slot = h.previous_slot; first_none = h.first_none; first_some = h.first_some; last_none = h.last_none; last_some = h.last_some; rows = h.rows; row_slot = h.row_slot; row = h.row; next_source = h.next_source; previous_source = h.previous_source; size = h.size })).0
+    h).kept
 
-pub returns-clause-forest : goal.returns-clause-forest
-returns-clause-forest g c =
+pub returns : goal.returns
+returns g c =
     let h = c.replace.ensures in
-    (moved_call g.P.Profile.the c.self.inside.links.items c.deref_mut.result.now c.replace.new.links _ (place_in c.self.inside.first) (place_in c.replace.new.first) (place_in c.self.inside.last) (place_in c.replace.new.last) c.args.source.place c.args.slot.place c.args.cap c.args.self.now
+    let b = moved_call g.P.Profile.the c.self.inside.links.items c.deref_mut.result.now c.replace.new.links _ (place_in c.self.inside.first) (place_in c.replace.new.first) (place_in c.self.inside.last) (place_in c.replace.new.last) c.args.source.place c.args.slot.place c.args.cap c.args.self.now
     c.deref_mut.ensures.value (with_items_is c.self.inside.links c.replace.new.links (h.size ∙ c.deref_mut.ensures.len)) c.self.view_is c.self.invariant
     c.requires.source c.requires.within c.requires.empty c.requires.lawful c.requires.same c.requires.badge c.requires.disjoint
-    (record { next = h.next; next_previous = h.next_previous; next_slot = h.next_slot; previous = h.previous; previous_next = h.previous_next; previous_slot = h.previous_slot; first_none = h.first_none; first_some = h.first_some; last_none = h.last_none; last_some = h.last_some; rows = h.rows; row_slot = h.row_slot; row = h.row; next_source = h.next_source; previous_source = h.previous_source; size = h.size })).1
+    h in
+    record { list = b.list; forest = b.forest; memory = b.memory }

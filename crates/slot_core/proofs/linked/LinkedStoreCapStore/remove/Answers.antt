@@ -25,12 +25,13 @@ invariant_of-self g c =
     (emptied_call g.P.Profile.the c.self.inside.links.items c.deref_mut.result.now c.unlink.new.links _ (place_in c.self.inside.first) (place_in c.unlink.new.first) (place_in c.self.inside.last) (place_in c.unlink.new.last) c.args.slot.place c.args.self.now
     c.deref_mut.ensures.value (with_items_is c.self.inside.links c.unlink.new.links (h.size ∙ c.deref_mut.ensures.len)) c.self.view_is c.self.invariant
     c.requires.full
-    (record { next = h.next; next_previous = h.next_previous; first_none = h.first_none; first_some = h.first_some; previous = h.previous; previous_next = h.previous_next; last_none = h.last_none; last_some = h.last_some; rows = h.rows; row_next = h.row_next; row = h.row; next_slot = h.next_slot; previous_slot = h.previous_slot; size = h.size })).0
+    h).kept
 
-pub returns-clause-forest : goal.returns-clause-forest
-returns-clause-forest g c =
+pub returns : goal.returns
+returns g c =
     let h = c.unlink.ensures in
-    (emptied_call g.P.Profile.the c.self.inside.links.items c.deref_mut.result.now c.unlink.new.links _ (place_in c.self.inside.first) (place_in c.unlink.new.first) (place_in c.self.inside.last) (place_in c.unlink.new.last) c.args.slot.place c.args.self.now
+    let b = emptied_call g.P.Profile.the c.self.inside.links.items c.deref_mut.result.now c.unlink.new.links _ (place_in c.self.inside.first) (place_in c.unlink.new.first) (place_in c.self.inside.last) (place_in c.unlink.new.last) c.args.slot.place c.args.self.now
     c.deref_mut.ensures.value (with_items_is c.self.inside.links c.unlink.new.links (h.size ∙ c.deref_mut.ensures.len)) c.self.view_is c.self.invariant
     c.requires.full
-    (record { next = h.next; next_previous = h.next_previous; first_none = h.first_none; first_some = h.first_some; previous = h.previous; previous_next = h.previous_next; last_none = h.last_none; last_some = h.last_some; rows = h.rows; row_next = h.row_next; row = h.row; next_slot = h.next_slot; previous_slot = h.previous_slot; size = h.size })).1
+    h in
+    record { list = b.list; forest = b.forest; memory = b.memory }

@@ -17,12 +17,13 @@ invariant_of-self g c =
     (freed_call g.P.Profile.the c.self.inside.links.items c.deref_mut.result.now c.free_from.new.links _ (place_in c.self.inside.first) (place_in c.self.inside.last) c.args.slot.place c.args.free c.args.self.now
     c.deref_mut.ensures.value (with_items_is c.self.inside.links c.free_from.new.links (h.size ∙ c.deref_mut.ensures.len)) c.self.view_is c.self.invariant
     c.requires.untyped c.requires.lawful
-    (record { next = h.next; previous = h.previous; rows = h.rows; row = h.row; size = h.size })).0
+    h).kept
 
-pub returns-clause-forest : goal.returns-clause-forest
-returns-clause-forest g c =
+pub returns : goal.returns
+returns g c =
     let h = c.free_from.ensures in
-    (freed_call g.P.Profile.the c.self.inside.links.items c.deref_mut.result.now c.free_from.new.links _ (place_in c.self.inside.first) (place_in c.self.inside.last) c.args.slot.place c.args.free c.args.self.now
+    let b = freed_call g.P.Profile.the c.self.inside.links.items c.deref_mut.result.now c.free_from.new.links _ (place_in c.self.inside.first) (place_in c.self.inside.last) c.args.slot.place c.args.free c.args.self.now
     c.deref_mut.ensures.value (with_items_is c.self.inside.links c.free_from.new.links (h.size ∙ c.deref_mut.ensures.len)) c.self.view_is c.self.invariant
     c.requires.untyped c.requires.lawful
-    (record { next = h.next; previous = h.previous; rows = h.rows; row = h.row; size = h.size })).1
+    h in
+    record { list = b.list; forest = b.forest; memory = b.memory }

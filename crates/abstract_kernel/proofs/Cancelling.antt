@@ -1,0 +1,8 @@
+-- Cancellation of records that wait, and the ending of objects.
+pub mod Records
+pub mod InvariantKept
+pub mod Waiting
+pub mod States
+pub mod Ended
+pub mod Stopped
+pub mod Badged

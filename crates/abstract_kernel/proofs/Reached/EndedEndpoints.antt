@@ -1,0 +1,115 @@
+-- An endpoint that was born and is not live stays so, and delivers nothing more.
+use Rattle.std.proofs.Common.{◌≡◌, ℕ, ◌+◌, ◌≤◌, Bool, true, false, cond, ◌==◌, ◌&&◌, ◌||◌, List, [], ◌∷◌, Result, Ok, Err, refl, sym, ap, subst, ◌∙◌, arith, inl, inr, eq-eqb}
+use Rattle.std.specs.List.{list_any, zip}
+use Rattle.std.proofs.lemmas.Bool.{false≢true, ne_eqb}
+use Rattle.cap_core.specs.declared.profile.ProfileName.{ProfileName}
+use Rattle.cap_core.specs.declared.message.Message.{Message}
+use Rattle.cap_core.specs.declared.refusal.Refusal.{Refusal}
+use Rattle.derivation.specs.Forest.{Forest}
+use Rattle.derivation.specs.Entries.{Entry}
+use Rattle.ipc_core.specs.Records.{Instance, SendRecord, ReceiveRecord, same_instance}
+use Rattle.abstract_kernel.specs.declared.call.Call.{Call}
+use Rattle.abstract_kernel.specs.declared.call.Reply.{Reply}
+use Rattle.abstract_kernel.specs.declared.call.Reply.TheVariants.{Dropped, Empty}
+use Rattle.abstract_kernel.specs.declared.invocation.Service.{Service}
+use Rattle.abstract_kernel.specs.declared.invocation.NewObjects.{NewObjects}
+use Rattle.abstract_kernel.specs.declared.invocation.Invocation.{Invocation}
+use Rattle.abstract_kernel.specs.declared.invocation.Invocation.TheVariants.{Send, Receive, Retype, Derive, Move}
+use Rattle.abstract_kernel.specs.Shown.{endpoints_of, endpoint_base}
+use Rattle.abstract_kernel.specs.State.{State, endpoint_at, pairs, sends_to, receives_of, shown}
+use Rattle.abstract_kernel.specs.Deliveries.{is_live}
+use Rattle.abstract_kernel.specs.Decode.{decoded_call}
+use Rattle.abstract_kernel.specs.Retyping.{with_objects, new_bases}
+use Rattle.abstract_kernel.specs.CNodes.{with_derived, with_moved}
+use Rattle.abstract_kernel.specs.Reached.{IsReached}
+use Rattle.abstract_kernel.specs.Step.{Outcome, is_send_awaited, is_receive_awaited, send_accepted, receive_accepted, where_awaited, objects_made, rearranged, performed, outcome, step, state_after}
+use Rattle.abstract_kernel.proofs.Lists.Rising.{and_false}
+use Rattle.abstract_kernel.proofs.Messages.WaitingSend.{same_tells, sends_elsewhere}
+use Rattle.abstract_kernel.proofs.Messages.WaitingReceive.{receives_elsewhere}
+use Rattle.abstract_kernel.proofs.Capabilities.LiveAfter.{endpoint_is_base}
+use Rattle.abstract_kernel.proofs.Retype.LiveRetyped.{live-objects, endpoint_base-freed, untyped_full}
+use Rattle.abstract_kernel.proofs.Checks.PassedInvocations.{IsEdit}
+use Rattle.abstract_kernel.proofs.Reached.Invariant.{Invariant, Passes, passes}
+use Rattle.abstract_kernel.proofs.Reached.Stores.{checked_edit}
+use Rattle.abstract_kernel.proofs.Reached.Simulation.{Reached, derived_same, moved_same, reached_step, reached_is}
+
+-- it was born before, is not live after, and its pairs are those it had
+record StaysEnded (A : State) (e : Instance) (o : Outcome) : Type 0 where
+  pub born : e.birth ≤ o.state.count
+  pub ended : is_live o.state e ≡ false
+  pub pairs_same : pairs o.state e ≡ pairs A e
+
+module _ (A : State) (e : Instance) (born : e.birth ≤ A.count) (ended : is_live A e ≡ false) where
+  -- the endpoint of a message that is sent or received is another
+  another : (base : ℕ) → list_any (λ k. base == k) (endpoints_of A.derivations) ≡ true → same_instance (endpoint_at A base) e ≡ false
+  another base live = elim (same_tells (endpoint_at A base) e) [
+    | inl w ↦ absurd (false≢true (sym ended ∙ subst (λ (m : Instance). is_live A m ≡ true) w
+        (ap (λ (b : Bool). b && A.endpoint_birth base == A.endpoint_birth base) live ∙ eq-eqb (A.endpoint_birth base) (A.endpoint_birth base) refl)))
+    | inr w ↦ w
+  ]
+
+  by_send : (t : ℕ) (service : Service) (message : Message) → Invariant A → list_any (λ k. service.endpoint == k) (endpoints_of A.derivations) ≡ true → StaysEnded A e (send_accepted A t service message)
+  by_send t service message inv live = record {
+    born = omega (arith, born);
+    ended = ended;
+    pairs_same = ap (λ (ss : List SendRecord). zip ss (receives_of A e)) (sends_elsewhere A t service message (inv.fresh (A.count + 1) (omega arith)) e (another service.endpoint live));
+  }
+
+  by_receive : (t : ℕ) (service : Service) → Invariant A → list_any (λ k. service.endpoint == k) (endpoints_of A.derivations) ≡ true → StaysEnded A e (receive_accepted A t service)
+  by_receive t service inv live = record {
+    born = omega (arith, born);
+    ended = ended;
+    pairs_same = ap (λ (qs : List ReceiveRecord). zip (sends_to A e) qs) (receives_elsewhere A t service (inv.fresh (A.count + 1) (omega arith)) inv.numbered e (another service.endpoint live));
+  }
+
+  where_not_awaited : (b : Bool) (accepted : Outcome) (reply : Reply) → StaysEnded A e accepted → StaysEnded A e (where_awaited A b accepted reply)
+  where_not_awaited true accepted reply stays = stays
+  where_not_awaited false accepted reply stays = record { born = omega (arith, born); ended = ended; pairs_same = refl }
+
+  by_rearranging : (f : Forest Entry) → ((q : ℕ) → list_any (λ k. q == k) (endpoints_of f) ≡ list_any (λ k. q == k) (endpoints_of A.derivations)) → StaysEnded A e (rearranged A f)
+  by_rearranging f same = record {
+    born = omega (arith, born);
+    ended = ap (λ (b : Bool). b && (A.endpoint_birth e.base == e.birth)) (same e.base) ∙ ended;
+    pairs_same = refl;
+  }
+
+  by_making : (p : ProfileName) (new : NewObjects) →
+      ((q : ℕ) → list_any (λ k. q == k) (endpoints_of (with_objects p new A.derivations)) ≡ (list_any (λ k. q == k) (new_bases endpoint_base p new) || list_any (λ k. q == k) (endpoints_of A.derivations))) → StaysEnded A e (objects_made p A new)
+  by_making p new live = record {
+    born = omega (arith, born);
+    ended = ap (λ (b : Bool). b && ((objects_made p A new).state.endpoint_birth e.base == e.birth)) (live e.base) ∙ by (list_any (λ k. e.base == k) (new_bases endpoint_base p new));
+    pairs_same = refl;
+  }
+    where
+      by : (b : Bool) → ((b || list_any (λ k. e.base == k) (endpoints_of A.derivations)) && (cond b (A.count + 1) (A.endpoint_birth e.base) == e.birth)) ≡ false
+      by true = ne_eqb (A.count + 1) e.birth (λ d. absurd (omega (arith, born, d)))
+      by false = ended
+
+  by_invocation : (p : ProfileName) (memory t : ℕ) → Reached p memory A → (invocation : Invocation) → Passes A t invocation → IsEdit p A.derivations invocation → StaysEnded A e (performed p A t invocation)
+  by_invocation p memory t reached (Send service message true) pass edit = by_send t service message reached.records pass.endpoint_live
+  by_invocation p memory t reached (Send service message false) pass edit =
+      where_not_awaited (is_send_awaited A (endpoint_at A service.endpoint)) (send_accepted A t service message) Dropped (by_send t service message reached.records pass.endpoint_live)
+  by_invocation p memory t reached (Receive service true) pass edit = by_receive t service reached.records pass.endpoint_live
+  by_invocation p memory t reached (Receive service false) pass edit =
+      where_not_awaited (is_receive_awaited A (endpoint_at A service.endpoint)) (receive_accepted A t service) Empty (by_receive t service reached.records pass.endpoint_live)
+  by_invocation p memory t reached (Retype new) pass edit = by_making p new (live-objects endpoint_base endpoint_base-freed p new A.derivations (untyped_full new.untyped A.derivations edit.untyped))
+  by_invocation p memory t reached (Derive placement) pass edit = by_rearranging (with_derived p placement A.derivations) (derived_same p memory A t reached placement edit endpoint_base endpoint_is_base)
+  by_invocation p memory t reached (Move placement) pass edit = by_rearranging (with_moved placement A.derivations) (moved_same p memory A t reached placement edit endpoint_base endpoint_is_base)
+
+  by_outcome : (p : ProfileName) (memory : ℕ) → Reached p memory A → (call : Call) (r : Result Invocation Refusal) → decoded_call p (shown A) call ≡ r → StaysEnded A e (outcome p A call.thread r)
+  by_outcome p memory reached call (Err refusal) h = record { born = omega (arith, born); ended = ended; pairs_same = refl }
+  by_outcome p memory reached call (Ok invocation) h = by_invocation p memory call.thread reached invocation (passes p A call invocation h) (checked_edit p memory A call invocation reached.store h)
+
+by_run : (p : ProfileName) (memory : ℕ) (calls : List Call) (A : State) (e : Instance) → Reached p memory A → e.birth ≤ A.count → is_live A e ≡ false → (is_live (state_after p A calls) e ≡ false) × (pairs (state_after p A calls) e ≡ pairs A e)
+by_run p memory [] A e reached born ended = (ended, refl)
+by_run p memory (call ∷ calls) A e reached born ended =
+    let stays = by_outcome A e born ended p memory reached call (decoded_call p (shown A) call) refl in
+    let w = by_run p memory calls (step p A call).state e (reached_step p memory A call reached) stays.born stays.ended in
+    (w.0, w.1 ∙ stays.pairs_same)
+
+-- for good
+pub pairs_for_good : (p : ProfileName) (A : State) (calls : List Call) (e : Instance) → IsReached p A → e.birth ≤ A.count → is_live A e ≡ false → pairs (state_after p A calls) e ≡ pairs A e
+pairs_for_good p A calls e r born ended = (by_run p r.plan.memory_bits calls A e (reached_is p A r) born ended).1
+
+pub ended_for_good : (p : ProfileName) (A : State) (calls : List Call) (e : Instance) → IsReached p A → e.birth ≤ A.count → is_live A e ≡ false → is_live (state_after p A calls) e ≡ false
+ended_for_good p A calls e r born ended = (by_run p r.plan.memory_bits calls A e (reached_is p A r) born ended).0

@@ -1,0 +1,5 @@
+use Rattle.abstract_kernel.proofs.Reached.NewEndpoints.{unmade_is_empty}
+use Rattle.abstract_kernel.proofs.laws.new_endpoint_starts_empty.Goals as goal
+
+pub returns : goal.returns
+returns c = unmade_is_empty

@@ -1,2 +1,0 @@
-mod capabilities;
-mod steps;

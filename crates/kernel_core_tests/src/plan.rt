@@ -1,0 +1,110 @@
+//! Plans and their defects.
+ghost use Rattle.std.specs.Prelude.{◌≤◌};
+ghost use Rattle.cap_core.specs.Numbers.{min_untyped_bits, max_object_bits};
+ghost use Rattle.cap_core.specs.declared.profile.ProfileName.TheVariants as profile;
+ghost use Rattle.abstract_kernel.specs.Plan.{IsWithinLimits};
+
+use cap_core::{Narrow, Profile, Wide};
+use kernel_core::{BootPlan, PlanDefect};
+use std::alloc::Global;
+use std::process::Abort;
+use std::test::Fail;
+
+/// A plan for a memory of 65,536 bytes with one untyped region has this defect.
+fn region_has_defect<P: Profile>(
+    rt: &impl Abort,
+    alloc: Global,
+    base: u64,
+    bits: u32,
+    wanted: Option<PlanDefect>,
+) -> Result<(), Fail>
+    requires least { min_untyped_bits P.the ≤ bits }
+    requires most { bits ≤ max_object_bits P.the }
+{
+    let plan = BootPlan::new::<P>(16, 4, 2, 1, vec![in alloc; (base, bits)]?);
+    assert_eq!(rt; plan.err(), wanted);
+    Ok(())
+}
+
+fn tells_defects_of_regions<P: Profile>(rt: &impl Abort, alloc: Global) -> Result<(), Fail> {
+    region_has_defect::<P>(rt, alloc, 16384, 12, None)?;
+    region_has_defect::<P>(rt, alloc, 16384, 15, Some(PlanDefect::Unaligned(0)))?;
+    region_has_defect::<P>(rt, alloc, 65536, 12, Some(PlanDefect::UntypedOutside(0)))?;
+    region_has_defect::<P>(rt, alloc, 61440, 12, None)?;
+    let outside = Some(PlanDefect::UntypedOutside(0));
+    region_has_defect::<P>(rt, alloc, 0xffff_ffff_ffff_f000, 12, outside)?;
+    region_has_defect::<P>(rt, alloc, 0, 12, Some(PlanDefect::Overlap(0)))
+}
+
+#[test]
+fn regions_have_their_defects(rt: HostRuntime) -> Result<(), Fail> {
+    tells_defects_of_regions::<Wide>(&rt, rt.alloc())?;
+    tells_defects_of_regions::<Narrow>(&rt, rt.alloc())
+}
+
+#[test]
+fn a_region_may_stand_before_the_threads(rt: HostRuntime) -> Result<(), Fail> {
+    region_has_defect::<Wide>(&rt, rt.alloc(), 1024, 10, None)?;
+    region_has_defect::<Narrow>(&rt, rt.alloc(), 512, 9, None)?;
+    region_has_defect::<Wide>(&rt, rt.alloc(), 256, 8, Some(PlanDefect::Overlap(0)))
+}
+
+/// What is wrong with a plan that should not be one.
+fn is_defect(rt: &impl Abort, plan: Result<BootPlan, PlanDefect>, wanted: PlanDefect) {
+    assert_eq!(rt; plan.err(), Some(wanted));
+}
+
+#[test]
+fn objects_end_within_the_memory(rt: HostRuntime) -> Result<(), Fail> {
+    let none = vec![in rt.alloc()]?;
+    let plan = BootPlan::new::<Wide>(12, 4, 64, 0, none);
+    is_defect(&rt, plan, PlanDefect::Outside);
+    let none = vec![in rt.alloc()]?;
+    let plan = BootPlan::new::<Narrow>(12, 4, 3, 1, none);
+    is_defect(&rt, plan, PlanDefect::Outside);
+    let none = vec![in rt.alloc()]?;
+    assert!(rt; BootPlan::new::<Narrow>(12, 4, 3, 0, none).is_ok());
+    Ok(())
+}
+
+/// The sizes that a plan was made with.
+fn sizes(plan: &BootPlan) -> [u32; 4] {
+    [
+        plan.memory_bits(),
+        plan.root_radix(),
+        plan.threads(),
+        plan.endpoints(),
+    ]
+}
+
+/// The addresses of the first thread, of the second, and of the eleventh endpoint.
+fn places(plan: &BootPlan) -> [u64; 3]
+    requires { IsWithinLimits profile.Wide plan.now }
+{
+    [
+        plan.first_tcb::<Wide>(),
+        plan.tcb_place::<Wide>(1),
+        plan.endpoint_place::<Wide>(10),
+    ]
+}
+
+#[test]
+fn each_capability_has_a_slot(rt: HostRuntime) -> Result<(), Fail> {
+    let regions = vec![in rt.alloc(); (16384, 12)]?;
+    let plan = BootPlan::new::<Wide>(16, 4, 2, 12, regions);
+    is_defect(&rt, plan, PlanDefect::Slots);
+    let regions = vec![in rt.alloc(); (16384, 12)]?;
+    let plan = BootPlan::new::<Wide>(16, 4, 2, 11, regions)?;
+    assert_eq!(rt; sizes(&plan), [16, 4, 2, 11]);
+    assert_eq!(rt; plan.untypeds(), [(16384, 12)].as_slice());
+    assert_eq!(rt; places(&plan), [2048, 4096, 6304]);
+    Ok(())
+}
+
+#[test]
+fn regions_stand_apart(rt: HostRuntime) -> Result<(), Fail> {
+    let regions = vec![in rt.alloc(); (16384, 12), (20480, 12), (20464, 4)]?;
+    let plan = BootPlan::new::<Wide>(16, 4, 2, 1, regions);
+    is_defect(&rt, plan, PlanDefect::Overlap(2));
+    Ok(())
+}

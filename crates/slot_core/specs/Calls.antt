@@ -1,0 +1,48 @@
+-- What a store's calls speak of, at slots: what a slot holds, and the edits of the derivation forest.
+use Rattle.std.specs.Prelude.{◌≡◌, ℕ, true, Bool, Option, None, ◌⊎◌}
+use Rattle.cap_core.specs.declared.profile.ProfileName.{ProfileName}
+use Rattle.cap_core.specs.declared.capability.Cap.{Cap}
+use Rattle.cap_core.specs.Objects.{is_untyped, badge_of}
+use Rattle.derivation.specs.Forest.{Forest}
+use Rattle.derivation.specs.Entries.{Entry, cap_at, is_full, first_child}
+use Rattle.derivation.specs.Derivation.{derived, rooted, retyped, moved, freed, emptied}
+use Rattle.slot_core.specs.declared.slot.Slot.{Slot}
+use Rattle.slot_core.specs.Places.{address_of}
+
+-- the capability that a slot holds
+abbrev pub held : ProfileName → Slot → Forest Entry → Cap
+held p slot f = cap_at f (address_of p slot)
+
+-- a slot holds a capability
+abbrev pub is_filled : ProfileName → Slot → Forest Entry → Bool
+is_filled p slot f = is_full (address_of p slot) f
+
+-- the address of the newest child of a slot
+abbrev pub newest_child : ProfileName → Slot → Forest Entry → Option ℕ
+newest_child p slot f = first_child (address_of p slot) f
+
+abbrev pub rooted_at : ProfileName → Slot → Cap → Forest Entry → Forest Entry
+rooted_at p slot cap f = rooted (address_of p slot) cap f
+
+abbrev pub retyped_at : ProfileName → Slot → Slot → Cap → Forest Entry → Forest Entry
+retyped_at p parent slot cap f = retyped (address_of p parent) (address_of p slot) cap f
+
+abbrev pub derived_at : ProfileName → Slot → Slot → Cap → Forest Entry → Forest Entry
+derived_at p source slot cap f = derived (address_of p source) (address_of p slot) cap f
+
+abbrev pub moved_at : ProfileName → Slot → Slot → Cap → Forest Entry → Forest Entry
+moved_at p source slot cap f = moved (address_of p source) (address_of p slot) cap f
+
+abbrev pub freed_at : ProfileName → Slot → ℕ → Forest Entry → Forest Entry
+freed_at p slot free f = freed (address_of p slot) free f
+
+abbrev pub emptied_at : ProfileName → Slot → Forest Entry → Forest Entry
+emptied_at p slot f = emptied (address_of p slot) f
+
+-- a derived capability has the badge of the one that it is derived from, or that has none
+abbrev pub KeepsBadge : Cap → Cap → Type 0
+KeepsBadge from cap = (badge_of cap ≡ badge_of from) ⊎ (badge_of from ≡ 0)
+
+-- an untyped capability is derived only from one with no child
+abbrev pub IsChildless : ProfileName → Slot → Cap → Forest Entry → Type 0
+IsChildless p source cap f = is_untyped cap ≡ true → newest_child p source f ≡ None
