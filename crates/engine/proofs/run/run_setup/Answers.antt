@@ -1,3 +1,4 @@
+-- The slots that are reported on lie in the set-up's memory.
 use Rattle.setup_read.proofs.Booted.{slots_within}
 use Rattle.cap_core.specs.declared.profile.ProfileName.TheVariants.{Wide}
 use Rattle.engine.proofs.run.run_setup.Goals as goal
