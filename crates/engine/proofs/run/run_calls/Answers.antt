@@ -1,3 +1,4 @@
+-- A run from a booted kernel gives the replies and the end state of the abstract kernel from its boot.
 use Rattle.std.proofs.Common.{◌≡◌, ◌++◌, [], ap, ◌∙◌}
 use Rattle.cap_core.specs.declared.profile.ProfileName.TheVariants.{Wide}
 use Rattle.abstract_kernel.specs.Boot.{boot}
