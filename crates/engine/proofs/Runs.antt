@@ -3,14 +3,14 @@ use Rattle.std.specs.Prelude.{◌≡◌, suc, List, [], ◌∷◌, length, refl}
 use Rattle.std.proofs.Common.{ap, sym, subst, ◌∙◌}
 use Rattle.std.proofs.lemmas.List.{length-map}
 use Rattle.cap_core.specs.declared.profile.ProfileName.{ProfileName}
-use Rattle.kernel_core.specs.declared.call.Call.{Call}
-use Rattle.kernel_core.specs.Plan.{Plan, IsPlan}
-use Rattle.kernel_core.specs.Boot.{boot}
-use Rattle.kernel_core.specs.Rows.{IsInMemory}
-use Rattle.kernel_core.specs.Shown.{Shown}
-use Rattle.kernel_core.specs.State.{State, shown}
-use Rattle.kernel_core.specs.Step.{step, replies_of}
-use Rattle.kernel_core.specs.Reached.{IsReached}
+use Rattle.abstract_kernel.specs.declared.call.Call.{Call}
+use Rattle.abstract_kernel.specs.Plan.{Plan, IsPlan}
+use Rattle.abstract_kernel.specs.Boot.{boot}
+use Rattle.abstract_kernel.specs.Memory.{IsInMemory}
+use Rattle.abstract_kernel.specs.Shown.{Shown}
+use Rattle.abstract_kernel.specs.State.{State, shown}
+use Rattle.abstract_kernel.specs.Step.{step, replies_of}
+use Rattle.abstract_kernel.specs.Reached.{IsReached}
 use Rattle.setup_read.specs.Views.{SetupView, CallView}
 use Rattle.setup_read.proofs.Booted.{boot_in_memory}
 use Rattle.engine.specs.Program.{replies_to, calls_of}

@@ -2,11 +2,11 @@
 use Rattle.std.specs.Prelude.{ℕ, ◌==◌, cond, List, map, Result, Ok, Err}
 use Rattle.cap_core.specs.declared.profile.ProfileName.{ProfileName}
 use Rattle.cap_core.specs.declared.profile.ProfileName.TheVariants.{Wide}
-use Rattle.kernel_core.specs.declared.call.Call.{Call}
-use Rattle.kernel_core.specs.declared.call.Reply.{Reply}
-use Rattle.kernel_core.specs.Boot.{boot}
-use Rattle.kernel_core.specs.State.{State, shown}
-use Rattle.kernel_core.specs.Step.{replies_of, state_after}
+use Rattle.abstract_kernel.specs.declared.call.Call.{Call}
+use Rattle.abstract_kernel.specs.declared.call.Reply.{Reply}
+use Rattle.abstract_kernel.specs.Boot.{boot}
+use Rattle.abstract_kernel.specs.State.{State, shown}
+use Rattle.abstract_kernel.specs.Step.{replies_of, state_after}
 use Rattle.setup_read.specs.Views.{SetupView, CallView}
 use Rattle.setup_read.specs.Faults.{Fault}
 use Rattle.setup_read.specs.Setups.{setup_of_bytes}

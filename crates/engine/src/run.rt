@@ -1,9 +1,9 @@
 //! The run of a set-up: from the bytes of an input to the text that is written for it.
 ghost use Rattle.std.specs.Prelude.{◌≡◌, IfOk, codes, ◌++◌};
 ghost use Rattle.cap_core.specs.declared.profile.ProfileName.TheVariants as Profiles;
-ghost use Rattle.kernel_core.specs.Plan.{IsPlan};
-ghost use Rattle.kernel_core.specs.Rows.{IsInMemory};
-ghost use Rattle.kernel_core.specs.State.{shown};
+ghost use Rattle.abstract_kernel.specs.Plan.{IsPlan};
+ghost use Rattle.abstract_kernel.specs.Memory.{IsInMemory};
+ghost use Rattle.abstract_kernel.specs.State.{shown};
 ghost use Rattle.setup_read.specs.Refusal.{setup_fault_text};
 ghost use Rattle.engine.specs.Program.{program, outcome_of, replies_to, end_of, verdict_on as verdict_of_counts};
 

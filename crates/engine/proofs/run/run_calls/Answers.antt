@@ -1,9 +1,9 @@
 -- A run from a booted kernel gives the replies and the end state of the abstract kernel from its boot.
 use Rattle.std.proofs.Common.{◌≡◌, ◌++◌, [], ap, ◌∙◌}
 use Rattle.cap_core.specs.declared.profile.ProfileName.TheVariants.{Wide}
-use Rattle.kernel_core.specs.Boot.{boot}
-use Rattle.kernel_core.specs.State.{shown}
-use Rattle.kernel_core.specs.Step.{replies_of, state_after}
+use Rattle.abstract_kernel.specs.Boot.{boot}
+use Rattle.abstract_kernel.specs.State.{shown}
+use Rattle.abstract_kernel.specs.Step.{replies_of, state_after}
 use Rattle.engine.specs.Program.{calls_of, replies_to, end_of}
 use Rattle.engine.proofs.Runs.{boot_reached, booted_in_memory}
 use Rattle.engine.proofs.run.run_calls.Goals as goal
