@@ -48,7 +48,8 @@ first_slot p f offset count (CNode base radix guard) =
 first_slot p f offset count cap = Err (FailedLookup MissingCapability)
 
 -- the rest of the checks of a retype, of the objects' slots and of the room for them
-abbrev pub decoded_objects : ProfileName → Forest Entry → ℕ → Cap → Cap → Shape → RetypeArguments → Result NewObjects Refusal
+abbrev pub decoded_objects :
+    ProfileName → Forest Entry → ℕ → Cap → Cap → Shape → RetypeArguments → Result NewObjects Refusal
 decoded_objects p f slot untyped root shape asked =
     node_cap p f root asked.index asked.depth >>= λ node.
     first_slot p f asked.offset asked.count node >>= λ first.

@@ -15,3 +15,4 @@ pub mod Kept
 pub mod Chains
 pub mod Steps
 pub mod Selfheld
+pub mod Examples

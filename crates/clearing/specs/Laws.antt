@@ -1,5 +1,5 @@
 -- What the laws of deletion and revocation say.
-use Rattle.std.specs.Prelude.{◌≡◌, ◌==◌, ℕ, Bool, false, eqb, List, Option, Some}
+use Rattle.std.specs.Prelude.{◌≡◌, ◌==◌, ℕ, Bool, false, eqb, List, Some}
 use Rattle.std.specs.List.{list_any, IsDistinct}
 use Rattle.cap_core.specs.declared.profile.ProfileName.{ProfileName}
 use Rattle.derivation.specs.Forest.{Forest, preorder}

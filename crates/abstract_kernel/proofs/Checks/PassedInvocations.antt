@@ -5,7 +5,7 @@ use Rattle.cap_core.specs.declared.capability.Cap.{Cap}
 use Rattle.cap_core.specs.declared.capability.Cap.TheVariants.{Null, Untyped, Endpoint, CNode, Tcb}
 use Rattle.cap_core.specs.declared.refusal.Refusal.{Refusal}
 use Rattle.cap_core.specs.declared.refusal.Refusal.TheVariants.{RangeError, DeleteFirst}
-use Rattle.cap_core.specs.Objects.{is_null, is_untyped, IsLawful}
+use Rattle.cap_core.specs.Objects.{is_null, IsLawful}
 use Rattle.mem_core.specs.Shapes.{shape_of}
 use Rattle.mem_core.specs.Plans.{LieInUntyped}
 use Rattle.mem_core.proofs.Lawful.{lawful_shape}

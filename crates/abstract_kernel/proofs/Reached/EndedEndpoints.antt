@@ -23,7 +23,6 @@ use Rattle.abstract_kernel.specs.Retyping.{with_objects, new_bases}
 use Rattle.abstract_kernel.specs.CNodes.{with_derived, with_moved}
 use Rattle.abstract_kernel.specs.Reached.{IsReached}
 use Rattle.abstract_kernel.specs.Step.{Outcome, is_send_awaited, is_receive_awaited, send_accepted, receive_accepted, where_awaited, objects_made, rearranged, performed, outcome, step, state_after}
-use Rattle.abstract_kernel.proofs.Lists.Rising.{and_false}
 use Rattle.abstract_kernel.proofs.Messages.WaitingSend.{same_tells, sends_elsewhere}
 use Rattle.abstract_kernel.proofs.Messages.WaitingReceive.{receives_elsewhere}
 use Rattle.abstract_kernel.proofs.Capabilities.LiveAfter.{endpoint_is_base}
