@@ -1,4 +1,4 @@
-//! Laws of the abstract kernel: what holds of every run. Nothing is done.
+//! Laws of the abstract kernel, for each state that runs reach. Nothing is done.
 ghost use Rattle.std.specs.Prelude.{◌<◌, List};
 ghost use Rattle.cap_core.specs.declared.profile.ProfileName.{ProfileName};
 ghost use Rattle.ipc_core.specs.Records.{Instance};

@@ -89,7 +89,7 @@ impl<P: Profile, S: CapStore<P> + Drop, W: Waiters<P> + Drop> Kernel<P, S, W> {
         ensures refused { (refusal : Refusal) → result ≡ Refused refusal → self.new ≡ self.old }
         ensures within { (memory : ℕ) → IsInMemory P.the memory self.old → IsInMemory P.the memory self.new }
     {
-        self.perform(call)
+        self.perform(&call)
     }
 
     /// Makes calls in order, and appends the reply to each to `replies`, which has room for them.
@@ -121,9 +121,9 @@ impl<P: Profile, S: CapStore<P> + Drop, W: Waiters<P> + Drop> Kernel<P, S, W> {
         let _ = &self.memory_bits;
     }
 
-    fn perform(&mut self, call: Call) -> Reply
-        ensures reply { result ≡ (effect_of P.the self.old call).reply }
-        ensures after { self.new ≡ (effect_of P.the self.old call).after }
+    fn perform(&mut self, call: &Call) -> Reply
+        ensures reply { result ≡ (effect_of P.the self.old call.now).reply }
+        ensures after { self.new ≡ (effect_of P.the self.old call.now).after }
         ensures within { (memory : ℕ) → IsInMemory P.the memory self.old → IsInMemory P.the memory self.new }
     {
         match self.decode_call(call) {
@@ -155,10 +155,10 @@ impl<P: Profile, S: CapStore<P> + Drop, W: Waiters<P> + Drop> Kernel<P, S, W> {
     }
 
     /// The first check that fails, or what the call does.
-    fn decode_call(&self, call: Call) -> Result<Invocation, Refusal>
-        ensures invocation { result ≡ decoded_call P.the self.now call }
+    fn decode_call(&self, call: &Call) -> Result<Invocation, Refusal>
+        ensures invocation { result ≡ decoded_call P.the self.now call.now }
         ensures lawful { IfOk result (IsInvocation P.the self.now) }
-        ensures ready { IfOk result (λ (t : Invocation). IsReady self.now call.thread) }
+        ensures ready { IfOk result (λ (t : Invocation). IsReady self.now call.now.thread) }
         ensures forest { IfOk result (λ (t : Invocation). IsForest P.the self.now.derivations) }
     {
         match self.thread_state(call.thread).ok_or(Refusal::NoThread)? {
