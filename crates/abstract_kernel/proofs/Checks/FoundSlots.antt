@@ -40,7 +40,8 @@ pub ok_same : {X : Type 0} (x y : X) → ◌≡◌ {A = Result X Refusal} (Ok x)
 ok_same x y h = cc
 
 -- what holds of each invocation that comes of what passed
-pub made_passed : {X : Type 0} (P : Invocation → Type 0) (make : X → Invocation) (r : Result X Refusal) (invocation : Invocation) →
+pub made_passed : {X : Type 0} (P : Invocation → Type 0) (make : X → Invocation) (r : Result X Refusal)
+    (invocation : Invocation) →
     ((x : X) → r ≡ Ok x → P (make x)) → (r >>= λ x. Ok (make x)) ≡ Ok invocation → P invocation
 made_passed P make (Ok x) invocation shows h = subst P (ok_same (make x) invocation h) (shows x refl)
 made_passed P make (Err refusal) invocation shows h = cc

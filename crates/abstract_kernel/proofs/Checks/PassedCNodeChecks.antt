@@ -59,7 +59,8 @@ pub where_some : (t : Bool) (a b : Cap) → cond t (Some a) None ≡ Some b → 
 where_some true a b h = (refl, some_same a b h)
 where_some false a b h = cc
 
-pub guarded_remade : (p : ProfileName) (base radix word : ℕ) (guard : Guard) (made : Cap) → guarded p base radix (guard_held p word) ≡ Some made → IsRemade p (CNode base radix guard) made
+pub guarded_remade : (p : ProfileName) (base radix word : ℕ) (guard : Guard) (made : Cap) →
+    guarded p base radix (guard_held p word) ≡ Some made → IsRemade p (CNode base radix guard) made
 guarded_remade p base radix word guard made h =
     let held = guard_held p word in
     let set = where_some (nat_le (held.size + radix) (word_bits p)) (CNode base radix held) made h in

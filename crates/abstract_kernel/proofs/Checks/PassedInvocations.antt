@@ -108,25 +108,45 @@ IsEdit p f (Resume tcb) = IsLiveThread f tcb
 module _ (p : ProfileName) (memory : ℕ) (f : Forest Entry) (all : All (IsLawful p memory) (caps f)) where
   invocation_edit : (thread : ℕ) (o : Op) (slot : ℕ) (invocation : Invocation) → decoded_invocation p f thread o slot ≡ Ok invocation → IsEdit p f invocation
   invocation_edit thread (op.Retype cap kind size_bits root index depth offset count) slot invocation h =
-      made_passed (IsEdit p f) Retype _ invocation (λ new is. retype_shows p memory f all thread slot (objects_asked kind size_bits root index depth offset count) new is) h
+      made_passed (IsEdit p f) Retype _ invocation
+      (λ new is. retype_shows p memory f all thread slot
+      (objects_asked kind size_bits root index depth offset count) new is) h
   invocation_edit thread (op.CapCopy cap index depth src_root src_index src_depth rights) slot invocation h =
-      made_passed (IsEdit p f) Derive _ invocation (λ placement is. copy_derives p memory f all thread slot (slots_named index depth src_root src_index src_depth) placement rights is) h
+      made_passed (IsEdit p f) Derive _ invocation
+      (λ placement is. copy_derives p memory f all thread slot
+      (slots_named index depth src_root src_index src_depth) placement rights is) h
   invocation_edit thread (op.CapMint cap index depth src_root src_index src_depth rights word) slot invocation h =
-      made_passed (IsEdit p f) Derive _ invocation (λ placement is. mint_derives p memory f all thread slot (slots_named index depth src_root src_index src_depth) placement rights word is) h
+      made_passed (IsEdit p f) Derive _ invocation
+      (λ placement is. mint_derives p memory f all thread slot
+      (slots_named index depth src_root src_index src_depth) placement rights word is) h
   invocation_edit thread (op.CapMove cap index depth src_root src_index src_depth) slot invocation h =
-      made_passed (IsEdit p f) Move _ invocation (λ placement is. move_moves p memory f all thread slot (slots_named index depth src_root src_index src_depth) placement is) h
+      made_passed (IsEdit p f) Move _ invocation
+      (λ placement is. move_moves p memory f all thread slot
+      (slots_named index depth src_root src_index src_depth) placement is) h
   invocation_edit thread (op.CapMutate cap index depth src_root src_index src_depth word) slot invocation h =
-      made_passed (IsEdit p f) Move _ invocation (λ placement is. mutate_moves p memory f all thread slot (slots_named index depth src_root src_index src_depth) placement word is) h
-  invocation_edit thread (op.CapDelete cap index depth) slot invocation h = made_passed (IsEdit p f) Delete _ invocation (slot_shows p f slot index depth) h
-  invocation_edit thread (op.CapRevoke cap index depth) slot invocation h = made_passed (IsEdit p f) Revoke _ invocation (slot_shows p f slot index depth) h
-  invocation_edit thread (op.CancelBadged cap index depth) slot invocation h = made_passed (IsEdit p f) CancelBadged _ invocation (λ service is. tt) h
-  invocation_edit thread (op.Send cap message) slot invocation h = made_passed (IsEdit p f) (λ service. Send service message true) _ invocation (λ service is. tt) h
-  invocation_edit thread (op.NbSend cap message) slot invocation h = made_passed (IsEdit p f) (λ service. Send service message false) _ invocation (λ service is. tt) h
-  invocation_edit thread (op.Recv cap) slot invocation h = made_passed (IsEdit p f) (λ service. Receive service true) _ invocation (λ service is. tt) h
-  invocation_edit thread (op.NbRecv cap) slot invocation h = made_passed (IsEdit p f) (λ service. Receive service false) _ invocation (λ service is. tt) h
-  invocation_edit thread (op.SetSpace cap root word) slot invocation h = made_passed (IsEdit p f) SetSpace _ invocation (space_shows p f thread slot root word) h
-  invocation_edit thread (op.Suspend cap) slot invocation h = made_passed (IsEdit p f) Suspend _ invocation (tcb_shows f slot) h
-  invocation_edit thread (op.Resume cap) slot invocation h = made_passed (IsEdit p f) Resume _ invocation (tcb_shows f slot) h
+      made_passed (IsEdit p f) Move _ invocation
+      (λ placement is. mutate_moves p memory f all thread slot
+      (slots_named index depth src_root src_index src_depth) placement word is) h
+  invocation_edit thread (op.CapDelete cap index depth) slot invocation h =
+      made_passed (IsEdit p f) Delete _ invocation (slot_shows p f slot index depth) h
+  invocation_edit thread (op.CapRevoke cap index depth) slot invocation h =
+      made_passed (IsEdit p f) Revoke _ invocation (slot_shows p f slot index depth) h
+  invocation_edit thread (op.CancelBadged cap index depth) slot invocation h =
+      made_passed (IsEdit p f) CancelBadged _ invocation (λ service is. tt) h
+  invocation_edit thread (op.Send cap message) slot invocation h =
+      made_passed (IsEdit p f) (λ service. Send service message true) _ invocation (λ service is. tt) h
+  invocation_edit thread (op.NbSend cap message) slot invocation h =
+      made_passed (IsEdit p f) (λ service. Send service message false) _ invocation (λ service is. tt) h
+  invocation_edit thread (op.Recv cap) slot invocation h =
+      made_passed (IsEdit p f) (λ service. Receive service true) _ invocation (λ service is. tt) h
+  invocation_edit thread (op.NbRecv cap) slot invocation h =
+      made_passed (IsEdit p f) (λ service. Receive service false) _ invocation (λ service is. tt) h
+  invocation_edit thread (op.SetSpace cap root word) slot invocation h =
+      made_passed (IsEdit p f) SetSpace _ invocation (space_shows p f thread slot root word) h
+  invocation_edit thread (op.Suspend cap) slot invocation h =
+      made_passed (IsEdit p f) Suspend _ invocation (tcb_shows f slot) h
+  invocation_edit thread (op.Resume cap) slot invocation h =
+      made_passed (IsEdit p f) Resume _ invocation (tcb_shows f slot) h
 
   pub invoked_edit : (thread : ℕ) (o : Op) (invocation : Invocation) → decoded_op p f thread o ≡ Ok invocation → IsEdit p f invocation
   invoked_edit thread o invocation h =

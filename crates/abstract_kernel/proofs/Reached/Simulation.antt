@@ -70,19 +70,27 @@ module _ (p : ProfileName) (memory : ℕ) (A : State) (t : ℕ) (reached : Reach
 
   -- the objects that are live after a thread's space was set were live
   pub space_endpoints : (new : NewSpace) → IsSpace p A.derivations new → (q : ℕ) →
-      list_any (λ k. q == k) (endpoints_of (with_space p new A.derivations)) ≡ true → list_any (λ k. q == k) (endpoints_of A.derivations) ≡ true
+      list_any (λ k. q == k) (endpoints_of (with_space p new A.derivations)) ≡ true →
+      list_any (λ k. q == k) (endpoints_of A.derivations) ≡ true
   space_endpoints new is = live-space p A.derivations reached.store.slots_distinct new is endpoint_base endpoint_is_base
 
   space_threads : (new : NewSpace) → IsSpace p A.derivations new → (q : ℕ) →
-      list_any (λ k. q == k) (threads_of (with_space p new A.derivations)) ≡ true → list_any (λ k. q == k) (threads_of A.derivations) ≡ true
+      list_any (λ k. q == k) (threads_of (with_space p new A.derivations)) ≡ true →
+      list_any (λ k. q == k) (threads_of A.derivations) ≡ true
   space_threads new is = live-space p A.derivations reached.store.slots_distinct new is tcb_base tcb_is_base
 
   -- objects end, where those that are live after were live
-  ends_steps : (g : Forest Entry) → ((q : ℕ) → list_any (λ k. q == k) (endpoints_of g) ≡ true → list_any (λ k. q == k) (endpoints_of A.derivations) ≡ true) →
-      ((q : ℕ) → list_any (λ k. q == k) (threads_of g) ≡ true → list_any (λ k. q == k) (threads_of A.derivations) ≡ true) → IsShown (done (after_ending (shown A) g)) (objects_ended A g)
+  ends_steps : (g : Forest Entry) →
+      ((q : ℕ) → list_any (λ k. q == k) (endpoints_of g) ≡ true →
+      list_any (λ k. q == k) (endpoints_of A.derivations) ≡ true) →
+      ((q : ℕ) → list_any (λ k. q == k) (threads_of g) ≡ true →
+      list_any (λ k. q == k) (threads_of A.derivations) ≡ true) →
+      IsShown (done (after_ending (shown A) g)) (objects_ended A g)
   ends_steps g endpoints threads = (refl, sym (ending_shown A g reached.records endpoints threads))
 
-  inv_ends : (g : Forest Entry) → ((q : ℕ) → list_any (λ k. q == k) (endpoints_of g) ≡ true → list_any (λ k. q == k) (endpoints_of A.derivations) ≡ true) → Invariant (objects_ended A g).state
+  inv_ends : (g : Forest Entry) →
+      ((q : ℕ) → list_any (λ k. q == k) (endpoints_of g) ≡ true →
+      list_any (λ k. q == k) (endpoints_of A.derivations) ≡ true) → Invariant (objects_ended A g).state
   inv_ends g endpoints = inv_refused (ending A g) (inv_ending A g reached.records endpoints)
 
   performed_steps : (invocation : Invocation) → Passes A t invocation → IsEdit p A.derivations invocation → IsShown (performed_effect p (shown A) t invocation) (performed p A t invocation)
@@ -93,10 +101,16 @@ module _ (p : ProfileName) (memory : ℕ) (A : State) (t : ℕ) (reached : Reach
       rearranged_steps A (with_derived p placement A.derivations) reached.records (derived_same placement edit tcb_base tcb_is_base) (derived_same placement edit endpoint_base endpoint_is_base)
   performed_steps (Move placement) pass edit =
       rearranged_steps A (with_moved placement A.derivations) reached.records (moved_same placement edit tcb_base tcb_is_base) (moved_same placement edit endpoint_base endpoint_is_base)
-  performed_steps (Delete slot) pass edit = ends_steps (clear p slot A.derivations) (λ q. live-clear endpoint_base q p slot A.derivations) (λ q. live-clear tcb_base q p slot A.derivations)
-  performed_steps (Revoke slot) pass edit = ends_steps (revoke p slot A.derivations) (λ q. live-revoke endpoint_base q p slot A.derivations) (λ q. live-revoke tcb_base q p slot A.derivations)
-  performed_steps (CancelBadged service) pass edit = (refl, sym (cancelling_badged_shown A service.endpoint service.badge reached.records pass.endpoint_live))
-  performed_steps (SetSpace new) pass edit = ends_steps (with_space p new A.derivations) (space_endpoints new edit) (space_threads new edit)
+  performed_steps (Delete slot) pass edit =
+      ends_steps (clear p slot A.derivations) (λ q. live-clear endpoint_base q p slot A.derivations)
+      (λ q. live-clear tcb_base q p slot A.derivations)
+  performed_steps (Revoke slot) pass edit =
+      ends_steps (revoke p slot A.derivations) (λ q. live-revoke endpoint_base q p slot A.derivations)
+      (λ q. live-revoke tcb_base q p slot A.derivations)
+  performed_steps (CancelBadged service) pass edit =
+      (refl, sym (cancelling_badged_shown A service.endpoint service.badge reached.records pass.endpoint_live))
+  performed_steps (SetSpace new) pass edit =
+      ends_steps (with_space p new A.derivations) (space_endpoints new edit) (space_threads new edit)
   performed_steps (Suspend tcb) pass edit = (refl, sym (stopping_shown A tcb true reached.records edit))
   performed_steps (Resume tcb) pass edit = (refl, sym (stopping_shown A tcb false reached.records edit))
 
@@ -108,12 +122,18 @@ module _ (p : ProfileName) (memory : ℕ) (A : State) (t : ℕ) (reached : Reach
       inv_rearranged A (with_derived p placement A.derivations) reached.records (derived_same placement edit tcb_base tcb_is_base) (derived_same placement edit endpoint_base endpoint_is_base)
   inv_performed (Move placement) pass edit =
       inv_rearranged A (with_moved placement A.derivations) reached.records (moved_same placement edit tcb_base tcb_is_base) (moved_same placement edit endpoint_base endpoint_is_base)
-  inv_performed (Delete slot) pass edit = inv_ends (clear p slot A.derivations) (λ q. live-clear endpoint_base q p slot A.derivations)
-  inv_performed (Revoke slot) pass edit = inv_ends (revoke p slot A.derivations) (λ q. live-revoke endpoint_base q p slot A.derivations)
-  inv_performed (CancelBadged service) pass edit = inv_refused (cancelling_badged A (endpoint_at A service.endpoint) service.badge) (inv_badged A (endpoint_at A service.endpoint) service.badge reached.records)
+  inv_performed (Delete slot) pass edit =
+      inv_ends (clear p slot A.derivations) (λ q. live-clear endpoint_base q p slot A.derivations)
+  inv_performed (Revoke slot) pass edit =
+      inv_ends (revoke p slot A.derivations) (λ q. live-revoke endpoint_base q p slot A.derivations)
+  inv_performed (CancelBadged service) pass edit =
+      inv_refused (cancelling_badged A (endpoint_at A service.endpoint) service.badge)
+      (inv_badged A (endpoint_at A service.endpoint) service.badge reached.records)
   inv_performed (SetSpace new) pass edit = inv_ends (with_space p new A.derivations) (space_endpoints new edit)
-  inv_performed (Suspend tcb) pass edit = inv_refused (suspending A (thread_at A tcb)) (inv_stopping A (thread_at A tcb) true reached.records)
-  inv_performed (Resume tcb) pass edit = inv_refused (resuming A (thread_at A tcb)) (inv_stopping A (thread_at A tcb) false reached.records)
+  inv_performed (Suspend tcb) pass edit =
+      inv_refused (suspending A (thread_at A tcb)) (inv_stopping A (thread_at A tcb) true reached.records)
+  inv_performed (Resume tcb) pass edit =
+      inv_refused (resuming A (thread_at A tcb)) (inv_stopping A (thread_at A tcb) false reached.records)
 
 outcome_steps : (p : ProfileName) (memory : ℕ) (A : State) (call : Call) → Reached p memory A → (r : Result Invocation Refusal) → decoded_call p (shown A) call ≡ r →
     IsShown (decoded_effect p (shown A) call.thread r) (outcome p A call.thread r)
