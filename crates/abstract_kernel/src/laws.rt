@@ -1,6 +1,7 @@
 //! Laws of the abstract kernel, for each state that runs reach. Nothing is done.
 ghost use Rattle.std.specs.Prelude.{◌<◌, List};
 ghost use Rattle.cap_core.specs.declared.profile.ProfileName.{ProfileName};
+ghost use Rattle.clearing.specs.Housed.{IsHoused};
 ghost use Rattle.ipc_core.specs.Records.{Instance};
 ghost use Rattle.abstract_kernel.specs.declared.call.Call.{Call};
 ghost use Rattle.abstract_kernel.specs.State.{State};
@@ -34,4 +35,9 @@ pub fn waiting_threads_are_told()
     ensures waiting { (p : ProfileName) (A : State) (e : Instance) → WaitsWhereOpen p A e }
     ensures senders { (p : ProfileName) (A : State) (e : Instance) → TellsItsSenders p A e }
     ensures receivers { (p : ProfileName) (A : State) (e : Instance) → TellsItsReceivers p A e }
+{}
+
+/// Each full slot is a slot of a live CNode, or the root slot of a live thread.
+pub fn full_slots_lie_in_live_objects()
+    ensures { (p : ProfileName) (A : State) → IsReached p A → IsHoused p A.derivations }
 {}
