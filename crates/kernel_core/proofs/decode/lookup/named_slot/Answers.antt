@@ -1,3 +1,4 @@
+-- The proof of `named_slot`: the goals that a search leaves open.
 use Rattle.cap_core.specs.declared.limits.TheConstants.{MAX_MEMORY_BITS}
 use Rattle.kernel_core.proofs.Threads.Addresses.{thread_slot}
 use Rattle.kernel_core.proofs.decode.lookup.named_slot.Goals as goal

@@ -1,3 +1,4 @@
+-- The proof of `decode_call`: the goals that a search leaves open.
 use Rattle.std.proofs.Common.{◌≡◌, Some, sym, subst, ◌∙◌, rules}
 use Rattle.abstract_kernel.specs.declared.call.ThreadState.TheVariants.{Ready}
 use Rattle.ipc_core.specs.Waits.{IsThreadAddress}

@@ -1,3 +1,4 @@
+-- The proof of `perform`: the goals that a search leaves open.
 use Rattle.std.proofs.Common.{Result, sym, ap, ◌∙◌}
 use Rattle.cap_core.specs.declared.refusal.Refusal.{Refusal}
 use Rattle.abstract_kernel.specs.declared.invocation.Invocation.{Invocation}
