@@ -6,3 +6,4 @@ pub mod States
 pub mod Ended
 pub mod Stopped
 pub mod Badged
+pub mod NothingEnds
