@@ -7,3 +7,4 @@ pub mod Ended
 pub mod Stopped
 pub mod Badged
 pub mod NothingEnds
+pub mod ObjectsAdded
