@@ -10,7 +10,7 @@ use Rattle.cap_core.specs.Numbers.{word_bits, label_bits}
 use Rattle.cap_core.specs.Rights.{all_rights}
 use Rattle.setup_format.specs.declared.limits.TheConstants.{MAX_EXPECT_BYTES}
 use Rattle.setup_format.specs.declared.setup.OpName.{OpName}
-use Rattle.setup_format.specs.declared.setup.OpName.TheVariants.{Retype, CapCopy, CapMint, CapMove, CapMutate, Send, NbSend, Recv, NbRecv}
+use Rattle.setup_format.specs.declared.setup.OpName.TheVariants.{Retype, CapCopy, CapMint, CapMove, CapMutate, CapDelete, CapRevoke, CancelBadged, Send, NbSend, Recv, NbRecv, SetSpace, Suspend, Resume}
 use Rattle.setup_format.specs.declared.setup.Words.{Words}
 use Rattle.setup_format.specs.declared.fault.Wrong.{Wrong}
 use Rattle.setup_format.specs.declared.fault.Wrong.TheVariants.{OtherType, OtherValue}
@@ -127,7 +127,7 @@ expect_in (Some t) = if between 1 MAX_EXPECT_BYTES (length t) && list_all (betwe
 abbrev pub expect : Data → Result (Option (List ℕ)) Wrong
 expect d = expect_in (as_str d)
 
--- op: a text that names an operation, on slots or on an endpoint
+-- op: a text that names an operation, on slots, on an endpoint or on a thread
 abbrev pub slot_op : List ℕ → Option OpName
 slot_op t =
     if bytes_eq t (codes "retype") then Some Retype
@@ -135,6 +135,9 @@ slot_op t =
     else if bytes_eq t (codes "mint") then Some CapMint
     else if bytes_eq t (codes "move") then Some CapMove
     else if bytes_eq t (codes "mutate") then Some CapMutate
+    else if bytes_eq t (codes "delete") then Some CapDelete
+    else if bytes_eq t (codes "revoke") then Some CapRevoke
+    else if bytes_eq t (codes "cancel_badged") then Some CancelBadged
     else None
 
 abbrev pub endpoint_op : List ℕ → Option OpName
@@ -145,14 +148,22 @@ endpoint_op t =
     else if bytes_eq t (codes "nbrecv") then Some NbRecv
     else None
 
-abbrev pub one_op : Option OpName → Option OpName → Result OpName Wrong
-one_op (Some op) other = Ok op
-one_op None (Some op) = Ok op
-one_op None None = Err OtherValue
+abbrev pub thread_op : List ℕ → Option OpName
+thread_op t =
+    if bytes_eq t (codes "set_space") then Some SetSpace
+    else if bytes_eq t (codes "suspend") then Some Suspend
+    else if bytes_eq t (codes "resume") then Some Resume
+    else None
+
+abbrev pub one_op : Option OpName → Option OpName → Option OpName → Result OpName Wrong
+one_op (Some op) endpoint thread = Ok op
+one_op None (Some op) thread = Ok op
+one_op None None (Some op) = Ok op
+one_op None None None = Err OtherValue
 
 abbrev pub op_in : Option (List ℕ) → Result OpName Wrong
 op_in None = Err OtherType
-op_in (Some t) = one_op (slot_op t) (endpoint_op t)
+op_in (Some t) = one_op (slot_op t) (endpoint_op t) (thread_op t)
 
 abbrev pub op : Data → Result OpName Wrong
 op d = op_in (as_str d)

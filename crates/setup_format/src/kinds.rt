@@ -196,6 +196,9 @@ fn slot_op(text: &str) -> Option<OpName>
         "mint" => Some(OpName::CapMint),
         "move" => Some(OpName::CapMove),
         "mutate" => Some(OpName::CapMutate),
+        "delete" => Some(OpName::CapDelete),
+        "revoke" => Some(OpName::CapRevoke),
+        "cancel_badged" => Some(OpName::CancelBadged),
         _ => None,
     }
 }
@@ -213,6 +216,18 @@ fn endpoint_op(text: &str) -> Option<OpName>
     }
 }
 
+/// The operation on a thread that a text names.
+fn thread_op(text: &str) -> Option<OpName>
+    ensures { result ≡ kind.thread_op text.now }
+{
+    match text {
+        "set_space" => Some(OpName::SetSpace),
+        "suspend" => Some(OpName::Suspend),
+        "resume" => Some(OpName::Resume),
+        _ => None,
+    }
+}
+
 /// A text that names an operation.
 pub fn op(value: &Value) -> Result<OpName, Wrong>
     ensures { result ≡ kind.op (view value.now) }
@@ -223,5 +238,8 @@ pub fn op(value: &Value) -> Result<OpName, Wrong>
     if let Some(op) = slot_op(text) {
         return Ok(op);
     }
-    endpoint_op(text).ok_or(Wrong::OtherValue)
+    if let Some(op) = endpoint_op(text) {
+        return Ok(op);
+    }
+    thread_op(text).ok_or(Wrong::OtherValue)
 }

@@ -14,10 +14,16 @@ pub enum OpName {
     CapMint,
     CapMove,
     CapMutate,
+    CapDelete,
+    CapRevoke,
+    CancelBadged,
     Send,
     NbSend,
     Recv,
     NbRecv,
+    SetSpace,
+    Suspend,
+    Resume,
 }
 
 /// The words of a message: the first `count` of `words`. The others are 0.
