@@ -9,10 +9,10 @@ use Rattle.abstract_kernel.specs.declared.call.Op.{Op}
 use Rattle.abstract_kernel.specs.declared.call.Op.TheVariants as ops
 use Rattle.abstract_kernel.specs.declared.invocation.SlotArguments.{SlotArguments}
 use Rattle.setup_format.specs.declared.fault.Place.{Place}
-use Rattle.setup_format.specs.declared.setup.OpName.{OpName}
-use Rattle.setup_format.specs.declared.setup.OpName.TheVariants.{Retype, CapCopy, CapMint, CapMove, CapMutate, CapDelete, CapRevoke, CancelBadged, Send, NbSend, Recv, NbRecv, SetSpace, Suspend, Resume}
-use Rattle.setup_format.specs.Names.{Names}
-use Rattle.setup_format.specs.Kinds.{◌>>=◌, word, rights, label, words, filled}
+use Rattle.setup_values.specs.declared.values.OpName.{OpName}
+use Rattle.setup_values.specs.declared.values.OpName.TheVariants.{Retype, CapCopy, CapMint, CapMove, CapMutate, CapDelete, CapRevoke, CancelBadged, Send, NbSend, Recv, NbRecv, SetSpace, Suspend, Resume}
+use Rattle.setup_values.specs.Names.{Names}
+use Rattle.setup_values.specs.Kinds.{◌>>=◌, word, rights, label, words, filled}
 use Rattle.setup_format.specs.Faults.{Fault}
 use Rattle.setup_format.specs.Tables.{required, optional}
 

@@ -1,18 +1,17 @@
 //! The operations that a call may name: the keys of each, and what they are read as.
 ghost use Rattle.std.specs.Prelude.{◌≡◌, map};
 ghost use Rattle.toml.specs.View.{table_view};
-ghost use Rattle.setup_format.specs.Private.Seen.{names_view};
+ghost use Rattle.setup_values.specs.Private.Seen.{names_view};
 ghost use Rattle.setup_format.specs.Faults.{Gives};
-ghost use Rattle.setup_format.specs.declared.setup.OpName.TheVariants as op_names;
+ghost use Rattle.setup_values.specs.declared.values.OpName.TheVariants as op_names;
 ghost use Rattle.setup_format.specs.Operations as spec;
 
 use crate::fault::{Place, SetupFault};
-use crate::names::Name;
-use crate::setup::{OpName, Words};
 use crate::tables::{label_or, rights_or_all, word_at, word_or, words_or_none};
 use abstract_kernel::invocation::SlotArguments;
 use cap_core::{Message, Profile};
 use kernel_core::Op;
+use setup_values::{Name, OpName, Words};
 use toml::Table;
 
 /// The keys of a retype.

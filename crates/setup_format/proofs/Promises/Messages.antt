@@ -12,20 +12,20 @@ use Rattle.cap_core.specs.Numbers.{word_bits, label_bits, min_untyped_bits, max_
 use Rattle.cap_core.specs.Rights.{all_rights}
 use Rattle.abstract_kernel.specs.declared.plan.PlanDefect.{PlanDefect}
 use Rattle.abstract_kernel.specs.Plan.{Plan, first_defect}
-use Rattle.setup_format.specs.declared.fault.Wrong.{Wrong}
-use Rattle.setup_format.specs.declared.fault.Wrong.TheVariants.{OtherValue}
+use Rattle.setup_values.specs.declared.values.Wrong.{Wrong}
+use Rattle.setup_values.specs.declared.values.Wrong.TheVariants.{OtherValue}
 use Rattle.setup_format.specs.declared.fault.Place.{Place}
 use Rattle.setup_format.specs.declared.fault.Place.TheVariants as places
 use Rattle.setup_format.specs.declared.fault.SetupFault.{SetupFault}
 use Rattle.setup_format.specs.declared.fault.SetupFault.TheVariants as faults
-use Rattle.setup_format.specs.declared.setup.OpName.{OpName}
-use Rattle.setup_format.specs.declared.setup.OpName.TheVariants as names
+use Rattle.setup_values.specs.declared.values.OpName.{OpName}
+use Rattle.setup_values.specs.declared.values.OpName.TheVariants as names
 use Rattle.setup_format.specs.declared.setup.Sizes.{Sizes}
-use Rattle.setup_format.specs.declared.setup.Words.{Words}
-use Rattle.setup_format.specs.Names.{Names}
+use Rattle.setup_values.specs.declared.values.Words.{Words}
+use Rattle.setup_values.specs.Names.{Names}
 use Rattle.setup_format.specs.Views.{SetupView}
 use Rattle.setup_format.specs.Faults.{Fault, text, at, layout, Gives}
-use Rattle.setup_format.specs.Kinds.{◌>>=◌, below, number, word, rights, label, each, array_in, item_list, words, filled}
+use Rattle.setup_values.specs.Kinds.{◌>>=◌, below, number, word, rights, label, each, array_in, item_list, words, filled}
 use Rattle.setup_format.specs.Tables.{at_key, needed, given_or, required, optional, known_only, least_unknown, no_unknown}
 use Rattle.setup_format.specs.Messages.{IsMessage, SendsMessage, HasMessage}
 use Rattle.setup_format.specs.Operations.{retype_at, slots_at, copy_at, mint_at, move_at, mutate_at, delete_at, revoke_at, cancel_badged_at, message_at, send_at, nb_send_at, recv_at, nb_recv_at, set_space_at, suspend_at, resume_at, operation_at}

@@ -1,8 +1,8 @@
 //! Names that stand for words.
 ghost use Rattle.std.specs.Prelude.{◌≡◌, find, option_copied, string_bytes};
 ghost use Rattle.std.specs.Str.{bytes_eq};
-ghost use Rattle.setup_format.specs.Names.{word_named};
-ghost use Rattle.setup_format.specs.Private.Seen.{names_view};
+ghost use Rattle.setup_values.specs.Names.{word_named};
+ghost use Rattle.setup_values.specs.Private.Seen.{names_view};
 
 /// A name that a set-up gives to a word. A call can then write `@NAME` for the word. Set-ups of format 1 give none.
 #[derive(Drop)]
@@ -18,7 +18,7 @@ fn named<'t>(names: &'t [Name], text: &[u8]) -> Option<&'t Name>
 }
 
 /// The word of a name.
-#[tactic(auto, using(crate::proofs::Grammar::LookUp::no_word, crate::proofs::Grammar::LookUp::one_word))]
+#[tactic(auto, using(crate::proofs::LookUp::no_word, crate::proofs::LookUp::one_word))]
 pub fn word_of(names: &[Name], text: &[u8]) -> Option<u64>
     ensures { result ≡ word_named (names_view names.now) text.now }
 {

@@ -8,13 +8,23 @@ use Rattle.cap_core.specs.declared.limits.TheConstants.{MAX_MESSAGE_WORDS}
 use Rattle.cap_core.specs.declared.rights.Rights.{Rights}
 use Rattle.cap_core.specs.Numbers.{word_bits, label_bits}
 use Rattle.cap_core.specs.Rights.{all_rights}
-use Rattle.setup_format.specs.declared.limits.TheConstants.{MAX_EXPECT_BYTES}
-use Rattle.setup_format.specs.declared.setup.OpName.{OpName}
-use Rattle.setup_format.specs.declared.setup.OpName.TheVariants.{Retype, CapCopy, CapMint, CapMove, CapMutate, CapDelete, CapRevoke, CancelBadged, Send, NbSend, Recv, NbRecv, SetSpace, Suspend, Resume}
-use Rattle.setup_format.specs.declared.setup.Words.{Words}
-use Rattle.setup_format.specs.declared.fault.Wrong.{Wrong}
-use Rattle.setup_format.specs.declared.fault.Wrong.TheVariants.{OtherType, OtherValue}
-use Rattle.setup_format.specs.Names.{Names, word_named}
+use Rattle.setup_values.specs.declared.limits.TheConstants.{MAX_EXPECT_BYTES}
+use Rattle.setup_values.specs.declared.values.OpName.{OpName}
+use Rattle.setup_values.specs.declared.values.OpName.TheVariants.{Retype, CapCopy, CapMint, CapMove, CapMutate, CapDelete, CapRevoke, CancelBadged, Send, NbSend, Recv, NbRecv, SetSpace, Suspend, Resume}
+use Rattle.setup_values.specs.declared.values.Words.{Words}
+use Rattle.setup_values.specs.declared.values.Wrong.{Wrong}
+use Rattle.setup_values.specs.declared.values.Wrong.TheVariants.{Unknown, Missing, OtherType, OtherValue}
+use Rattle.setup_values.specs.Names.{Names, word_named}
+
+-- ---- the number of what is wrong with a value or at its key
+
+abbrev pub wrong_code : Wrong → ℕ
+wrong_code Unknown = 201
+wrong_code Missing = 202
+wrong_code OtherType = 203
+wrong_code OtherValue = 204
+
+-- ---- what is read
 
 -- what is read, and then what is made of it
 infixl 10 ◌>>=◌

@@ -5,14 +5,11 @@ use Rattle.std.proofs.lemmas.Bool.{lt-leb}
 use Rattle.toml.specs.Data.{Data, as_array, as_table}
 use Rattle.toml.specs.View.{view, items_view}
 use Rattle.toml.specs.declared.value.Value.{Value}
-use Rattle.setup_format.specs.declared.fault.SetupFault.{SetupFault}
-use Rattle.setup_format.specs.declared.fault.SetupFault.TheVariants as faults
-use Rattle.setup_format.specs.declared.fault.Wrong.TheVariants.{OtherValue}
+use Rattle.setup_values.specs.declared.values.Wrong.TheVariants.{OtherValue}
 use Rattle.cap_core.specs.declared.profile.ProfileName.{ProfileName}
 use Rattle.cap_core.specs.declared.limits.TheConstants.{MAX_MESSAGE_WORDS}
-use Rattle.setup_format.specs.Names.{Names}
-use Rattle.setup_format.specs.Faults.{Fault, Fails}
-use Rattle.setup_format.specs.Kinds.{◌>>=◌, each, item_list, array_in, between, word, words, filled, tables, table_in}
+use Rattle.setup_values.specs.Names.{Names}
+use Rattle.setup_values.specs.Kinds.{◌>>=◌, each, item_list, array_in, between, word, words, filled, tables, table_in}
 
 -- the elements of an array
 pub item_list_view : (vs : List Value) → item_list (items_view vs) ≡ map view vs
@@ -48,13 +45,6 @@ unfolding each
 ends v read front n i xs d e total lt h so_far =
     let one : with_front front (each read (n + i) (map v (drop i xs))) ≡ Err e = rw (drop_more xs i d lt, h) refl in
     sym so_far ∙ one
-
-pub fails : {X A B : Type 0} (v : X → A) (read : ℕ → A → Result B Fault) (front : List B) (n i : ℕ) (xs : List X) (d : X) (e : SetupFault) (total : Result (List B) Fault) → i < length xs
-    → Fails e (read (n + i) (v (get_or xs i d))) → with_front front (each read (n + i) (map v (drop i xs))) ≡ total → Fails e total
-fails v read front n i xs d faults.Memory total lt h so_far = tt
-fails v read front n i xs d faults.Text total lt h so_far = ends v read front n i xs d _ total lt h so_far
-fails v read front n i xs d (faults.At w p k) total lt h so_far = ends v read front n i xs d _ total lt h so_far
-fails v read front n i xs d (faults.Layout f) total lt h so_far = ends v read front n i xs d _ total lt h so_far
 
 -- no element is left
 pub is_done : {X A B E : Type 0} (v : X → A) (read : ℕ → A → Result B E) (front : List B) (n i : ℕ) (xs : List X) (total : Result (List B) E) → drop i xs ≡ []

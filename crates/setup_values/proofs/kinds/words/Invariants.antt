@@ -1,10 +1,10 @@
 use Rattle.std.proofs.Common.{◌≡◌, ◌+◌, ◌-◌, map, take, drop, replicate, length}
 use Rattle.toml.specs.View.{view}
 use Rattle.cap_core.specs.declared.limits.TheConstants.{MAX_MESSAGE_WORDS}
-use Rattle.setup_format.specs.Kinds.{each, word}
-use Rattle.setup_format.specs.Private.Seen.{names_view}
-use Rattle.setup_format.proofs.Grammar.Loops.{with_front}
-use Rattle.setup_format.proofs.kinds.words.Given as goal
+use Rattle.setup_values.specs.Kinds.{each, word}
+use Rattle.setup_values.specs.Private.Seen.{names_view}
+use Rattle.setup_values.proofs.Loops.{with_front}
+use Rattle.setup_values.proofs.kinds.words.Given as goal
 
 abbrev pub invariant-loop-i : goal.invariant-loop-i
 invariant-loop-i g l = record {

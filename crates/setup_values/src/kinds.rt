@@ -4,13 +4,12 @@ ghost use Rattle.std.specs.List.{list_all};
 ghost use Rattle.toml.specs.View.{view};
 ghost use Rattle.toml.specs.Data.{as_array, as_integer, as_str};
 ghost use Rattle.cap_core.specs.Numbers.{word_bits, label_bits};
-ghost use Rattle.setup_format.specs.Private.Seen.{names_view, seen};
-ghost use Rattle.setup_format.specs.Kinds as kind;
+ghost use Rattle.setup_values.specs.Private.Seen.{names_view, seen};
+ghost use Rattle.setup_values.specs.Kinds as kind;
 
-use crate::fault::Wrong;
 use crate::limits::MAX_EXPECT_BYTES;
 use crate::names::{Name, word_of};
-use crate::setup::{OpName, Words};
+use crate::values::{OpName, Words, Wrong};
 use cap_core::limits::MAX_MESSAGE_WORDS;
 use cap_core::{Profile, Rights};
 use toml::Value;
@@ -134,7 +133,7 @@ pub fn rights(value: &Value) -> Result<Rights, Wrong>
 }
 
 /// The elements of an array of `low` to `high` elements.
-#[tactic(auto, using(crate::proofs::Grammar::Loops::array_short, crate::proofs::Grammar::Loops::array_long, crate::proofs::Grammar::Loops::array_fits))]
+#[tactic(auto, using(crate::proofs::Loops::array_short, crate::proofs::Loops::array_long, crate::proofs::Loops::array_fits))]
 pub fn array(value: &Value, low: usize, high: usize) -> Result<&[Value], Wrong>
     ensures elements { seen (λ a. map view a.now) result ≡ kind.array_in low high (as_array (view value.now)) }
     ensures length { IfOk result (λ a. length a.now ≤ high) }

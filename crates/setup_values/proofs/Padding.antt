@@ -2,8 +2,8 @@
 use Rattle.std.proofs.Common.{◌≡◌, ℕ, ◌+◌, ◌-◌, ◌<◌, ◌≤◌, ◌++◌, List, take, drop, replicate, length, sym, ap, ◌∙◌, arith, slice_set}
 use Rattle.std.proofs.lemmas.List.{drop-set-lt, drop-drop, drop-replicate, take-append-drop, length-take-le}
 use Rattle.cap_core.specs.declared.limits.TheConstants.{MAX_MESSAGE_WORDS}
-use Rattle.setup_format.specs.declared.setup.Words.{Words}
-use Rattle.setup_format.specs.Kinds.{filled}
+use Rattle.setup_values.specs.declared.values.Words.{Words}
+use Rattle.setup_values.specs.Kinds.{filled}
 
 abbrev pub words_record : List ℕ → ℕ → Words
 words_record ws n = record { words = ws; count = n }
