@@ -1,3 +1,4 @@
+-- Laws of the definitions, by subject.
 pub mod Lists
 pub mod Messages
 pub mod Checks

@@ -30,12 +30,14 @@ where_derivable f source cap = cond (is_untyped cap && has_child source f) (Err 
 -- the new capability, from the one in the source's slot
 abbrev pub changed_cap : ProfileName → Forest Entry → ℕ → Change → Cap → Result Cap Refusal
 changed_cap p f source (Copy rights) cap = where_derivable f source (masked rights cap)
-changed_cap p f source (Mint rights word) cap = where_set (with_data p false word (masked rights cap)) >>= where_derivable f source
+changed_cap p f source (Mint rights word) cap =
+    where_set (with_data p false word (masked rights cap)) >>= where_derivable f source
 changed_cap p f source Move cap = Ok cap
 changed_cap p f source (Mutate word) cap = where_set (with_data p true word cap)
 
 -- the checks in their order, the same for all four
-abbrev pub decoded_placement : ProfileName → Forest Entry → ℕ → Cap → SlotArguments → Change → Result CapPlacement Refusal
+abbrev pub decoded_placement :
+    ProfileName → Forest Entry → ℕ → Cap → SlotArguments → Change → Result CapPlacement Refusal
 decoded_placement p f thread invoked asked change =
     where_kind kind.CNode invoked >>= λ node.
     extra_cap p f thread asked.src_root >>= λ root.

@@ -98,13 +98,17 @@ slots_named index depth src_root src_index src_depth =
 -- what an operation of a thread does with the capability in the slot that it invokes
 abbrev pub decoded_invocation : ProfileName → Forest Entry → ℕ → Op → ℕ → Result Invocation Refusal
 decoded_invocation p f thread (op.Retype cap kind size_bits root index depth offset count) slot =
-    retypes (decoded_retype p f thread slot (cap_at f slot) (objects_asked kind size_bits root index depth offset count))
+    retypes (decoded_retype p f thread slot (cap_at f slot)
+    (objects_asked kind size_bits root index depth offset count))
 decoded_invocation p f thread (op.CapCopy cap index depth src_root src_index src_depth rights) slot =
-    derives (decoded_placement p f thread (cap_at f slot) (slots_named index depth src_root src_index src_depth) (Copy rights))
+    derives (decoded_placement p f thread (cap_at f slot)
+    (slots_named index depth src_root src_index src_depth) (Copy rights))
 decoded_invocation p f thread (op.CapMint cap index depth src_root src_index src_depth rights word) slot =
-    derives (decoded_placement p f thread (cap_at f slot) (slots_named index depth src_root src_index src_depth) (Mint rights word))
+    derives (decoded_placement p f thread (cap_at f slot)
+    (slots_named index depth src_root src_index src_depth) (Mint rights word))
 decoded_invocation p f thread (op.CapMove cap index depth src_root src_index src_depth) slot =
-    moves (decoded_placement p f thread (cap_at f slot) (slots_named index depth src_root src_index src_depth) Move)
+    moves (decoded_placement p f thread (cap_at f slot)
+    (slots_named index depth src_root src_index src_depth) Move)
 decoded_invocation p f thread (op.CapMutate cap index depth src_root src_index src_depth word) slot =
     moves (decoded_placement p f thread (cap_at f slot) (slots_named index depth src_root src_index src_depth) (Mutate word))
 decoded_invocation p f thread (op.CapDelete cap index depth) slot =

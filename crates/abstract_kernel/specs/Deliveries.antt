@@ -1,5 +1,5 @@
 -- What an endpoint delivers, by the replies to calls.
-use Rattle.std.specs.Prelude.{ℕ, Bool, false, cond, ◌==◌, ◌&&◌, List, [], ◌∷◌}
+use Rattle.std.specs.Prelude.{◌≡◌, ◌++◌, map, ℕ, Bool, false, cond, ◌==◌, ◌&&◌, List, [], ◌∷◌}
 use Rattle.std.specs.List.{list_any}
 use Rattle.cap_core.specs.declared.profile.ProfileName.{ProfileName}
 use Rattle.ipc_core.specs.Records.{Instance, SendRecord, ReceiveRecord}
@@ -7,8 +7,8 @@ use Rattle.abstract_kernel.specs.declared.call.Call.{Call}
 use Rattle.abstract_kernel.specs.declared.call.Reply.{Reply}
 use Rattle.abstract_kernel.specs.declared.call.Reply.TheVariants.{Delivered}
 use Rattle.abstract_kernel.specs.Shown.{endpoints_of}
-use Rattle.abstract_kernel.specs.State.{State}
-use Rattle.abstract_kernel.specs.Step.{step}
+use Rattle.abstract_kernel.specs.State.{State, pairs, sends_to, receives_of}
+use Rattle.abstract_kernel.specs.Step.{step, state_after}
 
 -- an endpoint is live where its object is live and was not made anew
 abbrev pub is_live : State → Instance → Bool
@@ -30,3 +30,14 @@ delivered p A e (call ∷ calls) [] = []
 delivered p A e (call ∷ calls) (reply ∷ replies) =
     let rest = delivered p (step p A call).state e calls replies in
     cond (is_live A e && is_delivery e.base reply) (reply ∷ rest) rest
+
+-- by these replies to calls, each endpoint delivers one message for each pair that it gains, in the order of the pairs
+abbrev pub DeliversPairs : ProfileName → State → List Call → List Reply → Type 0
+DeliversPairs p A calls replies =
+    (e : Instance) →
+    map delivery (pairs (state_after p A calls) e) ≡ map delivery (pairs A e) ++ delivered p A e calls replies
+
+-- no send and no receive stands on an endpoint
+pub record IsUnused (A : State) (e : Instance) : Type 0 where
+  pub sends : sends_to A e ≡ []
+  pub receives : receives_of A e ≡ []

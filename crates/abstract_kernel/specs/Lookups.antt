@@ -51,7 +51,8 @@ is_of_kind kind.CNode cap = is_cnode cap
 
 -- the invoked capability, where it is of the kind that the operation asks for
 abbrev pub where_kind : Kind → Cap → Result Cap Refusal
-where_kind kind cap = cond (is_null cap) (Err InvalidCapability) (cond (is_of_kind kind cap) (Ok cap) (Err IllegalOperation))
+where_kind kind cap =
+    cond (is_null cap) (Err InvalidCapability) (cond (is_of_kind kind cap) (Ok cap) (Err IllegalOperation))
 
 -- a slot that was found, where it is empty, and where it is full
 abbrev pub where_empty : Forest Entry → Result ℕ Refusal → Result ℕ Refusal

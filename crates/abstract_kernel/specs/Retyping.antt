@@ -4,7 +4,7 @@ use Rattle.std.specs.List.{list_any, range_with_len, filter_map}
 use Rattle.cap_core.specs.declared.limits.TheConstants.{MAX_RETYPE_COUNT}
 use Rattle.cap_core.specs.declared.profile.ProfileName.{ProfileName}
 use Rattle.cap_core.specs.declared.capability.Cap.{Cap}
-use Rattle.cap_core.specs.declared.capability.Cap.TheVariants.{Untyped, CNode}
+use Rattle.cap_core.specs.declared.capability.Cap.TheVariants.{CNode}
 use Rattle.cap_core.specs.declared.refusal.LookupFault.TheVariants.{MissingCapability}
 use Rattle.cap_core.specs.declared.capability.Kind.TheVariants as kind
 use Rattle.cap_core.specs.declared.refusal.Refusal.{Refusal}
@@ -48,7 +48,8 @@ first_slot p f offset count (CNode base radix guard) =
 first_slot p f offset count cap = Err (FailedLookup MissingCapability)
 
 -- the rest of the checks of a retype, of the objects' slots and of the room for them
-abbrev pub decoded_objects : ProfileName → Forest Entry → ℕ → Cap → Cap → Shape → RetypeArguments → Result NewObjects Refusal
+abbrev pub decoded_objects :
+    ProfileName → Forest Entry → ℕ → Cap → Cap → Shape → RetypeArguments → Result NewObjects Refusal
 decoded_objects p f slot untyped root shape asked =
     node_cap p f root asked.index asked.depth >>= λ node.
     first_slot p f asked.offset asked.count node >>= λ first.

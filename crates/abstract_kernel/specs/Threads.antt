@@ -1,6 +1,6 @@
 -- What the setting of a thread's space, a suspend and a resume check (seL4 Reference Manual, on thread control blocks), and a
 -- thread's new space.
-use Rattle.std.specs.Prelude.{ℕ, false, ◌==◌, ◌&&◌, cond, Option, None, Some, Result, Ok, Err}
+use Rattle.std.specs.Prelude.{ℕ, false, ◌==◌, ◌&&◌, cond, Result, Ok, Err}
 use Rattle.cap_core.specs.declared.profile.ProfileName.{ProfileName}
 use Rattle.cap_core.specs.declared.capability.Cap.{Cap}
 use Rattle.cap_core.specs.declared.capability.Cap.TheVariants.{Tcb}

@@ -1,20 +1,37 @@
-//! Laws of the abstract kernel: what holds of every run. Nothing is done.
-ghost use Rattle.std.specs.Prelude.{◌≡◌, ◌<◌, ◌++◌, List, [], map};
+//! Laws of the abstract kernel, for each state that runs reach. Nothing is done.
+ghost use Rattle.std.specs.Prelude.{◌<◌, List};
 ghost use Rattle.cap_core.specs.declared.profile.ProfileName.{ProfileName};
 ghost use Rattle.ipc_core.specs.Records.{Instance};
 ghost use Rattle.abstract_kernel.specs.declared.call.Call.{Call};
-ghost use Rattle.abstract_kernel.specs.State.{State, pairs, sends_to, receives_of};
-ghost use Rattle.abstract_kernel.specs.Step.{replies_of, state_after};
-ghost use Rattle.abstract_kernel.specs.Deliveries.{delivery, delivered};
+ghost use Rattle.abstract_kernel.specs.State.{State};
+ghost use Rattle.abstract_kernel.specs.Step.{replies_of};
+ghost use Rattle.abstract_kernel.specs.Deliveries.{DeliversPairs, IsUnused};
 ghost use Rattle.abstract_kernel.specs.Reached.{IsReached};
+ghost use Rattle.abstract_kernel.specs.Laws.{HasNobodyWaiting, StaysEnded, KeepsItsPairs, WaitsWhereOpen, TellsItsSenders, TellsItsReceivers};
 
 /// What an endpoint delivers in a run is one delivery for each pair that it gains of an accepted send and the accepted receive
 /// at its place, in the order of the pairs.
 pub fn each_pair_is_delivered_once()
-    ensures { (p : ProfileName) (A : State) (calls : List Call) (e : Instance) → IsReached p A → map delivery (pairs (state_after p A calls) e) ≡ map delivery (pairs A e) ++ delivered p A e calls (replies_of p A calls) }
+    ensures { (p : ProfileName) (A : State) (calls : List Call) → IsReached p A → DeliversPairs p A calls (replies_of p A calls) }
 {}
 
 /// An endpoint that is made later starts with no sends and no receives, whatever stood at its address before.
 pub fn new_endpoint_starts_empty()
-    ensures { (p : ProfileName) (A : State) (e : Instance) → IsReached p A → A.count < e.birth → (sends_to A e ≡ []) × (receives_of A e ≡ []) }
+    ensures { (p : ProfileName) (A : State) (e : Instance) → IsReached p A → A.count < e.birth → IsUnused A e }
+{}
+
+/// On an endpoint that is not live nobody waits. One that was made at some time is never live again, and whatever is called,
+/// its pairs stay as they are.
+pub fn ended_endpoint_delivers_no_more()
+    ensures nobody { (p : ProfileName) (A : State) (e : Instance) → HasNobodyWaiting p A e }
+    ensures ended { (p : ProfileName) (A : State) (calls : List Call) (e : Instance) → StaysEnded p A calls e }
+    ensures pairs { (p : ProfileName) (A : State) (calls : List Call) (e : Instance) → KeepsItsPairs p A calls e }
+{}
+
+/// What waits on an endpoint are its open records, and the state of each one's thread tells so: no open record is left out
+/// where only live endpoints are searched.
+pub fn waiting_threads_are_told()
+    ensures waiting { (p : ProfileName) (A : State) (e : Instance) → WaitsWhereOpen p A e }
+    ensures senders { (p : ProfileName) (A : State) (e : Instance) → TellsItsSenders p A e }
+    ensures receivers { (p : ProfileName) (A : State) (e : Instance) → TellsItsReceivers p A e }
 {}

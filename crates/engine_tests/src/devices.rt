@@ -1,5 +1,5 @@
 //! Reads to the end of a source and writes of a text, over readers and writers of std that fail.
-use crate::fakes::{EndlessReader, reader, writer};
+use crate::fakes::{EndlessReader, PieceWriter, reader, writer};
 use engine::{
     DeviceFault, INPUT_LIMIT, ReaderSource, RunFault, Sink, Source, WriterSink, check, read_below,
     write_all,
@@ -60,14 +60,17 @@ fn input_stays_below_the_limit(rt: HostRuntime) -> Result<(), Fail> {
     Ok(())
 }
 
+/// Whether a check of a source without an end is a failed read, below `INPUT_LIMIT` bytes, and writes nothing.
+fn is_cut_off(alloc: Global) -> bool {
+    let mut out = writer(alloc, 1, 4096, false);
+    let mut source = ReaderSource::new(EndlessReader);
+    let answer = check(alloc, &mut source, &mut WriterSink::new(&mut out));
+    matches!(answer, Err(RunFault::Reading)) && out.taken.is_empty()
+}
+
 #[test]
 fn source_without_an_end_is_a_failed_read(rt: HostRuntime) {
-    let mut out = writer(rt.alloc(), 1, 4096, false);
-    let mut source = ReaderSource::new(EndlessReader);
-    let answer = check(rt.alloc(), &mut source, &mut WriterSink::new(&mut out));
-    let is_reading = matches!(answer, Err(RunFault::Reading));
-    assert!(rt; is_reading, "below {INPUT_LIMIT} bytes");
-    assert!(rt; out.taken.is_empty());
+    assert!(rt; is_cut_off(rt.alloc()), "below {INPUT_LIMIT} bytes");
 }
 
 #[test]
@@ -100,26 +103,28 @@ fn first_read<S: Source>(source: &mut S) -> Result<usize, DeviceFault> {
     source.read(&mut buffer)
 }
 
+/// What a reader gives for one read, where so many succeed.
+fn given(reads: usize) -> Option<usize> {
+    first_read(&mut ReaderSource::new(reader(TEXT, 16, reads))).ok()
+}
+
 /// What a sink takes of one write of 4 bytes, through the trait.
 fn first_write<K: Sink>(sink: &mut K) -> Result<usize, DeviceFault> {
     sink.write(b"text")
 }
 
-#[test]
-fn sources_count_and_fail(rt: HostRuntime) {
-    let given = first_read(&mut ReaderSource::new(reader(TEXT, 16, 1)));
-    assert!(rt; matches!(given, Ok(8)));
-    let failed = first_read(&mut ReaderSource::new(reader(TEXT, 16, 0)));
-    assert!(rt; failed.is_err());
+/// What a writer takes of one write.
+fn taken(out: &mut PieceWriter) -> Option<usize> {
+    first_write(&mut WriterSink::new(out)).ok()
 }
 
 #[test]
-fn sinks_count_and_fail(rt: HostRuntime) {
+fn devices_count_and_fail(rt: HostRuntime) {
+    for (reads, wanted) in [(1, Some(8)), (0, None)] {
+        assert!(rt; given(reads) == wanted, "{reads} reads");
+    }
     let mut out = writer(rt.alloc(), 3, 4, true);
-    let three = first_write(&mut WriterSink::new(&mut out));
-    assert!(rt; matches!(three, Ok(3)));
-    let one = first_write(&mut WriterSink::new(&mut out));
-    assert!(rt; matches!(one, Ok(1)));
-    let none = first_write(&mut WriterSink::new(&mut out));
-    assert!(rt; none.is_err());
+    for wanted in [Some(3), Some(1), None] {
+        assert!(rt; taken(&mut out) == wanted, "{wanted:?}");
+    }
 }

@@ -26,15 +26,20 @@ fn fails_reading(alloc: Global, reads: usize) -> bool {
     matches!(answer, Err(RunFault::Reading)) && out.taken.is_empty()
 }
 
+/// Whether all expectations are met where no read fails before the end.
+fn is_met_after(alloc: Global, reads: usize) -> bool {
+    let mut out = writer(alloc, usize::MAX, usize::MAX, false);
+    let answer = run(alloc, 16, reads, &mut out);
+    matches!(answer, Ok(Verdict::AllMet))
+}
+
 #[test]
 fn each_read_of_the_stored_run_fails_in_turn(rt: HostRuntime) {
     let reads = STORED.len() / 16 + 2;
     for k in 0..reads {
         assert!(rt; fails_reading(rt.alloc(), k), "at read {k}");
     }
-    let mut out = writer(rt.alloc(), usize::MAX, usize::MAX, false);
-    let answer = run(rt.alloc(), 16, reads, &mut out);
-    assert!(rt; matches!(answer, Ok(Verdict::AllMet)));
+    assert!(rt; is_met_after(rt.alloc(), reads));
 }
 
 /// Whether a beginning of the report of just that length is written where a write fails there.

@@ -1,3 +1,4 @@
+-- Lemmas on the kernel's parts, by subject.
 pub mod Threads
 pub mod Booted
 pub mod Messages

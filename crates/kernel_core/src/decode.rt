@@ -105,7 +105,7 @@ fn decode_new_objects<P: Profile, S: CapStore<P>>(
 ) -> Result<Invocation, Refusal>
     requires memory { S.memory_bits store.now ≤ MAX_MEMORY_BITS }
     requires thread { IsThreadAddress P.the (S.memory_bits store.now) thread }
-    ensures { result ≡ retypes (decoded_retype P.the (S.forest store.now) thread (address_of P.the slot) (cap_at (S.forest store.now) (address_of P.the slot)) asked) }
+    ensures { let f = S.forest store.now in let at = address_of P.the slot in result ≡ retypes (decoded_retype P.the f thread at (cap_at f at) asked) }
 {
     let new = decode_retype::<P, S>(store, thread, slot, asked)?;
     Ok(Invocation::Retype(new))

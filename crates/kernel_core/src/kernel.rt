@@ -11,10 +11,9 @@ ghost use Rattle.abstract_kernel.specs.Memory.{IsInMemory, IsAligned};
 ghost use Rattle.abstract_kernel.specs.Regions.{AreObjectsApart, IsForest};
 ghost use Rattle.abstract_kernel.specs.Private.Invocations.{IsInvocation, IsRetype, IsDerivation, IsMove};
 ghost use Rattle.cap_core.specs.declared.refusal.Refusal.{Refusal};
-ghost use Rattle.ipc_core.specs.Records.{Instance};
 ghost use Rattle.abstract_kernel.specs.declared.call.Reply.TheVariants.{Done, Refused};
-ghost use Rattle.abstract_kernel.specs.State.{State, shown, pairs};
-ghost use Rattle.abstract_kernel.specs.Deliveries.{delivery, delivered};
+ghost use Rattle.abstract_kernel.specs.State.{State, shown};
+ghost use Rattle.abstract_kernel.specs.Deliveries.{DeliversPairs};
 ghost use Rattle.abstract_kernel.specs.Step.{replies_of, state_after};
 ghost use Rattle.abstract_kernel.specs.Reached.{IsReached, StepsTo};
 
@@ -90,7 +89,7 @@ impl<P: Profile, S: CapStore<P> + Drop, W: Waiters<P> + Drop> Kernel<P, S, W> {
         ensures refused { (refusal : Refusal) → result ≡ Refused refusal → self.new ≡ self.old }
         ensures within { (memory : ℕ) → IsInMemory P.the memory self.old → IsInMemory P.the memory self.new }
     {
-        self.perform(call)
+        self.perform(&call)
     }
 
     /// Makes calls in order, and appends the reply to each to `replies`, which has room for them.
@@ -104,7 +103,7 @@ impl<P: Profile, S: CapStore<P> + Drop, W: Waiters<P> + Drop> Kernel<P, S, W> {
         requires room { vec_len replies.old + length calls.now ≤ vec_capacity replies.old }
         ensures replies { (A : State) → IsReached P.the A → self.old ≡ shown A → replies.new.items ≡ replies.old.items ++ replies_of P.the A calls.now }
         ensures stands { (A : State) → IsReached P.the A → self.old ≡ shown A → self.new ≡ shown (state_after P.the A calls.now) }
-        ensures in_order { (A : State) → IsReached P.the A → self.old ≡ shown A → (e : Instance) → map delivery (pairs (state_after P.the A calls.now) e) ≡ map delivery (pairs A e) ++ delivered P.the A e calls.now (drop (length replies.old.items) replies.new.items) }
+        ensures in_order { (A : State) → IsReached P.the A → self.old ≡ shown A → DeliversPairs P.the A calls.now (drop (length replies.old.items) replies.new.items) }
         ensures apart { AreObjectsApart P.the self.new.derivations }
         ensures within { (memory : ℕ) → IsInMemory P.the memory self.old → IsInMemory P.the memory self.new }
     {
@@ -122,9 +121,9 @@ impl<P: Profile, S: CapStore<P> + Drop, W: Waiters<P> + Drop> Kernel<P, S, W> {
         let _ = &self.memory_bits;
     }
 
-    fn perform(&mut self, call: Call) -> Reply
-        ensures reply { result ≡ (effect_of P.the self.old call).reply }
-        ensures after { self.new ≡ (effect_of P.the self.old call).after }
+    fn perform(&mut self, call: &Call) -> Reply
+        ensures reply { result ≡ (effect_of P.the self.old call.now).reply }
+        ensures after { self.new ≡ (effect_of P.the self.old call.now).after }
         ensures within { (memory : ℕ) → IsInMemory P.the memory self.old → IsInMemory P.the memory self.new }
     {
         match self.decode_call(call) {
@@ -156,10 +155,10 @@ impl<P: Profile, S: CapStore<P> + Drop, W: Waiters<P> + Drop> Kernel<P, S, W> {
     }
 
     /// The first check that fails, or what the call does.
-    fn decode_call(&self, call: Call) -> Result<Invocation, Refusal>
-        ensures invocation { result ≡ decoded_call P.the self.now call }
+    fn decode_call(&self, call: &Call) -> Result<Invocation, Refusal>
+        ensures invocation { result ≡ decoded_call P.the self.now call.now }
         ensures lawful { IfOk result (IsInvocation P.the self.now) }
-        ensures ready { IfOk result (λ (t : Invocation). IsReady self.now call.thread) }
+        ensures ready { IfOk result (λ (t : Invocation). IsReady self.now call.now.thread) }
         ensures forest { IfOk result (λ (t : Invocation). IsForest P.the self.now.derivations) }
     {
         match self.thread_state(call.thread).ok_or(Refusal::NoThread)? {

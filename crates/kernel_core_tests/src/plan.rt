@@ -2,7 +2,7 @@
 ghost use Rattle.std.specs.Prelude.{◌≤◌};
 ghost use Rattle.cap_core.specs.Numbers.{min_untyped_bits, max_object_bits};
 ghost use Rattle.cap_core.specs.declared.profile.ProfileName.TheVariants as profile;
-ghost use Rattle.abstract_kernel.specs.Plan.{IsWithinLimits};
+ghost use Rattle.kernel_core.specs.Plan.{IsWithinLimits};
 
 use cap_core::{Narrow, Profile, Wide};
 use kernel_core::{BootPlan, PlanDefect};

@@ -15,98 +15,57 @@ use setup_values::{Name, OpName, Words};
 use toml::Table;
 
 /// The keys of a retype.
+#[rattlefmt::skip]
 fn retype_keys() -> &'static [&'static str]
     ensures { map (λ k. k.now) result.now ≡ spec.call_keys op_names.Retype }
 {
     &[
-        "thread",
-        "op",
-        "client",
-        "expect",
-        "cap",
-        "kind",
-        "size_bits",
-        "root",
-        "index",
-        "depth",
-        "offset",
-        "count",
+        "thread", "op", "client", "expect",
+        "cap", "kind", "size_bits", "root", "index", "depth", "offset", "count",
     ]
 }
 
 /// The keys of a copy.
+#[rattlefmt::skip]
 fn copy_keys() -> &'static [&'static str]
     ensures { map (λ k. k.now) result.now ≡ spec.call_keys op_names.CapCopy }
 {
     &[
-        "thread",
-        "op",
-        "client",
-        "expect",
-        "cap",
-        "index",
-        "depth",
-        "src_root",
-        "src_index",
-        "src_depth",
-        "rights",
+        "thread", "op", "client", "expect",
+        "cap", "index", "depth", "src_root", "src_index", "src_depth", "rights",
     ]
 }
 
 /// The keys of a mint.
+#[rattlefmt::skip]
 fn mint_keys() -> &'static [&'static str]
     ensures { map (λ k. k.now) result.now ≡ spec.call_keys op_names.CapMint }
 {
     &[
-        "thread",
-        "op",
-        "client",
-        "expect",
-        "cap",
-        "index",
-        "depth",
-        "src_root",
-        "src_index",
-        "src_depth",
-        "rights",
-        "word",
+        "thread", "op", "client", "expect",
+        "cap", "index", "depth", "src_root", "src_index", "src_depth", "rights", "word",
     ]
 }
 
 /// The keys of a move.
+#[rattlefmt::skip]
 fn move_keys() -> &'static [&'static str]
     ensures { map (λ k. k.now) result.now ≡ spec.call_keys op_names.CapMove }
 {
     &[
-        "thread",
-        "op",
-        "client",
-        "expect",
-        "cap",
-        "index",
-        "depth",
-        "src_root",
-        "src_index",
-        "src_depth",
+        "thread", "op", "client", "expect",
+        "cap", "index", "depth", "src_root", "src_index", "src_depth",
     ]
 }
 
 /// The keys of a mutate.
+#[rattlefmt::skip]
 fn mutate_keys() -> &'static [&'static str]
     ensures { map (λ k. k.now) result.now ≡ spec.call_keys op_names.CapMutate }
 {
     &[
-        "thread",
-        "op",
-        "client",
-        "expect",
-        "cap",
-        "index",
-        "depth",
-        "src_root",
-        "src_index",
-        "src_depth",
-        "word",
+        "thread", "op", "client", "expect",
+        "cap", "index", "depth", "src_root", "src_index", "src_depth", "word",
     ]
 }
 

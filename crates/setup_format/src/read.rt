@@ -224,6 +224,7 @@ fn setup_at<P: Profile>(alloc: Global, table: &Table) -> Result<Setup, SetupFaul
 }
 
 /// What a table is read as, in the format that is read.
+#[rattlefmt::skip]
 #[tactic(auto, unfolding(crate::specs::Setups::setup_of))]
 fn setup_of(alloc: Global, table: &Table) -> Result<Setup, SetupFault>
     ensures setup { Gives (λ s. s) result (spec.setup_of (table_view table.now)) }
@@ -231,21 +232,9 @@ fn setup_of(alloc: Global, table: &Table) -> Result<Setup, SetupFault>
     ensures bounds { IfOk result IsWithinBounds }
 {
     let _format = number_at(table, Place::Top, "format", FORMAT, FORMAT)?;
-    known_only(
-        table,
-        Place::Top,
-        &[
-            "format",
-            "memory_bits",
-            "root_radix",
-            "threads",
-            "endpoints",
-            "clients",
-            "limit",
-            "untyped",
-            "call",
-        ],
-    )?;
+    known_only(table, Place::Top, &[
+        "format", "memory_bits", "root_radix", "threads", "endpoints", "clients", "limit", "untyped", "call",
+    ])?;
     setup_at::<Wide>(alloc, table)
 }
 

@@ -3,3 +3,4 @@ pub mod RowEdits
 pub mod RowLists
 pub mod RowRemoves
 pub mod RowSteps
+pub mod RowViews

@@ -4,7 +4,9 @@ ghost use Rattle.std.specs.Prelude.{◌≡◌};
 mod table;
 
 pub use self::table::Link;
-use self::table::{EMPTY, append, free_from, insert_after, is_parent, names, replace, row, unlink};
+use self::table::{
+    EMPTY, append, free_from, insert_after, is_parent, names, replace, row, row_within, unlink,
+};
 use crate::derived::is_new_original;
 use crate::slot::Slot;
 use crate::store::{CapStore, MakeStore};
@@ -84,7 +86,7 @@ impl<P: Profile> CapStore<P> for LinkedStore<P> {
         ensures forest { forest_of P.the self.new.0 ≡ derived_at P.the source slot cap (forest_of P.the self.old.0) }
         ensures memory { self.new.1 ≡ self.old.1 }
     {
-        let marks = is_new_original(row(&self.links, source).cap, cap);
+        let marks = is_new_original(row_within(&self.links, source).cap, cap);
         insert_after(
             &mut self.links,
             &mut self.first,

@@ -4,7 +4,8 @@ use Rattle.std.proofs.lemmas.Bool.{ne_eqb}
 use Rattle.std.specs.List.{AllByRecursion}
 use Rattle.cap_core.specs.declared.profile.ProfileName.{ProfileName}
 use Rattle.ipc_core.specs.Records.{ReceiveRecord, Instance, SendRecord, same_instance}
-use Rattle.abstract_kernel.specs.State.{State, sends_to, receives_of}
+use Rattle.abstract_kernel.specs.State.{State}
+use Rattle.abstract_kernel.specs.Deliveries.{IsUnused}
 use Rattle.abstract_kernel.specs.Reached.{IsReached}
 use Rattle.abstract_kernel.proofs.Reached.Simulation.{reached_inv}
 
@@ -33,7 +34,7 @@ module _ (A : State) (e : Instance) (lt : A.count < e.birth) where
       let rest : List ReceiveRecord = filter (λ (a : ReceiveRecord). same_instance a.endpoint e && not (A.is_cancelled a.number)) xs in
       ap (λ (b : Bool). cond (b && not (A.is_cancelled a.number)) (a ∷ rest) rest) (younger a.endpoint e A.count born.0.0 lt) ∙ no_receives xs born.1
 
-pub unmade_is_empty : (p : ProfileName) (A : State) (e : Instance) → IsReached p A → A.count < e.birth → (sends_to A e ≡ []) × (receives_of A e ≡ [])
+pub unmade_is_empty : (p : ProfileName) (A : State) (e : Instance) → IsReached p A → A.count < e.birth → IsUnused A e
 unmade_is_empty p A e reached lt =
     let inv = reached_inv p A reached in
-    (no_sends A e lt A.sends inv.sends_born, no_receives A e lt A.receives inv.born)
+    record { sends = no_sends A e lt A.sends inv.sends_born; receives = no_receives A e lt A.receives inv.born }

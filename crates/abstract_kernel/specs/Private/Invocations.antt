@@ -3,6 +3,7 @@ use Rattle.std.specs.Prelude.{◌≡◌, ℕ, ◌≤◌, ◌<◌, ◌==◌, ◌�
 use Rattle.std.specs.List.{list_any}
 use Rattle.cap_core.specs.declared.limits.TheConstants.{MAX_RETYPE_COUNT}
 use Rattle.cap_core.specs.declared.profile.ProfileName.{ProfileName}
+use Rattle.cap_core.specs.declared.capability.Cap.TheVariants.{Tcb}
 use Rattle.cap_core.specs.Objects.{is_untyped, badge_of, IsLawful}
 use Rattle.mem_core.specs.Shapes.{IsLawfulShape}
 use Rattle.mem_core.specs.Plans.{LieInUntyped}
@@ -63,7 +64,9 @@ pub record IsSpace (p : ProfileName) (f : Forest Entry) (new : NewSpace) : Type 
   pub root : IsNamedSlot p f new.tcb
   pub full : is_full new.source f ≡ true
   pub invoked : is_full new.invoked f ≡ true
+  pub names : cap_at f new.invoked ≡ Tcb new.tcb
   pub lawful : (memory : ℕ) → All (IsLawful p memory) (caps f) → IsLawful p memory new.cap
+  pub remade : (memory : ℕ) → IsLawful p memory (cap_at f new.source) → IsLawful p memory new.cap
   pub same : names_same (cap_at f new.source) new.cap ≡ true
   pub node : is_cnode new.cap ≡ true
 

@@ -18,14 +18,7 @@ pub record IsAlike (p : ProfileName) (a b : Cap) : Type 0 where
 pub alike_self : (p : ProfileName) (a : Cap) → IsAlike p a a
 alike_self p a = record { base = refl; bits = refl; untyped = refl; names = λ c. refl }
 
-no_object : (i j bits bits' free free' : ℕ) (c : Cap) → same_object (Untyped i bits free) c ≡ same_object (Untyped j bits' free') c
-no_object i j bits bits' free free' Null = refl
-no_object i j bits bits' free free' (Untyped k b f) = refl
-no_object i j bits bits' free free' (Endpoint k b r) = refl
-no_object i j bits bits' free free' (CNode k r g) = refl
-no_object i j bits bits' free free' (Tcb k) = refl
-
-alike_same : (p : ProfileName) (a b : Cap) → same_object a b ≡ true → IsAlike p a b
+pub alike_same : (p : ProfileName) (a b : Cap) → same_object a b ≡ true → IsAlike p a b
 alike_same p a b h =
     let s : AreSame p a b = are_same p a b h in
     record { base = s.base; bits = s.bits; untyped = s.first ∙ sym s.second; names = s.names }
@@ -33,7 +26,7 @@ alike_same p a b h =
 pub alike_named : (p : ProfileName) (a b : Cap) → names_same a b ≡ true → IsAlike p a b
 alike_named p (Untyped i bits free) (Untyped j bits' free') h =
     let both = and_parts (i == j) (bits == bits') h in
-    record { base = eqb-true i j both.0; bits = eqb-true bits bits' both.1; untyped = refl; names = no_object i j bits bits' free free' }
+    record { base = eqb-true i j both.0; bits = eqb-true bits bits' both.1; untyped = refl; names = λ c. refl }
 alike_named p Null b h = alike_same p Null b h
 alike_named p (Endpoint i badge rights) b h = alike_same p (Endpoint i badge rights) b h
 alike_named p (CNode i radix guard) b h = alike_same p (CNode i radix guard) b h
@@ -46,7 +39,7 @@ alike_named p (Untyped i bits free) (Tcb j) h = alike_same p (Untyped i bits fre
 -- the free index is no part of an object's range
 pub alike_freed : (p : ProfileName) (free : ℕ) (a : Cap) → IsAlike p a (with_free free a)
 alike_freed p free Null = alike_self p Null
-alike_freed p free (Untyped i bits former) = record { base = refl; bits = refl; untyped = refl; names = no_object i i bits bits former free }
+alike_freed p free (Untyped i bits former) = record { base = refl; bits = refl; untyped = refl; names = λ c. refl }
 alike_freed p free (Endpoint i badge rights) = alike_self p (Endpoint i badge rights)
 alike_freed p free (CNode i radix guard) = alike_self p (CNode i radix guard)
 alike_freed p free (Tcb i) = alike_self p (Tcb i)

@@ -1,6 +1,6 @@
 -- Regions: what two names of one object share, and that lying in a region is transitive.
 use Rattle.std.proofs.Common.{◌≡◌, ℕ, ◌+◌, ◌^◌, true, false, not, ◌&&◌, ◌==◌, nat_le, refl, sym, ◌∙◌, arith}
-use Rattle.std.proofs.lemmas.Bool.{and_parts, and_from, eqb-true}
+use Rattle.std.proofs.lemmas.Bool.{and_parts, and_from}
 use Rattle.std.proofs.lemmas.Bool.Decides.{nat_tests}
 use Rattle.cap_core.specs.declared.profile.ProfileName.{ProfileName}
 use Rattle.cap_core.specs.declared.profile.ProfileName.TheVariants.{Wide}
@@ -8,7 +8,8 @@ use Rattle.cap_core.specs.declared.capability.Cap.{Cap}
 use Rattle.cap_core.specs.declared.capability.Cap.TheVariants.{Null, Untyped, Endpoint, CNode, Tcb}
 use Rattle.cap_core.specs.Objects.{is_null, is_untyped, badge_of, base_of, bits_of, same_object, contains, in_region}
 use Rattle.derivation.specs.Derivation.{names_same}
-use Rattle.derivation.proofs.Disjoint.Disjointness.{same_object-swap, same_number, AreSame, are_same}
+use Rattle.derivation.proofs.Disjoint.Disjointness.{same_object-swap, same_number}
+use Rattle.derivation.proofs.Disjoint.Alike.{IsAlike, alike_same, alike_named}
 
 -- two capabilities of one object or of one untyped region
 pub record NamesOne (p : ProfileName) (a b : Cap) : Type 0 where
@@ -32,52 +33,49 @@ same_not_null (CNode i radix guard) (CNode j radix' guard') h = (refl, refl)
 same_not_null (Tcb i) (Tcb j) h = (refl, refl)
 same_not_null a b h = absurd (let n : false ≡ true = h in cc)
 
-pub same_one : (p : ProfileName) (a b : Cap) → same_object a b ≡ true → NamesOne p a b
-same_one p a b h =
-    record { null = n.0 ∙ sym n.1; untyped = s.first ∙ sym s.second; of = of; by = by; same = s.names }
+pub one_alike : (p : ProfileName) (a b : Cap) → is_null a ≡ is_null b → IsAlike p a b → NamesOne p a b
+one_alike p a b n s = record { null = n; untyped = s.untyped; of = of; by = by a b s; same = s.names }
   where
-    s : AreSame p a b
-    s = are_same p a b h
-
-    n : (is_null a ≡ false) × (is_null b ≡ false)
-    n = same_not_null a b h
+    named : (c : Cap) → same_object c a ≡ same_object c b
+    named c = same_object-swap c a ∙ s.names c ∙ same_object-swap b c
 
     of : (c : Cap) → in_region p c a ≡ in_region p c b
     of Null = refl
-    of (Untyped k bits free) = rw (n.0, n.1, s.base, s.bits)
-    of (Endpoint k badge rights) = same_object-swap (Endpoint k badge rights) a ∙ s.names (Endpoint k badge rights) ∙ same_object-swap b (Endpoint k badge rights)
-    of (CNode k radix guard) = same_object-swap (CNode k radix guard) a ∙ s.names (CNode k radix guard) ∙ same_object-swap b (CNode k radix guard)
-    of (Tcb k) = same_object-swap (Tcb k) a ∙ s.names (Tcb k) ∙ same_object-swap b (Tcb k)
+    of (Untyped k bits free) = rw (n, s.base, s.bits)
+    of (Endpoint k badge rights) = named (Endpoint k badge rights)
+    of (CNode k radix guard) = named (CNode k radix guard)
+    of (Tcb k) = named (Tcb k)
 
-    by : (c : Cap) → in_region p a c ≡ in_region p b c
-    by c = region_same p a c s.first ∙ s.names c ∙ sym (region_same p b c s.second)
+    typed : (x y : Cap) → IsAlike p x y → is_untyped x ≡ false → (c : Cap) → in_region p x c ≡ in_region p y c
+    typed x y t u c = region_same p x c u ∙ t.names c ∙ sym (region_same p y c (sym t.untyped ∙ u))
 
-pub untyped_one : (p : ProfileName) (i bits free j bits' free' : ℕ) → i ≡ j → bits ≡ bits' → NamesOne p (Untyped i bits free) (Untyped j bits' free')
-untyped_one p i bits free j bits' free' e f =
-    record { null = refl; untyped = refl; of = of; by = by; same = λ c. refl }
-  where
-    of : (c : Cap) → in_region p c (Untyped i bits free) ≡ in_region p c (Untyped j bits' free')
-    of Null = refl
-    of (Untyped k n m) = rw (e, f)
-    of (Endpoint k badge rights) = refl
-    of (CNode k radix guard) = refl
-    of (Tcb k) = refl
+    by : (x y : Cap) → IsAlike p x y → (c : Cap) → in_region p x c ≡ in_region p y c
+    by (Untyped i bits free) (Untyped j bits' free') t c = rw (t.base, t.bits)
+    by (Untyped i bits free) Null t c = absurd (let no' : true ≡ false = t.untyped in cc)
+    by (Untyped i bits free) (Endpoint j badge rights) t c = absurd (let no' : true ≡ false = t.untyped in cc)
+    by (Untyped i bits free) (CNode j radix guard) t c = absurd (let no' : true ≡ false = t.untyped in cc)
+    by (Untyped i bits free) (Tcb j) t c = absurd (let no' : true ≡ false = t.untyped in cc)
+    by Null y t c = typed Null y t refl c
+    by (Endpoint i badge rights) y t c = typed (Endpoint i badge rights) y t refl c
+    by (CNode i radix guard) y t c = typed (CNode i radix guard) y t refl c
+    by (Tcb i) y t c = typed (Tcb i) y t refl c
 
-    by : (c : Cap) → in_region p (Untyped i bits free) c ≡ in_region p (Untyped j bits' free') c
-    by c = rw (e, f)
+pub same_one : (p : ProfileName) (a b : Cap) → same_object a b ≡ true → NamesOne p a b
+same_one p a b h = let n = same_not_null a b h in one_alike p a b (n.0 ∙ sym n.1) (alike_same p a b h)
+
+named_null : (a b : Cap) → names_same a b ≡ true → is_null a ≡ is_null b
+named_null (Untyped i bits free) (Untyped j bits' free') h = refl
+named_null (Untyped i bits free) Null h = absurd (let n : false ≡ true = h in cc)
+named_null (Untyped i bits free) (Endpoint j badge rights) h = refl
+named_null (Untyped i bits free) (CNode j radix guard) h = refl
+named_null (Untyped i bits free) (Tcb j) h = refl
+named_null Null b h = absurd (let n : false ≡ true = h in cc)
+named_null (Endpoint i badge rights) b h = let n = same_not_null (Endpoint i badge rights) b h in n.0 ∙ sym n.1
+named_null (CNode i radix guard) b h = let n = same_not_null (CNode i radix guard) b h in n.0 ∙ sym n.1
+named_null (Tcb i) b h = let n = same_not_null (Tcb i) b h in n.0 ∙ sym n.1
 
 pub names_one : (p : ProfileName) (a b : Cap) → names_same a b ≡ true → NamesOne p a b
-names_one p (Untyped i bits free) (Untyped j bits' free') h =
-    let both = and_parts (i == j) (bits == bits') h in
-    untyped_one p i bits free j bits' free' (eqb-true i j both.0) (eqb-true bits bits' both.1)
-names_one p (Untyped i bits free) Null h = absurd (let n : false ≡ true = h in cc)
-names_one p (Untyped i bits free) (Endpoint j badge rights) h = absurd (let n : false ≡ true = h in cc)
-names_one p (Untyped i bits free) (CNode j radix guard) h = absurd (let n : false ≡ true = h in cc)
-names_one p (Untyped i bits free) (Tcb j) h = absurd (let n : false ≡ true = h in cc)
-names_one p Null b h = absurd (let n : false ≡ true = h in cc)
-names_one p (Endpoint i badge rights) b h = same_one p (Endpoint i badge rights) b h
-names_one p (CNode i radix guard) b h = same_one p (CNode i radix guard) b h
-names_one p (Tcb i) b h = same_one p (Tcb i) b h
+names_one p a b h = one_alike p a b (named_null a b h) (alike_named p a b h)
 
 -- what an untyped one contains that contains another
 contains-transitive : (i m j n k o : ℕ) → (nat_le i j && nat_le (j + n) (i + m)) ≡ true → (nat_le j k && nat_le (k + o) (j + n)) ≡ true → (nat_le i k && nat_le (k + o) (i + m)) ≡ true

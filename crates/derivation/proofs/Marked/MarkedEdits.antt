@@ -19,9 +19,10 @@ use Rattle.derivation.proofs.Trees.Built.{Absent, Once, StopsAtOnce, at_one}
 use Rattle.derivation.proofs.Disjoint.Disjointness.{same_object-swap}
 use Rattle.derivation.proofs.Disjoint.DisjointRenamed.{disjoint-freed}
 use Rattle.derivation.proofs.Disjoint.DisjointEmptied.{disjoint-emptied}
-use Rattle.derivation.proofs.Disjoint.InRegion.{NamesOne, names_one, untyped_one, untyped-badge}
+use Rattle.derivation.proofs.Disjoint.Alike.{alike_freed}
+use Rattle.derivation.proofs.Disjoint.InRegion.{NamesOne, names_one, one_alike, untyped-badge}
 use Rattle.derivation.proofs.Marked.MarkedPuts.{retype_below, root_behind}
-use Rattle.derivation.proofs.Marked.MarkedRenamed.{names-self, IsSameRow, row-self, forest_renamed, gathered-renamed, led-renamed, first-renamed, marks-renamed}
+use Rattle.derivation.proofs.Marked.MarkedRenamed.{IsSameRow, row-self, forest_renamed, gathered-renamed, led-renamed, first-renamed, marks-renamed}
 use Rattle.derivation.proofs.Marked.MarkedRemoval.{remove_before, remove_last}
 use Rattle.derivation.proofs.Marked.MarkedKept.{Outside, each-put, each-gone, each-back, each-marked, gathered-push, gathered-gone, gathered-marked, led-back, led-put, led-push, led-gone, led-cut, first-gone, first-marked, marks-marked}
 use Rattle.derivation.proofs.Marked.MarkedLines.{entries_of, root_outside, unnamed, IsRetype}
@@ -247,12 +248,15 @@ moved_list p memory pre s post n cap k st lawful same badge dis =
 
 -- another free index
 
+freed_null : (free : ℕ) (a : Cap) → (is_null (with_free free a) ≡ is_null a) × (badge_of (with_free free a) ≡ badge_of a)
+freed_null free (Untyped i bits old) = (refl, refl)
+freed_null free Null = (refl, refl)
+freed_null free (Endpoint i badge rights) = (refl, refl)
+freed_null free (CNode i radix guard) = (refl, refl)
+freed_null free (Tcb i) = (refl, refl)
+
 freed_one : (p : ProfileName) (free : ℕ) (a : Cap) → NamesOne p a (with_free free a) × (badge_of (with_free free a) ≡ badge_of a)
-freed_one p free (Untyped i bits old) = (untyped_one p i bits old i bits free refl refl, refl)
-freed_one p free Null = (names-self p Null, refl)
-freed_one p free (Endpoint i badge rights) = (names-self p (Endpoint i badge rights), refl)
-freed_one p free (CNode i radix guard) = (names-self p (CNode i radix guard), refl)
-freed_one p free (Tcb i) = (names-self p (Tcb i), refl)
+freed_one p free a = (one_alike p a (with_free free a) (sym (freed_null free a).0) (alike_freed p free a), (freed_null free a).1)
 
 pub freed_list : (p : ProfileName) (memory : ℕ) (pre : List Marked) (s : Marked) (post : List Marked) (free : ℕ) → IsMarkedList p memory (pre ++ s ∷ post) → StandsIn p pre s post
     → IsLawful p memory (with_free free s.cap)

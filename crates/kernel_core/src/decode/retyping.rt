@@ -86,6 +86,7 @@ fn node_for<P: Profile, S: CapStore<P>>(
 }
 
 /// Where the objects are placed in the untyped region that the capability in a slot names.
+#[inline(always)]
 fn place<P: Profile, S: CapStore<P>>(
     store: &S,
     slot: Slot,
@@ -104,6 +105,7 @@ fn place<P: Profile, S: CapStore<P>>(
 }
 
 /// The address of the first slot that is filled, where all of them are slots of the CNode, and empty.
+#[inline(always)]
 fn first_slot<P: Profile, S: CapStore<P>>(
     store: &S,
     node: Cap,

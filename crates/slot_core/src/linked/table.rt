@@ -237,6 +237,15 @@ pub fn row(links: &[Link], slot: Slot) -> Link
     }
 }
 
+/// The row of `slot`, which the table has.
+#[inline(always)]
+pub fn row_within(links: &[Link], slot: Slot) -> Link
+    requires slot_in { slot.place < length links.now }
+    ensures { result ≡ link_at links.now slot.place }
+{
+    links[slot.index()]
+}
+
 /// Whether `slot`, where there is one, names the object of a capability.
 pub fn names(links: &[Link], slot: Option<Slot>, cap: Cap) -> bool
     ensures some { (n : ℕ) → place_in slot ≡ Some n → result ≡ is_same_object (link_at links.now n).cap cap }

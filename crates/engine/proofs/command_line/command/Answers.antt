@@ -1,3 +1,4 @@
+-- The command that is built is the definition's.
 use Rattle.std.proofs.Common.{◌≡◌, ◌∙◌, ap, ap₂, rules, codes, true}
 use Rattle.clap.specs.Words.{App, app_of, new_app, new_rule, rule_of, with_rule, with_subcommand}
 use Rattle.clap.specs.Simple.{app_of_fields, on_top}

@@ -1,3 +1,4 @@
+-- What clap answers, by the definition of the command.
 use Rattle.std.proofs.Common.{◌≡◌, ◌∙◌, ap, sym, option_map, is_some}
 use Rattle.clap.specs.Words.{App, HasKind, app_of, is_simple_and_free, takes, fault_of}
 use Rattle.clap.specs.Walk.{texts}

@@ -1,3 +1,4 @@
+-- The file is clap's value of FILE.
 use Rattle.std.proofs.Common.{◌∙◌, ap, sym, codes}
 use Rattle.clap.proofs.WalkLemmas.{first_value-rows}
 use Rattle.clap.specs.Words.{found_of}

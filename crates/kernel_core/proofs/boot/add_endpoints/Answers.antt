@@ -1,3 +1,4 @@
+-- The proof of `add_endpoints`: the goals that a search leaves open.
 use Rattle.std.proofs.Common.{ap}
 use Rattle.abstract_kernel.specs.Plan.{endpoint_place}
 use Rattle.abstract_kernel.specs.Boot.{whole_endpoint}

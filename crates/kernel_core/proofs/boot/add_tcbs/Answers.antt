@@ -1,3 +1,4 @@
+-- The proof of `add_tcbs`: the goals that a search leaves open.
 use Rattle.std.proofs.Common.{ap}
 use Rattle.cap_core.specs.declared.capability.Cap.TheVariants.{Tcb}
 use Rattle.abstract_kernel.specs.Plan.{tcb_place}

@@ -1,3 +1,4 @@
+-- The proof of `add_tcbs`: what holds at each turn of its loop.
 use Rattle.std.proofs.Common.{◌≡◌, ◌++◌, map}
 use Rattle.std.specs.List.{range_with_len}
 use Rattle.cap_core.specs.declared.capability.Cap.TheVariants.{Tcb}

@@ -1,3 +1,4 @@
+-- The proof of `add_untypeds`: what holds at each turn of its loop.
 use Rattle.std.proofs.Common.{◌≡◌, ◌++◌, ℕ, map, take}
 use Rattle.cap_core.specs.declared.capability.Cap.TheVariants.{Untyped}
 use Rattle.kernel_core.proofs.boot.add_untypeds.Given as goal

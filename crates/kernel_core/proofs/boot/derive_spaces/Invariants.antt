@@ -1,3 +1,4 @@
+-- The proof of `derive_spaces`: what holds at each turn of its loop.
 use Rattle.std.proofs.Common.{◌≡◌, ◌-◌, drop}
 use Rattle.cap_core.specs.Numbers.{word_bits, slot_size}
 use Rattle.abstract_kernel.specs.Boot.{boot_tcbs, boot_forest, root_cap, with_spaces}

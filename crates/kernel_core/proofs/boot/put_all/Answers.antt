@@ -1,3 +1,4 @@
+-- The proof of `put_all`: the goals that a search leaves open.
 use Rattle.std.proofs.Common.{◌≡◌, ◌+◌, ◌*◌, get_or, refl, ◌∙◌, ap, arith}
 use Rattle.cap_core.specs.declared.capability.Cap.TheVariants.{Null}
 use Rattle.cap_core.specs.Numbers.{slot_size}

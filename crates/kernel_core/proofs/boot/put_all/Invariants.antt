@@ -1,3 +1,4 @@
+-- The proof of `put_all`: what holds at each turn of its loop.
 use Rattle.std.proofs.Common.{◌≡◌, ◌+◌, drop}
 use Rattle.derivation.specs.Forest.{none}
 use Rattle.abstract_kernel.specs.Boot.{boot_caps, with_roots}

@@ -1,3 +1,4 @@
+-- The proof of `add_thread`: the goals that a search leaves open.
 use Rattle.std.proofs.Common.{◌≡◌, ◌<◌, ◌/◌, ◌^◌, ℕ, Some, length, sym, ap, subst, ◌∙◌, arith}
 use Rattle.std.proofs.Math.ListN.{set}
 use Rattle.cap_core.specs.Numbers.{tcb_size}

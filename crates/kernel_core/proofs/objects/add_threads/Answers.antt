@@ -1,3 +1,4 @@
+-- The proof of `add_threads`: the goals that a search leaves open.
 use Rattle.std.proofs.Common.{ap, ◌∙◌, sym}
 use Rattle.std.specs.FinMap.{insert}
 use Rattle.cap_core.specs.Numbers.{tcb_size}

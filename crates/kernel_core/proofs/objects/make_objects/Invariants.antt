@@ -1,3 +1,4 @@
+-- The proof of `make_objects`: what holds at each turn of its loop.
 use Rattle.std.proofs.Common.{◌≡◌, ◌*◌}
 use Rattle.cap_core.specs.Numbers.{slot_size}
 use Rattle.abstract_kernel.specs.Retyping.{with_new, with_objects}

@@ -1,3 +1,4 @@
+-- The proof of `row_at`: the goals that a search leaves open.
 use Rattle.std.proofs.Common.{◌≡◌, ◌≤◌, ◌/◌, ◌%◌, ◌^◌, ℕ, None, get_or, length, sym, ap, subst, ◌∙◌}
 use Rattle.cap_core.specs.Numbers.{tcb_size}
 use Rattle.kernel_core.proofs.Threads.Sizes.{tcb_size-pos, tcb_size-shifted}

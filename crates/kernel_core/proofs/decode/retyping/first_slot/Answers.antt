@@ -1,3 +1,4 @@
+-- The proof of `first_slot`: the goals that a search leaves open.
 use Rattle.std.proofs.Common.{◌≡◌, sym, ◌∙◌, arith}
 use Rattle.cap_core.specs.Numbers.{word_bits}
 use Rattle.cspace_core.specs.Resolution.{slot_of}

@@ -1,3 +1,4 @@
+-- The proof of `place`: the goals that a search leaves open.
 use Rattle.std.proofs.Common.{◌≡◌, Bool, Option, None, Some, ◌∙◌, ap, refl, is_some, option_map}
 use Rattle.mem_core.specs.Plans.{placed_in}
 use Rattle.kernel_core.proofs.decode.retyping.place.Goals as goal

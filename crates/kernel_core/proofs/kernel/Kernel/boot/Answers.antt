@@ -1,3 +1,4 @@
+-- The proof of `boot`: the goals that a search leaves open.
 use Rattle.std.proofs.Common.{◌^◌, ◌-◌, ◌∙◌}
 use Rattle.cap_core.specs.Numbers.{tcb_bits}
 use Rattle.abstract_kernel.proofs.Boot.BootedStore.{store_at_boot}

@@ -1,3 +1,4 @@
+-- The proof of `cap_at`: the goals that a search leaves open.
 use Rattle.std.proofs.Common.{sym, ap, subst, ◌∙◌, All}
 use Rattle.derivation.specs.Entries.{cap_at, slots}
 use Rattle.abstract_kernel.specs.Shown.{Shown}

@@ -1,3 +1,4 @@
+-- The proof of `decode_call`: the goals that a search leaves open.
 use Rattle.std.proofs.Common.{◌≡◌, Some, sym, subst, ◌∙◌, rules}
 use Rattle.abstract_kernel.specs.declared.call.ThreadState.TheVariants.{Ready}
 use Rattle.ipc_core.specs.Waits.{IsThreadAddress}
@@ -12,13 +13,13 @@ use Rattle.kernel_core.proofs.kernel.Kernel.decode_call.Goals as goal
 pub decode_op-requires-clause-thread : goal.decode_op-requires-clause-thread
 decode_op-requires-clause-thread g c =
     let ready : c.thread_state.result ≡ Some Ready = search rules in
-    let there = stated_row g.P.Profile.the (g.S.CapStore.forest c.self.inside.store) c.self.inside.threads.items (g.W.Waiters.waits c.self.inside.waiters) c.args.self.now c.args.call.thread Ready c.self.view_is (sym c.thread_state.ensures ∙ ready) in
-    subst (λ m. IsThreadAddress g.P.Profile.the m c.args.call.thread) (sym c.self.invariant.store_memory_is)
-    (row_address g.P.Profile.the c.self.inside.memory_bits c.self.inside.threads.items c.args.call.thread c.self.invariant.rows_fill there)
+    let there = stated_row g.P.Profile.the (g.S.CapStore.forest c.self.inside.store) c.self.inside.threads.items (g.W.Waiters.waits c.self.inside.waiters) c.args.self.now c.args.call.now.thread Ready c.self.view_is (sym c.thread_state.ensures ∙ ready) in
+    subst (λ m. IsThreadAddress g.P.Profile.the m c.args.call.now.thread) (sym c.self.invariant.store_memory_is)
+    (row_address g.P.Profile.the c.self.inside.memory_bits c.self.inside.threads.items c.args.call.now.thread c.self.invariant.rows_fill there)
 
 pub returns-in-Ready-clause-lawful : goal.returns-in-Ready-clause-lawful
 returns-in-Ready-clause-lawful g c =
-    invocation_passed g.P.Profile.the c.self.inside.memory_bits (g.S.CapStore.forest c.self.inside.store) c.self.inside.threads.items (g.W.Waiters.waits c.self.inside.waiters) c.args.self.now c.args.call.thread c.args.call.op c.decode_op.result c.self.invariant.lawful c.self.view_is c.decode_op.ensures
+    invocation_passed g.P.Profile.the c.self.inside.memory_bits (g.S.CapStore.forest c.self.inside.store) c.self.inside.threads.items (g.W.Waiters.waits c.self.inside.waiters) c.args.self.now c.args.call.now.thread c.args.call.now.op c.decode_op.result c.self.invariant.lawful c.self.view_is c.decode_op.ensures
 
 pub returns-in-Ready-clause-forest : goal.returns-in-Ready-clause-forest
 returns-in-Ready-clause-forest g c =

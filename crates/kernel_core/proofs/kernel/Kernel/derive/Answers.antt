@@ -1,3 +1,4 @@
+-- The proof of `derive`: the goals that a search leaves open.
 use Rattle.kernel_core.proofs.Capabilities.RearrangedKernel.{derived_kernel, derived_shown}
 use Rattle.kernel_core.proofs.kernel.Kernel.derive.Goals as goal
 

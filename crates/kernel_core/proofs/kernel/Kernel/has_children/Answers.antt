@@ -1,3 +1,4 @@
+-- The proof of `has_children`: the goals that a search leaves open.
 use Rattle.std.proofs.Common.{sym, ap, ◌∙◌, is_some}
 use Rattle.abstract_kernel.specs.Shown.{Shown, has_child}
 use Rattle.abstract_kernel.specs.Memory.{IsSlotAddress}

@@ -1,3 +1,4 @@
+-- The proof of `inbox`: the goals that a search leaves open.
 use Rattle.std.proofs.Common.{List, Option, ap, sym, ◌∙◌, option_and_then}
 use Rattle.std.specs.FinMap.{get}
 use Rattle.cap_core.specs.Numbers.{tcb_size}

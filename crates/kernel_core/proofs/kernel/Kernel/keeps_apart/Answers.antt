@@ -1,3 +1,4 @@
+-- The proof of `keeps_apart`: the goals that a search leaves open.
 use Rattle.std.proofs.Common.{subst}
 use Rattle.abstract_kernel.specs.Shown.{Shown}
 use Rattle.abstract_kernel.specs.Regions.{AreObjectsApart}

@@ -1,3 +1,4 @@
+-- The proof of `perform`: the goals that a search leaves open.
 use Rattle.std.proofs.Common.{Result, sym, ap, ◌∙◌}
 use Rattle.cap_core.specs.declared.refusal.Refusal.{Refusal}
 use Rattle.abstract_kernel.specs.declared.invocation.Invocation.{Invocation}
@@ -8,7 +9,7 @@ pub returns-in-Ok : goal.returns-in-Ok
 returns-in-Ok g c =
     let is = sym c.decode_call.ensures.invocation ∙ c.in-Ok.is in
     record {
-      reply = c.perform_invocation.ensures.reply ∙ sym (ap (λ (r : Result Invocation Refusal). (decoded_effect g.P.Profile.the c.args.self.now c.args.call.thread r).reply) is);
-      after = c.perform_invocation.ensures.after ∙ sym (ap (λ (r : Result Invocation Refusal). (decoded_effect g.P.Profile.the c.args.self.now c.args.call.thread r).after) is);
+      reply = c.perform_invocation.ensures.reply ∙ sym (ap (λ (r : Result Invocation Refusal). (decoded_effect g.P.Profile.the c.args.self.now c.args.call.now.thread r).reply) is);
+      after = c.perform_invocation.ensures.after ∙ sym (ap (λ (r : Result Invocation Refusal). (decoded_effect g.P.Profile.the c.args.self.now c.args.call.now.thread r).after) is);
       within = c.perform_invocation.ensures.within;
     }

@@ -1,3 +1,4 @@
+-- The proof of `recv`: the goals that a search leaves open.
 use Rattle.std.proofs.Common.{sym, ◌∙◌}
 use Rattle.kernel_core.proofs.Messages.PartsAfter.{endpoint_stands, thread_stands, thread_there, waits_nowhere, receives_reply, receives_kernel, receives_shown, receive_waits_reply, receive_waits_kernel, receive_waits_shown, receive_empty_reply, receive_empty_kernel, receive_empty_shown}
 use Rattle.kernel_core.proofs.kernel.Kernel.recv.Goals as goal

@@ -1,3 +1,4 @@
+-- The proof of `relocate`: the goals that a search leaves open.
 use Rattle.kernel_core.proofs.Capabilities.RearrangedKernel.{moved_kernel, moved_shown}
 use Rattle.kernel_core.proofs.kernel.Kernel.relocate.Goals as goal
 

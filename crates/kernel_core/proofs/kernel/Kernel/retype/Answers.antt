@@ -1,3 +1,4 @@
+-- The proof of `retype`: the goals that a search leaves open.
 use Rattle.std.proofs.Common.{ℕ, List, refl, sym, ap, ◌∙◌}
 use Rattle.cap_core.specs.Numbers.{tcb_size}
 use Rattle.kernel_core.specs.Rows.{rows_map}

@@ -1,3 +1,4 @@
+-- The proof of `run`: the goals that a search leaves open.
 use Rattle.std.proofs.Common.{◌≡◌, ◌++◌, List, ap, ◌∙◌, take, arith}
 use Rattle.std.proofs.lemmas.List.{take_all}
 use Rattle.abstract_kernel.specs.declared.call.Call.{Call}

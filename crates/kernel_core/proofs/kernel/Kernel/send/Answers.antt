@@ -1,3 +1,4 @@
+-- The proof of `send`: the goals that a search leaves open.
 use Rattle.std.proofs.Common.{sym, ◌∙◌}
 use Rattle.kernel_core.proofs.Messages.PartsAfter.{endpoint_stands, thread_stands, waits_nowhere, receiver_there, delivers_reply, delivers_kernel, delivers_shown, send_waits_reply, send_waits_kernel, send_waits_shown, send_dropped_reply, send_dropped_kernel, send_dropped_shown}
 use Rattle.kernel_core.proofs.kernel.Kernel.send.Goals as goal

@@ -1,3 +1,4 @@
+-- The proof of `step`: the goals that a search leaves open.
 use Rattle.std.proofs.Common.{sym, ◌∙◌}
 use Rattle.abstract_kernel.proofs.Checks.Refusals.{refused_keeps}
 use Rattle.abstract_kernel.proofs.Reached.Simulation.{stands}

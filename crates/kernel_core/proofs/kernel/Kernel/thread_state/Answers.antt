@@ -1,3 +1,4 @@
+-- The proof of `thread_state`: the goals that a search leaves open.
 use Rattle.std.proofs.Common.{◌≡◌, List, Option, Some, IsSome, ap, sym, subst, refl, ◌∙◌, option_map}
 use Rattle.std.specs.FinMap.{get}
 use Rattle.cap_core.specs.Numbers.{tcb_size}

@@ -1,3 +1,4 @@
+-- The proof of `waiting`: the goals that a search leaves open.
 use Rattle.std.proofs.Common.{List, ap, sym, ◌∙◌, option_map, slice_get}
 use Rattle.ipc_core.specs.declared.waiter.Waiter.{Waiter}
 use Rattle.ipc_core.specs.Waits.{thread_of}

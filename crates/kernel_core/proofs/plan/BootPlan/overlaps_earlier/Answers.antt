@@ -1,3 +1,4 @@
+-- The proof of `overlaps_earlier`: the goals that a search leaves open.
 use Rattle.std.proofs.Common.{◌≡◌, ℕ, ◌<◌, ◌≤◌, Bool, true, List, length, take, get_or, arith, sym, ap, ◌∙◌}
 use Rattle.std.specs.List.{list_any}
 use Rattle.std.proofs.lemmas.List.{get_or-take, length-take-le}

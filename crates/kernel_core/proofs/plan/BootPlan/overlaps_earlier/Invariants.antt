@@ -1,3 +1,4 @@
+-- The proof of `overlaps_earlier`: what holds at each turn of its loop.
 use Rattle.std.proofs.Common.{◌≡◌, false}
 use Rattle.abstract_kernel.specs.Plan.{overlaps_earlier}
 use Rattle.kernel_core.proofs.plan.BootPlan.overlaps_earlier.Given as goal

@@ -1,46 +1,45 @@
-use Rattle.std.proofs.Common.{◌≡◌, ℕ, ◌+◌, ◌<◌, ◌^◌, false, true, List, length, refl, sym, ◌∙◌, ap, subst, arith}
+use Rattle.std.proofs.Common.{◌≡◌, ℕ, ◌+◌, false, true, List, length, refl, sym, ◌∙◌, ap, subst, arith}
 use Rattle.std.specs.Prelude.{vec_capacity}
 use Rattle.std.specs.List.{insert}
 use Rattle.slot_core.specs.declared.rows.Row.{Row}
-use Rattle.cap_core.specs.Objects.{IsLawful}
-use Rattle.derivation.specs.Entries.{is_full}
 use Rattle.derivation.specs.Derivation.{derived}
 use Rattle.slot_core.specs.Places.{address_of}
 use Rattle.slot_core.specs.Rows.{forest_of, place_of, derived_row, IsRowStore}
 use Rattle.slot_core.proofs.RowStores.RowLists.{rows_derived}
 use Rattle.slot_core.proofs.RowStores.RowSteps.{room_left, store_derived, source_row, source_below, source_depth}
+use Rattle.slot_core.proofs.RowStores.RowViews.{full_seen, lawful_seen, place_seen, within_seen}
 use Rattle.slot_core.proofs.rows.RowStoreCapStore.derive.Goals as goal
 
 pub index-requires : goal.index-requires
 index-requires g c =
     let p = g.P.Profile.the in
     let l = c.self.inside.rows.items in
-    let h : is_full (address_of p c.args.source) (forest_of p l) ≡ true = (let P : List Row × ℕ → Type 0 = λ n. is_full (address_of p c.args.source) (forest_of p n.0) ≡ true in subst P (sym c.self.view_is) c.requires.source) in
-    let e : c.place_of-i.result ≡ place_of c.args.source.place l = c.place_of-i.ensures ∙ ap (place_of c.args.source.place) c.deref.ensures.value in
+    let h = full_seen p c.args.source true l c.self.inside.memory_bits c.args.self.now c.self.view_is c.requires.source in
+    let e = place_seen c.args.source l c.deref.result.now c.place_of-i.result c.deref.ensures.value c.place_of-i.ensures in
     omega (arith, source_below p c.args.source l h, e, c.deref.ensures.len, ap length c.deref.ensures.value)
 
 pub derived-row-requires : goal.derived-row-requires
 derived-row-requires g c =
     let p = g.P.Profile.the in
     let l = c.self.inside.rows.items in
-    let h : is_full (address_of p c.args.source) (forest_of p l) ≡ true = (let P : List Row × ℕ → Type 0 = λ n. is_full (address_of p c.args.source) (forest_of p n.0) ≡ true in subst P (sym c.self.view_is) c.requires.source) in
-    let e : c.place_of-i.result ≡ place_of c.args.source.place l = c.place_of-i.ensures ∙ ap (place_of c.args.source.place) c.deref.ensures.value in
+    let h = full_seen p c.args.source true l c.self.inside.memory_bits c.args.self.now c.self.view_is c.requires.source in
+    let e = place_seen c.args.source l c.deref.result.now c.place_of-i.result c.deref.ensures.value c.place_of-i.ensures in
     omega (arith, source_depth p c.args.source l c.place_of-i.result c.index.result.now e h c.index.ensures c.self.invariant.stepwise, source_below p c.args.source l h, e, c.deref.type_inv.0, ap length c.deref.ensures.value)
 
 pub overflow_add-i : goal.overflow_add-i
 overflow_add-i g c =
     let p = g.P.Profile.the in
     let l = c.self.inside.rows.items in
-    let h : is_full (address_of p c.args.source) (forest_of p l) ≡ true = (let P : List Row × ℕ → Type 0 = λ n. is_full (address_of p c.args.source) (forest_of p n.0) ≡ true in subst P (sym c.self.view_is) c.requires.source) in
-    let e : c.place_of-i.result ≡ place_of c.args.source.place l = c.place_of-i.ensures ∙ ap (place_of c.args.source.place) c.deref.ensures.value in
+    let h = full_seen p c.args.source true l c.self.inside.memory_bits c.args.self.now c.self.view_is c.requires.source in
+    let e = place_seen c.args.source l c.deref.result.now c.place_of-i.result c.deref.ensures.value c.place_of-i.ensures in
     omega (arith, source_below p c.args.source l h, e, c.deref.type_inv.0, ap length c.deref.ensures.value)
 
 pub insert-requires : goal.insert-requires
 insert-requires g c =
     let p = g.P.Profile.the in
     let l = c.self.inside.rows.items in
-    let h : is_full (address_of p c.args.source) (forest_of p l) ≡ true = (let P : List Row × ℕ → Type 0 = λ n. is_full (address_of p c.args.source) (forest_of p n.0) ≡ true in subst P (sym c.self.view_is) c.requires.source) in
-    let e : c.place_of-i.result ≡ place_of c.args.source.place l = c.place_of-i.ensures ∙ ap (place_of c.args.source.place) c.deref.ensures.value in
+    let h = full_seen p c.args.source true l c.self.inside.memory_bits c.args.self.now c.self.view_is c.requires.source in
+    let e = place_seen c.args.source l c.deref.result.now c.place_of-i.result c.deref.ensures.value c.place_of-i.ensures in
     omega (arith, source_below p c.args.source l h, e, c.deref.ensures.len, ap length c.deref.ensures.value)
 
 pub unreachable-requires : goal.unreachable-requires
@@ -49,8 +48,8 @@ unreachable-requires g c =
     let l = c.self.inside.rows.items in
     let x : Row = record { slot = c.args.slot; cap = c.args.cap; original = true; depth = 0 } in
     let v : c.args.self.now ≡ (l, c.self.inside.memory_bits) = sym c.self.view_is in
-    let w : address_of p c.args.slot < 2 ^ c.self.inside.memory_bits = (let P : List Row × ℕ → Type 0 = λ n. address_of p c.args.slot < 2 ^ n.1 in subst P v c.requires.within) in
-    let h : is_full (address_of p c.args.slot) (forest_of p l) ≡ false = (let P : List Row × ℕ → Type 0 = λ n. is_full (address_of p c.args.slot) (forest_of p n.0) ≡ false in subst P v c.requires.empty) in
+    let w = within_seen p c.args.slot l c.self.inside.memory_bits c.args.self.now c.self.view_is c.requires.within in
+    let h = full_seen p c.args.slot false l c.self.inside.memory_bits c.args.self.now c.self.view_is c.requires.empty in
     omega (arith, room_left p c.self.inside.memory_bits (vec_capacity c.self.inside.rows) l x c.self.invariant w h, c.in-Err.ensures.full)
 
 pub invariant_of-self : goal.invariant_of-self
@@ -59,11 +58,11 @@ invariant_of-self g c =
     let l = c.self.inside.rows.items in
     let m = c.self.inside.memory_bits in
     let v : c.args.self.now ≡ (l, m) = sym c.self.view_is in
-    let full : is_full (address_of p c.args.source) (forest_of p l) ≡ true = (let P : List Row × ℕ → Type 0 = λ n. is_full (address_of p c.args.source) (forest_of p n.0) ≡ true in subst P v c.requires.source) in
-    let w : address_of p c.args.slot < 2 ^ m = (let P : List Row × ℕ → Type 0 = λ n. address_of p c.args.slot < 2 ^ n.1 in subst P v c.requires.within) in
-    let h : is_full (address_of p c.args.slot) (forest_of p l) ≡ false = (let P : List Row × ℕ → Type 0 = λ n. is_full (address_of p c.args.slot) (forest_of p n.0) ≡ false in subst P v c.requires.empty) in
-    let f : IsLawful p m c.args.cap = (let P : List Row × ℕ → Type 0 = λ n. IsLawful p n.1 c.args.cap in subst P v c.requires.lawful) in
-    let e : c.place_of-i.result ≡ place_of c.args.source.place l = c.place_of-i.ensures ∙ ap (place_of c.args.source.place) c.deref.ensures.value in
+    let full = full_seen p c.args.source true l c.self.inside.memory_bits c.args.self.now c.self.view_is c.requires.source in
+    let w = within_seen p c.args.slot l c.self.inside.memory_bits c.args.self.now c.self.view_is c.requires.within in
+    let h = full_seen p c.args.slot false l c.self.inside.memory_bits c.args.self.now c.self.view_is c.requires.empty in
+    let f = lawful_seen p c.args.cap l c.self.inside.memory_bits c.args.self.now c.self.view_is c.requires.lawful in
+    let e = place_seen c.args.source l c.deref.result.now c.place_of-i.result c.deref.ensures.value c.place_of-i.ensures in
     let s = source_row p c.args.source l c.place_of-i.result c.index.result.now e full c.index.ensures in
     let x : Row = derived_row s.0.row c.args.slot c.args.cap in
     let i : c.insert.new.self.items ≡ insert l (place_of c.args.source.place l + 1) x =
@@ -75,8 +74,8 @@ pub returns-clause-forest : goal.returns-clause-forest
 returns-clause-forest g c =
     let p = g.P.Profile.the in
     let l = c.self.inside.rows.items in
-    let full : is_full (address_of p c.args.source) (forest_of p l) ≡ true = (let P : List Row × ℕ → Type 0 = λ n. is_full (address_of p c.args.source) (forest_of p n.0) ≡ true in subst P (sym c.self.view_is) c.requires.source) in
-    let e : c.place_of-i.result ≡ place_of c.args.source.place l = c.place_of-i.ensures ∙ ap (place_of c.args.source.place) c.deref.ensures.value in
+    let full = full_seen p c.args.source true l c.self.inside.memory_bits c.args.self.now c.self.view_is c.requires.source in
+    let e = place_seen c.args.source l c.deref.result.now c.place_of-i.result c.deref.ensures.value c.place_of-i.ensures in
     let s = source_row p c.args.source l c.place_of-i.result c.index.result.now e full c.index.ensures in
     let x : Row = derived_row s.0.row c.args.slot c.args.cap in
     let i : c.insert.new.self.items ≡ insert l (place_of c.args.source.place l + 1) x =

@@ -1,4 +1,4 @@
-use Rattle.std.proofs.Common.{◌≡◌, ℕ, ◌+◌, List, length, get_or, sym, ◌∙◌, ap, arith}
+use Rattle.std.proofs.Common.{ℕ, ◌+◌, List, length, get_or, sym, ◌∙◌, ap, arith}
 use Rattle.std.specs.Prelude.{option_map}
 use Rattle.std.proofs.lemmas.Bool.Decides.{nat_tests}
 use Rattle.slot_core.specs.declared.rows.Row.{Row}
@@ -7,6 +7,7 @@ use Rattle.slot_core.specs.Places.{address_of}
 use Rattle.slot_core.specs.Rows.{forest_of, place_of}
 use Rattle.slot_core.proofs.RowStores.RowLists.{absent_child}
 use Rattle.slot_core.proofs.RowStores.RowSteps.{found, not_found, child_found, no_child, last_row}
+use Rattle.slot_core.proofs.RowStores.RowViews.{place_seen}
 use Rattle.slot_core.proofs.rows.RowStoreCapStore.first_child.Goals as goal
 
 pub returns-in_err-row : goal.returns-in_err-row
@@ -22,7 +23,7 @@ pub returns-in_err-next : goal.returns-in_err-next
 returns-in_err-next g c =
     let p = g.P.Profile.the in
     let l = c.self.inside.rows.items in
-    let e : c.place_of-i.result ≡ place_of c.args.slot.place l = c.place_of-i.ensures ∙ ap (place_of c.args.slot.place) c.deref.ensures.value in
+    let e = place_seen c.args.slot l c.deref.result.now c.place_of-i.result c.deref.ensures.value c.place_of-i.ensures in
     let f = found p c.args.slot l c.place_of-i.result c.in_ok-row.row.now e
     (let n = ap length c.deref-2.ensures.value in grind (arith, nat_tests, c.in_ok-row.ensures.lookup.0, n))
     (c.in_ok-row.ensures.lookup.1 ∙ ap (λ (m : List Row). get_or m c.place_of-i.result c.in_ok-row.row.now) c.deref-2.ensures.value) in
@@ -34,7 +35,7 @@ pub returns-then-row-next : goal.returns-then-row-next
 returns-then-row-next g c =
     let p = g.P.Profile.the in
     let l = c.self.inside.rows.items in
-    let e : c.place_of-i.result ≡ place_of c.args.slot.place l = c.place_of-i.ensures ∙ ap (place_of c.args.slot.place) c.deref.ensures.value in
+    let e = place_seen c.args.slot l c.deref.result.now c.place_of-i.result c.deref.ensures.value c.place_of-i.ensures in
     let f = found p c.args.slot l c.place_of-i.result c.in_ok-row.row.now e
     (let n = ap length c.deref-2.ensures.value in grind (arith, nat_tests, c.in_ok-row.ensures.lookup.0, n))
     (c.in_ok-row.ensures.lookup.1 ∙ ap (λ (m : List Row). get_or m c.place_of-i.result c.in_ok-row.row.now) c.deref-2.ensures.value) in
@@ -48,7 +49,7 @@ pub returns-else-row-next : goal.returns-else-row-next
 returns-else-row-next g c =
     let p = g.P.Profile.the in
     let l = c.self.inside.rows.items in
-    let e : c.place_of-i.result ≡ place_of c.args.slot.place l = c.place_of-i.ensures ∙ ap (place_of c.args.slot.place) c.deref.ensures.value in
+    let e = place_seen c.args.slot l c.deref.result.now c.place_of-i.result c.deref.ensures.value c.place_of-i.ensures in
     let f = found p c.args.slot l c.place_of-i.result c.in_ok-row.row.now e
     (let n = ap length c.deref-2.ensures.value in grind (arith, nat_tests, c.in_ok-row.ensures.lookup.0, n))
     (c.in_ok-row.ensures.lookup.1 ∙ ap (λ (m : List Row). get_or m c.place_of-i.result c.in_ok-row.row.now) c.deref-2.ensures.value) in

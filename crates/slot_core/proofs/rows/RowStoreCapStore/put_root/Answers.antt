@@ -1,13 +1,12 @@
-use Rattle.std.proofs.Common.{◌≡◌, ℕ, ◌<◌, ◌^◌, false, true, List, refl, sym, ◌∙◌, ap, subst, arith}
+use Rattle.std.proofs.Common.{◌≡◌, ℕ, false, true, List, refl, sym, ◌∙◌, ap, subst, arith}
 use Rattle.std.specs.Prelude.{vec_capacity}
 use Rattle.slot_core.specs.declared.rows.Row.{Row}
-use Rattle.cap_core.specs.Objects.{IsLawful}
-use Rattle.derivation.specs.Entries.{is_full}
 use Rattle.derivation.specs.Derivation.{rooted}
 use Rattle.slot_core.specs.Places.{address_of}
 use Rattle.slot_core.specs.Rows.{forest_of, IsRowStore}
 use Rattle.slot_core.proofs.RowStores.RowLists.{rows_root}
 use Rattle.slot_core.proofs.RowStores.RowSteps.{room_left, store_pushed}
+use Rattle.slot_core.proofs.RowStores.RowViews.{full_seen, lawful_seen, within_seen}
 use Rattle.slot_core.proofs.rows.RowStoreCapStore.put_root.Goals as goal
 
 pub unreachable-requires : goal.unreachable-requires
@@ -16,8 +15,8 @@ unreachable-requires g c =
     let l = c.self.inside.rows.items in
     let x : Row = record { slot = c.args.slot; cap = c.args.cap; original = true; depth = 0 } in
     let v : c.args.self.now ≡ (l, c.self.inside.memory_bits) = sym c.self.view_is in
-    let w : address_of p c.args.slot < 2 ^ c.self.inside.memory_bits = (let P : List Row × ℕ → Type 0 = λ n. address_of p c.args.slot < 2 ^ n.1 in subst P v c.requires.within) in
-    let h : is_full (address_of p c.args.slot) (forest_of p l) ≡ false = (let P : List Row × ℕ → Type 0 = λ n. is_full (address_of p c.args.slot) (forest_of p n.0) ≡ false in subst P v c.requires.empty) in
+    let w = within_seen p c.args.slot l c.self.inside.memory_bits c.args.self.now c.self.view_is c.requires.within in
+    let h = full_seen p c.args.slot false l c.self.inside.memory_bits c.args.self.now c.self.view_is c.requires.empty in
     omega (arith, room_left p c.self.inside.memory_bits (vec_capacity c.self.inside.rows) l x c.self.invariant w h, c.in-Err.ensures.full)
 
 pub invariant_of-self : goal.invariant_of-self
@@ -27,9 +26,9 @@ invariant_of-self g c =
     let m = c.self.inside.memory_bits in
     let x : Row = record { slot = c.args.slot; cap = c.args.cap; original = true; depth = 0 } in
     let v : c.args.self.now ≡ (l, m) = sym c.self.view_is in
-    let w : address_of p c.args.slot < 2 ^ m = (let P : List Row × ℕ → Type 0 = λ n. address_of p c.args.slot < 2 ^ n.1 in subst P v c.requires.within) in
-    let h : is_full (address_of p c.args.slot) (forest_of p l) ≡ false = (let P : List Row × ℕ → Type 0 = λ n. is_full (address_of p c.args.slot) (forest_of p n.0) ≡ false in subst P v c.requires.empty) in
-    let f : IsLawful p m c.args.cap = (let P : List Row × ℕ → Type 0 = λ n. IsLawful p n.1 c.args.cap in subst P v c.requires.lawful) in
+    let w = within_seen p c.args.slot l c.self.inside.memory_bits c.args.self.now c.self.view_is c.requires.within in
+    let h = full_seen p c.args.slot false l c.self.inside.memory_bits c.args.self.now c.self.view_is c.requires.empty in
+    let f = lawful_seen p c.args.cap l c.self.inside.memory_bits c.args.self.now c.self.view_is c.requires.lawful in
     let Q : List Row → Type 0 = IsRowStore p m (vec_capacity c.push.new.self) in
     subst Q (sym {A = List Row} c.in-Ok.ensures.items) (store_pushed p m (vec_capacity c.self.inside.rows) (vec_capacity c.push.new.self) l x c.self.invariant c.in-Ok.ensures.capacity w h f refl (λ u. refl))
 

@@ -2,20 +2,20 @@ use Rattle.std.proofs.Common.{◌≡◌, ℕ, ◌-◌, true, List, ◌++◌, len
 use Rattle.std.specs.List.{remove}
 use Rattle.std.proofs.lemmas.List.{with_items_is}
 use Rattle.slot_core.specs.declared.rows.Row.{Row}
-use Rattle.derivation.specs.Entries.{is_full}
 use Rattle.derivation.specs.Derivation.{emptied}
 use Rattle.slot_core.specs.Places.{address_of}
 use Rattle.slot_core.specs.Rows.{forest_of, place_of, IsRowStore}
 use Rattle.slot_core.proofs.RowStores.RowSteps.{source_row, source_below}
 use Rattle.slot_core.proofs.RowStores.RowRemoves.{raised_from, length-raised_from, raised_part, rows_removed, store_removed}
+use Rattle.slot_core.proofs.RowStores.RowViews.{full_seen, place_seen}
 use Rattle.slot_core.proofs.rows.RowStoreCapStore.remove.Goals as goal
 
 pub remove-row-requires : goal.remove-row-requires
 remove-row-requires g c =
     let p = g.P.Profile.the in
     let l = c.self.inside.rows.items in
-    let h : is_full (address_of p c.args.slot) (forest_of p l) ≡ true = (let P : List Row × ℕ → Type 0 = λ n. is_full (address_of p c.args.slot) (forest_of p n.0) ≡ true in subst P (sym c.self.view_is) c.requires.full) in
-    let e : c.place_of-i.result ≡ place_of c.args.slot.place l = c.place_of-i.ensures ∙ ap (place_of c.args.slot.place) c.deref.ensures.value in
+    let h = full_seen p c.args.slot true l c.self.inside.memory_bits c.args.self.now c.self.view_is c.requires.full in
+    let e = place_seen c.args.slot l c.deref.result.now c.place_of-i.result c.deref.ensures.value c.place_of-i.ensures in
     omega (arith, source_below p c.args.slot l h, e, c.deref.ensures.len, ap length c.deref.ensures.value)
 
 pub invariant_of-self : goal.invariant_of-self
@@ -25,7 +25,7 @@ invariant_of-self g c =
     let m = c.remove-row.new.self.items in
     let d = c.deref_mut.result.now in
     let k = c.place_of-i.result in
-    let h : is_full (address_of p c.args.slot) (forest_of p l) ≡ true = (let P : List Row × ℕ → Type 0 = λ n. is_full (address_of p c.args.slot) (forest_of p n.0) ≡ true in subst P (sym c.self.view_is) c.requires.full) in
+    let h = full_seen p c.args.slot true l c.self.inside.memory_bits c.args.self.now c.self.view_is c.requires.full in
     let e : k ≡ place_of c.args.slot.place l = c.place_of-i.ensures ∙ ap (place_of c.args.slot.place) c.deref.ensures.value in
     let s = source_row p c.args.slot l k c.remove-row.result e h c.remove-row.ensures.value in
     let part : take k d ++ (c.raise.new.rows ++ drop (length d - k) (drop k d)) ≡ raised_from c.remove-row.result.depth k m = raised_part c.remove-row.result.depth k d m c.raise.new.rows c.deref_mut.ensures.value c.raise.ensures in
@@ -43,7 +43,7 @@ returns-clause-forest g c =
     let m = c.remove-row.new.self.items in
     let d = c.deref_mut.result.now in
     let k = c.place_of-i.result in
-    let h : is_full (address_of p c.args.slot) (forest_of p l) ≡ true = (let P : List Row × ℕ → Type 0 = λ n. is_full (address_of p c.args.slot) (forest_of p n.0) ≡ true in subst P (sym c.self.view_is) c.requires.full) in
+    let h = full_seen p c.args.slot true l c.self.inside.memory_bits c.args.self.now c.self.view_is c.requires.full in
     let e : k ≡ place_of c.args.slot.place l = c.place_of-i.ensures ∙ ap (place_of c.args.slot.place) c.deref.ensures.value in
     let s = source_row p c.args.slot l k c.remove-row.result e h c.remove-row.ensures.value in
     let part : take k d ++ (c.raise.new.rows ++ drop (length d - k) (drop k d)) ≡ raised_from c.remove-row.result.depth k m = raised_part c.remove-row.result.depth k d m c.raise.new.rows c.deref_mut.ensures.value c.raise.ensures in
