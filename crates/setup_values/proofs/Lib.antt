@@ -1,0 +1,3 @@
+pub mod LookUp
+pub mod Loops
+pub mod Padding
