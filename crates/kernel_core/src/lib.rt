@@ -3,6 +3,7 @@
 
 mod boot;
 mod decode;
+mod ending;
 pub mod kernel;
 mod objects;
 mod placements;

@@ -1,0 +1,2 @@
+-- Objects that end, and threads that wait no more.
+pub mod EndedObjects
