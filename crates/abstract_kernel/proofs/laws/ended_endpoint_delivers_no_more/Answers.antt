@@ -1,3 +1,4 @@
+-- The proof of `ended_endpoint_delivers_no_more`: the goals that a search leaves open.
 use Rattle.abstract_kernel.proofs.Cancelling.Waiting.{nobody_waits}
 use Rattle.abstract_kernel.proofs.Reached.Simulation.{reached_inv}
 use Rattle.abstract_kernel.proofs.Reached.EndedEndpoints.{ended_for_good, pairs_for_good}

@@ -1,3 +1,4 @@
+-- The proof of `waiting_threads_are_told`: the goals that a search leaves open.
 use Rattle.std.proofs.Common.{sym}
 use Rattle.std.proofs.lemmas.List.Elements.{All-from_recursion}
 use Rattle.abstract_kernel.proofs.Cancelling.Records.{open_sends, open_receives}
