@@ -3,3 +3,5 @@ pub mod BootRows
 pub mod NewRows
 pub mod Ended
 pub mod EndedLaws
+pub mod Spaces
+pub mod Invoked

@@ -1,13 +1,17 @@
 //! The threads of a kernel, and what ends of them with an object.
-ghost use Rattle.std.specs.Prelude.{◌≡◌, ◌*◌, ◌^◌, ◌≤◌, length};
+ghost use Rattle.std.specs.Prelude.{◌≡◌, ◌*◌, ◌^◌, ◌≤◌, length, IsSome};
+ghost use Rattle.std.specs.FinMap.{get};
 ghost use Rattle.cap_core.specs.declared.limits.TheConstants.{MAX_MEMORY_BITS};
 ghost use Rattle.cap_core.specs.Numbers.{tcb_size};
 ghost use Rattle.ipc_core.specs.Waits.{IsEndpointAddress, IsThreadAddress};
+ghost use Rattle.ipc_core.specs.Cancelled.{after_cancel_thread};
+ghost use Rattle.kernel_core.specs.Rows.{rows_map};
+ghost use Rattle.kernel_core.specs.Private.NewRows.{with_stopped};
 ghost use Rattle.kernel_core.specs.Private.Ended.{AreLeft, HaveEnded, is_endpoint_at, is_thread_at};
 ghost use Rattle.kernel_core.specs.Private.EndedLaws.{nothing_ended, ended_twice};
 
 use crate::decode::lookup::{is_endpoint_address, is_thread_address};
-use crate::rows::ThreadRow;
+use crate::rows::{ThreadRow, row_at, set_row};
 use cap_core::{Cap, Profile};
 use clearing::Finalise;
 use ipc_core::Waiters;
@@ -27,6 +31,23 @@ pub struct Threads<P: Profile, W: Waiters<P> + Drop> {
 }
 
 impl<P: Profile, W: Waiters<P> + Drop> Threads<P, W> {
+    /// A thread waits no more, and is inactive or not. What was delivered to it last stays.
+    pub fn stop(&mut self, thread: u64, inactive: bool)
+        requires { IsSome (get (rows_map (tcb_size P.the) self.old.rows.items) thread) }
+        ensures waits { W.waits self.new.waiters ≡ after_cancel_thread thread (W.waits self.old.waiters) }
+        ensures rows { rows_map (tcb_size P.the) self.new.rows.items ≡ with_stopped thread inactive (rows_map (tcb_size P.the) self.old.rows.items) }
+        ensures memory { self.new.memory_bits ≡ self.old.memory_bits }
+    {
+        self.waiters.cancel_thread(thread);
+        if let Some(row) = row_at::<P>(self.rows.as_slice(), thread) {
+            let stopped = ThreadRow {
+                inactive,
+                inbox: row.inbox,
+            };
+            set_row::<P>(&mut self.rows, thread, stopped);
+        }
+    }
+
     /// Nobody waits on an endpoint that ended.
     fn end_endpoint(&mut self, endpoint: u64)
         ensures { IsEndpointAddress P.the self.old.memory_bits endpoint → AreLeft P.the (is_endpoint_at endpoint) self.old.memory_bits self.new.memory_bits self.old.rows.items self.new.rows.items (W.waits self.old.waiters) (W.waits self.new.waiters) }

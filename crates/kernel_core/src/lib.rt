@@ -2,7 +2,9 @@
 #![tactic(auto)]
 
 mod boot;
+mod cancelling;
 mod decode;
+mod deletion;
 mod ending;
 pub mod kernel;
 mod objects;

@@ -1,5 +1,5 @@
 -- What is left of the threads where an endpoint ends, and where a thread does.
-use Rattle.std.proofs.Common.{◌≡◌, ◌≢◌, ℕ, ◌/◌, ◌%◌, ◌<◌, ◌*◌, ◌^◌, Bool, true, false, cond, ◌==◌, ◌||◌, List, [], ◌∷◌, length, Option, None, Some, option_map, refl, sym, ap, subst, ◌∙◌, arith, inl, inr, eq-eqb}
+use Rattle.std.proofs.Common.{◌≡◌, ℕ, ◌/◌, ◌%◌, ◌<◌, ◌*◌, ◌^◌, Bool, true, false, cond, ◌==◌, List, [], ◌∷◌, length, Option, None, Some, option_map, refl, sym, ap, subst, ◌∙◌, inl, inr, eq-eqb}
 use Rattle.std.proofs.lemmas.Bool.{ne_eqb, false≢true, eqb-true}
 use Rattle.std.proofs.lemmas.Bool.Decides.{eqb_tells}
 use Rattle.std.proofs.Math.ListN.{set}
@@ -8,7 +8,7 @@ use Rattle.std.specs.List.{list_any, AllByRecursion as Each}
 use Rattle.std.specs.FinMap.{get}
 use Rattle.cap_core.specs.declared.profile.ProfileName.{ProfileName}
 use Rattle.cap_core.specs.declared.capability.Cap.{Cap}
-use Rattle.cap_core.specs.declared.capability.Cap.TheVariants.{Null, Untyped, Endpoint, CNode, Tcb}
+use Rattle.cap_core.specs.declared.capability.Cap.TheVariants.{Endpoint, Tcb}
 use Rattle.cap_core.specs.declared.capability.Badge.{Badge}
 use Rattle.cap_core.specs.declared.rights.Rights.{Rights}
 use Rattle.cap_core.specs.Objects.{same_object}
@@ -17,10 +17,10 @@ use Rattle.cap_core.specs.Numbers.{tcb_size}
 use Rattle.ipc_core.specs.declared.waiter.Waiter.{Waiter}
 use Rattle.ipc_core.specs.declared.waiter.Waiter.TheVariants.{Sender, Receiver}
 use Rattle.ipc_core.specs.declared.waiter.Role.{Role}
-use Rattle.ipc_core.specs.Waits.{Waits, IsEndpointAddress, IsThreadAddress, changed, thread_of, role_at, endpoint_of}
+use Rattle.ipc_core.specs.Waits.{Waits, IsEndpointAddress, IsThreadAddress, thread_of, role_at, endpoint_of}
 use Rattle.ipc_core.specs.Cancelled.{is_thread, others, after_cancel_thread, after_cancel_endpoint}
 use Rattle.ipc_core.specs.Agreement.{AreRolesAndQueues}
-use Rattle.clearing.proofs.Members.{tells, same_truth, either_true}
+use Rattle.clearing.proofs.Members.{same_truth, either_true}
 use Rattle.kernel_core.specs.declared.rows.ThreadRow.{ThreadRow}
 use Rattle.kernel_core.specs.Rows.{rows_map}
 use Rattle.kernel_core.specs.Private.Ended.{AreLeft, HaveEnded, is_endpoint_at, is_thread_at, ends_endpoint, ends_thread, role_left}

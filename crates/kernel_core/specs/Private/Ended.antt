@@ -1,5 +1,5 @@
 -- These serve the proofs of private functions, no public contract cites them: what becomes of the threads where objects end.
-use Rattle.std.specs.Prelude.{◌≡◌, ℕ, Bool, true, cond, ◌==◌, List, [], Option, None, Some, ⊤}
+use Rattle.std.specs.Prelude.{◌≡◌, ℕ, Bool, true, cond, List, [], Option, None, Some, ⊤}
 use Rattle.std.specs.FinMap.{get}
 use Rattle.cap_core.specs.declared.profile.ProfileName.{ProfileName}
 use Rattle.cap_core.specs.declared.capability.Cap.{Cap}
