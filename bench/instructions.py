@@ -1,5 +1,5 @@
 """instructions.py PROGRAM: the instructions of a step of the kernel cycle (counted by valgrind): the difference of two runs
-of different length, for each form that the program measures; and those of a boot, which a run of no rounds makes."""
+of different length, for each form that the program measures."""
 
 import re
 import subprocess
@@ -35,7 +35,6 @@ def main():
     program = sys.argv[1]
     line("kernel cycle, replies dropped", "instructions a step", lambda name: step(program, name))
     line("kernel cycle, replies kept", "instructions a step", lambda name: step(program, f"{name}_kept"))
-    line("boot", "thousand instructions", lambda name: instructions(program, name, 0) / 1000)
 
 
 main()

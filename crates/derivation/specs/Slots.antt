@@ -10,8 +10,8 @@ abbrev pub addresses : ℕ → ℕ → ℕ → List ℕ
 addresses size first zero = []
 addresses size first (suc count) = first ∷ addresses size (first + size) count
 
--- the slots of the object that a capability names, by rising address: a thread control block has one, at its own address, and
--- a CNode 2^radix
+-- the slots of the object that a capability names, by rising address: a thread control block has one, at its own
+-- address, and a CNode 2^radix
 unfoldable pub slots_of : ProfileName → Cap → List ℕ
 slots_of p Null = []
 slots_of p (Untyped base bits free) = []

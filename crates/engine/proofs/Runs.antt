@@ -1,18 +1,15 @@
--- A run has as many replies as calls; a boot is a state that runs reach; and what is booted lies in the memory.
+-- A run has as many replies as calls, and a boot is a state that runs reach.
 use Rattle.std.specs.Prelude.{◌≡◌, suc, List, [], ◌∷◌, length, refl}
-use Rattle.std.proofs.Common.{ap, sym, subst, ◌∙◌}
+use Rattle.std.proofs.Common.{ap, ◌∙◌}
 use Rattle.std.proofs.lemmas.List.{length-map}
 use Rattle.cap_core.specs.declared.profile.ProfileName.{ProfileName}
 use Rattle.abstract_kernel.specs.declared.call.Call.{Call}
 use Rattle.abstract_kernel.specs.Plan.{Plan, IsPlan}
 use Rattle.abstract_kernel.specs.Boot.{boot}
-use Rattle.abstract_kernel.specs.Memory.{IsInMemory}
-use Rattle.abstract_kernel.specs.Shown.{Shown}
-use Rattle.abstract_kernel.specs.State.{State, shown}
+use Rattle.abstract_kernel.specs.State.{State}
 use Rattle.abstract_kernel.specs.Step.{step, replies_of}
 use Rattle.abstract_kernel.specs.Reached.{IsReached}
-use Rattle.setup_read.specs.Views.{SetupView, CallView}
-use Rattle.setup_read.proofs.Booted.{boot_in_memory}
+use Rattle.setup_format.specs.Views.{SetupView, CallView}
 use Rattle.engine.specs.Program.{replies_to, calls_of}
 
 pub length-replies_of : (p : ProfileName) (A : State) (calls : List Call) → length (replies_of p A calls) ≡ length calls
@@ -26,7 +23,3 @@ length_replies_to p setup =
 
 pub boot_reached : (p : ProfileName) (plan : Plan) → IsPlan p plan → IsReached p (boot p plan)
 boot_reached p plan lawful = record { plan = plan; lawful = lawful; calls = []; is = refl }
-
--- a kernel that shows a boot lies in the plan's memory
-pub booted_in_memory : (p : ProfileName) (plan : Plan) (kernel : Shown) → IsPlan p plan → kernel ≡ shown (boot p plan) → IsInMemory p plan.memory_bits kernel
-booted_in_memory p plan kernel lawful shows = subst (IsInMemory p plan.memory_bits) (sym shows) (boot_in_memory p plan lawful)

@@ -7,11 +7,11 @@ use Rattle.abstract_kernel.specs.declared.call.Reply.{Reply}
 use Rattle.abstract_kernel.specs.Boot.{boot}
 use Rattle.abstract_kernel.specs.State.{State, shown}
 use Rattle.abstract_kernel.specs.Step.{replies_of, state_after}
-use Rattle.setup_read.specs.Views.{SetupView, CallView}
-use Rattle.setup_read.specs.Faults.{Fault}
-use Rattle.setup_read.specs.Setups.{setup_of_bytes}
-use Rattle.setup_read.specs.Refusal.{refusal_line}
-use Rattle.setup_read.specs.Report.{report_of, met_count, expectation_count}
+use Rattle.setup_format.specs.Views.{SetupView, CallView}
+use Rattle.setup_format.specs.Faults.{Fault}
+use Rattle.setup_format.specs.Setups.{setup_of_bytes}
+use Rattle.setup_format.specs.Refusal.{refusal_line}
+use Rattle.setup_report.specs.Report.{report_of, met_count, expectation_count}
 use Rattle.engine.specs.declared.fault.Verdict.{Verdict}
 use Rattle.engine.specs.declared.fault.Verdict.TheVariants.{AllMet, NotMet, Refused}
 

@@ -11,11 +11,12 @@ use crate::source::Source;
 use crate::streams::{read_below, write_all};
 use cap_core::Wide;
 use ipc_core::LinkedWaiters;
+use setup_read::limits::MAX_SETUP_BYTES;
 use slot_core::LinkedStore;
 use std::alloc::Global;
 
 /// The number of bytes that an input has to stay below.
-pub const INPUT_LIMIT: usize = 67_108_864;
+pub const INPUT_LIMIT: usize = MAX_SETUP_BYTES;
 
 /// Reads the source to its end, runs the set-up that it holds, and writes the report, or the line of a refusal, to the sink.
 ///

@@ -4,14 +4,14 @@ ghost use Rattle.cap_core.specs.declared.profile.ProfileName.TheVariants as Prof
 ghost use Rattle.abstract_kernel.specs.Plan.{IsPlan};
 ghost use Rattle.abstract_kernel.specs.Memory.{IsInMemory};
 ghost use Rattle.abstract_kernel.specs.State.{shown};
-ghost use Rattle.setup_read.specs.Refusal.{setup_fault_text};
+ghost use Rattle.setup_format.specs.Refusal.{setup_fault_text};
 ghost use Rattle.engine.specs.Program.{program, outcome_of, replies_to, end_of, verdict_on as verdict_of_counts};
 
 use crate::fault::Verdict;
 use cap_core::Wide;
 use ipc_core::MakeWaiters;
 use kernel_core::{Kernel, Reply};
-use setup_read::{ExpectationCount, Setup, SetupFault, expectations, read_setup, report};
+use setup_read::{ExpectationCount, Setup, SetupFault, counted_report, read_setup};
 use slot_core::MakeStore;
 use std::alloc::{AllocError, Global};
 
@@ -43,8 +43,7 @@ fn run_setup<S: MakeStore<Wide>, W: MakeWaiters<Wide>>(
     ensures { IfOk result (λ made. (made.0.items, made.1) ≡ outcome_of Profiles.Wide setup.now) }
 {
     let (kernel, replies) = run_calls::<S, W>(alloc, setup)?;
-    let text = report(alloc, setup, replies.as_slice(), &kernel)?;
-    let count = expectations(alloc, setup, replies.as_slice())?;
+    let (text, count) = counted_report(alloc, setup, replies.as_slice(), &kernel)?;
     Ok((text, verdict_on(count)))
 }
 

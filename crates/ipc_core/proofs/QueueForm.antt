@@ -7,5 +7,6 @@ pub mod TakenOut
 pub mod PutLast
 pub mod InTables
 pub mod Emptied
+pub mod EndpointRows
 pub mod Drained
 pub mod FirstOut

@@ -3,7 +3,7 @@ ghost use Rattle.std.specs.Prelude.{◌≡◌, ◌≢◌, ℕ, ◌/◌, Option, 
 ghost use Rattle.cap_core.specs.Numbers.{tcb_size, endpoint_size};
 ghost use Rattle.ipc_core.specs.declared.waiter.Role.{Role};
 ghost use Rattle.ipc_core.specs.Representation.Chains.{removed};
-ghost use Rattle.ipc_core.specs.Representation.Linked.{HasRow, links_of, set_row, set_endpoint_row, led, led_back, with_next, with_previous, with_role, IsLinked, waits_in, orders_in, waiter_of, free_row, sending_row, receiving_row, receiver_in, offer_in};
+ghost use Rattle.ipc_core.specs.Representation.Linked.{HasRow, links_of, set_row, led, led_back, with_next, with_previous, with_role, IsLinked, waits_in, orders_in, waiter_of, free_row, sending_row, receiving_row, receiver_in, offer_in};
 ghost use Rattle.ipc_core.specs.Waits.{endpoint_of, queued, first_receiver as receiver_first, first_sender as sender_first, IsNextBehind};
 ghost use Rattle.ipc_core.specs.Cancelled.{after_cancel_thread, after_cancel_badge, after_cancel_endpoint, is_sender_with};
 
@@ -178,13 +178,24 @@ impl Tables {
         self.threads[thread_place::<P>(thread)] = row;
     }
 
-    fn set_endpoint<P: Profile>(&mut self, endpoint: u64, row: EndpointRow)
+    fn set_first<P: Profile>(&mut self, endpoint: u64, first: Option<u64>)
         requires { HasRow (endpoint_size P.the) self.old.endpoints.items endpoint }
-        ensures links { links_of P.the self.new ≡ set_endpoint_row endpoint row (links_of P.the self.old) }
+        ensures links { links_of P.the self.new ≡ led endpoint None first (links_of P.the self.old) }
         ensures threads { length self.new.threads.items ≡ length self.old.threads.items }
         ensures endpoints { length self.new.endpoints.items ≡ length self.old.endpoints.items }
     {
-        self.endpoints[endpoint_place::<P>(endpoint)] = row;
+        let row = &mut self.endpoints[endpoint_place::<P>(endpoint)];
+        row.first = first;
+    }
+
+    fn set_last<P: Profile>(&mut self, endpoint: u64, last: Option<u64>)
+        requires { HasRow (endpoint_size P.the) self.old.endpoints.items endpoint }
+        ensures links { links_of P.the self.new ≡ led_back endpoint None last (links_of P.the self.old) }
+        ensures threads { length self.new.threads.items ≡ length self.old.threads.items }
+        ensures endpoints { length self.new.endpoints.items ≡ length self.old.endpoints.items }
+    {
+        let row = &mut self.endpoints[endpoint_place::<P>(endpoint)];
+        row.last = last;
     }
 
     /// What comes after a thread, or first on an endpoint.
@@ -197,10 +208,7 @@ impl Tables {
     {
         match previous {
             Some(thread) => self.set_next::<P>(thread, next),
-            None => {
-                let last = self.endpoint::<P>(endpoint).last;
-                self.set_endpoint::<P>(endpoint, EndpointRow { first: next, last });
-            },
+            None => self.set_first::<P>(endpoint, next),
         }
     }
 
@@ -214,16 +222,7 @@ impl Tables {
     {
         match next {
             Some(thread) => self.set_previous::<P>(thread, previous),
-            None => {
-                let first = self.endpoint::<P>(endpoint).first;
-                self.set_endpoint::<P>(
-                    endpoint,
-                    EndpointRow {
-                        first,
-                        last: previous,
-                    },
-                );
-            },
+            None => self.set_last::<P>(endpoint, previous),
         }
     }
 

@@ -34,6 +34,9 @@ const SLOTS_A_ROUND: u32 = 4;
 /// How deep an index is looked up: all bits of a word.
 const DEPTH: u64 = 64;
 
+/// How many calls a round makes.
+const CALLS: usize = 10;
+
 /// Boots a kernel and goes through so many rounds; whether every call of every round was accepted. There are slots for some
 /// thousand rounds.
 #[unsafe(no_mangle)]
@@ -55,23 +58,31 @@ fn run(kernel: &mut LinkedKernel, rounds: u16) -> bool {
     let mut all = true;
     for round in 0..rounds {
         let slot = u64::from(FIRST_SLOT + SLOTS_A_ROUND * u32::from(round));
-        all = capabilities(kernel, slot) && messages(kernel) && all;
+        all = accepts_all(kernel, &calls(slot)) && all;
     }
     all
 }
 
-/// Makes an endpoint, derives a copy and a badged capability from its first one, and moves one.
-fn capabilities(kernel: &mut LinkedKernel, slot: u64) -> bool
-    requires { slot < 2 ^ 32 }
-{
-    accepts(kernel, retype(slot))
-        && accepts(kernel, copy(slot + 1, slot))
-        && accepts(kernel, mint(slot + 2, slot, slot))
-        && accepts(kernel, relocate(slot + 3, slot + 1))
+fn accepts_all(kernel: &mut LinkedKernel, calls: &[Call]) -> bool {
+    let mut all = true;
+    for call in calls {
+        all = accepts(kernel, *call) && all;
+    }
+    all
 }
 
-/// Two messages, one to a thread that waits and one from a thread that waits, and two calls that find nobody.
-fn messages(kernel: &mut LinkedKernel) -> bool {
+fn accepts(kernel: &mut LinkedKernel, call: Call) -> bool {
+    match kernel.step(call) {
+        Reply::Refused(_) => false,
+        _ => true,
+    }
+}
+
+/// The calls of a round: an endpoint is made, copied, minted and moved, and then one message goes to a thread that waits, one
+/// from a thread that waits, and two calls find nobody.
+fn calls(slot: u64) -> [Call; CALLS]
+    requires { slot < 2 ^ 32 }
+{
     let send = Op::Send {
         cap: ENDPOINT,
         message: message(),
@@ -80,19 +91,18 @@ fn messages(kernel: &mut LinkedKernel) -> bool {
         cap: ENDPOINT,
         message: message(),
     };
-    accepts(kernel, by(SECOND_THREAD, Op::Recv { cap: ENDPOINT }))
-        && accepts(kernel, by(FIRST_THREAD, nb_send))
-        && accepts(kernel, by(FIRST_THREAD, send))
-        && accepts(kernel, by(SECOND_THREAD, Op::NbRecv { cap: ENDPOINT }))
-        && accepts(kernel, by(FIRST_THREAD, nb_send))
-        && accepts(kernel, by(SECOND_THREAD, Op::NbRecv { cap: ENDPOINT }))
-}
-
-fn accepts(kernel: &mut LinkedKernel, call: Call) -> bool {
-    match kernel.step(call) {
-        Reply::Refused(_) => false,
-        _ => true,
-    }
+    [
+        retype(slot),
+        copy(slot + 1, slot),
+        mint(slot + 2, slot, slot),
+        relocate(slot + 3, slot + 1),
+        by(SECOND_THREAD, Op::Recv { cap: ENDPOINT }),
+        by(FIRST_THREAD, nb_send),
+        by(FIRST_THREAD, send),
+        by(SECOND_THREAD, Op::NbRecv { cap: ENDPOINT }),
+        by(FIRST_THREAD, nb_send),
+        by(SECOND_THREAD, Op::NbRecv { cap: ENDPOINT }),
+    ]
 }
 
 fn by(thread: u64, op: Op) -> Call {

@@ -10,7 +10,7 @@ pub const MAX_CALLS: usize = 65536;
 pub const MAX_EXPECT_BYTES: usize = 120;
 
 /// A set-up's text has fewer bytes than this.
-pub const MAX_SETUP_BYTES: usize = 67108864;
+pub const MAX_SETUP_BYTES: usize = 67_108_864;
 
 /// The most bytes of a key that the line of a refusal shows.
 pub const MAX_SHOWN_KEY_BYTES: usize = 40;

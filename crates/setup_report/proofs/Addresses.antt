@@ -1,4 +1,4 @@
 -- Addresses in rising order, and where slots lie.
-pub mod Booted
+pub mod InMemory
 pub mod Rising
 pub mod Slots

@@ -104,10 +104,12 @@ clear_lies : (p : ProfileName) (memory s : ℕ) (f : Forest Entry) → LiesIn p 
 unfolding LiesIn
 clear_lies p memory s f h = (slots-clear p memory s f h.0, caps-clear p memory s f h.1)
 
-space_lies : (p : ProfileName) (memory : ℕ) (f : Forest Entry) → IsDistinct eqb (slots f) → (new : NewSpace) → IsSpace p f new → LiesIn p memory f → LiesIn p memory (with_space p new f)
+space_lies : (p : ProfileName) (memory : ℕ) (f : Forest Entry) → IsDistinct eqb (slots f) → (new : NewSpace) →
+    IsSpace p f new → LiesIn p memory f → LiesIn p memory (with_space p new f)
 space_lies p memory f distinct new is h =
     let cleared = clear_lies p memory new.tcb f h in
-    space_kept p f distinct new is (LiesIn p memory) cleared (λ d. derived_lies p memory (clear p new.tcb f) cleared (space_placement new) d.ends)
+    space_kept p f distinct new is (LiesIn p memory) cleared
+    (λ d. derived_lies p memory (clear p new.tcb f) cleared (space_placement new) d.ends)
 
 lies_in : (p : ProfileName) (memory : ℕ) (v : Shown) → IsInMemory p memory v → LiesIn p memory v.derivations
 unfolding LiesIn
@@ -130,7 +132,8 @@ receive_keeps v t service list true None = refl
 receive_keeps v t service list false None = refl
 receive_keeps v t service list block (Some offer) = refl
 
-badge_keeps : (v : Shown) (e : ℕ) (badge : Badge) (none : Bool) → (cond none v (after_release v e (is_sender_with badge))).derivations ≡ v.derivations
+badge_keeps : (v : Shown) (e : ℕ) (badge : Badge) (none : Bool) →
+    (cond none v (after_release v e (is_sender_with badge))).derivations ≡ v.derivations
 badge_keeps v e badge true = refl
 badge_keeps v e badge false = refl
 
@@ -148,8 +151,10 @@ effect_lies p memory v t (Retype new) forest is h = (
 effect_lies p memory v t (Derive placement) forest is h = with_derived_lies p memory v.derivations h placement is.ends forest.distinct
 effect_lies p memory v t (Move placement) forest is h = with_moved_lies p memory v.derivations h placement is.ends
 effect_lies p memory v t (Delete slot) forest is h = clear_lies p memory slot v.derivations h
-effect_lies p memory v t (Revoke slot) forest is h = kept-revoke p (LiesIn p memory) (λ c g lies. clear_lies p memory c g lies) slot v.derivations h
-effect_lies p memory v t (CancelBadged service) forest is h = subst (LiesIn p memory) (sym (badge_keeps v service.endpoint service.badge (service.badge.0 == 0))) h
+effect_lies p memory v t (Revoke slot) forest is h =
+    kept-revoke p (LiesIn p memory) (λ c g lies. clear_lies p memory c g lies) slot v.derivations h
+effect_lies p memory v t (CancelBadged service) forest is h =
+    subst (LiesIn p memory) (sym (badge_keeps v service.endpoint service.badge (service.badge.0 == 0))) h
 effect_lies p memory v t (SetSpace new) forest is h = space_lies p memory v.derivations forest.distinct new is h
 effect_lies p memory v t (Suspend tcb) forest is h = h
 effect_lies p memory v t (Resume tcb) forest is h = h

@@ -40,7 +40,8 @@ pub ok_same : {X : Type 0} (x y : X) → ◌≡◌ {A = Result X Refusal} (Ok x)
 ok_same x y h = cc
 
 -- what holds of each invocation that comes of what passed
-pub made_passed : {X : Type 0} (P : Invocation → Type 0) (make : X → Invocation) (r : Result X Refusal) (invocation : Invocation) →
+pub made_passed : {X : Type 0} (P : Invocation → Type 0) (make : X → Invocation) (r : Result X Refusal)
+    (invocation : Invocation) →
     ((x : X) → r ≡ Ok x → P (make x)) → (r >>= λ x. Ok (make x)) ≡ Ok invocation → P invocation
 made_passed P make (Ok x) invocation shows h = subst P (ok_same (make x) invocation h) (shows x refl)
 made_passed P make (Err refusal) invocation shows h = cc
@@ -114,7 +115,8 @@ pub held_passed : (f : Forest Entry) (r : Result ℕ Refusal) (cap : Cap) → he
 held_passed f (Err refusal) cap h = cc
 held_passed f (Ok slot) cap h = (slot, ok_same (cap_at f slot) cap h)
 
-whole_passed : (r : Result Found LookupFault) (slot : ℕ) → found_whole r ≡ Ok slot → (found : Found) × ((r ≡ Ok found) × (found.slot ≡ slot))
+pub whole_passed : (r : Result Found LookupFault) (slot : ℕ) → found_whole r ≡ Ok slot →
+    (found : Found) × ((r ≡ Ok found) × (found.slot ≡ slot))
 whole_passed (Err fault) slot h = cc
 whole_passed (Ok found) slot h =
     let whole = cond_passed (found.left == 0) (Ok found.slot) (FailedLookup DepthMismatch) slot h in

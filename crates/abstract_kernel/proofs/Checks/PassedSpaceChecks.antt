@@ -26,7 +26,8 @@ use Rattle.abstract_kernel.proofs.Checks.LiveEndpoints.{thread_live_at}
 use Rattle.abstract_kernel.proofs.Checks.PassedCNodeChecks.{IsRemade, itself_remade, where_some, guarded_remade, set_passed}
 
 -- the slot that is named from a CNode stands in the memory
-pub slot_shows : (p : ProfileName) (f : Forest Entry) (slot index depth target : ℕ) → decoded_slot p f (cap_at f slot) index depth ≡ Ok target → IsNamedSlot p f target
+pub slot_shows : (p : ProfileName) (f : Forest Entry) (slot index depth target : ℕ) →
+    decoded_slot p f (cap_at f slot) index depth ≡ Ok target → IsNamedSlot p f target
 slot_shows p f slot index depth target h memory all =
     let node = passed (where_kind kind.CNode (cap_at f slot)) _ target h in
     let found = kind_passed kind.CNode (cap_at f slot) node.0 node.1.0 in
@@ -49,7 +50,8 @@ pub thread_slot : (p : ProfileName) (memory base : ℕ) → IsLawful p memory (T
 thread_slot p memory base lawful =
     record {
       aligned = aligned p lawful.placed.aligned;
-      within = let end = lawful.placed.within in let some : 1 ≤ 2 ^ tcb_bits p = one-le-pow (tcb_bits p) 2 (omega arith) in omega (arith, end, some);
+      within = let end = lawful.placed.within in let some : 1 ≤ 2 ^ tcb_bits p =
+          one-le-pow (tcb_bits p) 2 (omega arith) in omega (arith, end, some);
     }
   where
     aligned : (q : ProfileName) → base % 2 ^ tcb_bits q ≡ 0 → base % slot_size q ≡ 0
@@ -58,7 +60,9 @@ thread_slot p memory base lawful =
 
 pub tcb_placed : (p : ProfileName) (f : Forest Entry) (slot t : ℕ) → cap_at f slot ≡ Tcb t → IsNamedSlot p f t
 tcb_placed p f slot t names memory all =
-    thread_slot p memory t (lawful_full p memory (Tcb t) refl (subst (λ cap. (cap ≡ Null) ⊎ IsLawful p memory cap) names (lawful_at p memory f all slot)))
+    thread_slot p memory t
+    (lawful_full p memory (Tcb t) refl
+    (subst (λ cap. (cap ≡ Null) ⊎ IsLawful p memory cap) names (lawful_at p memory f all slot)))
 
 -- the capability of a CNode, as it is or with another guard
 record IsSpaceCap (p : ProfileName) (cap made : Cap) : Type 0 where
@@ -72,10 +76,17 @@ space_made p word (Untyped base bits free) made h = cc
 space_made p word (Endpoint base badge rights) made h = cc
 space_made p word (CNode base radix guard) made h = by (word == 0) h
   where
-    by : (none : Bool) → cond none (Ok (CNode base radix guard)) (where_set (guarded p base radix (guard_held p word))) ≡ Ok made → IsSpaceCap p (CNode base radix guard) made
+    by : (none : Bool) →
+        cond none (Ok (CNode base radix guard)) (where_set (guarded p base radix (guard_held p word))) ≡ Ok made →
+        IsSpaceCap p (CNode base radix guard) made
     by true h =
         let same = ok_same (CNode base radix guard) made h in
-        record { full = refl; remade = subst (IsRemade p (CNode base radix guard)) same (itself_remade p (CNode base radix guard) refl); node = sym (ap is_cnode same) }
+        record {
+          full = refl;
+          remade = subst (IsRemade p (CNode base radix guard)) same
+              (itself_remade p (CNode base radix guard) refl);
+          node = sym (ap is_cnode same);
+        }
     by false h =
         let held = guard_held p word in
         let set = set_passed (guarded p base radix held) made h in
@@ -83,7 +94,8 @@ space_made p word (CNode base radix guard) made h = by (word == 0) h
         record { full = refl; remade = guarded_remade p base radix word guard made set; node = sym (ap is_cnode same) }
 space_made p word (Tcb base) made h = cc
 
-pub space_shows : (p : ProfileName) (f : Forest Entry) (thread slot root word : ℕ) (new : NewSpace) → decoded_space p f thread slot (cap_at f slot) root word ≡ Ok new → IsSpace p f new
+pub space_shows : (p : ProfileName) (f : Forest Entry) (thread slot root word : ℕ) (new : NewSpace) →
+    decoded_space p f thread slot (cap_at f slot) root word ≡ Ok new → IsSpace p f new
 space_shows p f thread slot root word new h =
     let tcb = passed (decoded_tcb (cap_at f slot)) _ new h in
     let source = passed (invoked_slot p f thread root) _ new tcb.1.1 in
@@ -98,7 +110,9 @@ space_shows p f thread slot root word new h =
       full = full_at f source.0 is.full;
       invoked = full_at f slot (ap is_null names);
       names = names;
-      lawful = λ memory all. is.remade.lawful memory (lawful_full p memory (cap_at f source.0) is.full (lawful_at p memory f all source.0));
+      lawful =
+          λ memory all. is.remade.lawful memory
+          (lawful_full p memory (cap_at f source.0) is.full (lawful_at p memory f all source.0));
       remade = is.remade.lawful;
       same = is.remade.same;
       node = is.node;

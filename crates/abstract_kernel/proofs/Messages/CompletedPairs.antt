@@ -167,16 +167,22 @@ receives_grow p A t service false inv pass e =
     (receive_grows A t service inv pass.endpoint_live _ refl (λ s is. own_record A (endpoint_at A service.endpoint) A.sends (length (receives_of A (endpoint_at A service.endpoint))) s is) e)
 
 -- where records are cancelled, objects end or a thread is stopped, the pairs stay
-cancelling_grows : (A : State) (S : SendRecord → Bool) (Q : ReceiveRecord → Bool) → Invariant A → (e : Instance) → Grows A e (changed_to (cancelling A S Q))
-cancelling_grows A S Q inv e = same_pairs A e (changed_to (cancelling A S Q)) (pairs_same A S Q inv.sends_rising inv.rising inv.unshared e) refl
+cancelling_grows : (A : State) (S : SendRecord → Bool) (Q : ReceiveRecord → Bool) → Invariant A → (e : Instance) →
+    Grows A e (changed_to (cancelling A S Q))
+cancelling_grows A S Q inv e =
+    same_pairs A e (changed_to (cancelling A S Q)) (pairs_same A S Q inv.sends_rising inv.rising inv.unshared e) refl
 
-stopping_grows : (A : State) (t : ℕ) (idle : Bool) → Invariant A → (e : Instance) → Grows A e (changed_to (stopping A (thread_at A t) idle))
+stopping_grows : (A : State) (t : ℕ) (idle : Bool) → Invariant A → (e : Instance) →
+    Grows A e (changed_to (stopping A (thread_at A t) idle))
 stopping_grows A t idle inv e =
     same_pairs A e (changed_to (stopping A (thread_at A t) idle))
-    (pairs_same A (is_sent_by (thread_at A t)) (is_received_by (thread_at A t)) inv.sends_rising inv.rising inv.unshared e) refl
+    (pairs_same A (is_sent_by (thread_at A t))
+    (is_received_by (thread_at A t)) inv.sends_rising inv.rising inv.unshared e) refl
 
 ending_grows : (A : State) (g : Forest Entry) → Invariant A → (e : Instance) → Grows A e (objects_ended A g)
-ending_grows A g inv e = same_pairs A e (objects_ended A g) (pairs_same A (is_send_ended A g) (is_receive_ended A g) inv.sends_rising inv.rising inv.unshared e) refl
+ending_grows A g inv e =
+    same_pairs A e (objects_ended A g)
+    (pairs_same A (is_send_ended A g) (is_receive_ended A g) inv.sends_rising inv.rising inv.unshared e) refl
 
 performed_grows : (p : ProfileName) (A : State) (t : ℕ) (invocation : Invocation) → Invariant A → Passes A t invocation → (e : Instance) → Grows A e (performed p A t invocation)
 performed_grows p A t (Send service message block) inv pass e = sends_grow p A t service message block inv pass e

@@ -91,7 +91,9 @@ module _ (A : State) (e : Instance) (born : e.birth ≤ A.count) (ended : is_liv
       by true = ne_eqb (A.count + 1) e.birth (λ d. absurd (omega (arith, born, d)))
       by false = ended
 
-  by_ending : (g : Forest Entry) → Invariant A → ((q : ℕ) → list_any (λ k. q == k) (endpoints_of g) ≡ true → list_any (λ k. q == k) (endpoints_of A.derivations) ≡ true) → StaysEnded A e (objects_ended A g)
+  by_ending : (g : Forest Entry) → Invariant A →
+      ((q : ℕ) → list_any (λ k. q == k) (endpoints_of g) ≡ true →
+      list_any (λ k. q == k) (endpoints_of A.derivations) ≡ true) → StaysEnded A e (objects_ended A g)
   by_ending g inv fewer = record {
     born = omega (arith, born);
     ended = stays_ended A g e fewer ended;
@@ -108,7 +110,9 @@ module _ (A : State) (e : Instance) (born : e.birth ≤ A.count) (ended : is_liv
   }
 
   by_stopping : (t : ℕ) (idle : Bool) → Invariant A → StaysEnded A e (changed_to (stopping A (thread_at A t) idle))
-  by_stopping t idle inv = by_cancelling (is_sent_by (thread_at A t)) (is_received_by (thread_at A t)) (stopping A (thread_at A t) idle).is_idle inv
+  by_stopping t idle inv =
+      by_cancelling (is_sent_by (thread_at A t)) (is_received_by (thread_at A t))
+      (stopping A (thread_at A t) idle).is_idle inv
 
   by_invocation : (p : ProfileName) (memory t : ℕ) → Reached p memory A → (invocation : Invocation) → Passes A t invocation → IsEdit p A.derivations invocation → StaysEnded A e (performed p A t invocation)
   by_invocation p memory t reached (Send service message true) pass edit = by_send t service message reached.records pass.endpoint_live
@@ -120,11 +124,15 @@ module _ (A : State) (e : Instance) (born : e.birth ≤ A.count) (ended : is_liv
   by_invocation p memory t reached (Retype new) pass edit = by_making p new (live-objects endpoint_base endpoint_base-freed p new A.derivations (untyped_full new.untyped A.derivations edit.untyped))
   by_invocation p memory t reached (Derive placement) pass edit = by_rearranging (with_derived p placement A.derivations) (derived_same p memory A t reached placement edit endpoint_base endpoint_is_base)
   by_invocation p memory t reached (Move placement) pass edit = by_rearranging (with_moved placement A.derivations) (moved_same p memory A t reached placement edit endpoint_base endpoint_is_base)
-  by_invocation p memory t reached (Delete slot) pass edit = by_ending (clear p slot A.derivations) reached.records (λ q. live-clear endpoint_base q p slot A.derivations)
-  by_invocation p memory t reached (Revoke slot) pass edit = by_ending (revoke p slot A.derivations) reached.records (λ q. live-revoke endpoint_base q p slot A.derivations)
+  by_invocation p memory t reached (Delete slot) pass edit =
+      by_ending (clear p slot A.derivations) reached.records (λ q. live-clear endpoint_base q p slot A.derivations)
+  by_invocation p memory t reached (Revoke slot) pass edit =
+      by_ending (revoke p slot A.derivations) reached.records (λ q. live-revoke endpoint_base q p slot A.derivations)
   by_invocation p memory t reached (CancelBadged service) pass edit =
-      by_cancelling (is_badged_send (endpoint_at A service.endpoint) service.badge) (λ _. false) A.is_idle reached.records
-  by_invocation p memory t reached (SetSpace new) pass edit = by_ending (with_space p new A.derivations) reached.records (space_endpoints p memory A t reached new edit)
+      by_cancelling (is_badged_send (endpoint_at A service.endpoint) service.badge)
+      (λ _. false) A.is_idle reached.records
+  by_invocation p memory t reached (SetSpace new) pass edit =
+      by_ending (with_space p new A.derivations) reached.records (space_endpoints p memory A t reached new edit)
   by_invocation p memory t reached (Suspend tcb) pass edit = by_stopping tcb true reached.records
   by_invocation p memory t reached (Resume tcb) pass edit = by_stopping tcb false reached.records
 

@@ -18,6 +18,7 @@ use Rattle.cap_core.specs.declared.capability.Cap.{Cap}
 use Rattle.derivation.specs.Forest.{Forest}
 use Rattle.derivation.specs.Entries.{Entry, caps}
 use Rattle.clearing.specs.Clear.{clear}
+use Rattle.clearing.specs.Housed.{IsHoused}
 use Rattle.clearing.specs.Revoke.{revoke}
 use Rattle.abstract_kernel.specs.Cancelling.{ending, cancelling_badged, suspending, resuming}
 use Rattle.abstract_kernel.specs.Private.Endings.{after_ending}
@@ -39,7 +40,8 @@ use Rattle.abstract_kernel.proofs.Capabilities.LiveAfter.{IsBase, tcb_is_base, e
 use Rattle.abstract_kernel.proofs.Retype.LiveRetyped.{untyped_full}
 use Rattle.abstract_kernel.proofs.Checks.PassedInvocations.{IsEdit}
 use Rattle.abstract_kernel.proofs.Boot.BootedStore.{store_at_boot}
-use Rattle.abstract_kernel.proofs.Reached.Stores.{checked_edit, outcome_store}
+use Rattle.abstract_kernel.proofs.Housed.Boot.{housed_at_boot}
+use Rattle.abstract_kernel.proofs.Reached.Stores.{checked_edit, outcome_store, outcome_housed}
 use Rattle.abstract_kernel.proofs.Reached.Invariant.{Invariant, Passes, passes, IsShown, inv_boot, inv_refused}
 use Rattle.abstract_kernel.proofs.Capabilities.Rearranged.{rearranged_steps, inv_rearranged}
 use Rattle.abstract_kernel.proofs.Retype.ObjectsMade.{made_steps, inv_made}
@@ -49,6 +51,7 @@ use Rattle.abstract_kernel.proofs.Messages.RecordsAdded.{sends_step, receives_st
 -- what holds of each reached state, whose slots stand in a memory of 2^memory bytes
 pub record Reached (p : ProfileName) (memory : ℕ) (A : State) : Type 0 where
   pub store : IsKernelStore p memory A.derivations
+  pub housed : IsHoused p A.derivations
   pub records : Invariant A
 
 module _ (p : ProfileName) (memory : ℕ) (A : State) (t : ℕ) (reached : Reached p memory A) where
@@ -70,19 +73,27 @@ module _ (p : ProfileName) (memory : ℕ) (A : State) (t : ℕ) (reached : Reach
 
   -- the objects that are live after a thread's space was set were live
   pub space_endpoints : (new : NewSpace) → IsSpace p A.derivations new → (q : ℕ) →
-      list_any (λ k. q == k) (endpoints_of (with_space p new A.derivations)) ≡ true → list_any (λ k. q == k) (endpoints_of A.derivations) ≡ true
+      list_any (λ k. q == k) (endpoints_of (with_space p new A.derivations)) ≡ true →
+      list_any (λ k. q == k) (endpoints_of A.derivations) ≡ true
   space_endpoints new is = live-space p A.derivations reached.store.slots_distinct new is endpoint_base endpoint_is_base
 
   space_threads : (new : NewSpace) → IsSpace p A.derivations new → (q : ℕ) →
-      list_any (λ k. q == k) (threads_of (with_space p new A.derivations)) ≡ true → list_any (λ k. q == k) (threads_of A.derivations) ≡ true
+      list_any (λ k. q == k) (threads_of (with_space p new A.derivations)) ≡ true →
+      list_any (λ k. q == k) (threads_of A.derivations) ≡ true
   space_threads new is = live-space p A.derivations reached.store.slots_distinct new is tcb_base tcb_is_base
 
   -- objects end, where those that are live after were live
-  ends_steps : (g : Forest Entry) → ((q : ℕ) → list_any (λ k. q == k) (endpoints_of g) ≡ true → list_any (λ k. q == k) (endpoints_of A.derivations) ≡ true) →
-      ((q : ℕ) → list_any (λ k. q == k) (threads_of g) ≡ true → list_any (λ k. q == k) (threads_of A.derivations) ≡ true) → IsShown (done (after_ending (shown A) g)) (objects_ended A g)
+  ends_steps : (g : Forest Entry) →
+      ((q : ℕ) → list_any (λ k. q == k) (endpoints_of g) ≡ true →
+      list_any (λ k. q == k) (endpoints_of A.derivations) ≡ true) →
+      ((q : ℕ) → list_any (λ k. q == k) (threads_of g) ≡ true →
+      list_any (λ k. q == k) (threads_of A.derivations) ≡ true) →
+      IsShown (done (after_ending (shown A) g)) (objects_ended A g)
   ends_steps g endpoints threads = (refl, sym (ending_shown A g reached.records endpoints threads))
 
-  inv_ends : (g : Forest Entry) → ((q : ℕ) → list_any (λ k. q == k) (endpoints_of g) ≡ true → list_any (λ k. q == k) (endpoints_of A.derivations) ≡ true) → Invariant (objects_ended A g).state
+  inv_ends : (g : Forest Entry) →
+      ((q : ℕ) → list_any (λ k. q == k) (endpoints_of g) ≡ true →
+      list_any (λ k. q == k) (endpoints_of A.derivations) ≡ true) → Invariant (objects_ended A g).state
   inv_ends g endpoints = inv_refused (ending A g) (inv_ending A g reached.records endpoints)
 
   performed_steps : (invocation : Invocation) → Passes A t invocation → IsEdit p A.derivations invocation → IsShown (performed_effect p (shown A) t invocation) (performed p A t invocation)
@@ -93,10 +104,16 @@ module _ (p : ProfileName) (memory : ℕ) (A : State) (t : ℕ) (reached : Reach
       rearranged_steps A (with_derived p placement A.derivations) reached.records (derived_same placement edit tcb_base tcb_is_base) (derived_same placement edit endpoint_base endpoint_is_base)
   performed_steps (Move placement) pass edit =
       rearranged_steps A (with_moved placement A.derivations) reached.records (moved_same placement edit tcb_base tcb_is_base) (moved_same placement edit endpoint_base endpoint_is_base)
-  performed_steps (Delete slot) pass edit = ends_steps (clear p slot A.derivations) (λ q. live-clear endpoint_base q p slot A.derivations) (λ q. live-clear tcb_base q p slot A.derivations)
-  performed_steps (Revoke slot) pass edit = ends_steps (revoke p slot A.derivations) (λ q. live-revoke endpoint_base q p slot A.derivations) (λ q. live-revoke tcb_base q p slot A.derivations)
-  performed_steps (CancelBadged service) pass edit = (refl, sym (cancelling_badged_shown A service.endpoint service.badge reached.records pass.endpoint_live))
-  performed_steps (SetSpace new) pass edit = ends_steps (with_space p new A.derivations) (space_endpoints new edit) (space_threads new edit)
+  performed_steps (Delete slot) pass edit =
+      ends_steps (clear p slot A.derivations) (λ q. live-clear endpoint_base q p slot A.derivations)
+      (λ q. live-clear tcb_base q p slot A.derivations)
+  performed_steps (Revoke slot) pass edit =
+      ends_steps (revoke p slot A.derivations) (λ q. live-revoke endpoint_base q p slot A.derivations)
+      (λ q. live-revoke tcb_base q p slot A.derivations)
+  performed_steps (CancelBadged service) pass edit =
+      (refl, sym (cancelling_badged_shown A service.endpoint service.badge reached.records pass.endpoint_live))
+  performed_steps (SetSpace new) pass edit =
+      ends_steps (with_space p new A.derivations) (space_endpoints new edit) (space_threads new edit)
   performed_steps (Suspend tcb) pass edit = (refl, sym (stopping_shown A tcb true reached.records edit))
   performed_steps (Resume tcb) pass edit = (refl, sym (stopping_shown A tcb false reached.records edit))
 
@@ -108,12 +125,18 @@ module _ (p : ProfileName) (memory : ℕ) (A : State) (t : ℕ) (reached : Reach
       inv_rearranged A (with_derived p placement A.derivations) reached.records (derived_same placement edit tcb_base tcb_is_base) (derived_same placement edit endpoint_base endpoint_is_base)
   inv_performed (Move placement) pass edit =
       inv_rearranged A (with_moved placement A.derivations) reached.records (moved_same placement edit tcb_base tcb_is_base) (moved_same placement edit endpoint_base endpoint_is_base)
-  inv_performed (Delete slot) pass edit = inv_ends (clear p slot A.derivations) (λ q. live-clear endpoint_base q p slot A.derivations)
-  inv_performed (Revoke slot) pass edit = inv_ends (revoke p slot A.derivations) (λ q. live-revoke endpoint_base q p slot A.derivations)
-  inv_performed (CancelBadged service) pass edit = inv_refused (cancelling_badged A (endpoint_at A service.endpoint) service.badge) (inv_badged A (endpoint_at A service.endpoint) service.badge reached.records)
+  inv_performed (Delete slot) pass edit =
+      inv_ends (clear p slot A.derivations) (λ q. live-clear endpoint_base q p slot A.derivations)
+  inv_performed (Revoke slot) pass edit =
+      inv_ends (revoke p slot A.derivations) (λ q. live-revoke endpoint_base q p slot A.derivations)
+  inv_performed (CancelBadged service) pass edit =
+      inv_refused (cancelling_badged A (endpoint_at A service.endpoint) service.badge)
+      (inv_badged A (endpoint_at A service.endpoint) service.badge reached.records)
   inv_performed (SetSpace new) pass edit = inv_ends (with_space p new A.derivations) (space_endpoints new edit)
-  inv_performed (Suspend tcb) pass edit = inv_refused (suspending A (thread_at A tcb)) (inv_stopping A (thread_at A tcb) true reached.records)
-  inv_performed (Resume tcb) pass edit = inv_refused (resuming A (thread_at A tcb)) (inv_stopping A (thread_at A tcb) false reached.records)
+  inv_performed (Suspend tcb) pass edit =
+      inv_refused (suspending A (thread_at A tcb)) (inv_stopping A (thread_at A tcb) true reached.records)
+  inv_performed (Resume tcb) pass edit =
+      inv_refused (resuming A (thread_at A tcb)) (inv_stopping A (thread_at A tcb) false reached.records)
 
 outcome_steps : (p : ProfileName) (memory : ℕ) (A : State) (call : Call) → Reached p memory A → (r : Result Invocation Refusal) → decoded_call p (shown A) call ≡ r →
     IsShown (decoded_effect p (shown A) call.thread r) (outcome p A call.thread r)
@@ -131,6 +154,7 @@ inv_outcome p memory A call (Ok invocation) h reached = inv_performed p memory A
 pub reached_step : (p : ProfileName) (memory : ℕ) (A : State) (call : Call) → Reached p memory A → Reached p memory (step p A call).state
 reached_step p memory A call reached = record {
   store = outcome_store p memory A call (decoded_call p (shown A) call) refl reached.store;
+  housed = outcome_housed p memory A call (decoded_call p (shown A) call) refl reached.store reached.housed;
   records = inv_outcome p memory A call (decoded_call p (shown A) call) refl reached;
 }
 
@@ -139,7 +163,17 @@ reached_run p memory [] A reached = reached
 reached_run p memory (call ∷ calls) A reached = reached_run p memory calls (step p A call).state (reached_step p memory A call reached)
 
 pub reached_is : (p : ProfileName) (A : State) (r : IsReached p A) → Reached p r.plan.memory_bits A
-reached_is p A r = subst (Reached p r.plan.memory_bits) (sym r.is) (reached_run p r.plan.memory_bits r.calls (boot p r.plan) (record { store = store_at_boot p r.plan r.lawful; records = inv_boot p r.plan }))
+reached_is p A r =
+    subst (Reached p r.plan.memory_bits) (sym r.is)
+    (reached_run p r.plan.memory_bits r.calls (boot p r.plan)
+    (record {
+      store = store_at_boot p r.plan r.lawful;
+      housed = housed_at_boot p r.plan r.lawful;
+      records = inv_boot p r.plan;
+    }))
+
+pub reached_housed : (p : ProfileName) (A : State) → IsReached p A → IsHoused p A.derivations
+reached_housed p A r = (reached_is p A r).housed
 
 pub reached_inv : (p : ProfileName) (A : State) → IsReached p A → Invariant A
 reached_inv p A r = (reached_is p A r).records

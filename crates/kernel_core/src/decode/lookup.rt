@@ -57,9 +57,7 @@ pub fn named_slot<P: Profile, S: CapStore<P>>(
     requires thread { IsThreadAddress P.the (S.memory_bits store.now) thread }
     ensures { target_seen P.the result ≡ invoked_slot P.the (S.forest store.now) thread word }
 {
-    let Some(root) = slot_within::<P>(MAX_MEMORY_BITS, thread) else {
-        return Err(Refusal::FailedLookup(LookupFault::InvalidRoot));
-    };
+    let root = Slot::of_node::<P>(thread, 0);
     match resolve::<P, S>(store, store.get(root), word, P::WORD_BITS) {
         Ok((slot, _)) => Ok(slot),
         Err(fault) => Err(Refusal::FailedLookup(fault)),

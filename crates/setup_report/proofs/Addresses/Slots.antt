@@ -20,7 +20,7 @@ use Rattle.derivation.specs.Entries.{Entry, slots, cap_at, cap_in}
 use Rattle.derivation.specs.Forest.{preorder}
 use Rattle.abstract_kernel.specs.Memory.{IsSlotAddress, IsAligned}
 use Rattle.abstract_kernel.specs.Shown.{Shown}
-use Rattle.kernel_core.proofs.Addresses.{no_cap}
+use Rattle.kernel_core.proofs.Threads.Addresses.{no_cap}
 use Rattle.setup_report.specs.Report.{is_in, rising, is_full, full_slots}
 use Rattle.setup_report.proofs.Addresses.Rising.{rising_same, rising_sorted, in_filter}
 

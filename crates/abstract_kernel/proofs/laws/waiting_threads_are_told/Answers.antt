@@ -8,7 +8,12 @@ use Rattle.abstract_kernel.proofs.laws.waiting_threads_are_told.Goals as goal
 
 pub returns : goal.returns
 returns c = record {
-  waiting = λ p A e reached. (sym (open_sends A (reached_inv p A reached).sends_rising e), sym (open_receives A (reached_inv p A reached).rising e));
+  waiting =
+      λ p A e reached. (
+        sym (open_sends A (reached_inv p A reached).sends_rising e),
+        sym
+            (open_receives A (reached_inv p A reached).rising e),
+      );
   senders = λ p A e reached. All-from_recursion _ _ (senders_told A (reached_inv p A reached) e);
   receivers = λ p A e reached. All-from_recursion _ _ (receivers_told A (reached_inv p A reached) e);
 }

@@ -1,11 +1,13 @@
 -- A run from a booted kernel gives the replies and the end state of the abstract kernel from its boot.
-use Rattle.std.proofs.Common.{◌≡◌, ◌++◌, [], ap, ◌∙◌}
+use Rattle.std.proofs.Common.{◌≡◌, ◌++◌, [], ap, subst, ◌∙◌}
 use Rattle.cap_core.specs.declared.profile.ProfileName.TheVariants.{Wide}
+use Rattle.abstract_kernel.specs.Plan.{Plan}
 use Rattle.abstract_kernel.specs.Boot.{boot}
+use Rattle.abstract_kernel.specs.Memory.{IsInMemory}
 use Rattle.abstract_kernel.specs.State.{shown}
 use Rattle.abstract_kernel.specs.Step.{replies_of, state_after}
 use Rattle.engine.specs.Program.{calls_of, replies_to, end_of}
-use Rattle.engine.proofs.Runs.{boot_reached, booted_in_memory}
+use Rattle.engine.proofs.Runs.{boot_reached}
 use Rattle.engine.proofs.run.run_calls.Goals as goal
 
 pub returns-clause-kernel : goal.returns-clause-kernel
@@ -15,7 +17,7 @@ returns-clause-kernel g c =
     let plan : c.plan.result.now ≡ setup.plan = c.plan.ensures.plan in
     let calls : c.calls-calls.result.now ≡ calls_of setup = c.calls-calls.ensures in
     let shows : c.in_ok-kernel.kernel ≡ shown (boot Wide setup.plan) =
-    c.in_ok-kernel.ensures ∙ ap (λ q. shown (boot Wide q)) plan in
+    c.in_ok-kernel.ensures.shows ∙ ap (λ q. shown (boot Wide q)) plan in
     c.run.ensures.stands (boot Wide setup.plan) (boot_reached Wide setup.plan c.requires) shows
     ∙ ap (λ l. shown (state_after Wide (boot Wide setup.plan) l)) calls
 
@@ -26,7 +28,7 @@ returns-clause-replies g c =
     let plan : c.plan.result.now ≡ setup.plan = c.plan.ensures.plan in
     let calls : c.calls-calls.result.now ≡ calls_of setup = c.calls-calls.ensures in
     let shows : c.in_ok-kernel.kernel ≡ shown (boot Wide setup.plan) =
-    c.in_ok-kernel.ensures ∙ ap (λ q. shown (boot Wide q)) plan in
+    c.in_ok-kernel.ensures.shows ∙ ap (λ q. shown (boot Wide q)) plan in
     let none : c.in_ok-replies.replies.items ≡ [] = c.in_ok-replies.ensures.items in
     c.run.ensures.replies (boot Wide setup.plan) (boot_reached Wide setup.plan c.requires) shows
     ∙ ap (λ l. l ++ replies_of Wide (boot Wide setup.plan) c.calls-calls.result.now) none
@@ -35,6 +37,5 @@ returns-clause-replies g c =
 pub returns-clause-within : goal.returns-clause-within
 returns-clause-within g c =
     let setup = c.args.setup.now in
-    let shows : c.in_ok-kernel.kernel ≡ shown (boot Wide setup.plan) =
-    c.in_ok-kernel.ensures ∙ ap (λ q. shown (boot Wide q)) c.plan.ensures.plan in
-    c.run.ensures.within setup.plan.memory_bits (booted_in_memory Wide setup.plan c.in_ok-kernel.kernel c.requires shows)
+    c.run.ensures.within setup.plan.memory_bits
+    (subst (λ (q : Plan). IsInMemory Wide q.memory_bits c.in_ok-kernel.kernel) c.plan.ensures.plan c.in_ok-kernel.ensures.within)
