@@ -2,7 +2,10 @@
 #![tactic(auto)]
 
 mod boot;
+mod cancelling;
 mod decode;
+mod deletion;
+mod ending;
 pub mod kernel;
 mod objects;
 mod placements;

@@ -1,10 +1,10 @@
 -- What holds of a booted kernel's parts.
-use Rattle.std.proofs.Common.{◌≡◌, ℕ, ◌+◌, ◌-◌, ◌*◌, ◌/◌, ◌^◌, ◌≤◌, Option, List, length, refl, ◌∙◌, ap, arith}
+use Rattle.std.proofs.Common.{◌≡◌, ℕ, ◌+◌, ◌-◌, ◌*◌, ◌/◌, ◌%◌, ◌^◌, ◌≤◌, Option, List, length, refl, ◌∙◌, ap, arith}
 use Rattle.std.proofs.lemmas.Nat.{pow-add}
 use Rattle.std.proofs.lemmas.List.FromFn.{length-map-range_with_len}
 use Rattle.cap_core.specs.declared.profile.ProfileName.{ProfileName}
 use Rattle.cap_core.specs.declared.profile.ProfileName.TheVariants.{Wide, Narrow}
-use Rattle.cap_core.specs.Numbers.{tcb_size, tcb_bits}
+use Rattle.cap_core.specs.Numbers.{tcb_size, tcb_bits, slot_size, slot_bits}
 use Rattle.derivation.specs.Forest.{Forest}
 use Rattle.derivation.specs.Entries.{Entry}
 use Rattle.ipc_core.specs.Waits.{Waits, no_waits}
@@ -13,6 +13,7 @@ use Rattle.abstract_kernel.specs.Plan.{Plan, IsPlan, first_tcb}
 use Rattle.kernel_core.specs.Rows.{IsKernel}
 use Rattle.kernel_core.specs.Private.BootRows.{boot_row, boot_rows}
 use Rattle.abstract_kernel.specs.Boot.{boot_forest}
+use Rattle.kernel_core.proofs.Capabilities.PlacementSteps.{pow_fits}
 use Rattle.abstract_kernel.proofs.Boot.SoundPlans.{objects_within}
 use Rattle.kernel_core.proofs.Booted.BootThreads.{places, live_at_boot}
 use Rattle.abstract_kernel.proofs.Boot.BootedStore.{store_at_boot}
@@ -62,3 +63,18 @@ pub is_kernel : (p : ProfileName) (plan : Plan) (memory store_memory waiters_mem
     → rows ≡ boot_rows (first_tcb p plan / tcb_size p) plan.threads (2 ^ (plan.memory_bits - tcb_bits p)) → w ≡ no_waits
     → IsKernel p memory store_memory waiters_memory f rows w
 is_kernel p plan memory store_memory waiters_memory f rows w h a b c d e i = rw (a, b, c, d, e, i) (kernel_at_boot p plan h)
+
+-- the rows fill the memory
+pub rows_at_boot : (p : ProfileName) (plan : Plan) (memory : ℕ) (rows : List (Option ThreadRow)) → IsPlan p plan → memory ≡ plan.memory_bits
+    → rows ≡ boot_rows (first_tcb p plan / tcb_size p) plan.threads (2 ^ (plan.memory_bits - tcb_bits p)) → length rows * tcb_size p ≡ 2 ^ memory
+rows_at_boot p plan memory rows h a b = rw (a, b) (kernel_at_boot p plan h).rows_fill
+
+-- a link for each slot of the memory
+pub links_fill : (p : ProfileName) (m : ℕ) → 12 ≤ m → 2 ^ (m - slot_bits p) * slot_size p ≡ 2 ^ m
+links_fill Wide m h = let e = pow-add 2 (m - 5) 5 in let f : 2 ^ (m - 5 + 5) ≡ 2 ^ m = ap (λ n. 2 ^ n) (omega arith) in omega arith
+links_fill Narrow m h = let e = pow-add 2 (m - 4) 4 in let f : 2 ^ (m - 4 + 4) ≡ 2 ^ m = ap (λ n. 2 ^ n) (omega arith) in omega arith
+
+pub links_at_boot : (p : ProfileName) (plan : Plan) (m bits memory : ℕ) → IsPlan p plan → m ≡ plan.memory_bits → bits ≡ slot_bits p → memory ≡ plan.memory_bits → 1 * 2 ^ (m - bits) % 2 ^ 64 * slot_size p ≡ 2 ^ memory
+links_at_boot p plan m bits memory h a b c =
+    ap (λ (n : ℕ). n * slot_size p) (pow_fits (m - bits) (let most = h.limits.memory_most in omega (arith, a)))
+    ∙ rw (a, b, c) (links_fill p plan.memory_bits h.limits.memory_least)
