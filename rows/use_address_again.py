@@ -1,8 +1,8 @@
 #!/usr/bin/env python3
 """use_address_again.py PROGRAM ROUNDS: an endpoint is made at one address, waited on and deleted, in so many rounds.
 
-The set-up is written to the program's standard input, and its whole report is compared. In the end the endpoint is made once more,
-and nobody waits on it.
+The set-up is written to the program's standard input, and its whole report is compared. In the end the endpoint is made
+once more, and nobody waits on it.
 """
 import subprocess
 import sys
@@ -18,7 +18,12 @@ RETYPE = '{ thread = 2048, op = "retype", cap = 5, kind = 2, root = 1, offset = 
 SEND = '{ thread = 4096, op = "send", cap = 8 }'
 DELETE = '{ thread = 2048, op = "delete", cap = 1, index = 8 }'
 RECEIVE = '{ thread = 4096, op = "nbrecv", cap = 8 }'
-REPLIES = {RETYPE: "2048 retype: done", SEND: "4096 send: waiting", DELETE: "2048 delete: done", RECEIVE: "4096 nbrecv: empty"}
+REPLIES = {
+    RETYPE: "2048 retype: done",
+    SEND: "4096 send: waiting",
+    DELETE: "2048 delete: done",
+    RECEIVE: "4096 nbrecv: empty",
+}
 END = """thread 2048 ready
 thread 4096 ready
 endpoint 6144 idle

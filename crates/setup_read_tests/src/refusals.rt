@@ -393,7 +393,7 @@ fn edges_of_the_keys_of_a_retype_and_a_copy(rt: HostRuntime) -> Result<(), Fail>
     Ok(())
 }
 
-/// Each key missing where it is required, of another type and of another value; and a key that the operation does not have.
+/// Each key missing where it is required, of another type and of another value, and a key that the operation lacks.
 #[test]
 fn edges_of_the_keys_of_operations_on_a_slot(rt: HostRuntime) -> Result<(), Fail> {
     for (call, want) in [
@@ -525,7 +525,7 @@ fn edges_of_the_keys_of_operations_on_a_slot(rt: HostRuntime) -> Result<(), Fail
     Ok(())
 }
 
-/// Each key missing where it is required, of another type and of another value; and a key that the operation does not have.
+/// Each key missing where it is required, of another type and of another value, and a key that the operation lacks.
 #[test]
 fn edges_of_the_keys_of_operations_on_a_thread(rt: HostRuntime) -> Result<(), Fail> {
     for (call, want) in [
