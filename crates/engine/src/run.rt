@@ -74,10 +74,7 @@ pub fn text_of<
     W: MakeWaiters<Wide>,
     T: MakeStore<Narrow>,
     V: MakeWaiters<Narrow>,
->(
-    alloc: Global,
-    bytes: &[u8],
-) -> Result<(Vec<u8>, Verdict), AllocError>
+>(alloc: Global, bytes: &[u8]) -> Result<(Vec<u8>, Verdict), AllocError>
     ensures { IfOk result (λ made. (made.0.items, made.1) ≡ program bytes.now) }
 {
     match read_setup(alloc, bytes) {
