@@ -1,7 +1,6 @@
 -- What the program writes for the bytes that it reads, and its verdict.
 use Rattle.std.specs.Prelude.{ℕ, ◌==◌, cond, List, map, Result, Ok, Err}
 use Rattle.cap_core.specs.declared.profile.ProfileName.{ProfileName}
-use Rattle.cap_core.specs.declared.profile.ProfileName.TheVariants.{Wide}
 use Rattle.abstract_kernel.specs.declared.call.Call.{Call}
 use Rattle.abstract_kernel.specs.declared.call.Reply.{Reply}
 use Rattle.abstract_kernel.specs.Boot.{boot}
@@ -40,9 +39,9 @@ outcome_of p setup =
     (report_of p setup.calls (replies_to p setup) (shown (end_of p setup)), verdict_of setup.calls (replies_to p setup))
 
 abbrev pub outcome_in : Result SetupView Fault → List ℕ × Verdict
-outcome_in (Ok setup) = outcome_of Wide setup
+outcome_in (Ok setup) = outcome_of setup.profile setup
 outcome_in (Err fault) = (refusal_line fault, Refused)
 
--- the report of the set-up that the bytes are, or the line by which it is refused
+-- the report of the set-up that the bytes are, in the profile that it names, or the line by which it is refused
 unfoldable pub program : List ℕ → List ℕ × Verdict
 program bytes = outcome_in (setup_of_bytes bytes)

@@ -9,7 +9,7 @@ use crate::run::text_of;
 use crate::sink::Sink;
 use crate::source::Source;
 use crate::streams::{read_below, write_all};
-use cap_core::Wide;
+use cap_core::{Narrow, Wide};
 use ipc_core::LinkedWaiters;
 use setup_read::limits::MAX_SETUP_BYTES;
 use slot_core::LinkedStore;
@@ -52,7 +52,13 @@ pub fn check<S: Source, K: Sink>(
     ensures memory_keeps { result ≡ Err RunFault.Memory → sink.new ≡ sink.old }
 {
     let bytes = read_below(alloc, source, INPUT_LIMIT)?;
-    let made = text_of::<LinkedStore<Wide>, LinkedWaiters<Wide>>(alloc, bytes.as_slice());
+    let input = bytes.as_slice();
+    let made = text_of::<
+        LinkedStore<Wide>,
+        LinkedWaiters<Wide>,
+        LinkedStore<Narrow>,
+        LinkedWaiters<Narrow>,
+    >(alloc, input);
     let Ok((text, verdict)) = made else {
         return Err(RunFault::Memory);
     };

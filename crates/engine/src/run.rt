@@ -1,6 +1,5 @@
 //! The run of a set-up: from the bytes of an input to the text that is written for it.
 ghost use Rattle.std.specs.Prelude.{◌≡◌, IfOk, codes, ◌++◌};
-ghost use Rattle.cap_core.specs.declared.profile.ProfileName.TheVariants as Profiles;
 ghost use Rattle.abstract_kernel.specs.Plan.{IsPlan};
 ghost use Rattle.abstract_kernel.specs.Memory.{IsInMemory};
 ghost use Rattle.abstract_kernel.specs.State.{shown};
@@ -8,7 +7,7 @@ ghost use Rattle.setup_format.specs.Refusal.{setup_fault_text};
 ghost use Rattle.engine.specs.Program.{program, outcome_of, replies_to, end_of, verdict_on as verdict_of_counts};
 
 use crate::fault::Verdict;
-use cap_core::Wide;
+use cap_core::{Narrow, Profile, ProfileName, Wide};
 use ipc_core::MakeWaiters;
 use kernel_core::{Kernel, Reply};
 use setup_read::{ExpectationCount, Setup, SetupFault, counted_report, read_setup};
@@ -17,32 +16,32 @@ use std::alloc::{AllocError, Global};
 
 /// Boots a kernel from the set-up's plan and makes its calls: the kernel then, and the replies.
 #[tactic(auto, unfolding(crate::specs::Program::replies_to, crate::specs::Program::end_of))]
-fn run_calls<S: MakeStore<Wide>, W: MakeWaiters<Wide>>(
+fn run_calls<P: Profile, S: MakeStore<P>, W: MakeWaiters<P>>(
     alloc: Global,
     setup: &Setup,
-) -> Result<(Kernel<Wide, S, W>, Vec<Reply>), AllocError>
-    requires { IsPlan Profiles.Wide setup.now.plan }
-    ensures kernel { IfOk result (λ r. r.0 ≡ shown (end_of Profiles.Wide setup.now)) }
-    ensures replies { IfOk result (λ r. r.1.items ≡ replies_to Profiles.Wide setup.now) }
-    ensures within { IfOk result (λ r. IsInMemory Profiles.Wide setup.now.plan.memory_bits r.0) }
+) -> Result<(Kernel<P, S, W>, Vec<Reply>), AllocError>
+    requires { IsPlan P.the setup.now.plan }
+    ensures kernel { IfOk result (λ r. r.0 ≡ shown (end_of P.the setup.now)) }
+    ensures replies { IfOk result (λ r. r.1.items ≡ replies_to P.the setup.now) }
+    ensures within { IfOk result (λ r. IsInMemory P.the setup.now.plan.memory_bits r.0) }
 {
-    let mut kernel = Kernel::<Wide, S, W>::boot(alloc, setup.plan())?;
+    let mut kernel = Kernel::<P, S, W>::boot(alloc, setup.plan())?;
     let calls = setup.calls();
     let mut replies = Vec::with_capacity(alloc, calls.len())?;
     kernel.run(calls, &mut replies);
     Ok((kernel, replies))
 }
 
-/// Runs the set-up, and reports on it.
+/// Runs the set-up in a profile, and reports on it.
 #[tactic(auto, unfolding(crate::specs::Program::outcome_of), using(crate::proofs::Runs::length_replies_to))]
-fn run_setup<S: MakeStore<Wide>, W: MakeWaiters<Wide>>(
+fn run_setup<P: Profile, S: MakeStore<P>, W: MakeWaiters<P>>(
     alloc: Global,
     setup: &Setup,
 ) -> Result<(Vec<u8>, Verdict), AllocError>
-    requires { IsPlan Profiles.Wide setup.now.plan }
-    ensures { IfOk result (λ made. (made.0.items, made.1) ≡ outcome_of Profiles.Wide setup.now) }
+    requires { IsPlan P.the setup.now.plan }
+    ensures { IfOk result (λ made. (made.0.items, made.1) ≡ outcome_of P.the setup.now) }
 {
-    let (kernel, replies) = run_calls::<S, W>(alloc, setup)?;
+    let (kernel, replies) = run_calls::<P, S, W>(alloc, setup)?;
     let (text, count) = counted_report(alloc, setup, replies.as_slice(), &kernel)?;
     Ok((text, verdict_on(count)))
 }
@@ -66,17 +65,23 @@ fn refusal(alloc: Global, fault: &SetupFault) -> Result<Vec<u8>, AllocError>
     Ok(text.into_bytes())
 }
 
-/// The text that the program writes for the bytes of its input, and the verdict. The kernel has words of 64 bits, and the
-/// text is the same whatever stores it is made of.
+/// The text that the program writes for the bytes of its input, and the verdict. The kernel has the words of the set-up's
+/// profile: `S` and `W` are the stores of a wide kernel, `T` and `V` those of a narrow one. The text is the same whatever
+/// stores it is made of.
 #[tactic(auto, unfolding(crate::specs::Program::program))]
-pub fn text_of<S: MakeStore<Wide>, W: MakeWaiters<Wide>>(
-    alloc: Global,
-    bytes: &[u8],
-) -> Result<(Vec<u8>, Verdict), AllocError>
+pub fn text_of<
+    S: MakeStore<Wide>,
+    W: MakeWaiters<Wide>,
+    T: MakeStore<Narrow>,
+    V: MakeWaiters<Narrow>,
+>(alloc: Global, bytes: &[u8]) -> Result<(Vec<u8>, Verdict), AllocError>
     ensures { IfOk result (λ made. (made.0.items, made.1) ≡ program bytes.now) }
 {
     match read_setup(alloc, bytes) {
-        Ok(setup) => run_setup::<S, W>(alloc, &setup),
+        Ok(setup) => match setup.profile() {
+            ProfileName::Wide => run_setup::<Wide, S, W>(alloc, &setup),
+            ProfileName::Narrow => run_setup::<Narrow, T, V>(alloc, &setup),
+        },
         Err(SetupFault::Memory) => Err(AllocError),
         Err(fault) => Ok((refusal(alloc, &fault)?, Verdict::Refused)),
     }

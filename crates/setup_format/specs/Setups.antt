@@ -13,7 +13,7 @@ use Rattle.setup_format.specs.declared.limits.TheConstants.{FORMAT, MAX_CALLS}
 use Rattle.setup_format.specs.declared.fault.Place.TheVariants as places
 use Rattle.setup_format.specs.declared.setup.Sizes.{Sizes}
 use Rattle.setup_values.specs.Names.{Names}
-use Rattle.setup_values.specs.Kinds.{◌>>=◌, number, word, expect, op, tables, each}
+use Rattle.setup_values.specs.Kinds.{◌>>=◌, number, word, expect, op, profile, tables, each}
 use Rattle.setup_format.specs.Faults.{Fault, text, layout}
 use Rattle.setup_format.specs.Tables.{required, optional, known_only}
 use Rattle.setup_format.specs.Operations.{call_keys, operation_at}
@@ -47,7 +47,7 @@ call_at p names clients n table = do
 
 abbrev pub top_keys : List (List ℕ)
 top_keys =
-    codes "format" ∷ codes "memory_bits" ∷ codes "root_radix" ∷ codes "threads" ∷ codes "endpoints" ∷ codes "clients" ∷ codes "limit" ∷ codes "untyped"
+    codes "format" ∷ codes "profile" ∷ codes "memory_bits" ∷ codes "root_radix" ∷ codes "threads" ∷ codes "endpoints" ∷ codes "clients" ∷ codes "limit" ∷ codes "untyped"
     ∷ codes "call" ∷ []
 
 unfoldable pub sizes_of : Members → Result Sizes Fault
@@ -79,9 +79,9 @@ setup_with p sizes clients limit untyped call = do
   untypeds ← each (untyped_at p) 1 untyped
   plan ← laid_out p (planned_with sizes untypeds)
   calls ← each (call_at p [] clients) 1 call
-  Ok (record { plan = plan; clients = clients; limit = limit_of limit (length calls); calls = calls })
+  Ok (record { profile = p; plan = plan; clients = clients; limit = limit_of limit (length calls); calls = calls })
 
--- a table whose format and keys are known
+-- a table whose format, keys and profile are known
 unfoldable pub setup_at : ProfileName → Members → Result SetupView Fault
 setup_at p table = do
   sizes ← sizes_of table
@@ -95,7 +95,8 @@ unfoldable pub setup_of : Members → Result SetupView Fault
 setup_of table = do
   format ← required places.Top table (codes "format") (number FORMAT FORMAT)
   known ← known_only places.Top table top_keys
-  setup_at Wide table
+  profile ← optional places.Top table (codes "profile") Wide profile
+  setup_at profile table
 
 -- ---- bytes
 

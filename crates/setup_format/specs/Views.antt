@@ -1,5 +1,6 @@
 -- What is seen of a set-up.
 use Rattle.std.specs.Prelude.{ℕ, ◌≤◌, ◌<◌, List, length, All, Option}
+use Rattle.cap_core.specs.declared.profile.ProfileName.{ProfileName}
 use Rattle.abstract_kernel.specs.declared.call.Call.{Call}
 use Rattle.abstract_kernel.specs.Plan.{Plan}
 use Rattle.cap_core.specs.declared.limits.TheConstants.{MAX_CLIENTS, MAX_HISTORY_LIMIT}
@@ -12,6 +13,7 @@ pub record CallView : Type 0 where
   pub expect : Option (List ℕ)
 
 pub record SetupView : Type 0 where
+  pub profile : ProfileName
   pub plan : Plan
   pub clients : ℕ
   pub limit : ℕ

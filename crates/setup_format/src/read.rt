@@ -1,7 +1,6 @@
 //! A whole set-up, from its text or from the table of it.
 ghost use Rattle.std.specs.Prelude.{◌≡◌, ◌≢◌, ◌≤◌, ◌<◌, map, length, All, IfOk, IfErr};
 ghost use Rattle.toml.specs.View.{table_view};
-ghost use Rattle.cap_core.specs.declared.profile.ProfileName.TheVariants as profile;
 ghost use Rattle.abstract_kernel.specs.Plan.{IsUntypedSize, IsWithinLimits, IsPlan};
 ghost use Rattle.setup_values.specs.Private.Seen.{names_view};
 ghost use Rattle.setup_format.specs.Faults.{Gives};
@@ -17,13 +16,14 @@ use crate::limits::{FORMAT, MAX_CALLS};
 use crate::operations::{call_keys, operation_at};
 use crate::setup::{Setup, SetupCall, SetupCalls, Sizes};
 use crate::tables::{
-    expect_or_none, known_only, number_at, number_or, op_at, tables_or_none, word_at,
+    expect_or_none, known_only, number_at, number_or, op_at, profile_or_wide, tables_or_none,
+    word_at,
 };
 use cap_core::limits::{
     MAX_BOOT_ENDPOINTS, MAX_BOOT_THREADS, MAX_BOOT_UNTYPEDS, MAX_CLIENTS, MAX_HISTORY_LIMIT,
     MAX_MEMORY_BITS, MAX_ROOT_RADIX, MIN_BOOT_THREADS, MIN_MEMORY_BITS, MIN_ROOT_RADIX,
 };
-use cap_core::{Profile, Wide};
+use cap_core::{Narrow, Profile, ProfileName, Wide};
 use kernel_core::{BootPlan, Call};
 use setup_values::Name;
 use std::alloc::Global;
@@ -190,21 +190,21 @@ fn setup_with<P: Profile>(
     requires untyped { length untyped.now ≤ MAX_BOOT_UNTYPEDS }
     requires call { length call.now ≤ MAX_CALLS }
     ensures setup { Gives (λ s. s) result (spec.setup_with P.the sizes clients limit (map (λ t. table_view t.now) untyped.now) (map (λ t. table_view t.now) call.now)) }
-    ensures plan { IfOk result (λ s. IsPlan P.the s.plan) }
+    ensures plan { IfOk result (λ s. IsPlan s.profile s.plan) }
     ensures bounds { IfOk result IsWithinBounds }
 {
     let untypeds = untypeds_of::<P>(alloc, untyped)?;
     let plan = plan_of::<P>(sizes, untypeds)?;
     let calls = calls_of::<P>(alloc, &[], clients, call)?;
     let limit = limit_of(limit, calls.len());
-    Ok(Setup::new(plan, clients, limit, calls))
+    Ok(Setup::new(P::name(), plan, clients, limit, calls))
 }
 
-/// What a table is read as whose format and keys are known.
+/// What a table is read as whose format, keys and profile are known.
 #[tactic(auto, unfolding(crate::specs::Setups::setup_at))]
 fn setup_at<P: Profile>(alloc: Global, table: &Table) -> Result<Setup, SetupFault>
     ensures setup { Gives (λ s. s) result (spec.setup_at P.the (table_view table.now)) }
-    ensures plan { IfOk result (λ s. IsPlan P.the s.plan) }
+    ensures plan { IfOk result (λ s. IsPlan s.profile s.plan) }
     ensures bounds { IfOk result IsWithinBounds }
 {
     let sizes = sizes_of(table)?;
@@ -228,14 +228,18 @@ fn setup_at<P: Profile>(alloc: Global, table: &Table) -> Result<Setup, SetupFaul
 #[tactic(auto, unfolding(crate::specs::Setups::setup_of))]
 fn setup_of(alloc: Global, table: &Table) -> Result<Setup, SetupFault>
     ensures setup { Gives (λ s. s) result (spec.setup_of (table_view table.now)) }
-    ensures plan { IfOk result (λ s. IsPlan profile.Wide s.plan) }
+    ensures plan { IfOk result (λ s. IsPlan s.profile s.plan) }
     ensures bounds { IfOk result IsWithinBounds }
 {
     let _format = number_at(table, Place::Top, "format", FORMAT, FORMAT)?;
     known_only(table, Place::Top, &[
-        "format", "memory_bits", "root_radix", "threads", "endpoints", "clients", "limit", "untyped", "call",
+        "format", "profile", "memory_bits", "root_radix", "threads", "endpoints", "clients", "limit", "untyped",
+        "call",
     ])?;
-    setup_at::<Wide>(alloc, table)
+    match profile_or_wide(table, Place::Top, "profile")? {
+        ProfileName::Wide => setup_at::<Wide>(alloc, table),
+        ProfileName::Narrow => setup_at::<Narrow>(alloc, table),
+    }
 }
 
 /// The set-up that a table is read as, or its first fault.
@@ -243,14 +247,15 @@ fn setup_of(alloc: Global, table: &Table) -> Result<Setup, SetupFault>
 /// # Errors
 ///
 /// The first fault in this order, or `Memory` in place of any answer where memory was refused: the key `format`; an unknown key
-/// of the table, the least by its bytes; its other keys; each table of `untyped`; the plan of the boot; each table of `call`.
+/// of the table, the least by its bytes; the key `profile`; its other keys; each table of `untyped`; the plan of the boot; each
+/// table of `call`.
 /// `Text` is never answered. The format is this project's profile.
 #[tactic(auto, using(crate::proofs::Promises::Messages::messages_read, crate::proofs::Promises::Messages::never_text))]
 pub fn read_table(alloc: Global, table: &Table) -> Result<Setup, SetupFault>
     ensures setup { Gives (λ s. s) result (spec.setup_of (table_view table.now)) }
-    ensures plan { IfOk result (λ s. IsPlan profile.Wide s.plan) }
+    ensures plan { IfOk result (λ s. IsPlan s.profile s.plan) }
     ensures bounds { IfOk result IsWithinBounds }
-    ensures messages { IfOk result (λ s. All (HasMessage profile.Wide) s.calls) }
+    ensures messages { IfOk result (λ s. All (HasMessage s.profile) s.calls) }
     ensures never_text { IfErr result (λ e. e ≢ SetupFault.Text) }
 {
     setup_of(alloc, table)
@@ -264,9 +269,9 @@ pub fn read_table(alloc: Global, table: &Table) -> Result<Setup, SetupFault>
 #[tactic(auto, using(crate::proofs::Grammar::Bytes::bytes_of_text, crate::proofs::Grammar::Bytes::bytes_of_no_text))]
 pub fn read_setup(alloc: Global, bytes: &[u8]) -> Result<Setup, SetupFault>
     ensures setup { Gives (λ s. s) result (spec.setup_of_bytes bytes.now) }
-    ensures plan { IfOk result (λ s. IsPlan profile.Wide s.plan) }
+    ensures plan { IfOk result (λ s. IsPlan s.profile s.plan) }
     ensures bounds { IfOk result IsWithinBounds }
-    ensures messages { IfOk result (λ s. All (HasMessage profile.Wide) s.calls) }
+    ensures messages { IfOk result (λ s. All (HasMessage s.profile) s.calls) }
 {
     let Ok(text) = std::str::from_utf8(bytes) else {
         return Err(SetupFault::Text);

@@ -1,6 +1,7 @@
 //! What a set-up is.
 ghost use Rattle.std.specs.Prelude.{◌≡◌, ◌<◌, ◌≤◌, map, length, Some, option_map, option_copied, slice_get};
 
+use cap_core::ProfileName;
 use cap_core::limits::{MAX_MEMORY_BITS, MIN_MEMORY_BITS};
 use kernel_core::{BootPlan, Call};
 pub use setup_values::{OpName, Words};
@@ -108,10 +109,11 @@ impl SetupCalls {
     }
 }
 
-/// A set-up: the plan of a boot, whose memory has 2^`MIN_MEMORY_BITS` to 2^`MAX_MEMORY_BITS` bytes, and the calls that are
-/// then made.
+/// A set-up: the profile of the machine, the plan of a boot, whose memory has 2^`MIN_MEMORY_BITS` to 2^`MAX_MEMORY_BITS`
+/// bytes, and the calls that are then made.
 #[derive(Drop)]
 pub struct Setup {
+    profile: ProfileName,
     plan: BootPlan,
     clients: u32,
     limit: u32,
@@ -126,27 +128,41 @@ impl Model for Setup {
 
     ghost Value = { SetupView };
 
-    ghost view = { λ s. setup_view s.plan s.clients s.limit s.calls };
+    ghost view = { λ s. setup_view s.profile s.plan s.clients s.limit s.calls };
 
-    ghost invariant = { λ s. (MIN_MEMORY_BITS ≤ s.plan.memory_bits) × ((s.plan.memory_bits ≤ MAX_MEMORY_BITS) × IsWithinBounds (setup_view s.plan s.clients s.limit s.calls)) };
+    ghost invariant = { λ s. (MIN_MEMORY_BITS ≤ s.plan.memory_bits) × ((s.plan.memory_bits ≤ MAX_MEMORY_BITS) × IsWithinBounds (setup_view s.profile s.plan s.clients s.limit s.calls)) };
 }
 
 impl Setup {
     ghost use Rattle.setup_format.specs.Views.{IsWithinBounds};
     ghost use Rattle.setup_format.specs.Private.Seen.{setup_view};
 
-    pub(crate) fn new(plan: BootPlan, clients: u32, limit: u32, calls: SetupCalls) -> Setup
+    pub(crate) fn new(
+        profile: ProfileName,
+        plan: BootPlan,
+        clients: u32,
+        limit: u32,
+        calls: SetupCalls,
+    ) -> Setup
         requires least { MIN_MEMORY_BITS ≤ plan.memory_bits }
         requires most { plan.memory_bits ≤ MAX_MEMORY_BITS }
-        requires bounds { IsWithinBounds (setup_view plan clients limit calls) }
-        ensures { result ≡ setup_view plan clients limit calls }
+        requires bounds { IsWithinBounds (setup_view profile plan clients limit calls) }
+        ensures { result ≡ setup_view profile plan clients limit calls }
     {
         Setup {
+            profile,
             plan,
             clients,
             limit,
             calls,
         }
+    }
+
+    /// Which machine it is a set-up of.
+    pub fn profile(&self) -> ProfileName
+        ensures { result ≡ self.now.profile }
+    {
+        self.profile
     }
 
     /// What the kernel is booted from.

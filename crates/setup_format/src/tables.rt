@@ -5,6 +5,7 @@ ghost use Rattle.std.specs.List.Sorted.{IsStrictlySortedBy};
 ghost use Rattle.std.specs.String.{string_cmp};
 ghost use Rattle.toml.specs.View.{view, table_view};
 ghost use Rattle.toml.specs.Data.{get_member, as_table};
+ghost use Rattle.cap_core.specs.declared.profile.ProfileName.TheVariants.{Wide};
 ghost use Rattle.cap_core.specs.Rights.{all_rights};
 ghost use Rattle.setup_values.specs.Private.Seen.{names_view};
 ghost use Rattle.setup_values.specs.Kinds as kind;
@@ -13,8 +14,8 @@ ghost use Rattle.setup_format.specs.Tables as spec;
 
 use crate::fault::{Key, Place, SetupFault, Wrong};
 use cap_core::limits::MAX_MESSAGE_WORDS;
-use cap_core::{Profile, Rights};
-use setup_values::kinds::{array, expect, label, number, op, rights, word, words};
+use cap_core::{Profile, ProfileName, Rights};
+use setup_values::kinds::{array, expect, label, number, op, profile, rights, word, words};
 use setup_values::{Name, OpName, Words};
 use std::alloc::Global;
 use toml::{Table, Value};
@@ -171,6 +172,20 @@ pub fn expect_or_none(
             let text = at_key(place, key, expect(value))?;
             Ok(Some(String::from_str(alloc, text)?))
         }
+    }
+}
+
+/// A profile; the wide one where the key is not there.
+pub fn profile_or_wide(
+    table: &Table,
+    place: Place,
+    key: &'static str,
+) -> Result<ProfileName, SetupFault>
+    ensures { Gives (λ p. p) result (spec.optional place (table_view table.now) key.now Wide kind.profile) }
+{
+    match find(table, key) {
+        None => Ok(ProfileName::Wide),
+        Some(value) => at_key(place, key, profile(value)),
     }
 }
 

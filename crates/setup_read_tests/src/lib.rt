@@ -4,6 +4,8 @@
 #[cfg(test)]
 mod operations;
 #[cfg(test)]
+mod profiles;
+#[cfg(test)]
 mod refusals;
 #[cfg(test)]
 mod reports;

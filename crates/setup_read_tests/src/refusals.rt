@@ -52,7 +52,7 @@ fn first_fault_of_the_top_table(rt: HostRuntime) -> Result<(), Fail> {
         ),
         (
             "format = 1\nprofile = \"wide\"\n",
-            "201: set-up refused 201 at top key profile",
+            "202: set-up refused 202 at top key memory_bits",
         ),
         (
             "format = 1\nnames = {}\n",

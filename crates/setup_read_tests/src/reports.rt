@@ -1,5 +1,5 @@
 //! Whole reports, byte for byte.
-use cap_core::Wide;
+use cap_core::{ProfileName, Wide};
 use ipc_core::RowWaiters;
 use kernel_core::Kernel;
 use setup_read::{expectations, read_setup, report};
@@ -8,11 +8,14 @@ use std::alloc::Global;
 use std::process::Abort;
 use std::test::Fail;
 
-/// The report of a set-up's run, and how many of its expectations are met and how many it has.
+/// The report of a wide set-up's run, and how many of its expectations are met and how many it has.
 fn ran(alloc: Global, text: &str) -> Result<(String, usize, usize), Fail> {
     let Ok(setup) = read_setup(alloc, text.as_bytes()) else {
         return Err("a set-up was wanted")?;
     };
+    if setup.profile() != ProfileName::Wide {
+        return Err("a wide set-up was wanted")?;
+    }
     let mut kernel = Kernel::<Wide, RowStore<Wide>, RowWaiters<Wide>>::boot(alloc, setup.plan())?;
     let calls = setup.calls();
     let mut replies = Vec::with_capacity(alloc, calls.len())?;

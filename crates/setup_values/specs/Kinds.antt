@@ -4,6 +4,7 @@ use Rattle.std.specs.Str.{bytes_eq}
 use Rattle.std.specs.List.{list_all}
 use Rattle.toml.specs.Data.{Data, as_integer, as_str, as_array, as_table, Items, no_items, item, Members}
 use Rattle.cap_core.specs.declared.profile.ProfileName.{ProfileName}
+use Rattle.cap_core.specs.declared.profile.ProfileName.TheVariants.{Wide, Narrow}
 use Rattle.cap_core.specs.declared.limits.TheConstants.{MAX_MESSAGE_WORDS}
 use Rattle.cap_core.specs.declared.rights.Rights.{Rights}
 use Rattle.cap_core.specs.Numbers.{word_bits, label_bits}
@@ -136,6 +137,17 @@ expect_in (Some t) = if between 1 MAX_EXPECT_BYTES (length t) && list_all (betwe
 
 abbrev pub expect : Data → Result (Option (List ℕ)) Wrong
 expect d = expect_in (as_str d)
+
+-- profile: a text that names it
+abbrev pub profile_in : Option (List ℕ) → Result ProfileName Wrong
+profile_in None = Err OtherType
+profile_in (Some t) =
+    if bytes_eq t (codes "wide") then Ok Wide
+    else if bytes_eq t (codes "narrow") then Ok Narrow
+    else Err OtherValue
+
+abbrev pub profile : Data → Result ProfileName Wrong
+profile d = profile_in (as_str d)
 
 -- op: a text that names an operation, on slots, on an endpoint or on a thread
 abbrev pub slot_op : List ℕ → Option OpName

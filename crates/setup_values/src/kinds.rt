@@ -11,7 +11,7 @@ use crate::limits::MAX_EXPECT_BYTES;
 use crate::names::{Name, word_of};
 use crate::values::{OpName, Words, Wrong};
 use cap_core::limits::MAX_MESSAGE_WORDS;
-use cap_core::{Profile, Rights};
+use cap_core::{Profile, ProfileName, Rights};
 use toml::Value;
 
 /// An integer from `low` to `high`.
@@ -183,6 +183,18 @@ pub fn expect(value: &Value) -> Result<&str, Wrong>
         return Err(Wrong::OtherValue);
     }
     Ok(text)
+}
+
+/// The profile that a text names.
+pub fn profile(value: &Value) -> Result<ProfileName, Wrong>
+    ensures { result ≡ kind.profile (view value.now) }
+{
+    match value.as_str() {
+        None => Err(Wrong::OtherType),
+        Some("wide") => Ok(ProfileName::Wide),
+        Some("narrow") => Ok(ProfileName::Narrow),
+        Some(_) => Err(Wrong::OtherValue),
+    }
 }
 
 /// The operation on slots that a text names.

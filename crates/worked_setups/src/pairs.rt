@@ -1,5 +1,5 @@
-//! The pairs of a capability store and a store of waiting threads.
-use cap_core::Wide;
+//! The pairs of a capability store and a store of waiting threads, each in both profiles.
+use cap_core::{Narrow, Wide};
 use engine::{Verdict, text_of};
 use ipc_core::{LinkedWaiters, RowWaiters};
 use slot_core::{LinkedStore, RowStore};
@@ -31,14 +31,30 @@ impl Pair {
     /// What is written for a set-up's bytes over this pair, and the verdict.
     pub fn run(self, alloc: Global, setup: &[u8]) -> Result<(Vec<u8>, Verdict), AllocError> {
         match self {
-            Pair::Linked => text_of::<LinkedStore<Wide>, LinkedWaiters<Wide>>(alloc, setup),
-            Pair::Rows => text_of::<RowStore<Wide>, RowWaiters<Wide>>(alloc, setup),
-            Pair::LinkedStoreRowWaiters => {
-                text_of::<LinkedStore<Wide>, RowWaiters<Wide>>(alloc, setup)
-            }
-            Pair::RowStoreLinkedWaiters => {
-                text_of::<RowStore<Wide>, LinkedWaiters<Wide>>(alloc, setup)
-            }
+            Pair::Linked => text_of::<
+                LinkedStore<Wide>,
+                LinkedWaiters<Wide>,
+                LinkedStore<Narrow>,
+                LinkedWaiters<Narrow>,
+            >(alloc, setup),
+            Pair::Rows => text_of::<
+                RowStore<Wide>,
+                RowWaiters<Wide>,
+                RowStore<Narrow>,
+                RowWaiters<Narrow>,
+            >(alloc, setup),
+            Pair::LinkedStoreRowWaiters => text_of::<
+                LinkedStore<Wide>,
+                RowWaiters<Wide>,
+                LinkedStore<Narrow>,
+                RowWaiters<Narrow>,
+            >(alloc, setup),
+            Pair::RowStoreLinkedWaiters => text_of::<
+                RowStore<Wide>,
+                LinkedWaiters<Wide>,
+                RowStore<Narrow>,
+                LinkedWaiters<Narrow>,
+            >(alloc, setup),
         }
     }
 }

@@ -311,40 +311,41 @@ reads_plan p plan = unless (first_defect p plan)
     unless None = tt
     unless (Some defect) = tt
 
-abbrev HaveMessages : ProfileName → SetupView → Type 0
-HaveMessages p s = AllByRecursion (HasMessage p) s.calls
+abbrev HaveMessages : SetupView → Type 0
+HaveMessages s = AllByRecursion (HasMessage s.profile) s.calls
 
-reads_setup_with : (p : ProfileName) (sizes : Sizes) (clients limit : ℕ) (untyped call : List Members) → Reads (HaveMessages p) (setup_with p sizes clients limit untyped call)
+reads_setup_with : (p : ProfileName) (sizes : Sizes) (clients limit : ℕ) (untyped call : List Members) → Reads HaveMessages (setup_with p sizes clients limit untyped call)
 unfolding setup_with
 reads_setup_with p sizes clients limit untyped call =
-    then_reads Anything (HaveMessages p) (each (untyped_at p) 1 untyped) _ (each_anything IsRegion _ (reads_each IsRegion (untyped_at p) (reads_untyped p) 1 untyped))
-    (λ untypeds _. then_reads Anything (HaveMessages p) (laid_out p (planned_with sizes untypeds)) _ (reads_plan p (planned_with sizes untypeds))
-    (λ plan _. then_reads (AllByRecursion (HasMessage p)) (HaveMessages p) (each (call_at p [] clients) 1 call) _ (reads_each (HasMessage p) (call_at p [] clients) (reads_call p [] clients) 1 call)
+    then_reads Anything HaveMessages (each (untyped_at p) 1 untyped) _ (each_anything IsRegion _ (reads_each IsRegion (untyped_at p) (reads_untyped p) 1 untyped))
+    (λ untypeds _. then_reads Anything HaveMessages (laid_out p (planned_with sizes untypeds)) _ (reads_plan p (planned_with sizes untypeds))
+    (λ plan _. then_reads (AllByRecursion (HasMessage p)) HaveMessages (each (call_at p [] clients) 1 call) _ (reads_each (HasMessage p) (call_at p [] clients) (reads_call p [] clients) 1 call)
     (λ calls all. all)))
 
-reads_setup_at : (p : ProfileName) (table : Members) → Reads (HaveMessages p) (setup_at p table)
+reads_setup_at : (p : ProfileName) (table : Members) → Reads HaveMessages (setup_at p table)
 unfolding setup_at
 reads_setup_at p table =
-    then_reads Anything (HaveMessages p) _ _ (reads_sizes table)
-    (λ sizes _. then_reads Anything (HaveMessages p) _ _ (reads_any _ table (codes "clients") 1 _)
-    (λ clients _. then_reads Anything (HaveMessages p) _ _ (reads_any _ table (codes "limit") 0 _)
-    (λ limit _. then_reads Anything (HaveMessages p) _ _ (reads_any _ table (codes "untyped") [] _)
-    (λ untyped _. then_reads Anything (HaveMessages p) _ _ (reads_any _ table (codes "call") [] _)
+    then_reads Anything HaveMessages _ _ (reads_sizes table)
+    (λ sizes _. then_reads Anything HaveMessages _ _ (reads_any _ table (codes "clients") 1 _)
+    (λ clients _. then_reads Anything HaveMessages _ _ (reads_any _ table (codes "limit") 0 _)
+    (λ limit _. then_reads Anything HaveMessages _ _ (reads_any _ table (codes "untyped") [] _)
+    (λ untyped _. then_reads Anything HaveMessages _ _ (reads_any _ table (codes "call") [] _)
     (λ call _. reads_setup_with p sizes clients limit untyped call)))))
 
-reads_setup : (table : Members) → Reads (HaveMessages Wide) (setup_of table)
+reads_setup : (table : Members) → Reads HaveMessages (setup_of table)
 unfolding setup_of
 reads_setup table =
-    then_reads Anything (HaveMessages Wide) _ _ (reads_required _ table (codes "format") _)
-    (λ format _. then_reads Anything (HaveMessages Wide) (known_only places.Top table top_keys) _ (reads_known places.Top table top_keys) (λ known _. reads_setup_at Wide table))
+    then_reads Anything HaveMessages _ _ (reads_required _ table (codes "format") _)
+    (λ format _. then_reads Anything HaveMessages (known_only places.Top table top_keys) _ (reads_known places.Top table top_keys)
+    (λ known _. then_reads Anything HaveMessages _ _ (reads_any _ table (codes "profile") Wide _) (λ p _. reads_setup_at p table)))
 
-pub messages_read : (table : Members) (r : Result SetupView SetupFault) → Gives (λ s. s) r (setup_of table) → IfOk r (λ s. All (HasMessage Wide) s.calls)
-messages_read table (Ok s) h = All-from_recursion (HasMessage Wide) s.calls (subst (Reads (HaveMessages Wide)) h (reads_setup table))
+pub messages_read : (table : Members) (r : Result SetupView SetupFault) → Gives (λ s. s) r (setup_of table) → IfOk r (λ s. All (HasMessage s.profile) s.calls)
+messages_read table (Ok s) h = All-from_recursion (HasMessage s.profile) s.calls (subst (Reads HaveMessages) h (reads_setup table))
 messages_read table (Err e) h = tt
 
 pub never_text : (table : Members) (r : Result SetupView SetupFault) → Gives (λ s. s) r (setup_of table) → IfErr r (λ e. e ≢ faults.Text)
 never_text table (Ok s) h = tt
-never_text table (Err faults.Text) h = absurd (subst (Reads (HaveMessages Wide)) h (reads_setup table))
+never_text table (Err faults.Text) h = absurd (subst (Reads HaveMessages) h (reads_setup table))
 never_text table (Err (faults.At wrong place key)) h = λ e. cc
 never_text table (Err (faults.Layout defect)) h = λ e. cc
 never_text table (Err faults.Memory) h = λ e. cc

@@ -1,5 +1,6 @@
 -- What is seen of the code's own calls.
 use Rattle.std.specs.Prelude.{ℕ, List, [], ◌∷◌, option_map, string_bytes}
+use Rattle.cap_core.specs.declared.profile.ProfileName.{ProfileName}
 use Rattle.abstract_kernel.specs.declared.call.Call.{Call}
 use Rattle.abstract_kernel.specs.Plan.{Plan}
 use Rattle.setup_format.specs.declared.setup.Caller.{Caller}
@@ -16,5 +17,6 @@ call_views (call ∷ calls) [] = []
 call_views (call ∷ calls) (caller ∷ callers) =
     record { call = call; client = caller.client; expect = option_map string_bytes caller.expect } ∷ call_views calls callers
 
-abbrev pub setup_view : Plan → ℕ → ℕ → List CallView → SetupView
-setup_view plan clients limit calls = record { plan = plan; clients = clients; limit = limit; calls = calls }
+abbrev pub setup_view : ProfileName → Plan → ℕ → ℕ → List CallView → SetupView
+setup_view profile plan clients limit calls =
+    record { profile = profile; plan = plan; clients = clients; limit = limit; calls = calls }

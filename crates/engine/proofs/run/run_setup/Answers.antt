@@ -1,6 +1,5 @@
 -- What is reported on is the abstract kernel's: its replies, its end state, and slots in the set-up's memory.
 use Rattle.std.proofs.Common.{◌∙◌, ap, ap₂}
-use Rattle.cap_core.specs.declared.profile.ProfileName.TheVariants.{Wide}
 use Rattle.setup_report.specs.Report.{report_of, met_count, expectation_count}
 use Rattle.setup_report.proofs.Addresses.InMemory.{slots_within}
 use Rattle.engine.specs.Program.{outcome_of, verdict_on}
@@ -8,7 +7,7 @@ use Rattle.engine.proofs.run.run_setup.Goals as goal
 
 pub counted_report-requires-clause-slots : goal.counted_report-requires-clause-slots
 counted_report-requires-clause-slots g c =
-    slots_within Wide c.args.setup.now.plan.memory_bits c.in_ok-kernel.kernel c.in_ok-kernel.ensures.within
+    slots_within g.P.Profile.the c.args.setup.now.plan.memory_bits c.in_ok-kernel.kernel c.in_ok-kernel.ensures.within
 
 pub returns : goal.returns
 unfolding outcome_of
@@ -16,7 +15,7 @@ returns g c =
     let setup = c.args.setup.now in
     let replies = c.as_slice.ensures.value ∙ c.in_ok-kernel.ensures.replies in
     let made = c.in_ok-text.ensures in
-    let text = made.report ∙ ap₂ (λ r k. report_of Wide setup.calls r k) replies c.in_ok-kernel.ensures.kernel in
+    let text = made.report ∙ ap₂ (λ r k. report_of g.P.Profile.the setup.calls r k) replies c.in_ok-kernel.ensures.kernel in
     let met = made.met ∙ ap (λ r. met_count setup.calls r) replies in
     let expected = made.expected ∙ ap (λ r. expectation_count setup.calls r) replies in
     ap₂ (λ t v. (t, v)) text (c.verdict_on.ensures ∙ ap₂ verdict_on met expected)
