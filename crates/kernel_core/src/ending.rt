@@ -58,12 +58,12 @@ impl<P: Profile, W: Waiters<P> + Drop> Threads<P, W> {
     }
 
     /// A thread that ended waits nowhere, and has no row.
-    fn end_thread(&mut self, thread: u64)
-        ensures { IsThreadAddress P.the self.old.memory_bits thread → AreLeft P.the (is_thread_at thread) self.old.memory_bits self.new.memory_bits self.old.rows.items self.new.rows.items (W.waits self.old.waiters) (W.waits self.new.waiters) }
+    fn end_thread(&mut self, tcb: u64)
+        ensures { IsThreadAddress P.the self.old.memory_bits tcb → AreLeft P.the (is_thread_at tcb) self.old.memory_bits self.new.memory_bits self.old.rows.items self.new.rows.items (W.waits self.old.waiters) (W.waits self.new.waiters) }
     {
-        if is_thread_address::<P>(self.memory_bits, thread) {
-            self.waiters.cancel_thread(thread);
-            let place = (thread >> P::TCB_BITS) as usize;
+        if is_thread_address::<P>(self.memory_bits, tcb) {
+            self.waiters.cancel_thread(tcb);
+            let place = (tcb >> P::TCB_BITS) as usize;
             self.rows[place] = None;
         }
     }

@@ -3,6 +3,7 @@
 
 mod boot;
 mod cancelling;
+mod copying;
 mod decode;
 mod deletion;
 mod ending;

@@ -7,5 +7,5 @@ pub returns-then-is_thread_address : goal.returns-then-is_thread_address
 returns-then-is_thread_address g c placed =
     let p = g.P.Profile.the in
     let own = c.args.self.now in
-    thread_left p own.memory_bits own.memory_bits _ c.args.thread own.rows.items (g.W.Waiters.waits own.waiters) (g.W.Waiters.waits c.cancel_thread.new.self) refl c.cancel_thread.ensures.waits
-    (ap (λ (n : ℕ). c.args.thread / 2 ^ n) (c.TCB_BITS.ensures ∙ g.met.P.Profile.tcb_bits_is)) placed.aligned (row_within p c.args.thread own.memory_bits own.rows.items own.fill placed.within)
+    thread_left p own.memory_bits own.memory_bits _ c.args.tcb own.rows.items (g.W.Waiters.waits own.waiters) (g.W.Waiters.waits c.cancel_thread.new.self) refl c.cancel_thread.ensures.waits
+    (ap (λ (n : ℕ). c.args.tcb / 2 ^ n) (c.TCB_BITS.ensures ∙ g.met.P.Profile.tcb_bits_is)) placed.aligned (row_within p c.args.tcb own.memory_bits own.rows.items own.fill placed.within)
