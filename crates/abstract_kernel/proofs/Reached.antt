@@ -1,4 +1,5 @@
 -- The states that runs reach.
+pub mod Equations
 pub mod Runs
 pub mod Invariant
 pub mod Stores

@@ -52,7 +52,7 @@ boot_forest p plan =
     with_spaces p (root_cap p plan) (boot_tcbs p plan) (with_roots p 1 (boot_caps p plan) none)
 
 -- the state after boot: every thread is ready, and nothing was sent
-abbrev pub boot : ProfileName → Plan → State
+unfoldable pub boot : ProfileName → Plan → State
 boot p plan =
     record {
       derivations = boot_forest p plan;

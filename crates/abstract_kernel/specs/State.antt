@@ -105,7 +105,7 @@ thread_view A base =
     record { state = state_of A (thread_at A base); inbox = inbox_of A (thread_at A base) }
 
 -- what is shown of a state
-abbrev pub shown : State → Shown
+unfoldable pub shown : State → Shown
 shown A =
     record {
       derivations = A.derivations;

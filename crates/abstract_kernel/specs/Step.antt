@@ -140,14 +140,14 @@ outcome p A thread (Err refusal) = record { reply = Refused refusal; state = cou
 outcome p A thread (Ok invocation) = performed p A thread invocation
 
 -- one call: where a check fails it is refused, and nothing but the count changes
-abbrev pub step : ProfileName → State → Call → Outcome
+unfoldable pub step : ProfileName → State → Call → Outcome
 step p A call = outcome p A call.thread (decoded_call p (shown A) call)
 
 -- the replies to a list of calls, and the state after them
-abbrev pub replies_of : ProfileName → State → List Call → List Reply
+unfoldable pub replies_of : ProfileName → State → List Call → List Reply
 replies_of p A [] = []
 replies_of p A (call ∷ calls) = (step p A call).reply ∷ replies_of p (step p A call).state calls
 
-abbrev pub state_after : ProfileName → State → List Call → State
+unfoldable pub state_after : ProfileName → State → List Call → State
 state_after p A [] = A
 state_after p A (call ∷ calls) = state_after p (step p A call).state calls

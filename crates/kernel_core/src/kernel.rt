@@ -99,6 +99,7 @@ impl<P: Profile, S: CapStore<P> + Drop, W: Waiters<P> + Drop> Kernel<P, S, W> {
     /// send and the accepted receive at its place, in the order of the pairs, with the badge that the send kept; after boot
     /// there are no pairs. Whatever the calls, the live objects are disjoint, or one is an untyped region around the other, and
     /// what is made in an untyped region ends within what is used of it. It takes no memory.
+    #[tactic(auto, unfolding(abstract_kernel::specs::Step::replies_of, abstract_kernel::specs::Step::state_after))]
     pub fn run(&mut self, calls: &[Call], replies: &mut Vec<Reply>)
         requires room { vec_len replies.old + length calls.now ≤ vec_capacity replies.old }
         ensures replies { (A : State) → IsReached P.the A → self.old ≡ shown A → replies.new.items ≡ replies.old.items ++ replies_of P.the A calls.now }

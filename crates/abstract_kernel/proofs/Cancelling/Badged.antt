@@ -215,6 +215,7 @@ module _ (A : State) (base : ℕ) (badge : Badge) (inv : Invariant A) (live : li
         ∙ (λ i. record { state = sym state i; inbox = sym inbox i })
 
   badged_shown : shown (cancelling_badged A (endpoint_at A base) badge) ≡ after_release (shown A) base (is_sender_with badge)
+  unfolding shown
   badged_shown =
       let rows = table_agrees (threads_of A.derivations) (threads_of A.derivations) (thread_view left) (λ t. readied (list_any (is_thread t) (those (is_sender_with badge) (waiting_at (shown A) base))) (get (shown A).threads t)) (λ q. refl) view_left in
       let lists = table_changed (endpoints_of A.derivations) (λ b. waiters A (endpoint_at A b)) (λ b. waiters left (endpoint_at A b)) base (in_table _ _ _ live) list_elsewhere
@@ -236,6 +237,7 @@ module _ (A : State) (base : ℕ) (badge : Badge) (inv : Invariant A) (none : (b
   receives_kept x = receives_waiting A (is_badged_send (endpoint_at A base) badge) (λ _. false) inv x ∙ filter_all (λ (a : ReceiveRecord). true) (waiting_receives A x) (all_of (λ (a : ReceiveRecord). true ≡ true) (λ a. refl) (waiting_receives A x))
 
   unbadged_shown : shown kept ≡ shown A
+  unfolding shown
   unbadged_shown = λ i. record {
     derivations = A.derivations;
     threads = table (threads_of A.derivations) (λ t. record {

@@ -26,6 +26,7 @@ use Rattle.abstract_kernel.proofs.Cancelling.States.{find_among, state_found}
 
 -- the row of a live thread, as it is shown
 pub row_shown : (A : State) (t : ℕ) → list_any (λ k. t == k) (threads_of A.derivations) ≡ true → get (shown A).threads t ≡ Some (thread_view A t)
+unfolding shown
 row_shown A t live = get_table (threads_of A.derivations) (thread_view A) t ∙ ap (λ (b : Bool). cond b (Some (thread_view A t)) None) live
 
 -- a waiting list, less those that a test names
@@ -117,6 +118,7 @@ module _ (A : State) (g : Forest Entry) (inv : Invariant A)
       stays e m own is = (λ i. not (is_ended A g (own i) (is i))) ∙ ap not (ended_by_thread b m.base live) ∙ not_not (list_any (λ k. m.base == k) (threads_of g))
 
   pub ending_shown : shown (ending A g) ≡ after_ending (shown A) g
+  unfolding shown
   ending_shown =
       let rows = table_agrees (threads_of g) (threads_of g) (thread_view left) (λ t. view_among (endpoints_of g) (get (shown A).threads t)) (λ q. refl) view_left in
       let lists = table_agrees (endpoints_of g) (endpoints_of g) (λ b. waiting_among (threads_of g) (waiting_at (shown A) b)) (λ b. waiters left (endpoint_at A b)) (λ q. refl) list_left in

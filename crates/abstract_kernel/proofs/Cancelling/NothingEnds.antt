@@ -40,6 +40,7 @@ module _ (A : State) (g : Forest Entry) (inv : Invariant A)
       (all_weaker (ReceiveIsOpen A) (λ (a : ReceiveRecord). not (is_receive_ended A g a) ≡ true) (λ a o. stays a.endpoint a.thread o) (waiting_receives A e) (inv.receives_open e))
 
   nothing_ends : shown (ending A g) ≡ shown (record A { derivations = g })
+  unfolding shown
   nothing_ends = λ i. record {
     derivations = g;
     threads = table (threads_of g) (λ t. record {
@@ -53,6 +54,7 @@ module _ (A : State) (g : Forest Entry) (inv : Invariant A)
   }
 
   pub after_ending_rearranged : after_ending (shown A) g ≡ rearranged (shown A) g
+  unfolding shown
   after_ending_rearranged =
       sym (ending_shown A g inv (λ q live. sym (endpoints q) ∙ live) (λ q live. sym (threads q) ∙ live))
       ∙ nothing_ends

@@ -59,6 +59,7 @@ module _ (p : ProfileName) (A : State) (new : NewObjects) (inv : Invariant A) (f
       ap (view_among (endpoints_of g)) (row_shown A q live) ∙ (λ i. record { state = state i; inbox = (thread_view A q).inbox })
 
   view_new : (q : ℕ) → list_any (λ k. q == k) (threads_of A.derivations) ≡ false → view_among (endpoints_of g) (get (shown A).threads q) ≡ new_thread
+  unfolding shown
   view_new q none = ap (view_among (endpoints_of g)) (get_table (threads_of A.derivations) (thread_view A) q ∙ ap (λ (b : Bool). cond b (Some (thread_view A q)) None) none)
 
   by_row : (q : ℕ) (made live : Bool) → list_any (λ k. q == k) (new_bases tcb_base p new) ≡ made → list_any (λ k. q == k) (threads_of A.derivations) ≡ live →
@@ -68,6 +69,7 @@ module _ (p : ProfileName) (A : State) (new : NewObjects) (inv : Invariant A) (f
   by_row q false false is lives = refl
 
   rows : table (threads_of g) (λ t. view_among (endpoints_of g) (get (shown A).threads t)) ≡ with_threads (new_bases tcb_base p new) (shown A).threads
+  unfolding shown
   rows = same_nat_map _ _ (λ q.
       get_table (threads_of g) (λ t. view_among (endpoints_of g) (get (shown A).threads t)) q
       ∙ ap (λ (b : Bool). cond b (Some (view_among (endpoints_of g) (get (shown A).threads q))) None) (threads_live q)
@@ -88,6 +90,7 @@ module _ (p : ProfileName) (A : State) (new : NewObjects) (inv : Invariant A) (f
       ∙ sym (list_shown A e live)
 
   list_new : (e : ℕ) → list_any (λ k. e == k) (endpoints_of A.derivations) ≡ false → waiting_among (threads_of g) (waiting_at (shown A) e) ≡ waiting_at (shown A) e
+  unfolding shown
   list_new e none =
       let empty : waiting_at (shown A) e ≡ [] = ap (λ (o : Option (List Waiter)). unwrap_or o []) (get_table (endpoints_of A.derivations) (λ b. waiters A (endpoint_at A b)) e ∙ ap (λ (b : Bool). cond b (Some (waiters A (endpoint_at A e))) None) none) in
       ap (waiting_among (threads_of g)) empty ∙ sym empty
@@ -97,6 +100,7 @@ module _ (p : ProfileName) (A : State) (new : NewObjects) (inv : Invariant A) (f
   by_list e false is = list_new e is
 
   pub after_ending_made : after_ending (shown A) (with_objects p new A.derivations) ≡ objects_shown p (shown A) new
+  unfolding shown
   after_ending_made =
       let lists = table_agrees (endpoints_of g) (endpoints_of g) (waiting_at (shown A)) (λ e. waiting_among (threads_of g) (waiting_at (shown A) e)) (λ q. refl) (λ q live. by_list q (list_any (λ k. q == k) (endpoints_of A.derivations)) refl) in
       λ i. record { derivations = g; threads = rows i; endpoints = lists i }

@@ -85,6 +85,7 @@ module _ (A : State) (t : ℕ) (idle : Bool) (inv : Invariant A) (live : list_an
       by_address m is = ap (λ (x : Instance). same_instance x (thread_at A t)) is ∙ same_thread_at A m.base t
 
   pub stopping_shown : shown (stopping A (thread_at A t) idle) ≡ after_stop (shown A) t (cond idle Inactive Ready)
+  unfolding shown
   stopping_shown =
       let inbox : inbox_of left (thread_at A t) ≡ inbox_at (shown A) t = inbox_left (thread_at A t) ∙ sym (inbox_shown A t live) in
       let rows = table_changed (threads_of A.derivations) (thread_view A) (thread_view left) t (in_table _ _ _ live) view_else

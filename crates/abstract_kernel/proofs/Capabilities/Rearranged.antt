@@ -55,6 +55,7 @@ module _ (A : State) (f : Forest Entry) (inv : Invariant A)
   }
 
   pub rearranged_steps : IsShown (done (rearranged (shown A) f)) (spec.rearranged A f)
+  unfolding shown
   rearranged_steps =
       let rows = table_agrees (threads_of A.derivations) (threads_of f) (thread_view A) (thread_view after_rearranged) threads (λ q live. same_view q) in
       let lists = table_agrees (endpoints_of f) (endpoints_of f) (waiting_at (shown A)) (λ base. waiters A (endpoint_at A base)) (λ q. refl) (λ q live. sym (list_shown A q (sym (endpoints q) ∙ live))) in

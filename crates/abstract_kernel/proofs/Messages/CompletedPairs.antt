@@ -203,6 +203,7 @@ outcome_grows p A call inv (Err refusal) h e = same_pairs A e (outcome p A call.
 outcome_grows p A call inv (Ok invocation) h e = performed_grows p A call.thread invocation inv (passes p A call invocation h) e
 
 step_grows : (p : ProfileName) (A : State) (call : Call) → Invariant A → (e : Instance) → Grows A e (step p A call)
+unfolding step
 step_grows p A call inv e = outcome_grows p A call inv (decoded_call p (shown A) call) refl e
 
 more_delivered : (b : Bool) (reply : Reply) (before rest : List Reply) → (before ++ cond b (reply ∷ []) []) ++ rest ≡ before ++ cond b (reply ∷ rest) rest
@@ -211,6 +212,7 @@ more_delivered false reply before rest = ap (λ (xs : List Reply). xs ++ rest) (
 
 -- the pairs of an endpoint after a run are those before it and what the run delivers
 pub run_grows : (p : ProfileName) (A : State) (calls : List Call) → IsReached p A → (e : Instance) → map delivery (pairs (state_after p A calls) e) ≡ map delivery (pairs A e) ++ delivered p A e calls (replies_of p A calls)
+unfolding replies_of state_after
 run_grows p A [] r e = sym (append-nil (map delivery (pairs A e)))
 run_grows p A (call ∷ calls) r e =
     run_grows p (step p A call).state calls (reached_after p A (call ∷ []) r) e

@@ -139,6 +139,7 @@ module _ (A : State) (t : ℕ) (service : Service) (fresh : A.is_cancelled (A.co
     pub shown_serves : A.is_idle s.thread ≡ false → s.thread ≡ thread_at A s.thread.base → list_any (λ k. s.thread.base == k) (threads_of A.derivations) ≡ true → list_any (λ k. t == k) (threads_of A.derivations) ≡ true →
         (let v = shown A in
         shown A' ≡ changed (record v { threads = insert v.threads s.thread.base (record { state = Ready; inbox = inbox_of A s.thread }) }) t (with_message s.badge s.message) service.endpoint (drop 1 (waiters A e)))
+    unfolding shown
     shown_serves awake known thread thread_t =
         let ne : s.thread.base ≢ t = other_thread known in
         let from : ThreadView = record { state = Ready; inbox = inbox_of A s.thread } in

@@ -161,6 +161,7 @@ module _ (A : State) (t : ℕ) (service : Service) (message : Message) (fresh : 
     -- what is shown after a send that is delivered
     pub shown_delivers : A.is_idle a.thread ≡ false → a.thread ≡ thread_at A a.thread.base → list_any (λ k. a.thread.base == k) (threads_of A.derivations) ≡ true →
         shown A' ≡ changed (shown A) a.thread.base (with_message service.badge message) service.endpoint (drop 1 (waiters A e))
+    unfolding shown
     shown_delivers awake known thread =
         let row : thread_view A' a.thread.base ≡ with_message service.badge message =
         ap (λ (m : Instance). record { state = state_of A' m; inbox = inbox_of A' m }) (sym known) ∙ (λ i. record { state = served_ready awake i; inbox = inbox_filled i }) in

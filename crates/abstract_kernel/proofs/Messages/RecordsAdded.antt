@@ -40,6 +40,7 @@ use Rattle.abstract_kernel.proofs.Reached.Invariant.{Invariant, IsOpen, SendIsOp
 
 -- an operation that is not awaited leaves no trace
 unawaited : (A : State) (x : Effect) (b : Bool) (accepted : Outcome) (reply : Reply) → b ≡ false → x ≡ unchanged (shown A) reply → IsShown x (where_awaited A b accepted reply)
+unfolding shown
 unawaited A x b accepted reply is exact = (
   ap (λ (o : Effect). o.reply) exact ∙ sym (ap (λ (c : Bool). (where_awaited A c accepted reply).reply) is),
   ap (λ (o : Effect). o.after) exact ∙ sym (ap (λ (c : Bool). shown (where_awaited A c accepted reply).state) is),

@@ -170,6 +170,7 @@ module _ (A : State) (t : ℕ) (service : Service) (fresh : A.is_cancelled (A.co
     pub shown_receive_waits : state_of A (thread_at A t) ≡ Ready → list_any (λ k. service.endpoint == k) (endpoints_of A.derivations) ≡ true →
         list_any (λ k. t == k) (threads_of A.derivations) ≡ true →
         shown after_receive ≡ changed (shown A) t (record { state = Receiving service.endpoint; inbox = inbox_of A (thread_at A t) }) service.endpoint (waiters A record_received.endpoint ++ receiver record_received ∷ [])
+    unfolding shown
     shown_receive_waits ready live thread =
         let rows = table_changed (threads_of A.derivations) (thread_view A) (thread_view after_receive) t (in_table _ _ _ thread) row_kept in
         let lists = table_changed (endpoints_of A.derivations) (λ base. waiters A (endpoint_at A base)) (λ base. waiters after_receive (endpoint_at A base)) service.endpoint (in_table _ _ _ live) (λ q ne. lists_elsewhere (endpoint_at A q) (not_same record_received.endpoint (endpoint_at A q) (λ e. ne (sym e)))) in

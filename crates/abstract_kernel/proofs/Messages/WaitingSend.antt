@@ -173,6 +173,7 @@ module _ (A : State) (t : ℕ) (service : Service) (message : Message) (fresh : 
     pub shown_waits : state_of A (thread_at A t) ≡ Ready → list_any (λ k. service.endpoint == k) (endpoints_of A.derivations) ≡ true →
         list_any (λ k. t == k) (threads_of A.derivations) ≡ true →
         shown after_send ≡ changed (shown A) t (record { state = Sending service.endpoint; inbox = inbox_of A (thread_at A t) }) service.endpoint (waiters A record_sent.endpoint ++ sender record_sent ∷ [])
+    unfolding shown
     shown_waits ready live thread =
         let rows = table_changed (threads_of A.derivations) (thread_view A) (thread_view after_send) t (in_table _ _ _ thread) row_stays in
         let lists = table_changed (endpoints_of A.derivations) (λ base. waiters A (endpoint_at A base)) (λ base. waiters after_send (endpoint_at A base)) service.endpoint (in_table _ _ _ live) (λ q ne. waiters_elsewhere (endpoint_at A q) (not_same record_sent.endpoint (endpoint_at A q) (λ e. ne (sym e)))) in

@@ -141,6 +141,7 @@ module _ (A : State) (e : Instance) (born : e.birth ≤ A.count) (ended : is_liv
   by_outcome p memory reached call (Ok invocation) h = by_invocation p memory call.thread reached invocation (passes p A call invocation h) (checked_edit p memory A call invocation reached.store h)
 
 by_run : (p : ProfileName) (memory : ℕ) (calls : List Call) (A : State) (e : Instance) → Reached p memory A → e.birth ≤ A.count → is_live A e ≡ false → (is_live (state_after p A calls) e ≡ false) × (pairs (state_after p A calls) e ≡ pairs A e)
+unfolding state_after step
 by_run p memory [] A e reached born ended = (ended, refl)
 by_run p memory (call ∷ calls) A e reached born ended =
     let stays = by_outcome A e born ended p memory reached call (decoded_call p (shown A) call) refl in

@@ -77,6 +77,7 @@ ready_passes true row found invocation h = let w = allowed row.state found invoc
 ready_passes false row found invocation h = cc
 
 pub passes : (p : ProfileName) (A : State) (call : Call) (invocation : Invocation) → decoded_call p (shown A) call ≡ Ok invocation → Passes A call.thread invocation
+unfolding shown
 passes p A call invocation h =
     let found : Result Invocation Refusal = decoded_op p A.derivations call.thread call.op in
     let w = ready_passes (list_any (λ k. call.thread == k) (threads_of A.derivations)) (thread_view A call.thread) found invocation
@@ -88,9 +89,11 @@ passes p A call invocation h =
     }
 
 pub list_shown : (A : State) (e : ℕ) → list_any (λ k. e == k) (endpoints_of A.derivations) ≡ true → waiting_at (shown A) e ≡ waiters A (endpoint_at A e)
+unfolding shown
 list_shown A e live = ap (λ (o : Option (List Waiter)). unwrap_or o []) (get_table (endpoints_of A.derivations) (λ base. waiters A (endpoint_at A base)) e ∙ ap (λ (b : Bool). cond b (Some (waiters A (endpoint_at A e))) None) live)
 
 pub inbox_shown : (A : State) (t : ℕ) → list_any (λ k. t == k) (threads_of A.derivations) ≡ true → inbox_at (shown A) t ≡ inbox_of A (thread_at A t)
+unfolding shown
 inbox_shown A t live = ap (λ (o : Option ThreadView). option_and_then (λ (row : ThreadView). row.inbox) o) (get_table (threads_of A.derivations) (thread_view A) t ∙ ap (λ (b : Bool). cond b (Some (thread_view A t)) None) live)
 
 -- an effect on what is shown is that of an outcome of the state
@@ -98,6 +101,7 @@ abbrev pub IsShown : Effect → Outcome → Type 0
 IsShown x y = (x.reply ≡ y.reply) × (x.after ≡ shown y.state)
 
 pub inv_boot : (p : ProfileName) (plan : Plan) → Invariant (boot p plan)
+unfolding boot
 inv_boot p plan = record {
   fresh = λ n lt. refl;
   numbered = tt;

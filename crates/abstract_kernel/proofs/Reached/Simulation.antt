@@ -89,6 +89,7 @@ module _ (p : ProfileName) (memory : ℕ) (A : State) (t : ℕ) (reached : Reach
       ((q : ℕ) → list_any (λ k. q == k) (threads_of g) ≡ true →
       list_any (λ k. q == k) (threads_of A.derivations) ≡ true) →
       IsShown (done (after_ending (shown A) g)) (objects_ended A g)
+  unfolding shown
   ends_steps g endpoints threads = (refl, sym (ending_shown A g reached.records endpoints threads))
 
   inv_ends : (g : Forest Entry) →
@@ -97,6 +98,7 @@ module _ (p : ProfileName) (memory : ℕ) (A : State) (t : ℕ) (reached : Reach
   inv_ends g endpoints = inv_refused (ending A g) (inv_ending A g reached.records endpoints)
 
   performed_steps : (invocation : Invocation) → Passes A t invocation → IsEdit p A.derivations invocation → IsShown (performed_effect p (shown A) t invocation) (performed p A t invocation)
+  unfolding shown
   performed_steps (Send service message block) pass edit = sends_step p A t service message block reached.records pass
   performed_steps (Receive service block) pass edit = receives_step p A t service block reached.records pass
   performed_steps (Retype new) pass edit = made_steps p A new reached.records (untyped_full new.untyped A.derivations edit.untyped) (no_endpoint new edit) (no_thread new edit)
@@ -140,11 +142,13 @@ module _ (p : ProfileName) (memory : ℕ) (A : State) (t : ℕ) (reached : Reach
 
 outcome_steps : (p : ProfileName) (memory : ℕ) (A : State) (call : Call) → Reached p memory A → (r : Result Invocation Refusal) → decoded_call p (shown A) call ≡ r →
     IsShown (decoded_effect p (shown A) call.thread r) (outcome p A call.thread r)
+unfolding shown
 outcome_steps p memory A call reached (Err refusal) h = (refl, refl)
 outcome_steps p memory A call reached (Ok invocation) h = performed_steps p memory A call.thread reached invocation (passes p A call invocation h) (checked_edit p memory A call invocation reached.store h)
 
 -- the simulation
 pub simulates : (p : ProfileName) (memory : ℕ) (A : State) → Reached p memory A → (call : Call) → ((effect_of p (shown A) call).reply ≡ (step p A call).reply) × ((effect_of p (shown A) call).after ≡ shown (step p A call).state)
+unfolding step
 simulates p memory A reached call = outcome_steps p memory A call reached (decoded_call p (shown A) call) refl
 
 inv_outcome : (p : ProfileName) (memory : ℕ) (A : State) (call : Call) (r : Result Invocation Refusal) → decoded_call p (shown A) call ≡ r → Reached p memory A → Invariant (outcome p A call.thread r).state
@@ -152,6 +156,7 @@ inv_outcome p memory A call (Err refusal) h reached = inv_refused A reached.reco
 inv_outcome p memory A call (Ok invocation) h reached = inv_performed p memory A call.thread reached invocation (passes p A call invocation h) (checked_edit p memory A call invocation reached.store h)
 
 pub reached_step : (p : ProfileName) (memory : ℕ) (A : State) (call : Call) → Reached p memory A → Reached p memory (step p A call).state
+unfolding step
 reached_step p memory A call reached = record {
   store = outcome_store p memory A call (decoded_call p (shown A) call) refl reached.store;
   housed = outcome_housed p memory A call (decoded_call p (shown A) call) refl reached.store reached.housed;
@@ -159,10 +164,12 @@ reached_step p memory A call reached = record {
 }
 
 reached_run : (p : ProfileName) (memory : ℕ) (calls : List Call) (A : State) → Reached p memory A → Reached p memory (state_after p A calls)
+unfolding state_after
 reached_run p memory [] A reached = reached
 reached_run p memory (call ∷ calls) A reached = reached_run p memory calls (step p A call).state (reached_step p memory A call reached)
 
 pub reached_is : (p : ProfileName) (A : State) (r : IsReached p A) → Reached p r.plan.memory_bits A
+unfolding boot
 reached_is p A r =
     subst (Reached p r.plan.memory_bits) (sym r.is)
     (reached_run p r.plan.memory_bits r.calls (boot p r.plan)

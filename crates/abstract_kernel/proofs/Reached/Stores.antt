@@ -102,6 +102,7 @@ live_found None found invocation h = cc
 live_found (Some thread) found invocation h = ready_found thread.state found invocation h
 
 pub checked_edit : (p : ProfileName) (memory : ℕ) (A : State) (call : Call) (invocation : Invocation) → IsKernelStore p memory A.derivations → decoded_call p (shown A) call ≡ Ok invocation → IsEdit p A.derivations invocation
+unfolding shown
 checked_edit p memory A call invocation store h =
     invoked_edit p memory A.derivations store.lawful call.thread call.op invocation (live_found _ (decoded_op p A.derivations call.thread call.op) invocation h)
 

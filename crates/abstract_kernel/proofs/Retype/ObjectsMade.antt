@@ -217,6 +217,7 @@ module _ (p : ProfileName) (A : State) (new : NewObjects) (inv : Invariant A) (f
 
   -- an endpoint that was not live shows no queue
   no_list : (q : ℕ) → list_any (λ k. q == k) (endpoints_of A.derivations) ≡ false → waiting_at (shown A) q ≡ []
+  unfolding shown
   no_list q dead = ap (λ (o : Option (List Waiter)). unwrap_or o []) (get_table (endpoints_of A.derivations) (λ base. waiters A (endpoint_at A base)) q ∙ ap (λ (b : Bool). cond b (Some (waiters A (endpoint_at A q))) None) dead)
 
   lists_shown : (q : ℕ) → list_any (λ k. q == k) (endpoints_of (with_objects p new A.derivations)) ≡ true → waiters after_made (endpoint_at after_made q) ≡ waiting_at (shown A) q
@@ -226,6 +227,7 @@ module _ (p : ProfileName) (A : State) (new : NewObjects) (inv : Invariant A) (f
       live
 
   pub made_steps : IsShown (done (objects_shown p (shown A) new)) (objects_made p A new)
+  unfolding shown
   made_steps =
       let rows = same_nat_map (table (threads_of (with_objects p new A.derivations)) (thread_view after_made)) (with_threads (new_bases tcb_base p new) (table (threads_of A.derivations) (thread_view A))) threads_shown in
       let lists = table_agrees (endpoints_of (with_objects p new A.derivations)) (endpoints_of (with_objects p new A.derivations)) (waiting_at (shown A)) (λ base. waiters after_made (endpoint_at after_made base)) (λ q. refl) lists_shown in

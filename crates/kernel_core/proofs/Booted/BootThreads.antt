@@ -154,6 +154,7 @@ find_none [] = refl
 find_none (n ∷ l) = find_none l
 
 ready : (p : ProfileName) (plan : Plan) (base : ℕ) → thread_view (boot p plan) base ≡ view_of None ready_row
+unfolding boot
 ready p plan base = rw (find_none (endpoints_of (boot_forest p plan))) refl
 
 abbrev seen : ℕ × ThreadRow → ℕ × ThreadView
@@ -207,6 +208,7 @@ live_at_boot p plan count h t =
 
 pub shows_boot : (p : ProfileName) (plan : Plan) (count : ℕ) → first_tcb p plan / tcb_size p + plan.threads ≤ count
     → kernel_shown p (boot_forest p plan) (boot_rows (first_tcb p plan / tcb_size p) plan.threads count) no_waits ≡ shown (boot p plan)
+unfolding shown boot
 shows_boot p plan count h = λ i. record { derivations = boot_forest p plan; threads = threads i; endpoints = table (endpoints_of (boot_forest p plan)) (λ e. []) }
   where
     first : ℕ
