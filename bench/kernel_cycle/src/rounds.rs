@@ -1,6 +1,7 @@
 //! Rounds of calls of the kernel in plain Rust.
 #![allow(dead_code)]
 
+mod plain_chain;
 mod plain_kernel;
 #[path = "../../store_cycle/src/plain_store.rs"]
 mod plain_store;
@@ -82,7 +83,7 @@ fn calls(slot: u64) -> [(u64, Op); STEPS] {
 }
 
 fn booted() -> Kernel {
-    Kernel::boot(20, 12, (524288, 19))
+    Kernel::boot(20, 12, &[(524288, 19)])
 }
 
 fn is_accepted(reply: &Reply) -> bool {
