@@ -10,9 +10,9 @@ use crate::fault::{Place, SetupFault};
 use crate::names::Name;
 use crate::setup::{OpName, Words};
 use crate::tables::{label_or, rights_or_all, word_at, word_or, words_or_none};
+use abstract_kernel::invocation::SlotArguments;
 use cap_core::{Message, Profile};
 use kernel_core::Op;
-use abstract_kernel::invocation::SlotArguments;
 use toml::Table;
 
 /// The keys of a retype.
