@@ -25,5 +25,6 @@ bench: run
 	bench/run.sh store_cycle
 	bench/run.sh ping_pong
 	bench/run.sh kernel_cycle kernel_cycle kernel_replies
-	python3 bench/instructions.py bench/kernel_cycle/out/target/release/kernel_cycle
+	bench/run.sh revoke_cycle
+	python3 bench/instructions.py bench/kernel_cycle/out/target/release/kernel_cycle bench/revoke_cycle/out/target/release/revoke_cycle
 	python3 bench/check.py $(program)

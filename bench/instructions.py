@@ -1,17 +1,22 @@
-"""instructions.py PROGRAM: the instructions of a step of the kernel cycle (counted by valgrind): the difference of two runs
-of different length, for each form that the program measures."""
+"""instructions.py CYCLE REVOKES: the instructions (counted by valgrind) of a step of the kernel cycle, the difference of two runs
+of the program CYCLE of different length; and those of a revocation for each slot that it clears, the difference of two runs
+of the program REVOKES, one of which only fills the slots. Of each form that the programs measure."""
 
 import re
 import subprocess
 import sys
 
-STEPS = 10
+STEPS = 20
 FEW, MANY = 100, 1000
 
+ALL_SLOTS = 16384
+SIZES = [16, 64, 256, 1024, 4096, 16384]
+FORESTS = ["wide", "deep"]
 
-def instructions(program, name, rounds):
+
+def instructions(program, *words):
     ran = subprocess.run(
-        ["valgrind", "--tool=callgrind", "--callgrind-out-file=/dev/null", program, name, str(rounds)],
+        ["valgrind", "--tool=callgrind", "--callgrind-out-file=/dev/null", program, *map(str, words)],
         check=True,
         capture_output=True,
         text=True,
@@ -23,6 +28,11 @@ def step(program, name):
     return (instructions(program, name, MANY) - instructions(program, name, FEW)) / ((MANY - FEW) * STEPS)
 
 
+def cleared_slot(program, name, slots, forest):
+    revoking, filling = (instructions(program, name, slots, forest, what) for what in ("revoking", "filling"))
+    return (revoking - filling) / ALL_SLOTS
+
+
 def line(what, unit, of):
     proved, plain, inlined = (of(name) for name in ("proved", "plain", "plain_inlined"))
     print(
@@ -32,9 +42,16 @@ def line(what, unit, of):
 
 
 def main():
-    program = sys.argv[1]
-    line("kernel cycle, replies dropped", "instructions a step", lambda name: step(program, name))
-    line("kernel cycle, replies kept", "instructions a step", lambda name: step(program, f"{name}_kept"))
+    cycle, revokes = sys.argv[1:]
+    line("kernel cycle, replies dropped", "instructions a step", lambda name: step(cycle, name))
+    line("kernel cycle, replies kept", "instructions a step", lambda name: step(cycle, f"{name}_kept"))
+    for forest in FORESTS:
+        for slots in SIZES:
+            line(
+                f"revoke, {forest}, {slots} slots",
+                "instructions a slot",
+                lambda name: cleared_slot(revokes, name, slots, forest),
+            )
 
 
 main()

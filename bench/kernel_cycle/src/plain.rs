@@ -6,6 +6,9 @@
 mod dropped;
 #[path = "rounds.rs"]
 mod kept;
+#[path = "revokes.rs"]
+mod revokes;
 
 pub use dropped::{run, STEPS};
 pub use kept::run_kept;
+pub use revokes::{revoke_run, ALL_SLOTS};

@@ -1,4 +1,5 @@
 //! The same kernel in plain Rust, over the plain linked list and the plain queues: lookups, checks, and what each call does.
+use super::plain_chain::SlotChain;
 use super::plain_store::{Cap, Guard, Store};
 use super::plain_waiters::{Message, Received, Sent, Waiters};
 
@@ -29,6 +30,26 @@ pub enum Op {
         cap: u64,
         slots: Slots,
     },
+    CapMutate {
+        cap: u64,
+        slots: Slots,
+        word: u64,
+    },
+    CapDelete {
+        cap: u64,
+        index: u64,
+        depth: u64,
+    },
+    CapRevoke {
+        cap: u64,
+        index: u64,
+        depth: u64,
+    },
+    CancelBadged {
+        cap: u64,
+        index: u64,
+        depth: u64,
+    },
     Send {
         cap: u64,
         message: Message,
@@ -41,6 +62,17 @@ pub enum Op {
         cap: u64,
     },
     NbRecv {
+        cap: u64,
+    },
+    SetSpace {
+        cap: u64,
+        root: u64,
+        word: u64,
+    },
+    Suspend {
+        cap: u64,
+    },
+    Resume {
         cap: u64,
     },
 }
@@ -109,6 +141,7 @@ pub struct Kernel {
     store: Store,
     waiters: Waiters,
     threads: Vec<Option<ThreadRow>>,
+    chain: SlotChain,
 }
 
 const WORD_BITS: u32 = 64;
@@ -153,10 +186,10 @@ fn mask(cap: Cap, given: u8) -> Cap {
 }
 
 #[cfg_attr(feature = "inlined", inline(always))]
-fn set_data(word: u64, cap: Cap) -> Result<Cap, Refusal> {
+fn set_data(preserve: bool, word: u64, cap: Cap) -> Result<Cap, Refusal> {
     match cap {
         Cap::Endpoint { base, badge, rights } => {
-            if badge != 0 {
+            if preserve || badge != 0 {
                 return Err(Refusal::IllegalOperation);
             }
             Ok(Cap::Endpoint {
@@ -225,8 +258,8 @@ fn object_bits(kind: u64, size_bits: u64) -> Result<u32, Refusal> {
 }
 
 impl Kernel {
-    /// A kernel with a root CNode of a radix at 0, two threads and an endpoint behind it, and one untyped region.
-    pub fn boot(memory_bits: u32, radix: u32, untyped: (u64, u32)) -> Kernel {
+    /// A kernel with a root CNode of a radix at 0, two threads and an endpoint behind it, and untyped regions.
+    pub fn boot(memory_bits: u32, radix: u32, untypeds: &[(u64, u32)]) -> Kernel {
         let first_thread = (1u64 << (SLOT_BITS + radix)).next_multiple_of(1 << TCB_BITS);
         let second_thread = first_thread + (1 << TCB_BITS);
         let root = Cap::CNode {
@@ -242,7 +275,9 @@ impl Kernel {
         store.put_root(2, fresh(1, first_thread, 0));
         store.put_root(3, fresh(1, second_thread, 0));
         store.put_root(4, fresh(2, second_thread + (1 << TCB_BITS), 0));
-        store.put_root(5, fresh(0, untyped.0, u64::from(untyped.1)));
+        for (slot, (base, bits)) in (5..).zip(untypeds) {
+            store.put_root(slot, fresh(0, *base, u64::from(*bits)));
+        }
         let mut threads = vec![None; 1 << (memory_bits - TCB_BITS)];
         for thread in [first_thread, second_thread] {
             store.derive(1, thread >> SLOT_BITS, root);
@@ -255,6 +290,7 @@ impl Kernel {
             store,
             waiters: Waiters::new(memory_bits),
             threads,
+            chain: SlotChain::new(1 << (memory_bits - SLOT_BITS)),
         }
     }
 
@@ -293,7 +329,7 @@ impl Kernel {
             }
             Op::CapMint { cap, slots, rights, word } => {
                 let (source, slot) = self.ends(thread, cap, slots)?;
-                let cap = set_data(word, mask(self.store.get(source), rights))?;
+                let cap = set_data(false, word, mask(self.store.get(source), rights))?;
                 self.derive(source, slot, cap)
             }
             Op::CapMove { cap, slots } => {
@@ -301,10 +337,32 @@ impl Kernel {
                 self.store.relocate(source, slot, self.store.get(source));
                 Ok(Reply::Done)
             }
+            Op::CapMutate { cap, slots, word } => {
+                let (source, slot) = self.ends(thread, cap, slots)?;
+                self.store.relocate(source, slot, set_data(true, word, self.store.get(source))?);
+                Ok(Reply::Done)
+            }
+            Op::CapDelete { cap, index, depth } => {
+                let slot = self.slot_in(thread, cap, index, depth)?;
+                self.clear(slot);
+                Ok(Reply::Done)
+            }
+            Op::CapRevoke { cap, index, depth } => {
+                let slot = self.slot_in(thread, cap, index, depth)?;
+                self.revoke(slot);
+                Ok(Reply::Done)
+            }
+            Op::CancelBadged { cap, index, depth } => {
+                let slot = self.slot_in(thread, cap, index, depth)?;
+                self.cancel_badged(slot)
+            }
             Op::Send { cap, message } => self.send(thread, cap, message, true),
             Op::NbSend { cap, message } => self.send(thread, cap, message, false),
             Op::Recv { cap } => self.recv(thread, cap, true),
             Op::NbRecv { cap } => self.recv(thread, cap, false),
+            Op::SetSpace { cap, root, word } => self.set_space(thread, cap, root, word),
+            Op::Suspend { cap } => self.stop(thread, cap, true),
+            Op::Resume { cap } => self.stop(thread, cap, false),
         }
     }
 
@@ -452,6 +510,99 @@ impl Kernel {
             Cap::Endpoint { .. } => Err(Refusal::InvalidCapability),
             _ => Err(Refusal::IllegalOperation),
         }
+    }
+
+    /// The slot of an invoked CNode that an index and a depth name.
+    #[cfg_attr(feature = "inlined", inline(always))]
+    fn slot_in(&self, thread: u64, cap: u64, index: u64, depth: u64) -> Result<u64, Refusal> {
+        match self.store.get(self.named_slot(thread, cap)?) {
+            Cap::Null => Err(Refusal::InvalidCapability),
+            node @ Cap::CNode { .. } => self.target(node, index, depth),
+            _ => Err(Refusal::IllegalOperation),
+        }
+    }
+
+    /// Empties a slot, and with each object that ends the object's slots.
+    fn clear(&mut self, slot: u64) {
+        self.chain.push(slot);
+        while let Some(slot) = self.chain.pop() {
+            let cap = self.store.get(slot);
+            if cap == Cap::Null {
+                continue;
+            }
+            let ends = self.store.is_last(slot);
+            self.store.remove(slot);
+            if ends {
+                self.end_object(cap);
+            }
+        }
+    }
+
+    fn end_object(&mut self, cap: Cap) {
+        match cap {
+            Cap::Endpoint { base, .. } => self.waiters.cancel_endpoint(base),
+            Cap::Tcb { base } => {
+                self.waiters.take_out(base);
+                self.threads[(base >> TCB_BITS) as usize] = None;
+                self.chain.push(base >> SLOT_BITS);
+            }
+            Cap::CNode { base, radix, .. } => self.chain.push_all(base >> SLOT_BITS, 1 << radix),
+            Cap::Null | Cap::Untyped { .. } => {}
+        }
+    }
+
+    fn revoke(&mut self, slot: u64) {
+        while let Some(child) = self.store.first_child(slot) {
+            self.clear(child);
+        }
+    }
+
+    fn cancel_badged(&mut self, slot: u64) -> Result<Reply, Refusal> {
+        match self.store.get(slot) {
+            Cap::Endpoint { base, badge, rights: ALL_RIGHTS } => {
+                if badge != 0 {
+                    self.waiters.cancel_badge(base, badge);
+                }
+                Ok(Reply::Done)
+            }
+            _ => Err(Refusal::IllegalOperation),
+        }
+    }
+
+    /// The thread that an invoked capability names.
+    #[cfg_attr(feature = "inlined", inline(always))]
+    fn thread_in(&self, slot: u64) -> Result<u64, Refusal> {
+        match self.store.get(slot) {
+            Cap::Null => Err(Refusal::InvalidCapability),
+            Cap::Tcb { base } => Ok(base),
+            _ => Err(Refusal::IllegalOperation),
+        }
+    }
+
+    fn set_space(&mut self, thread: u64, cap: u64, root: u64, word: u64) -> Result<Reply, Refusal> {
+        let slot = self.named_slot(thread, cap)?;
+        let tcb = self.thread_in(slot)?;
+        let source = self.named_slot(thread, root)?;
+        let space = match self.store.get(source) {
+            cap @ Cap::CNode { .. } if word == 0 => cap,
+            cap @ Cap::CNode { .. } => set_data(false, word, cap)?,
+            _ => return Err(Refusal::IllegalOperation),
+        };
+        self.clear(tcb >> SLOT_BITS);
+        if self.store.get(source) != Cap::Null && self.store.get(slot) != Cap::Null {
+            self.store.derive(source, tcb >> SLOT_BITS, space);
+        }
+        Ok(Reply::Done)
+    }
+
+    /// Suspends a thread, or resumes it: it waits no more.
+    fn stop(&mut self, thread: u64, cap: u64, inactive: bool) -> Result<Reply, Refusal> {
+        let tcb = self.thread_in(self.named_slot(thread, cap)?)?;
+        self.waiters.take_out(tcb);
+        if let Some(row) = &mut self.threads[(tcb >> TCB_BITS) as usize] {
+            row.inactive = inactive;
+        }
+        Ok(Reply::Done)
     }
 
     fn deliver(&mut self, to: u64, badge: u64, message: Message) {

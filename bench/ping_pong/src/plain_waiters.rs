@@ -83,8 +83,9 @@ impl Waiters {
         &mut self.endpoints[(endpoint >> ENDPOINT_BITS) as usize]
     }
 
+    /// A thread waits no more, wherever it did.
     #[cfg_attr(feature = "inlined", inline(always))]
-    fn take_out(&mut self, thread: u64) {
+    pub fn take_out(&mut self, thread: u64) {
         let row = *self.thread(thread);
         let endpoint = match row.role {
             Some(Role::Sending(endpoint) | Role::Receiving(endpoint)) => endpoint,
@@ -150,6 +151,25 @@ impl Waiters {
         let role = Some(Role::Receiving(endpoint));
         self.wait_last(endpoint, thread, ThreadRow { role, ..FREE });
         Received::Waiting
+    }
+
+    /// The senders that wait on an endpoint with a badge wait no more.
+    pub fn cancel_badge(&mut self, endpoint: u64, badge: u64) {
+        let mut next = self.endpoint(endpoint).first;
+        while let Some(thread) = next {
+            let row = *self.thread(thread);
+            next = row.next;
+            if row.badge == badge && matches!(row.role, Some(Role::Sending(_))) {
+                self.take_out(thread);
+            }
+        }
+    }
+
+    /// Nobody waits on an endpoint any more.
+    pub fn cancel_endpoint(&mut self, endpoint: u64) {
+        while let Some(thread) = self.endpoint(endpoint).first {
+            self.take_out(thread);
+        }
     }
 
     #[cfg_attr(feature = "inlined", inline(always))]

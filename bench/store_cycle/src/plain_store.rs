@@ -157,6 +157,14 @@ impl Store {
         is_parent(link, &self.links[next as usize]).then_some(next)
     }
 
+    /// Whether the capability in a full slot is the last of its object. All that name one object stand together in the list.
+    #[cfg_attr(feature = "inlined", inline(always))]
+    pub fn is_last(&self, slot: u64) -> bool {
+        let link = &self.links[slot as usize];
+        let names = |other: Option<u64>| other.is_some_and(|other| same_object(self.links[other as usize].cap, link.cap));
+        matches!(link.cap, Cap::Untyped { .. }) || !names(link.previous) && !names(link.next)
+    }
+
     #[cfg_attr(feature = "inlined", inline(always))]
     pub fn get(&self, slot: u64) -> Cap {
         match self.links.get(slot as usize) {

@@ -22,23 +22,30 @@ const SECOND_THREAD: u64 = 133120;
 
 const ROOT: u64 = 1;
 
+const SECOND_TCB: u64 = 3;
+
 const ENDPOINT: u64 = 4;
 
 const UNTYPED: u64 = 5;
 
-/// The first slot that a round fills, and how many slots of the root CNode each round takes.
+/// The first slot that a round fills, how many it fills, and after how many rounds the slots come again.
 const FIRST_SLOT: u32 = 8;
 
-const SLOTS_A_ROUND: u32 = 4;
+const SLOTS_A_ROUND: u32 = 6;
+
+const TURN: u32 = 512;
+
+/// The word that sets the root CNode's own guard: its bits, 0.
+const GUARD_WORD: u64 = 52;
 
 /// How deep an index is looked up: all bits of a word.
 const DEPTH: u64 = 64;
 
 /// How many calls a round makes.
-const CALLS: usize = 10;
+const CALLS: usize = 20;
 
-/// Boots a kernel and goes through so many rounds, the replies to each round's calls kept until the next one; whether every
-/// call of every round was accepted. There are slots for some thousand rounds.
+/// Boots a kernel and goes through so many rounds, each of which undoes what it makes, the replies to each round's calls kept
+/// until the next one; whether every call of every round was accepted.
 #[unsafe(no_mangle)]
 pub extern "C" fn kernel_replies_run(alloc: Global, rounds: u16) -> bool {
     match (booted(alloc), Vec::with_capacity(alloc, CALLS)) {
@@ -61,49 +68,63 @@ fn run(kernel: &mut LinkedKernel, replies: &mut Vec<Reply>, rounds: u16) -> bool
         if replies.capacity() < CALLS {
             return false;
         }
-        let slot = u64::from(FIRST_SLOT + SLOTS_A_ROUND * u32::from(round));
-        kernel.run(&calls(slot), replies);
+        kernel.run(&round_of(round), replies);
         all = replies.iter().all(|reply| is_accepted(*reply)) && all;
     }
     all
 }
 
-/// The calls of a round: an endpoint is made, copied, minted and moved, and then one message goes to a thread that waits, one
-/// from a thread that waits, and two calls find nobody.
-fn calls(slot: u64) -> [Call; CALLS]
+/// The calls of a round by its number.
+fn round_of(round: u16) -> [Call; CALLS] {
+    let round = u32::from(round);
+    let slot = FIRST_SLOT + SLOTS_A_ROUND * (round % TURN);
+    calls(u64::from(slot), u64::from(round + 1))
+}
+
+/// The calls of the round that fills the slots from one on, and empties them again. An endpoint is made, copied, minted and
+/// moved; the root CNode's capability is copied, gets its guard anew, and becomes the root of the second thread's space. Then
+/// one message goes to a thread that waits, one from a thread that waits, and two calls find nobody; a send with a badge is
+/// cancelled, and the thread suspended and resumed. Two slots are deleted, and the untyped region revoked, with which the
+/// endpoint ends.
+fn calls(slot: u64, badge: u64) -> [Call; CALLS]
     requires { slot < 2 ^ 32 }
 {
-    let send = Op::Send {
-        cap: ENDPOINT,
-        message: message(),
-    };
-    let nb_send = Op::NbSend {
-        cap: ENDPOINT,
-        message: message(),
-    };
     [
-        retype(slot),
-        copy(slot + 1, slot),
-        mint(slot + 2, slot, slot),
-        relocate(slot + 3, slot + 1),
-        by(SECOND_THREAD, Op::Recv { cap: ENDPOINT }),
-        by(FIRST_THREAD, nb_send),
-        by(FIRST_THREAD, send),
-        by(SECOND_THREAD, Op::NbRecv { cap: ENDPOINT }),
-        by(FIRST_THREAD, nb_send),
-        by(SECOND_THREAD, Op::NbRecv { cap: ENDPOINT }),
+        first(retype(slot)),
+        first(copy(slot + 1, slot)),
+        first(mint(slot + 2, slot, badge)),
+        first(relocate(slot + 3, slot + 1)),
+        first(copy(slot + 4, ROOT)),
+        first(mutate(slot + 5, slot + 4, GUARD_WORD)),
+        first(set_space(slot + 5)),
+        second(Op::Recv { cap: ENDPOINT }),
+        first(nb_send(ENDPOINT)),
+        first(send(ENDPOINT)),
+        second(Op::NbRecv { cap: ENDPOINT }),
+        first(nb_send(ENDPOINT)),
+        second(Op::NbRecv { cap: ENDPOINT }),
+        second(send(slot + 2)),
+        first(cancel_badged(slot + 2)),
+        first(Op::Suspend { cap: SECOND_TCB }),
+        first(Op::Resume { cap: SECOND_TCB }),
+        first(delete(slot + 5)),
+        first(delete(slot + 3)),
+        first(revoke(UNTYPED)),
     ]
 }
 
-fn is_accepted(reply: Reply) -> bool {
-    match reply {
-        Reply::Refused(_) => false,
-        _ => true,
+fn first(op: Op) -> Call {
+    Call {
+        thread: FIRST_THREAD,
+        op,
     }
 }
 
-fn by(thread: u64, op: Op) -> Call {
-    Call { thread, op }
+fn second(op: Op) -> Call {
+    Call {
+        thread: SECOND_THREAD,
+        op,
+    }
 }
 
 fn message() -> Message {
@@ -114,8 +135,22 @@ fn message() -> Message {
     }
 }
 
-fn retype(slot: u64) -> Call {
-    let op = Op::Retype {
+fn send(cap: u64) -> Op {
+    Op::Send {
+        cap,
+        message: message(),
+    }
+}
+
+fn nb_send(cap: u64) -> Op {
+    Op::NbSend {
+        cap,
+        message: message(),
+    }
+}
+
+fn retype(slot: u64) -> Op {
+    Op::Retype {
         cap: UNTYPED,
         kind: 2,
         size_bits: 0,
@@ -124,12 +159,11 @@ fn retype(slot: u64) -> Call {
         depth: 0,
         offset: slot,
         count: 1,
-    };
-    by(FIRST_THREAD, op)
+    }
 }
 
-fn copy(slot: u64, source: u64) -> Call {
-    let op = Op::CapCopy {
+fn copy(slot: u64, source: u64) -> Op {
+    Op::CapCopy {
         cap: ROOT,
         index: slot,
         depth: DEPTH,
@@ -137,12 +171,11 @@ fn copy(slot: u64, source: u64) -> Call {
         src_index: source,
         src_depth: DEPTH,
         rights: Rights::ALL,
-    };
-    by(FIRST_THREAD, op)
+    }
 }
 
-fn mint(slot: u64, source: u64, badge: u64) -> Call {
-    let op = Op::CapMint {
+fn mint(slot: u64, source: u64, badge: u64) -> Op {
+    Op::CapMint {
         cap: ROOT,
         index: slot,
         depth: DEPTH,
@@ -151,18 +184,67 @@ fn mint(slot: u64, source: u64, badge: u64) -> Call {
         src_depth: DEPTH,
         rights: Rights::ALL,
         word: badge,
-    };
-    by(FIRST_THREAD, op)
+    }
 }
 
-fn relocate(slot: u64, source: u64) -> Call {
-    let op = Op::CapMove {
+fn relocate(slot: u64, source: u64) -> Op {
+    Op::CapMove {
         cap: ROOT,
         index: slot,
         depth: DEPTH,
         src_root: ROOT,
         src_index: source,
         src_depth: DEPTH,
-    };
-    by(FIRST_THREAD, op)
+    }
+}
+
+fn mutate(slot: u64, source: u64, word: u64) -> Op {
+    Op::CapMutate {
+        cap: ROOT,
+        index: slot,
+        depth: DEPTH,
+        src_root: ROOT,
+        src_index: source,
+        src_depth: DEPTH,
+        word,
+    }
+}
+
+fn set_space(root: u64) -> Op {
+    Op::SetSpace {
+        cap: SECOND_TCB,
+        root,
+        word: 0,
+    }
+}
+
+fn cancel_badged(slot: u64) -> Op {
+    Op::CancelBadged {
+        cap: ROOT,
+        index: slot,
+        depth: DEPTH,
+    }
+}
+
+fn delete(slot: u64) -> Op {
+    Op::CapDelete {
+        cap: ROOT,
+        index: slot,
+        depth: DEPTH,
+    }
+}
+
+fn revoke(slot: u64) -> Op {
+    Op::CapRevoke {
+        cap: ROOT,
+        index: slot,
+        depth: DEPTH,
+    }
+}
+
+fn is_accepted(reply: Reply) -> bool {
+    match reply {
+        Reply::Refused(_) => false,
+        _ => true,
+    }
 }

@@ -1,0 +1,90 @@
+//! Revocations: the proved kernel over the linked forms beside the same kernel in plain Rust, as the compiler inlines it and
+//! with the proved kernel's hints on inlining.
+use plain::ALL_SLOTS;
+use std::hint::black_box;
+use std::time::Instant;
+
+// Many runs of which the least counts, so that other work on the machine weighs little.
+const REPEATS: u32 = 200;
+
+/// How many slots each revocation clears.
+const SIZES: [u32; 6] = [16, 64, 256, 1024, 4096, 16384];
+
+/// The names of the forests: all copies children of one, and each copy the child of the one before it.
+const FORESTS: [(&str, bool); 2] = [("wide", false), ("deep", true)];
+
+#[link(name = "revoke_cycle", kind = "static")]
+#[link(name = "libc_c", kind = "static")]
+extern "C" {
+    // The allocator takes no bytes, so nothing is passed for it.
+    fn revoke_cycle_run(slots: u32, deep: bool, revokes: bool) -> bool;
+}
+
+fn proved_run(slots: u32, deep: bool, revokes: bool) -> bool {
+    // SAFETY: the declaration fits the library's, which asks for nothing.
+    unsafe { revoke_cycle_run(slots, deep, revokes) }
+}
+
+/// What is measured: boots a kernel and fills all slots of a CNode; with the last argument, what was filled is revoked each
+/// time that so many slots were. Tells whether each call was accepted.
+type Run = fn(u32, bool, bool) -> bool;
+
+const RUNS: [(&str, Run); 3] = [
+    ("proved", proved_run),
+    ("plain", plain::revoke_run),
+    ("plain_inlined", plain_inlined::revoke_run),
+];
+
+/// Seconds.
+fn time(run: Run, slots: u32, deep: bool, revokes: bool) -> f64 {
+    let start = Instant::now();
+    assert!(run(black_box(slots), black_box(deep), black_box(revokes)), "every call is accepted");
+    start.elapsed().as_secs_f64()
+}
+
+/// The least seconds of a run that revokes, and of one that does not.
+#[derive(Clone, Copy)]
+struct Least {
+    revoking: f64,
+    filling: f64,
+}
+
+/// Nanoseconds of revocation a slot, for each of the runs.
+fn measured(slots: u32, deep: bool) -> [f64; RUNS.len()] {
+    let mut all = [Least { revoking: f64::MAX, filling: f64::MAX }; RUNS.len()];
+    for _ in 0..REPEATS {
+        for ((_, run), least) in RUNS.iter().zip(&mut all) {
+            least.filling = least.filling.min(time(*run, slots, deep, false));
+            least.revoking = least.revoking.min(time(*run, slots, deep, true));
+        }
+    }
+    all.map(|least| (least.revoking - least.filling) * 1e9 / f64::from(ALL_SLOTS))
+}
+
+fn print_times() {
+    for (name, deep) in FORESTS {
+        for slots in SIZES {
+            let [proved, plain, inlined] = measured(slots, deep);
+            println!(
+                "revoke, {name}, {slots} slots: proved {proved:.1} ns a slot, plain Rust {plain:.1}, ratio {:.2}; plain Rust with the same hints {inlined:.1}, ratio {:.2}",
+                proved / plain,
+                proved / inlined
+            );
+        }
+    }
+}
+
+/// With no argument, prints the times. `NAME SLOTS DEEP REVOKES` makes one run and prints nothing, so that its instructions
+/// can be counted.
+fn main() {
+    let words: Vec<String> = std::env::args().skip(1).collect();
+    match words.as_slice() {
+        [] => print_times(),
+        [name, slots, deep, revokes] => {
+            let (_, run) = RUNS.iter().find(|(run, _)| run == name).expect("a run's name");
+            let slots = slots.parse().expect("slots");
+            assert!(run(slots, deep == "deep", revokes == "revoking"), "every call is accepted");
+        }
+        _ => panic!("no argument, or NAME SLOTS DEEP REVOKES"),
+    }
+}
