@@ -4,6 +4,8 @@ pub mod RegionsKept
 pub mod RegionsDerived
 pub mod RegionsMoved
 pub mod StoresKept
+pub mod StoresCleared
 pub mod LiveAfter
+pub mod SpacesSet
 pub mod Rearranged
 pub mod StaysInMemory

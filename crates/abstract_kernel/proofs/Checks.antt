@@ -3,5 +3,6 @@ pub mod FoundSlots
 pub mod FilledSlots
 pub mod LiveEndpoints
 pub mod PassedCNodeChecks
+pub mod PassedSpaceChecks
 pub mod PassedInvocations
 pub mod Refusals

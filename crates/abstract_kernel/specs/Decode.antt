@@ -29,6 +29,8 @@ use Rattle.abstract_kernel.specs.Checks.{◌>>=◌}
 use Rattle.abstract_kernel.specs.Lookups.{invoked_slot}
 use Rattle.abstract_kernel.specs.Retyping.{decoded_retype}
 use Rattle.abstract_kernel.specs.CNodes.{decoded_placement}
+use Rattle.abstract_kernel.specs.Deletion.{decoded_slot, decoded_badge}
+use Rattle.abstract_kernel.specs.Threads.{decoded_tcb, decoded_space}
 use Rattle.abstract_kernel.specs.Shown.{Shown, ThreadView}
 
 -- the word by which an operation names the capability that it invokes
@@ -38,10 +40,16 @@ service_word (op.CapCopy cap index depth src_root src_index src_depth rights) = 
 service_word (op.CapMint cap index depth src_root src_index src_depth rights word) = cap
 service_word (op.CapMove cap index depth src_root src_index src_depth) = cap
 service_word (op.CapMutate cap index depth src_root src_index src_depth word) = cap
+service_word (op.CapDelete cap index depth) = cap
+service_word (op.CapRevoke cap index depth) = cap
+service_word (op.CancelBadged cap index depth) = cap
 service_word (op.Send cap message) = cap
 service_word (op.NbSend cap message) = cap
 service_word (op.Recv cap) = cap
 service_word (op.NbRecv cap) = cap
+service_word (op.SetSpace cap root word) = cap
+service_word (op.Suspend cap) = cap
+service_word (op.Resume cap) = cap
 
 -- a right is among an endpoint capability's rights
 abbrev pub has_right : ℕ → Rights → Bool
@@ -102,12 +110,21 @@ decoded_invocation p f thread (op.CapMove cap index depth src_root src_index src
     moves (decoded_placement p f thread (cap_at f slot)
     (slots_named index depth src_root src_index src_depth) Move)
 decoded_invocation p f thread (op.CapMutate cap index depth src_root src_index src_depth word) slot =
-    moves (decoded_placement p f thread (cap_at f slot)
-    (slots_named index depth src_root src_index src_depth) (Mutate word))
+    moves (decoded_placement p f thread (cap_at f slot) (slots_named index depth src_root src_index src_depth) (Mutate word))
+decoded_invocation p f thread (op.CapDelete cap index depth) slot =
+    decoded_slot p f (cap_at f slot) index depth >>= λ cleared. Ok (invocation.Delete cleared)
+decoded_invocation p f thread (op.CapRevoke cap index depth) slot =
+    decoded_slot p f (cap_at f slot) index depth >>= λ revoked. Ok (invocation.Revoke revoked)
+decoded_invocation p f thread (op.CancelBadged cap index depth) slot =
+    decoded_badge p f (cap_at f slot) index depth >>= λ service. Ok (invocation.CancelBadged service)
 decoded_invocation p f thread (op.Send cap message) slot = decoded_send (cap_at f slot) message true
 decoded_invocation p f thread (op.NbSend cap message) slot = decoded_send (cap_at f slot) message false
 decoded_invocation p f thread (op.Recv cap) slot = decoded_receive (cap_at f slot) true
 decoded_invocation p f thread (op.NbRecv cap) slot = decoded_receive (cap_at f slot) false
+decoded_invocation p f thread (op.SetSpace cap root word) slot =
+    decoded_space p f thread slot (cap_at f slot) root word >>= λ new. Ok (invocation.SetSpace new)
+decoded_invocation p f thread (op.Suspend cap) slot = decoded_tcb (cap_at f slot) >>= λ tcb. Ok (invocation.Suspend tcb)
+decoded_invocation p f thread (op.Resume cap) slot = decoded_tcb (cap_at f slot) >>= λ tcb. Ok (invocation.Resume tcb)
 
 -- a thread that is not ready makes no calls
 abbrev pub where_ready : ThreadState → Result Invocation Refusal → Result Invocation Refusal

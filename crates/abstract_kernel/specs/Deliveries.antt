@@ -34,7 +34,8 @@ delivered p A e (call ∷ calls) (reply ∷ replies) =
 -- by these replies to calls, each endpoint delivers one message for each pair that it gains, in the order of the pairs
 abbrev pub DeliversPairs : ProfileName → State → List Call → List Reply → Type 0
 DeliversPairs p A calls replies =
-    (e : Instance) → map delivery (pairs (state_after p A calls) e) ≡ map delivery (pairs A e) ++ delivered p A e calls replies
+    (e : Instance) →
+    map delivery (pairs (state_after p A calls) e) ≡ map delivery (pairs A e) ++ delivered p A e calls replies
 
 -- no send and no receive stands on an endpoint
 pub record IsUnused (A : State) (e : Instance) : Type 0 where

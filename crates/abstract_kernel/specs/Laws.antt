@@ -32,7 +32,8 @@ WaitsWhereOpen p A e =
 
 -- the thread of a send that waits is one that sends there, and so with receives
 abbrev pub TellsItsSenders : ProfileName → State → Instance → Type 0
-TellsItsSenders p A e = IsReached p A → All (λ (s : SendRecord). state_of A s.thread ≡ Sending e.base) (waiting_sends A e)
+TellsItsSenders p A e =
+    IsReached p A → All (λ (s : SendRecord). state_of A s.thread ≡ Sending e.base) (waiting_sends A e)
 
 abbrev pub TellsItsReceivers : ProfileName → State → Instance → Type 0
 TellsItsReceivers p A e =

@@ -6,6 +6,8 @@ pub mod Checks
 pub mod Lookups
 pub mod Retyping
 pub mod CNodes
+pub mod Deletion
+pub mod Threads
 pub mod Decode
 pub mod Step
 pub mod Boot

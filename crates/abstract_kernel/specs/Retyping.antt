@@ -4,7 +4,7 @@ use Rattle.std.specs.List.{list_any, range_with_len, filter_map}
 use Rattle.cap_core.specs.declared.limits.TheConstants.{MAX_RETYPE_COUNT}
 use Rattle.cap_core.specs.declared.profile.ProfileName.{ProfileName}
 use Rattle.cap_core.specs.declared.capability.Cap.{Cap}
-use Rattle.cap_core.specs.declared.capability.Cap.TheVariants.{Untyped, CNode}
+use Rattle.cap_core.specs.declared.capability.Cap.TheVariants.{CNode}
 use Rattle.cap_core.specs.declared.refusal.LookupFault.TheVariants.{MissingCapability}
 use Rattle.cap_core.specs.declared.capability.Kind.TheVariants as kind
 use Rattle.cap_core.specs.declared.refusal.Refusal.{Refusal}

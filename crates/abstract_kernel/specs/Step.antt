@@ -6,6 +6,8 @@ use Rattle.cap_core.specs.declared.message.Message.{Message}
 use Rattle.cap_core.specs.declared.refusal.Refusal.{Refusal}
 use Rattle.derivation.specs.Forest.{Forest}
 use Rattle.derivation.specs.Entries.{Entry}
+use Rattle.clearing.specs.Clear.{clear}
+use Rattle.clearing.specs.Revoke.{revoke}
 use Rattle.ipc_core.specs.Records.{Instance, SendRecord, ReceiveRecord}
 use Rattle.abstract_kernel.specs.declared.call.Call.{Call}
 use Rattle.abstract_kernel.specs.declared.call.Reply.{Reply}
@@ -13,11 +15,13 @@ use Rattle.abstract_kernel.specs.declared.call.Reply.TheVariants.{Done, Delivere
 use Rattle.abstract_kernel.specs.declared.invocation.Service.{Service}
 use Rattle.abstract_kernel.specs.declared.invocation.NewObjects.{NewObjects}
 use Rattle.abstract_kernel.specs.declared.invocation.Invocation.{Invocation}
-use Rattle.abstract_kernel.specs.declared.invocation.Invocation.TheVariants.{Send, Receive, Retype, Derive, Move}
+use Rattle.abstract_kernel.specs.declared.invocation.Invocation.TheVariants.{Send, Receive, Retype, Derive, Move, Delete, Revoke, CancelBadged, SetSpace, Suspend, Resume}
 use Rattle.abstract_kernel.specs.Decode.{decoded_call}
 use Rattle.abstract_kernel.specs.Shown.{tcb_base, endpoint_base}
 use Rattle.abstract_kernel.specs.Retyping.{with_objects, new_bases}
 use Rattle.abstract_kernel.specs.CNodes.{with_derived, with_moved}
+use Rattle.abstract_kernel.specs.Threads.{with_space}
+use Rattle.abstract_kernel.specs.Cancelling.{ending, suspending, resuming, cancelling_badged}
 use Rattle.abstract_kernel.specs.State.{State, endpoint_at, thread_at, sends_to, receives_of, shown}
 
 pub record Outcome : Type 0 where
@@ -105,6 +109,14 @@ objects_made p A new =
       };
     }
 
+-- it is done, and the state has one more call
+abbrev pub changed_to : State → Outcome
+changed_to A = record { reply = Done; state = counted A }
+
+-- the capabilities become those of a forest, and what is open and then not live is cancelled
+abbrev pub objects_ended : State → Forest Entry → Outcome
+objects_ended A g = changed_to (ending A g)
+
 -- what a call whose checks passed does
 abbrev pub performed : ProfileName → State → ℕ → Invocation → Outcome
 performed p A thread (Send service message true) = send_accepted A thread service message
@@ -116,6 +128,12 @@ performed p A thread (Receive service false) =
 performed p A thread (Retype new) = objects_made p A new
 performed p A thread (Derive placement) = rearranged A (with_derived p placement A.derivations)
 performed p A thread (Move placement) = rearranged A (with_moved placement A.derivations)
+performed p A thread (Delete slot) = objects_ended A (clear p slot A.derivations)
+performed p A thread (Revoke slot) = objects_ended A (revoke p slot A.derivations)
+performed p A thread (CancelBadged service) = changed_to (cancelling_badged A (endpoint_at A service.endpoint) service.badge)
+performed p A thread (SetSpace new) = objects_ended A (with_space p new A.derivations)
+performed p A thread (Suspend tcb) = changed_to (suspending A (thread_at A tcb))
+performed p A thread (Resume tcb) = changed_to (resuming A (thread_at A tcb))
 
 abbrev pub outcome : ProfileName → State → ℕ → Result Invocation Refusal → Outcome
 outcome p A thread (Err refusal) = record { reply = Refused refusal; state = counted A }

@@ -59,6 +59,26 @@ pub enum Op {
         src_depth: u64,
         word: u64,
     },
+    /// Clears a slot of a CNode (`seL4_CNode_Delete`): it is emptied, and where its capability was the last of its object, that
+    /// ends, with what lay in it.
+    CapDelete {
+        cap: u64,
+        index: u64,
+        depth: u64,
+    },
+    /// Clears each capability that was derived from the one in a slot of a CNode (`seL4_CNode_Revoke`).
+    CapRevoke {
+        cap: u64,
+        index: u64,
+        depth: u64,
+    },
+    /// Cancels the sends that wait on an endpoint and were sent with the badge of the capability in a slot of a CNode
+    /// (`seL4_CNode_CancelBadgedSends`).
+    CancelBadged {
+        cap: u64,
+        index: u64,
+        depth: u64,
+    },
     /// Sends a message through an endpoint, and waits where no receiver does.
     Send {
         cap: u64,
@@ -75,6 +95,21 @@ pub enum Op {
     },
     /// Receives a message from an endpoint where a sender waits, and nothing where none does.
     NbRecv {
+        cap: u64,
+    },
+    /// Gives a thread the CNode that `root` names as the root of its capability space (`seL4_TCB_SetSpace`, for this alone), with
+    /// the guard that `word` holds, where it is not 0.
+    SetSpace {
+        cap: u64,
+        root: u64,
+        word: u64,
+    },
+    /// Suspends a thread (`seL4_TCB_Suspend`): it waits no more, and is inactive.
+    Suspend {
+        cap: u64,
+    },
+    /// Resumes a thread (`seL4_TCB_Resume`): it waits no more, and is ready.
+    Resume {
         cap: u64,
     },
 }

@@ -61,6 +61,16 @@ pub struct CapPlacement {
     pub cap: Cap,
 }
 
+/// The root of a thread's capability space: the address of the thread's control block, which is that of its root slot; the
+/// addresses of the slot that was invoked and of the slot that holds the CNode's capability; and that capability as it is put.
+#[derive(Clone, Copy)]
+pub struct NewSpace {
+    pub tcb: u64,
+    pub invoked: u64,
+    pub source: u64,
+    pub cap: Cap,
+}
+
 /// What a call whose checks passed does: one variant for each effect that calls have.
 #[derive(Clone, Copy)]
 pub enum Invocation {
@@ -81,4 +91,16 @@ pub enum Invocation {
     Derive(CapPlacement),
     /// Moves a capability.
     Move(CapPlacement),
+    /// Clears the slot at an address.
+    Delete(u64),
+    /// Clears what was derived from the capability in the slot at an address.
+    Revoke(u64),
+    /// Cancels the sends that wait on an endpoint with a badge.
+    CancelBadged(Service),
+    /// Gives a thread another root of its capability space.
+    SetSpace(NewSpace),
+    /// Suspends the thread whose control block stands at an address.
+    Suspend(u64),
+    /// Resumes the thread whose control block stands at an address.
+    Resume(u64),
 }

@@ -1,7 +1,5 @@
--- What the grammar reads of bytes, names, keys, arrays and words.
+-- What the grammar reads of bytes, keys, tables and calls.
 pub mod Bytes
 pub mod Keys
-pub mod LookUp
-pub mod Loops
-pub mod Padding
+pub mod Ends
 pub mod Beside

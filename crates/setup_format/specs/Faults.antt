@@ -1,8 +1,8 @@
 -- The first fault of a set-up, and what a function returned beside what a set-up is read as.
 use Rattle.std.specs.Prelude.{◌≡◌, ℕ, List, Result, Ok, Err, string_bytes}
 use Rattle.abstract_kernel.specs.declared.plan.PlanDefect.{PlanDefect}
-use Rattle.setup_format.specs.declared.fault.Wrong.{Wrong}
-use Rattle.setup_format.specs.declared.fault.Wrong.TheVariants.{Unknown, Missing, OtherType, OtherValue}
+use Rattle.setup_values.specs.declared.values.Wrong.{Wrong}
+use Rattle.setup_values.specs.Kinds.{wrong_code}
 use Rattle.setup_format.specs.declared.fault.Place.{Place}
 use Rattle.setup_format.specs.declared.fault.Key.{Key}
 use Rattle.setup_format.specs.declared.fault.Key.TheVariants.{Known, Found}
@@ -32,12 +32,6 @@ Gives view (Ok x) read = read ≡ Ok (view x)
 Gives view (Err e) read = Fails e read
 
 -- ---- numbers of the faults
-
-abbrev pub wrong_code : Wrong → ℕ
-wrong_code Unknown = 201
-wrong_code Missing = 202
-wrong_code OtherType = 203
-wrong_code OtherValue = 204
 
 abbrev pub fault_code : Fault → ℕ
 fault_code text = 200

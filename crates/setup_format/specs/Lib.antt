@@ -1,6 +1,6 @@
 -- What a set-up is read as, by its grammar; Private has what serves the proofs alone.
-pub mod Names
-pub mod Kinds
+pub use Rattle.setup_values.specs.Names
+pub use Rattle.setup_values.specs.Kinds
 pub mod Faults
 pub mod Tables
 pub mod Views

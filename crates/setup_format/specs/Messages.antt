@@ -5,7 +5,7 @@ use Rattle.cap_core.specs.declared.limits.TheConstants.{MAX_MESSAGE_WORDS}
 use Rattle.cap_core.specs.declared.message.Message.{Message}
 use Rattle.cap_core.specs.Numbers.{label_bits}
 use Rattle.abstract_kernel.specs.declared.call.Op.{Op}
-use Rattle.abstract_kernel.specs.declared.call.Op.TheVariants.{Retype, CapCopy, CapMint, CapMove, CapMutate, Send, NbSend, Recv, NbRecv}
+use Rattle.abstract_kernel.specs.declared.call.Op.TheVariants.{Retype, CapCopy, CapMint, CapMove, CapMutate, CapDelete, CapRevoke, CancelBadged, Send, NbSend, Recv, NbRecv, SetSpace, Suspend, Resume}
 use Rattle.setup_format.specs.Views.{CallView}
 
 -- a label of the profile, no more words than a message has, and zeros past them
@@ -20,10 +20,16 @@ SendsMessage p (CapCopy cap index depth src_root src_index src_depth rights) = U
 SendsMessage p (CapMint cap index depth src_root src_index src_depth rights word) = Unit {0}
 SendsMessage p (CapMove cap index depth src_root src_index src_depth) = Unit {0}
 SendsMessage p (CapMutate cap index depth src_root src_index src_depth word) = Unit {0}
+SendsMessage p (CapDelete cap index depth) = Unit {0}
+SendsMessage p (CapRevoke cap index depth) = Unit {0}
+SendsMessage p (CancelBadged cap index depth) = Unit {0}
 SendsMessage p (Send cap message) = IsMessage p message
 SendsMessage p (NbSend cap message) = IsMessage p message
 SendsMessage p (Recv cap) = Unit {0}
 SendsMessage p (NbRecv cap) = Unit {0}
+SendsMessage p (SetSpace cap root word) = Unit {0}
+SendsMessage p (Suspend cap) = Unit {0}
+SendsMessage p (Resume cap) = Unit {0}
 
 -- where a call sends a message, it is one of the profile
 abbrev pub HasMessage : ProfileName → CallView → Type 0

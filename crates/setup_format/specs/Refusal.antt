@@ -9,7 +9,7 @@ use Rattle.setup_format.specs.declared.fault.Place.{Place}
 use Rattle.setup_format.specs.declared.fault.Place.TheVariants as places
 use Rattle.setup_format.specs.declared.fault.SetupFault.{SetupFault}
 use Rattle.setup_format.specs.declared.fault.SetupFault.TheVariants as faults
-use Rattle.setup_format.specs.Kinds.{between}
+use Rattle.setup_values.specs.Kinds.{between}
 use Rattle.setup_format.specs.Faults.{Fault, text, at, layout, fault_code, key_bytes}
 
 -- an ASCII letter, a digit, `_` or `-`

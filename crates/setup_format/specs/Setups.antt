@@ -12,8 +12,8 @@ use Rattle.abstract_kernel.specs.Plan.{Plan, planned, first_defect}
 use Rattle.setup_format.specs.declared.limits.TheConstants.{FORMAT, MAX_CALLS}
 use Rattle.setup_format.specs.declared.fault.Place.TheVariants as places
 use Rattle.setup_format.specs.declared.setup.Sizes.{Sizes}
-use Rattle.setup_format.specs.Names.{Names}
-use Rattle.setup_format.specs.Kinds.{◌>>=◌, number, word, expect, op, profile, tables, each}
+use Rattle.setup_values.specs.Names.{Names}
+use Rattle.setup_values.specs.Kinds.{◌>>=◌, number, word, expect, op, profile, tables, each}
 use Rattle.setup_format.specs.Faults.{Fault, text, layout}
 use Rattle.setup_format.specs.Tables.{required, optional, known_only}
 use Rattle.setup_format.specs.Operations.{call_keys, operation_at}

@@ -5,8 +5,8 @@ use Rattle.std.specs.Str.{bytes_eq}
 use Rattle.std.specs.Ordering.{nat_cmp, is_lt}
 use Rattle.std.specs.Cmp.Lexicographic.{slice_cmp}
 use Rattle.toml.specs.Data.{Data, Members, no_members, member, get_member}
-use Rattle.setup_format.specs.declared.fault.Wrong.{Wrong}
-use Rattle.setup_format.specs.declared.fault.Wrong.TheVariants.{Unknown, Missing}
+use Rattle.setup_values.specs.declared.values.Wrong.{Wrong}
+use Rattle.setup_values.specs.declared.values.Wrong.TheVariants.{Unknown, Missing}
 use Rattle.setup_format.specs.declared.fault.Place.{Place}
 use Rattle.setup_format.specs.Faults.{Fault, at}
 

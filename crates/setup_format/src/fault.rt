@@ -3,36 +3,8 @@ ghost use Rattle.std.specs.Prelude.{◌≡◌};
 ghost use Rattle.setup_format.specs.declared.fault.SetupFault.TheVariants.{Memory};
 
 use kernel_core::PlanDefect;
+pub use setup_values::Wrong;
 use std::alloc::{AllocError, AllocFailed};
-
-/// What is wrong at a key.
-#[derive(Clone, Copy)]
-pub enum Wrong {
-    /// The table has no such key.
-    Unknown,
-    /// The key is required and not there.
-    Missing,
-    /// The value has another type than the key's.
-    OtherType,
-    /// The value has the key's type and is not one that the key takes.
-    OtherValue,
-}
-
-impl Wrong {
-    ghost use Rattle.setup_format.specs.Faults.{wrong_code};
-
-    /// The number of the fault, 201 to 204.
-    pub fn code(self) -> u32
-        ensures { result ≡ wrong_code self }
-    {
-        match self {
-            Wrong::Unknown => 201,
-            Wrong::Missing => 202,
-            Wrong::OtherType => 203,
-            Wrong::OtherValue => 204,
-        }
-    }
-}
 
 /// Which table of a set-up. The tables of an array count from 1.
 #[derive(Clone, Copy)]

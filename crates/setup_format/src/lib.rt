@@ -2,9 +2,7 @@
 #![tactic(auto)]
 
 pub mod fault;
-mod kinds;
 pub mod limits;
-mod names;
 mod operations;
 mod read;
 mod refusal;

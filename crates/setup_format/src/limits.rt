@@ -1,13 +1,12 @@
 //! The bounds of what a set-up may ask for besides those of a boot. They are this project's profile.
 
+pub use setup_values::limits::MAX_EXPECT_BYTES;
+
 /// The format of set-ups that is read.
 pub const FORMAT: u32 = 1;
 
 /// The most calls of a set-up.
 pub const MAX_CALLS: usize = 65536;
-
-/// The most bytes of an expectation.
-pub const MAX_EXPECT_BYTES: usize = 120;
 
 /// A set-up's text has fewer bytes than this.
 pub const MAX_SETUP_BYTES: usize = 67_108_864;

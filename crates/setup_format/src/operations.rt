@@ -1,18 +1,17 @@
 //! The operations that a call may name: the keys of each, and what they are read as.
 ghost use Rattle.std.specs.Prelude.{◌≡◌, map};
 ghost use Rattle.toml.specs.View.{table_view};
-ghost use Rattle.setup_format.specs.Private.Seen.{names_view};
+ghost use Rattle.setup_values.specs.Private.Seen.{names_view};
 ghost use Rattle.setup_format.specs.Faults.{Gives};
-ghost use Rattle.setup_format.specs.declared.setup.OpName.TheVariants as op_names;
+ghost use Rattle.setup_values.specs.declared.values.OpName.TheVariants as op_names;
 ghost use Rattle.setup_format.specs.Operations as spec;
 
 use crate::fault::{Place, SetupFault};
-use crate::names::Name;
-use crate::setup::{OpName, Words};
 use crate::tables::{label_or, rights_or_all, word_at, word_or, words_or_none};
 use abstract_kernel::invocation::SlotArguments;
 use cap_core::{Message, Profile};
 use kernel_core::Op;
+use setup_values::{Name, OpName, Words};
 use toml::Table;
 
 /// The keys of a retype.
@@ -80,10 +79,16 @@ pub fn call_keys(op: OpName) -> &'static [&'static str]
         OpName::CapMint => mint_keys(),
         OpName::CapMove => move_keys(),
         OpName::CapMutate => mutate_keys(),
+        OpName::CapDelete | OpName::CapRevoke | OpName::CancelBadged => &[
+            "thread", "op", "client", "expect", "cap", "index", "depth",
+        ],
         OpName::Send | OpName::NbSend => &[
             "thread", "op", "client", "expect", "cap", "label", "words",
         ],
-        OpName::Recv | OpName::NbRecv => &["thread", "op", "client", "expect", "cap"],
+        OpName::Recv | OpName::NbRecv | OpName::Suspend | OpName::Resume => &[
+            "thread", "op", "client", "expect", "cap",
+        ],
+        OpName::SetSpace => &["thread", "op", "client", "expect", "cap", "root", "word"],
     }
 }
 
@@ -234,6 +239,40 @@ fn mutate_at<P: Profile>(names: &[Name], place: Place, table: &Table) -> Result<
     })
 }
 
+#[tactic(auto, unfolding(crate::specs::Operations::delete_at))]
+fn delete_at<P: Profile>(names: &[Name], place: Place, table: &Table) -> Result<Op, SetupFault>
+    ensures { Gives (λ o. o) result (spec.delete_at P.the (names_view names.now) place (table_view table.now)) }
+{
+    let cap = word_at::<P>(names, table, place, "cap")?;
+    let index = word_at::<P>(names, table, place, "index")?;
+    let depth = word_or::<P>(names, table, place, "depth", u64::from(P::WORD_BITS))?;
+    Ok(Op::CapDelete { cap, index, depth })
+}
+
+#[tactic(auto, unfolding(crate::specs::Operations::revoke_at))]
+fn revoke_at<P: Profile>(names: &[Name], place: Place, table: &Table) -> Result<Op, SetupFault>
+    ensures { Gives (λ o. o) result (spec.revoke_at P.the (names_view names.now) place (table_view table.now)) }
+{
+    let cap = word_at::<P>(names, table, place, "cap")?;
+    let index = word_at::<P>(names, table, place, "index")?;
+    let depth = word_or::<P>(names, table, place, "depth", u64::from(P::WORD_BITS))?;
+    Ok(Op::CapRevoke { cap, index, depth })
+}
+
+#[tactic(auto, unfolding(crate::specs::Operations::cancel_badged_at))]
+fn cancel_badged_at<P: Profile>(
+    names: &[Name],
+    place: Place,
+    table: &Table,
+) -> Result<Op, SetupFault>
+    ensures { Gives (λ o. o) result (spec.cancel_badged_at P.the (names_view names.now) place (table_view table.now)) }
+{
+    let cap = word_at::<P>(names, table, place, "cap")?;
+    let index = word_at::<P>(names, table, place, "index")?;
+    let depth = word_or::<P>(names, table, place, "depth", u64::from(P::WORD_BITS))?;
+    Ok(Op::CancelBadged { cap, index, depth })
+}
+
 #[tactic(auto, unfolding(crate::specs::Operations::message_at))]
 fn message_at<P: Profile>(
     names: &[Name],
@@ -285,6 +324,32 @@ fn nb_recv_at<P: Profile>(names: &[Name], place: Place, table: &Table) -> Result
     Ok(Op::NbRecv { cap })
 }
 
+#[tactic(auto, unfolding(crate::specs::Operations::set_space_at))]
+fn set_space_at<P: Profile>(names: &[Name], place: Place, table: &Table) -> Result<Op, SetupFault>
+    ensures { Gives (λ o. o) result (spec.set_space_at P.the (names_view names.now) place (table_view table.now)) }
+{
+    let cap = word_at::<P>(names, table, place, "cap")?;
+    let root = word_at::<P>(names, table, place, "root")?;
+    let word = word_or::<P>(names, table, place, "word", 0)?;
+    Ok(Op::SetSpace { cap, root, word })
+}
+
+#[tactic(auto, unfolding(crate::specs::Operations::suspend_at))]
+fn suspend_at<P: Profile>(names: &[Name], place: Place, table: &Table) -> Result<Op, SetupFault>
+    ensures { Gives (λ o. o) result (spec.suspend_at P.the (names_view names.now) place (table_view table.now)) }
+{
+    let cap = word_at::<P>(names, table, place, "cap")?;
+    Ok(Op::Suspend { cap })
+}
+
+#[tactic(auto, unfolding(crate::specs::Operations::resume_at))]
+fn resume_at<P: Profile>(names: &[Name], place: Place, table: &Table) -> Result<Op, SetupFault>
+    ensures { Gives (λ o. o) result (spec.resume_at P.the (names_view names.now) place (table_view table.now)) }
+{
+    let cap = word_at::<P>(names, table, place, "cap")?;
+    Ok(Op::Resume { cap })
+}
+
 /// An operation, from the keys of its call.
 pub fn operation_at<P: Profile>(
     op: OpName,
@@ -300,9 +365,15 @@ pub fn operation_at<P: Profile>(
         OpName::CapMint => mint_at::<P>(names, place, table),
         OpName::CapMove => move_at::<P>(names, place, table),
         OpName::CapMutate => mutate_at::<P>(names, place, table),
+        OpName::CapDelete => delete_at::<P>(names, place, table),
+        OpName::CapRevoke => revoke_at::<P>(names, place, table),
+        OpName::CancelBadged => cancel_badged_at::<P>(names, place, table),
         OpName::Send => send_at::<P>(names, place, table),
         OpName::NbSend => nb_send_at::<P>(names, place, table),
         OpName::Recv => recv_at::<P>(names, place, table),
         OpName::NbRecv => nb_recv_at::<P>(names, place, table),
+        OpName::SetSpace => set_space_at::<P>(names, place, table),
+        OpName::Suspend => suspend_at::<P>(names, place, table),
+        OpName::Resume => resume_at::<P>(names, place, table),
     }
 }

@@ -2,9 +2,9 @@
 ghost use Rattle.std.specs.Prelude.{◌≡◌, ◌≢◌, ◌≤◌, ◌<◌, map, length, All, IfOk, IfErr};
 ghost use Rattle.toml.specs.View.{table_view};
 ghost use Rattle.abstract_kernel.specs.Plan.{IsUntypedSize, IsWithinLimits, IsPlan};
-ghost use Rattle.setup_format.specs.Private.Seen.{names_view};
+ghost use Rattle.setup_values.specs.Private.Seen.{names_view};
 ghost use Rattle.setup_format.specs.Faults.{Gives};
-ghost use Rattle.setup_format.specs.Kinds.{each};
+ghost use Rattle.setup_values.specs.Kinds.{each};
 ghost use Rattle.setup_format.specs.Messages.{HasMessage};
 ghost use Rattle.setup_format.specs.Private.Seen.{call_view};
 ghost use Rattle.setup_format.specs.Private.Sizes.{IsSizes};
@@ -13,7 +13,6 @@ ghost use Rattle.setup_format.specs.Setups as spec;
 
 use crate::fault::{Place, SetupFault};
 use crate::limits::{FORMAT, MAX_CALLS};
-use crate::names::Name;
 use crate::operations::{call_keys, operation_at};
 use crate::setup::{Setup, SetupCall, SetupCalls, Sizes};
 use crate::tables::{
@@ -26,6 +25,7 @@ use cap_core::limits::{
 };
 use cap_core::{Narrow, Profile, ProfileName, Wide};
 use kernel_core::{BootPlan, Call};
+use setup_values::Name;
 use std::alloc::Global;
 use toml::Table;
 

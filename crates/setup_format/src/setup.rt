@@ -2,31 +2,11 @@
 ghost use Rattle.std.specs.Prelude.{◌≡◌, ◌<◌, ◌≤◌, map, length, Some, option_map, option_copied, slice_get};
 
 use cap_core::ProfileName;
-use cap_core::limits::{MAX_MEMORY_BITS, MAX_MESSAGE_WORDS, MIN_MEMORY_BITS};
+use cap_core::limits::{MAX_MEMORY_BITS, MIN_MEMORY_BITS};
 use kernel_core::{BootPlan, Call};
+pub use setup_values::{OpName, Words};
 use std::alloc::{AllocError, Global};
 use std::marker::Model;
-
-/// The name of an operation.
-#[derive(Clone, Copy)]
-pub enum OpName {
-    Retype,
-    CapCopy,
-    CapMint,
-    CapMove,
-    CapMutate,
-    Send,
-    NbSend,
-    Recv,
-    NbRecv,
-}
-
-/// The words of a message: the first `count` of `words`. The others are 0.
-#[derive(Clone, Copy)]
-pub struct Words {
-    pub words: [u64; MAX_MESSAGE_WORDS],
-    pub count: u32,
-}
 
 /// The sizes of a boot plan.
 #[derive(Clone, Copy)]

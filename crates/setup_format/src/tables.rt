@@ -7,17 +7,16 @@ ghost use Rattle.toml.specs.View.{view, table_view};
 ghost use Rattle.toml.specs.Data.{get_member, as_table};
 ghost use Rattle.cap_core.specs.declared.profile.ProfileName.TheVariants.{Wide};
 ghost use Rattle.cap_core.specs.Rights.{all_rights};
-ghost use Rattle.setup_format.specs.Private.Seen.{names_view};
-ghost use Rattle.setup_format.specs.Kinds as kind;
+ghost use Rattle.setup_values.specs.Private.Seen.{names_view};
+ghost use Rattle.setup_values.specs.Kinds as kind;
 ghost use Rattle.setup_format.specs.Faults.{Gives};
 ghost use Rattle.setup_format.specs.Tables as spec;
 
 use crate::fault::{Key, Place, SetupFault, Wrong};
-use crate::kinds::{array, expect, label, number, op, profile, rights, word, words};
-use crate::names::Name;
-use crate::setup::{OpName, Words};
 use cap_core::limits::MAX_MESSAGE_WORDS;
 use cap_core::{Profile, ProfileName, Rights};
+use setup_values::kinds::{array, expect, label, number, op, profile, rights, word, words};
+use setup_values::{Name, OpName, Words};
 use std::alloc::Global;
 use toml::{Table, Value};
 

@@ -3,6 +3,7 @@ use cap_core::Message;
 use kernel_core::Op;
 use setup_read::read_setup;
 use std::alloc::Global;
+use std::process::Abort;
 use std::test::Fail;
 
 /// A set-up with no untyped region and no call.
@@ -83,10 +84,18 @@ fn numbers(op: Op) -> (&'static str, [u64; 8]) {
             "mutate",
             [cap, index, depth, src_root, src_index, src_depth, word, 0],
         ),
+        Op::CapDelete { cap, index, depth } => ("delete", [cap, index, depth, 0, 0, 0, 0, 0]),
+        Op::CapRevoke { cap, index, depth } => ("revoke", [cap, index, depth, 0, 0, 0, 0, 0]),
+        Op::CancelBadged { cap, index, depth } => {
+            ("cancel_badged", [cap, index, depth, 0, 0, 0, 0, 0])
+        }
         Op::Send { cap, message } => sends("send", cap, message),
         Op::NbSend { cap, message } => sends("nbsend", cap, message),
         Op::Recv { cap } => ("recv", [cap, 0, 0, 0, 0, 0, 0, 0]),
         Op::NbRecv { cap } => ("nbrecv", [cap, 0, 0, 0, 0, 0, 0, 0]),
+        Op::SetSpace { cap, root, word } => ("set_space", [cap, root, word, 0, 0, 0, 0, 0]),
+        Op::Suspend { cap } => ("suspend", [cap, 0, 0, 0, 0, 0, 0, 0]),
+        Op::Resume { cap } => ("resume", [cap, 0, 0, 0, 0, 0, 0, 0]),
     }
 }
 
@@ -105,6 +114,78 @@ fn operation(alloc: Global, keys: &str) -> Result<(&'static str, [u64; 8]), Fail
         [call] => Ok(numbers(call.op)),
         _ => Err("one call was wanted")?,
     }
+}
+
+/// Each case is the keys of a call, and the name and the numbers of the operation that they are read as.
+fn each_is_read_as(
+    rt: &(impl Abort + AllocGlobal),
+    cases: &[(&str, &str, [u64; 8])],
+) -> Result<(), Fail> {
+    for (keys, name, want) in cases {
+        let got = operation(rt.alloc(), keys)?;
+        assert!(rt; got.0 == *name && got.1 == *want, "of {keys}");
+    }
+    Ok(())
+}
+
+/// Without its key a depth is 64, and a guard word 0.
+#[test]
+fn what_operations_on_a_slot_or_a_thread_are_read_as(rt: HostRuntime) -> Result<(), Fail> {
+    each_is_read_as(
+        &rt,
+        &[
+            (
+                "op = \"delete\", cap = 1, index = 8",
+                "delete",
+                [1, 8, 64, 0, 0, 0, 0, 0],
+            ),
+            (
+                "op = \"delete\", depth = 2, index = \"0x3\", cap = 8",
+                "delete",
+                [8, 3, 2, 0, 0, 0, 0, 0],
+            ),
+            (
+                "op = \"revoke\", cap = 1, index = 5",
+                "revoke",
+                [1, 5, 64, 0, 0, 0, 0, 0],
+            ),
+            (
+                "op = \"revoke\", cap = 8, index = 3, depth = 0",
+                "revoke",
+                [8, 3, 0, 0, 0, 0, 0, 0],
+            ),
+            (
+                "op = \"cancel_badged\", cap = 1, index = 9",
+                "cancel_badged",
+                [1, 9, 64, 0, 0, 0, 0, 0],
+            ),
+            (
+                "op = \"cancel_badged\", cap = 1, index = 9, depth = 65",
+                "cancel_badged",
+                [1, 9, 65, 0, 0, 0, 0, 0],
+            ),
+            (
+                "op = \"set_space\", cap = 2, root = 1",
+                "set_space",
+                [2, 1, 0, 0, 0, 0, 0, 0],
+            ),
+            (
+                "op = \"set_space\", word = 58, root = 1, cap = 2",
+                "set_space",
+                [2, 1, 58, 0, 0, 0, 0, 0],
+            ),
+            (
+                "op = \"suspend\", cap = 3",
+                "suspend",
+                [3, 0, 0, 0, 0, 0, 0, 0],
+            ),
+            (
+                "op = \"resume\", cap = \"0xffffffffffffffff\"",
+                "resume",
+                [u64::MAX, 0, 0, 0, 0, 0, 0, 0],
+            ),
+        ],
+    )
 }
 
 /// Without their keys the depths of copies and moves are 64, the source's CNode is the one that is invoked, and all rights

@@ -392,3 +392,227 @@ fn edges_of_the_keys_of_a_retype_and_a_copy(rt: HostRuntime) -> Result<(), Fail>
     }
     Ok(())
 }
+
+/// Each key missing where it is required, of another type and of another value, and a key that the operation lacks.
+#[test]
+fn edges_of_the_keys_of_operations_on_a_slot(rt: HostRuntime) -> Result<(), Fail> {
+    for (call, want) in [
+        (
+            "op = \"delete\"",
+            "202: set-up refused 202 at call 1 key thread",
+        ),
+        (
+            "op = \"delete\", thread = 2048, rights = 1",
+            "201: set-up refused 201 at call 1 key rights",
+        ),
+        (
+            "op = \"delete\", thread = 2048",
+            "202: set-up refused 202 at call 1 key cap",
+        ),
+        (
+            "op = \"delete\", thread = 2048, cap = true",
+            "203: set-up refused 203 at call 1 key cap",
+        ),
+        (
+            "op = \"delete\", thread = 2048, cap = -1",
+            "204: set-up refused 204 at call 1 key cap",
+        ),
+        (
+            "op = \"delete\", thread = 2048, cap = 1",
+            "202: set-up refused 202 at call 1 key index",
+        ),
+        (
+            "op = \"delete\", thread = 2048, cap = 1, index = true",
+            "203: set-up refused 203 at call 1 key index",
+        ),
+        (
+            "op = \"delete\", thread = 2048, cap = 1, index = -1",
+            "204: set-up refused 204 at call 1 key index",
+        ),
+        (
+            "op = \"delete\", thread = 2048, cap = 1, index = 1, depth = true",
+            "203: set-up refused 203 at call 1 key depth",
+        ),
+        (
+            "op = \"delete\", thread = 2048, cap = 1, index = 1, depth = -1",
+            "204: set-up refused 204 at call 1 key depth",
+        ),
+        (
+            "op = \"revoke\"",
+            "202: set-up refused 202 at call 1 key thread",
+        ),
+        (
+            "op = \"revoke\", thread = 2048, src_root = 1",
+            "201: set-up refused 201 at call 1 key src_root",
+        ),
+        (
+            "op = \"revoke\", thread = 2048",
+            "202: set-up refused 202 at call 1 key cap",
+        ),
+        (
+            "op = \"revoke\", thread = 2048, cap = true",
+            "203: set-up refused 203 at call 1 key cap",
+        ),
+        (
+            "op = \"revoke\", thread = 2048, cap = -1",
+            "204: set-up refused 204 at call 1 key cap",
+        ),
+        (
+            "op = \"revoke\", thread = 2048, cap = 1",
+            "202: set-up refused 202 at call 1 key index",
+        ),
+        (
+            "op = \"revoke\", thread = 2048, cap = 1, index = true",
+            "203: set-up refused 203 at call 1 key index",
+        ),
+        (
+            "op = \"revoke\", thread = 2048, cap = 1, index = -1",
+            "204: set-up refused 204 at call 1 key index",
+        ),
+        (
+            "op = \"revoke\", thread = 2048, cap = 1, index = 1, depth = true",
+            "203: set-up refused 203 at call 1 key depth",
+        ),
+        (
+            "op = \"revoke\", thread = 2048, cap = 1, index = 1, depth = -1",
+            "204: set-up refused 204 at call 1 key depth",
+        ),
+        (
+            "op = \"cancel_badged\"",
+            "202: set-up refused 202 at call 1 key thread",
+        ),
+        (
+            "op = \"cancel_badged\", thread = 2048, badge = 1",
+            "201: set-up refused 201 at call 1 key badge",
+        ),
+        (
+            "op = \"cancel_badged\", thread = 2048",
+            "202: set-up refused 202 at call 1 key cap",
+        ),
+        (
+            "op = \"cancel_badged\", thread = 2048, cap = true",
+            "203: set-up refused 203 at call 1 key cap",
+        ),
+        (
+            "op = \"cancel_badged\", thread = 2048, cap = -1",
+            "204: set-up refused 204 at call 1 key cap",
+        ),
+        (
+            "op = \"cancel_badged\", thread = 2048, cap = 1",
+            "202: set-up refused 202 at call 1 key index",
+        ),
+        (
+            "op = \"cancel_badged\", thread = 2048, cap = 1, index = true",
+            "203: set-up refused 203 at call 1 key index",
+        ),
+        (
+            "op = \"cancel_badged\", thread = 2048, cap = 1, index = -1",
+            "204: set-up refused 204 at call 1 key index",
+        ),
+        (
+            "op = \"cancel_badged\", thread = 2048, cap = 1, index = 1, depth = true",
+            "203: set-up refused 203 at call 1 key depth",
+        ),
+        (
+            "op = \"cancel_badged\", thread = 2048, cap = 1, index = 1, depth = -1",
+            "204: set-up refused 204 at call 1 key depth",
+        ),
+    ] {
+        let lines = format!(in rt.alloc(); "call = [{{{call}}}]")?;
+        let got = below_sizes(rt.alloc(), lines.as_str())?;
+        assert_eq!(rt; got.as_str(), want, "of {call}");
+    }
+    Ok(())
+}
+
+/// Each key missing where it is required, of another type and of another value, and a key that the operation lacks.
+#[test]
+fn edges_of_the_keys_of_operations_on_a_thread(rt: HostRuntime) -> Result<(), Fail> {
+    for (call, want) in [
+        (
+            "op = \"set_space\"",
+            "202: set-up refused 202 at call 1 key thread",
+        ),
+        (
+            "op = \"set_space\", thread = 2048, depth = 1",
+            "201: set-up refused 201 at call 1 key depth",
+        ),
+        (
+            "op = \"set_space\", thread = 2048",
+            "202: set-up refused 202 at call 1 key cap",
+        ),
+        (
+            "op = \"set_space\", thread = 2048, cap = true",
+            "203: set-up refused 203 at call 1 key cap",
+        ),
+        (
+            "op = \"set_space\", thread = 2048, cap = -1",
+            "204: set-up refused 204 at call 1 key cap",
+        ),
+        (
+            "op = \"set_space\", thread = 2048, cap = 1",
+            "202: set-up refused 202 at call 1 key root",
+        ),
+        (
+            "op = \"set_space\", thread = 2048, cap = 1, root = true",
+            "203: set-up refused 203 at call 1 key root",
+        ),
+        (
+            "op = \"set_space\", thread = 2048, cap = 1, root = -1",
+            "204: set-up refused 204 at call 1 key root",
+        ),
+        (
+            "op = \"set_space\", thread = 2048, cap = 1, root = 1, word = true",
+            "203: set-up refused 203 at call 1 key word",
+        ),
+        (
+            "op = \"set_space\", thread = 2048, cap = 1, root = 1, word = -1",
+            "204: set-up refused 204 at call 1 key word",
+        ),
+        (
+            "op = \"suspend\"",
+            "202: set-up refused 202 at call 1 key thread",
+        ),
+        (
+            "op = \"suspend\", thread = 2048, index = 1",
+            "201: set-up refused 201 at call 1 key index",
+        ),
+        (
+            "op = \"suspend\", thread = 2048",
+            "202: set-up refused 202 at call 1 key cap",
+        ),
+        (
+            "op = \"suspend\", thread = 2048, cap = true",
+            "203: set-up refused 203 at call 1 key cap",
+        ),
+        (
+            "op = \"suspend\", thread = 2048, cap = -1",
+            "204: set-up refused 204 at call 1 key cap",
+        ),
+        (
+            "op = \"resume\"",
+            "202: set-up refused 202 at call 1 key thread",
+        ),
+        (
+            "op = \"resume\", thread = 2048, word = 1",
+            "201: set-up refused 201 at call 1 key word",
+        ),
+        (
+            "op = \"resume\", thread = 2048",
+            "202: set-up refused 202 at call 1 key cap",
+        ),
+        (
+            "op = \"resume\", thread = 2048, cap = true",
+            "203: set-up refused 203 at call 1 key cap",
+        ),
+        (
+            "op = \"resume\", thread = 2048, cap = -1",
+            "204: set-up refused 204 at call 1 key cap",
+        ),
+    ] {
+        let lines = format!(in rt.alloc(); "call = [{{{call}}}]")?;
+        let got = below_sizes(rt.alloc(), lines.as_str())?;
+        assert_eq!(rt; got.as_str(), want, "of {call}");
+    }
+    Ok(())
+}

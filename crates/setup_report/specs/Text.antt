@@ -10,7 +10,7 @@ use Rattle.cap_core.specs.declared.capability.Cap.TheVariants.{Null, Untyped, En
 use Rattle.cap_core.specs.declared.refusal.Refusal.{Refusal}
 use Rattle.cap_core.specs.Refusals.{refusal_code, refusal_kind}
 use Rattle.abstract_kernel.specs.declared.call.Op.{Op}
-use Rattle.abstract_kernel.specs.declared.call.Op.TheVariants.{Retype, CapCopy, CapMint, CapMove, CapMutate, Send, NbSend, Recv, NbRecv}
+use Rattle.abstract_kernel.specs.declared.call.Op.TheVariants.{Retype, CapCopy, CapMint, CapMove, CapMutate, CapDelete, CapRevoke, CancelBadged, Send, NbSend, Recv, NbRecv, SetSpace, Suspend, Resume}
 use Rattle.abstract_kernel.specs.declared.call.Reply.{Reply}
 use Rattle.abstract_kernel.specs.declared.call.Reply.TheVariants.{Done, Delivered, Waiting, Dropped, Empty, Refused}
 use Rattle.abstract_kernel.specs.declared.call.ThreadState.{ThreadState}
@@ -52,10 +52,16 @@ op_text (CapCopy cap index depth src_root src_index src_depth rights) = codes "c
 op_text (CapMint cap index depth src_root src_index src_depth rights word) = codes "mint"
 op_text (CapMove cap index depth src_root src_index src_depth) = codes "move"
 op_text (CapMutate cap index depth src_root src_index src_depth word) = codes "mutate"
+op_text (CapDelete cap index depth) = codes "delete"
+op_text (CapRevoke cap index depth) = codes "revoke"
+op_text (CancelBadged cap index depth) = codes "cancel_badged"
 op_text (Send cap message) = codes "send"
 op_text (NbSend cap message) = codes "nbsend"
 op_text (Recv cap) = codes "recv"
 op_text (NbRecv cap) = codes "nbrecv"
+op_text (SetSpace cap root word) = codes "set_space"
+op_text (Suspend cap) = codes "suspend"
+op_text (Resume cap) = codes "resume"
 
 -- the number of a refusal, and after a stroke the number of a lookup failure's kind
 abbrev pub refusal_text : Refusal → List ℕ

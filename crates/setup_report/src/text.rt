@@ -113,10 +113,16 @@ pub fn op_text(op: &Op) -> &'static str
         Op::CapMint { .. } => "mint",
         Op::CapMove { .. } => "move",
         Op::CapMutate { .. } => "mutate",
+        Op::CapDelete { .. } => "delete",
+        Op::CapRevoke { .. } => "revoke",
+        Op::CancelBadged { .. } => "cancel_badged",
         Op::Send { .. } => "send",
         Op::NbSend { .. } => "nbsend",
         Op::Recv { .. } => "recv",
         Op::NbRecv { .. } => "nbrecv",
+        Op::SetSpace { .. } => "set_space",
+        Op::Suspend { .. } => "suspend",
+        Op::Resume { .. } => "resume",
     }
 }
 

@@ -1,7 +1,7 @@
 -- Who waits where, in a state where open records have live endpoints and live threads.
-use Rattle.std.proofs.Common.{◌≡◌, ℕ, ◌<◌, ◌≤◌, Bool, true, false, not, cond, ◌==◌, ◌&&◌, ◌||◌, List, [], ◌∷◌, ◌++◌, map, filter, find, length, Option, None, Some, refl, sym, ap, subst, ◌∙◌, arith, inl, inr, eq-eqb}
+use Rattle.std.proofs.Common.{◌≡◌, ℕ, ◌≤◌, Bool, true, false, cond, ◌==◌, ◌&&◌, ◌||◌, List, [], ◌∷◌, ◌++◌, map, find, length, Option, None, Some, refl, sym, ap, subst, ◌∙◌, arith, inl, inr, eq-eqb}
 use Rattle.std.specs.List.{list_any, AllByRecursion}
-use Rattle.std.proofs.lemmas.Bool.{false≢true, ne_eqb}
+use Rattle.std.proofs.lemmas.Bool.{false≢true}
 use Rattle.std.proofs.lemmas.Bool.Decides.{eqb_tells}
 use Rattle.derivation.specs.Forest.{Forest}
 use Rattle.derivation.specs.Entries.{Entry}
@@ -16,7 +16,7 @@ use Rattle.abstract_kernel.proofs.Messages.DeliveredSend.{pending}
 use Rattle.abstract_kernel.proofs.Lists.Numbered.{tally, find_nothing}
 use Rattle.abstract_kernel.proofs.Messages.WaitsOnce.{find_fails}
 use Rattle.abstract_kernel.proofs.Lists.Searches.{find_found, some_tally}
-use Rattle.abstract_kernel.proofs.Lists.Rising.{all_weaker, all_joined, all_dropped, passes_not, and_false, each_named}
+use Rattle.abstract_kernel.proofs.Lists.Rising.{all_weaker, all_joined, all_dropped, passes_not, each_named}
 use Rattle.abstract_kernel.proofs.Cancelling.Records.{own_sends, own_receives}
 use Rattle.abstract_kernel.proofs.Reached.Invariant.{Invariant, IsOpen, SendIsOpen, ReceiveIsOpen}
 
@@ -80,29 +80,6 @@ module _ (A : State) (inv : Invariant A) where
       let ss = no_sends_wait e dead in
       let qs = no_receives_wait e dead in
       λ i. map sender (ss i) ++ map receiver (qs i)
-
-  -- an endpoint that was made later than every record has none
-  pub no_sends_yet : (e : Instance) → A.count < e.birth → sends_to A e ≡ []
-  no_sends_yet e later = nothing A.sends inv.sends_born
-    where
-      nothing : (xs : List SendRecord) → AllByRecursion (λ (s : SendRecord). (s.endpoint.birth ≤ A.count) × (s.thread.birth ≤ A.count)) xs → filter (λ (s : SendRecord). same_instance s.endpoint e && not (A.is_cancelled s.number)) xs ≡ []
-      nothing [] h = refl
-      nothing (s ∷ ss) h = let le = h.0.0 in
-          ap (λ (b : Bool). cond ((s.endpoint.base == e.base && b) && not (A.is_cancelled s.number)) (s ∷ filter (λ (x : SendRecord). same_instance x.endpoint e && not (A.is_cancelled x.number)) ss) (filter (λ (x : SendRecord). same_instance x.endpoint e && not (A.is_cancelled x.number)) ss))
-          (ne_eqb s.endpoint.birth e.birth (λ d. absurd (omega (arith, d, le, later))))
-          ∙ ap (λ (b : Bool). cond (b && not (A.is_cancelled s.number)) (s ∷ filter (λ (x : SendRecord). same_instance x.endpoint e && not (A.is_cancelled x.number)) ss) (filter (λ (x : SendRecord). same_instance x.endpoint e && not (A.is_cancelled x.number)) ss)) (and_false (s.endpoint.base == e.base))
-          ∙ nothing ss h.1
-
-  pub no_receives_yet : (e : Instance) → A.count < e.birth → receives_of A e ≡ []
-  no_receives_yet e later = nothing A.receives inv.born
-    where
-      nothing : (xs : List ReceiveRecord) → AllByRecursion (λ (a : ReceiveRecord). (a.endpoint.birth ≤ A.count) × (a.thread.birth ≤ A.count)) xs → filter (λ (a : ReceiveRecord). same_instance a.endpoint e && not (A.is_cancelled a.number)) xs ≡ []
-      nothing [] h = refl
-      nothing (a ∷ qs) h = let le = h.0.0 in
-          ap (λ (b : Bool). cond ((a.endpoint.base == e.base && b) && not (A.is_cancelled a.number)) (a ∷ filter (λ (x : ReceiveRecord). same_instance x.endpoint e && not (A.is_cancelled x.number)) qs) (filter (λ (x : ReceiveRecord). same_instance x.endpoint e && not (A.is_cancelled x.number)) qs))
-          (ne_eqb a.endpoint.birth e.birth (λ d. absurd (omega (arith, d, le, later))))
-          ∙ ap (λ (b : Bool). cond (b && not (A.is_cancelled a.number)) (a ∷ filter (λ (x : ReceiveRecord). same_instance x.endpoint e && not (A.is_cancelled x.number)) qs) (filter (λ (x : ReceiveRecord). same_instance x.endpoint e && not (A.is_cancelled x.number)) qs)) (and_false (a.endpoint.base == e.base))
-          ∙ nothing qs h.1
 
   -- a thread waits on one endpoint at most, and sends or receives there
   module _ (m : Instance) where

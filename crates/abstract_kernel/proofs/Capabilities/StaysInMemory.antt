@@ -18,16 +18,25 @@ use Rattle.derivation.proofs.Slots.Holding.{cap-entry}
 use Rattle.ipc_core.specs.declared.waiter.Waiter.{Waiter}
 use Rattle.ipc_core.specs.declared.waiter.Offer.{Offer}
 use Rattle.ipc_core.specs.Waits.{first_receiver, first_sender}
+use Rattle.clearing.specs.Clear.{clear}
+use Rattle.clearing.proofs.Kept.{kept-revoke}
+use Rattle.cap_core.specs.declared.capability.Badge.{Badge}
+use Rattle.ipc_core.specs.Cancelled.{is_sender_with}
+use Rattle.abstract_kernel.specs.Private.Endings.{after_release}
+use Rattle.abstract_kernel.proofs.Capabilities.StoresCleared.{slots-clear, caps-clear}
+use Rattle.abstract_kernel.proofs.Capabilities.SpacesSet.{space_placement, space_kept}
 use Rattle.abstract_kernel.specs.declared.invocation.Service.{Service}
 use Rattle.abstract_kernel.specs.declared.invocation.CapPlacement.{CapPlacement}
+use Rattle.abstract_kernel.specs.declared.invocation.NewSpace.{NewSpace}
 use Rattle.abstract_kernel.specs.declared.invocation.Invocation.{Invocation}
-use Rattle.abstract_kernel.specs.declared.invocation.Invocation.TheVariants.{Send, Receive, Retype, Derive, Move}
+use Rattle.abstract_kernel.specs.declared.invocation.Invocation.TheVariants.{Send, Receive, Retype, Derive, Move, Delete, Revoke, CancelBadged, SetSpace, Suspend, Resume}
 use Rattle.abstract_kernel.specs.Shown.{Shown, waiting_at}
 use Rattle.abstract_kernel.specs.Memory.{IsSlotAddress, IsInMemory}
 use Rattle.abstract_kernel.specs.Regions.{IsForest}
 use Rattle.abstract_kernel.specs.CNodes.{with_derived, with_moved}
+use Rattle.abstract_kernel.specs.Threads.{with_space}
 use Rattle.abstract_kernel.specs.Private.Effects.{send_to_first, receive_from_first, performed_effect}
-use Rattle.abstract_kernel.specs.Private.Invocations.{IsPlacement, IsInvocation}
+use Rattle.abstract_kernel.specs.Private.Invocations.{IsPlacement, IsSpace, IsInvocation}
 use Rattle.abstract_kernel.proofs.Retype.RetypedForest.{each_cap, all_caps, each_slot, all_slots, lawful_free, made_lawful, made_placed}
 
 -- where the derivation forest lies in the memory
@@ -91,6 +100,17 @@ module _ (p : ProfileName) (memory : ℕ) (f : Forest Entry) (all : LiesIn p mem
     all_caps (IsLawful p memory) _ (each-moved (λ (e : Entry). IsLawful p memory e.cap) placement.source placement.slot placement.cap f (each_cap (IsLawful p memory) f all.1) (λ original. is.lawful memory all.1)),
   )
 
+clear_lies : (p : ProfileName) (memory s : ℕ) (f : Forest Entry) → LiesIn p memory f → LiesIn p memory (clear p s f)
+unfolding LiesIn
+clear_lies p memory s f h = (slots-clear p memory s f h.0, caps-clear p memory s f h.1)
+
+space_lies : (p : ProfileName) (memory : ℕ) (f : Forest Entry) → IsDistinct eqb (slots f) → (new : NewSpace) →
+    IsSpace p f new → LiesIn p memory f → LiesIn p memory (with_space p new f)
+space_lies p memory f distinct new is h =
+    let cleared = clear_lies p memory new.tcb f h in
+    space_kept p f distinct new is (LiesIn p memory) cleared
+    (λ d. derived_lies p memory (clear p new.tcb f) cleared (space_placement new) d.ends)
+
 lies_in : (p : ProfileName) (memory : ℕ) (v : Shown) → IsInMemory p memory v → LiesIn p memory v.derivations
 unfolding LiesIn
 lies_in p memory v h = (h.slots_placed, h.lawful)
@@ -112,6 +132,11 @@ receive_keeps v t service list true None = refl
 receive_keeps v t service list false None = refl
 receive_keeps v t service list block (Some offer) = refl
 
+badge_keeps : (v : Shown) (e : ℕ) (badge : Badge) (none : Bool) →
+    (cond none v (after_release v e (is_sender_with badge))).derivations ≡ v.derivations
+badge_keeps v e badge true = refl
+badge_keeps v e badge false = refl
+
 effect_lies : (p : ProfileName) (memory : ℕ) (v : Shown) (t : ℕ) (invocation : Invocation) → IsForest p v.derivations → IsInvocation p v invocation → LiesIn p memory v.derivations →
     LiesIn p memory (performed_effect p v t invocation).after.derivations
 unfolding LiesIn
@@ -125,6 +150,14 @@ effect_lies p memory v t (Retype new) forest is h = (
 )
 effect_lies p memory v t (Derive placement) forest is h = with_derived_lies p memory v.derivations h placement is.ends forest.distinct
 effect_lies p memory v t (Move placement) forest is h = with_moved_lies p memory v.derivations h placement is.ends
+effect_lies p memory v t (Delete slot) forest is h = clear_lies p memory slot v.derivations h
+effect_lies p memory v t (Revoke slot) forest is h =
+    kept-revoke p (LiesIn p memory) (λ c g lies. clear_lies p memory c g lies) slot v.derivations h
+effect_lies p memory v t (CancelBadged service) forest is h =
+    subst (LiesIn p memory) (sym (badge_keeps v service.endpoint service.badge (service.badge.0 == 0))) h
+effect_lies p memory v t (SetSpace new) forest is h = space_lies p memory v.derivations forest.distinct new is h
+effect_lies p memory v t (Suspend tcb) forest is h = h
+effect_lies p memory v t (Resume tcb) forest is h = h
 
 -- what an invocation does stays in the memory
 pub invocation_within : (p : ProfileName) (v w : Shown) (t : ℕ) (invocation : Invocation) → IsForest p v.derivations → IsInvocation p v invocation → w ≡ (performed_effect p v t invocation).after →

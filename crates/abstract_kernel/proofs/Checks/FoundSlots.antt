@@ -18,6 +18,7 @@ use Rattle.cspace_core.specs.Resolution.{Found, is_cnode, resolution}
 use Rattle.cspace_core.specs.Target.{found_whole, target_slot}
 use Rattle.cspace_core.proofs.Inside.{found_within}
 use Rattle.cap_core.specs.declared.capability.Kind.{Kind}
+use Rattle.abstract_kernel.specs.declared.invocation.Invocation.{Invocation}
 use Rattle.abstract_kernel.specs.Checks.{◌>>=◌}
 use Rattle.abstract_kernel.specs.Memory.{IsSlotAddress}
 use Rattle.abstract_kernel.specs.Lookups.{is_of_kind, where_kind, where_empty, where_full, held_in}
@@ -37,6 +38,13 @@ cond_failed false r refusal x h = (refl, h)
 
 pub ok_same : {X : Type 0} (x y : X) → ◌≡◌ {A = Result X Refusal} (Ok x) (Ok y) → x ≡ y
 ok_same x y h = cc
+
+-- what holds of each invocation that comes of what passed
+pub made_passed : {X : Type 0} (P : Invocation → Type 0) (make : X → Invocation) (r : Result X Refusal)
+    (invocation : Invocation) →
+    ((x : X) → r ≡ Ok x → P (make x)) → (r >>= λ x. Ok (make x)) ≡ Ok invocation → P invocation
+made_passed P make (Ok x) invocation shows h = subst P (ok_same (make x) invocation h) (shows x refl)
+made_passed P make (Err refusal) invocation shows h = cc
 
 -- what holds anyway
 pub whatever : {X Y : Type 0} (H : Type 0) (r : Result X Y) → H → IfOk r (λ x. H)

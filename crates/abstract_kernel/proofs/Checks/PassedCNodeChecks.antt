@@ -14,7 +14,6 @@ use Rattle.cap_core.specs.Minting.{masked, guard_held, guarded, with_data}
 use Rattle.derivation.specs.Forest.{Forest}
 use Rattle.derivation.specs.Entries.{Entry, caps, cap_at, first_child}
 use Rattle.derivation.specs.Derivation.{names_same}
-use Rattle.cspace_core.specs.Resolution.{is_cnode}
 use Rattle.cap_core.specs.declared.capability.Kind.TheVariants as kind
 use Rattle.abstract_kernel.specs.declared.invocation.Change.{Change}
 use Rattle.abstract_kernel.specs.declared.invocation.Change.TheVariants.{Copy, Mint, Move, Mutate}
@@ -29,9 +28,9 @@ use Rattle.abstract_kernel.specs.Private.Invocations.{IsPlacement, IsDerivation,
 use Rattle.abstract_kernel.proofs.Checks.FoundSlots.{passed, cond_failed, ok_same, kind_passed, lawful_at, lawful_full, empty_at, full_at, empty_passed, full_passed, target_passed}
 
 -- a new capability of the object that another names, as lawful as that one
-record IsRemade (p : ProfileName) (cap made : Cap) : Type 0 where
-  same : names_same cap made ≡ true
-  lawful : (memory : ℕ) → IsLawful p memory cap → IsLawful p memory made
+pub record IsRemade (p : ProfileName) (cap made : Cap) : Type 0 where
+  pub same : names_same cap made ≡ true
+  pub lawful : (memory : ℕ) → IsLawful p memory cap → IsLawful p memory made
 
 itself : (a : ℕ) → (a == a) ≡ true
 itself a = eq-eqb a a refl
@@ -46,7 +45,7 @@ masked_remade p rights (Endpoint base badge had) full = record {
 masked_remade p rights (CNode base radix guard) full = record { same = and_from _ _ (itself base) (itself radix); lawful = λ memory l. l }
 masked_remade p rights (Tcb base) full = record { same = itself base; lawful = λ memory l. l }
 
-itself_remade : (p : ProfileName) (cap : Cap) → is_null cap ≡ false → IsRemade p cap cap
+pub itself_remade : (p : ProfileName) (cap : Cap) → is_null cap ≡ false → IsRemade p cap cap
 itself_remade p Null full = absurd (false≢true (sym full))
 itself_remade p (Untyped base bits free) full = record { same = and_from _ _ (itself base) (itself bits); lawful = λ memory l. l }
 itself_remade p (Endpoint base badge had) full = record { same = itself base; lawful = λ memory l. l }
@@ -56,11 +55,12 @@ itself_remade p (Tcb base) full = record { same = itself base; lawful = λ memor
 some_same : (a b : Cap) → Some a ≡ Some b → a ≡ b
 some_same a b h = cc
 
-where_some : (t : Bool) (a b : Cap) → cond t (Some a) None ≡ Some b → (t ≡ true) × (a ≡ b)
+pub where_some : (t : Bool) (a b : Cap) → cond t (Some a) None ≡ Some b → (t ≡ true) × (a ≡ b)
 where_some true a b h = (refl, some_same a b h)
 where_some false a b h = cc
 
-guarded_remade : (p : ProfileName) (base radix word : ℕ) (guard : Guard) (made : Cap) → guarded p base radix (guard_held p word) ≡ Some made → IsRemade p (CNode base radix guard) made
+pub guarded_remade : (p : ProfileName) (base radix word : ℕ) (guard : Guard) (made : Cap) →
+    guarded p base radix (guard_held p word) ≡ Some made → IsRemade p (CNode base radix guard) made
 guarded_remade p base radix word guard made h =
     let held = guard_held p word in
     let set = where_some (nat_le (held.size + radix) (word_bits p)) (CNode base radix held) made h in
@@ -130,7 +130,7 @@ mutated p word (Tcb base) made full h =
     let same = some_same (Tcb base) made h in
     (subst (IsRemade p (Tcb base)) same (itself_remade p (Tcb base) refl), kept_same (Tcb base) made same)
 
-set_passed : (o : Option Cap) (cap : Cap) → where_set o ≡ Ok cap → o ≡ Some cap
+pub set_passed : (o : Option Cap) (cap : Cap) → where_set o ≡ Ok cap → o ≡ Some cap
 set_passed (Some made) cap h = ap Some (ok_same made cap h)
 set_passed None cap h = cc
 

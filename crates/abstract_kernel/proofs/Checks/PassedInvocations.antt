@@ -1,9 +1,8 @@
 -- What the checks show of an invocation.
-use Rattle.std.proofs.Common.{◌≡◌, ℕ, ◌<◌, ◌≤◌, ◌⊎◌, Bool, true, false, cond, ◌==◌, not, Result, Ok, Err, All, refl, sym, subst, ◌∙◌}
+use Rattle.std.proofs.Common.{◌≡◌, ℕ, ◌<◌, ◌≤◌, ◌⊎◌, Bool, true, false, cond, ◌==◌, not, Ok, All, sym, subst, ◌∙◌}
 use Rattle.cap_core.specs.declared.profile.ProfileName.{ProfileName}
 use Rattle.cap_core.specs.declared.capability.Cap.{Cap}
 use Rattle.cap_core.specs.declared.capability.Cap.TheVariants.{Null, Untyped, Endpoint, CNode, Tcb}
-use Rattle.cap_core.specs.declared.refusal.Refusal.{Refusal}
 use Rattle.cap_core.specs.declared.refusal.Refusal.TheVariants.{RangeError, DeleteFirst}
 use Rattle.cap_core.specs.Objects.{is_null, IsLawful}
 use Rattle.mem_core.specs.Shapes.{shape_of}
@@ -15,30 +14,26 @@ use Rattle.cspace_core.specs.Resolution.{slot_of}
 use Rattle.cspace_core.specs.Target.{target_slot}
 use Rattle.cspace_core.proofs.Nodes.{lawful_node}
 use Rattle.cap_core.specs.declared.capability.Kind.TheVariants as kind
-use Rattle.abstract_kernel.specs.Checks.{◌>>=◌}
 use Rattle.abstract_kernel.specs.declared.call.Op.{Op}
 use Rattle.abstract_kernel.specs.declared.call.Op.TheVariants as op
 use Rattle.abstract_kernel.specs.declared.invocation.NewObjects.{NewObjects}
 use Rattle.abstract_kernel.specs.declared.invocation.RetypeArguments.{RetypeArguments}
-use Rattle.abstract_kernel.specs.declared.invocation.CapPlacement.{CapPlacement}
 use Rattle.abstract_kernel.specs.declared.invocation.Invocation.{Invocation}
-use Rattle.abstract_kernel.specs.declared.invocation.Invocation.TheVariants.{Send, Receive, Retype, Derive, Move}
+use Rattle.abstract_kernel.specs.declared.invocation.Invocation.TheVariants.{Send, Receive, Retype, Derive, Move, Delete, Revoke, CancelBadged, SetSpace, Suspend, Resume}
 use Rattle.abstract_kernel.specs.Memory.{IsSlotAddress}
-use Rattle.abstract_kernel.specs.declared.invocation.Service.{Service}
-use Rattle.cap_core.specs.declared.message.Message.{Message}
 use Rattle.cap_core.specs.declared.limits.TheConstants.{MAX_RETYPE_COUNT}
-use Rattle.cap_core.specs.Rights.{write_bit, read_bit}
 use Rattle.abstract_kernel.specs.Shown.{has_child}
 use Rattle.abstract_kernel.specs.Decode.{service_word, objects_asked, slots_named}
 use Rattle.abstract_kernel.specs.Lookups.{invoked_slot, extra_cap, held_in, where_kind}
 use Rattle.abstract_kernel.specs.Retyping.{node_cap, are_slots, some_full, where_all_empty, first_slot, decoded_retype}
 use Rattle.mem_core.specs.Plans.{placed_in}
-use Rattle.abstract_kernel.specs.Decode.{decoded_invocation, service_of, retypes, derives, moves, decoded_op}
-use Rattle.abstract_kernel.specs.Private.Invocations.{IsRetype, IsDerivation, IsMove}
-use Rattle.abstract_kernel.proofs.Checks.FoundSlots.{passed, cond_passed, cond_failed, ok_same, kind_passed, lawful_at, empty_at, held_passed, none_of_range, not_false}
+use Rattle.abstract_kernel.specs.Decode.{decoded_invocation, decoded_op}
+use Rattle.abstract_kernel.specs.Private.Invocations.{IsRetype, IsDerivation, IsMove, IsNamedSlot, IsLiveThread, IsSpace}
+use Rattle.abstract_kernel.proofs.Checks.FoundSlots.{passed, made_passed, cond_passed, cond_failed, ok_same, kind_passed, lawful_at, empty_at, held_passed, none_of_range, not_false}
 use Rattle.mem_core.proofs.Placing.{placed_lie}
 use Rattle.abstract_kernel.proofs.Checks.FilledSlots.{slots_there, slot_address}
 use Rattle.abstract_kernel.proofs.Checks.PassedCNodeChecks.{copy_derives, mint_derives, move_moves, mutate_moves}
+use Rattle.abstract_kernel.proofs.Checks.PassedSpaceChecks.{slot_shows, tcb_shows, space_shows}
 
 -- the slots that are filled: as many as a retype fills, empty, and in the memory
 record AreFilled (p : ProfileName) (f : Forest Entry) (first count : ℕ) (node : Cap) : Type 0 where
@@ -96,50 +91,62 @@ retype_shows p memory f all thread slot asked new h =
       slots = λ m lawful i low. filled.slots m (subst (λ cap. (cap ≡ Null) ⊎ IsLawful p m cap) there.1 (lawful_at p m f lawful there.0)) i low;
     })
 
--- what the checks show of an invocation that touches capabilities
+-- what the checks show of an invocation that touches capabilities or threads
 abbrev pub IsEdit : ProfileName → Forest Entry → Invocation → Type 0
 IsEdit p f (Send service message block) = Unit {0}
 IsEdit p f (Receive service block) = Unit {0}
 IsEdit p f (Retype new) = IsRetype p f new
 IsEdit p f (Derive placement) = IsDerivation p f placement
 IsEdit p f (Move placement) = IsMove p f placement
+IsEdit p f (Delete slot) = IsNamedSlot p f slot
+IsEdit p f (Revoke slot) = IsNamedSlot p f slot
+IsEdit p f (CancelBadged service) = Unit {0}
+IsEdit p f (SetSpace new) = IsSpace p f new
+IsEdit p f (Suspend tcb) = IsLiveThread f tcb
+IsEdit p f (Resume tcb) = IsLiveThread f tcb
 
 module _ (p : ProfileName) (memory : ℕ) (f : Forest Entry) (all : All (IsLawful p memory) (caps f)) where
-  retypes_edit : (r : Result NewObjects Refusal) (invocation : Invocation) → ((new : NewObjects) → r ≡ Ok new → IsRetype p f new) → retypes r ≡ Ok invocation → IsEdit p f invocation
-  retypes_edit (Err refusal) invocation shows h = cc
-  retypes_edit (Ok new) invocation shows h = subst (IsEdit p f) (ok_same (Retype new) invocation h) (shows new refl)
-
-  derives_edit : (r : Result CapPlacement Refusal) (invocation : Invocation) → ((placement : CapPlacement) → r ≡ Ok placement → IsDerivation p f placement) → derives r ≡ Ok invocation → IsEdit p f invocation
-  derives_edit (Err refusal) invocation shows h = cc
-  derives_edit (Ok placement) invocation shows h = subst (IsEdit p f) (ok_same (Derive placement) invocation h) (shows placement refl)
-
-  moves_edit : (r : Result CapPlacement Refusal) (invocation : Invocation) → ((placement : CapPlacement) → r ≡ Ok placement → IsMove p f placement) → moves r ≡ Ok invocation → IsEdit p f invocation
-  moves_edit (Err refusal) invocation shows h = cc
-  moves_edit (Ok placement) invocation shows h = subst (IsEdit p f) (ok_same (Move placement) invocation h) (shows placement refl)
-
-  sends_edit : (r : Result Service Refusal) (message : Message) (block : Bool) (invocation : Invocation) → (r >>= λ service. Ok (Send service message block)) ≡ Ok invocation → IsEdit p f invocation
-  sends_edit (Err refusal) message block invocation h = cc
-  sends_edit (Ok service) message block invocation h = subst (IsEdit p f) (ok_same (Send service message block) invocation h) tt
-
-  receives_edit : (r : Result Service Refusal) (block : Bool) (invocation : Invocation) → (r >>= λ service. Ok (Receive service block)) ≡ Ok invocation → IsEdit p f invocation
-  receives_edit (Err refusal) block invocation h = cc
-  receives_edit (Ok service) block invocation h = subst (IsEdit p f) (ok_same (Receive service block) invocation h) tt
-
   invocation_edit : (thread : ℕ) (o : Op) (slot : ℕ) (invocation : Invocation) → decoded_invocation p f thread o slot ≡ Ok invocation → IsEdit p f invocation
   invocation_edit thread (op.Retype cap kind size_bits root index depth offset count) slot invocation h =
-      retypes_edit _ invocation (λ new is. retype_shows p memory f all thread slot (objects_asked kind size_bits root index depth offset count) new is) h
+      made_passed (IsEdit p f) Retype _ invocation
+      (λ new is. retype_shows p memory f all thread slot
+      (objects_asked kind size_bits root index depth offset count) new is) h
   invocation_edit thread (op.CapCopy cap index depth src_root src_index src_depth rights) slot invocation h =
-      derives_edit _ invocation (λ placement is. copy_derives p memory f all thread slot (slots_named index depth src_root src_index src_depth) placement rights is) h
+      made_passed (IsEdit p f) Derive _ invocation
+      (λ placement is. copy_derives p memory f all thread slot
+      (slots_named index depth src_root src_index src_depth) placement rights is) h
   invocation_edit thread (op.CapMint cap index depth src_root src_index src_depth rights word) slot invocation h =
-      derives_edit _ invocation (λ placement is. mint_derives p memory f all thread slot (slots_named index depth src_root src_index src_depth) placement rights word is) h
+      made_passed (IsEdit p f) Derive _ invocation
+      (λ placement is. mint_derives p memory f all thread slot
+      (slots_named index depth src_root src_index src_depth) placement rights word is) h
   invocation_edit thread (op.CapMove cap index depth src_root src_index src_depth) slot invocation h =
-      moves_edit _ invocation (λ placement is. move_moves p memory f all thread slot (slots_named index depth src_root src_index src_depth) placement is) h
+      made_passed (IsEdit p f) Move _ invocation
+      (λ placement is. move_moves p memory f all thread slot
+      (slots_named index depth src_root src_index src_depth) placement is) h
   invocation_edit thread (op.CapMutate cap index depth src_root src_index src_depth word) slot invocation h =
-      moves_edit _ invocation (λ placement is. mutate_moves p memory f all thread slot (slots_named index depth src_root src_index src_depth) placement word is) h
-  invocation_edit thread (op.Send cap message) slot invocation h = sends_edit (service_of write_bit (cap_at f slot)) message true invocation h
-  invocation_edit thread (op.NbSend cap message) slot invocation h = sends_edit (service_of write_bit (cap_at f slot)) message false invocation h
-  invocation_edit thread (op.Recv cap) slot invocation h = receives_edit (service_of read_bit (cap_at f slot)) true invocation h
-  invocation_edit thread (op.NbRecv cap) slot invocation h = receives_edit (service_of read_bit (cap_at f slot)) false invocation h
+      made_passed (IsEdit p f) Move _ invocation
+      (λ placement is. mutate_moves p memory f all thread slot
+      (slots_named index depth src_root src_index src_depth) placement word is) h
+  invocation_edit thread (op.CapDelete cap index depth) slot invocation h =
+      made_passed (IsEdit p f) Delete _ invocation (slot_shows p f slot index depth) h
+  invocation_edit thread (op.CapRevoke cap index depth) slot invocation h =
+      made_passed (IsEdit p f) Revoke _ invocation (slot_shows p f slot index depth) h
+  invocation_edit thread (op.CancelBadged cap index depth) slot invocation h =
+      made_passed (IsEdit p f) CancelBadged _ invocation (λ service is. tt) h
+  invocation_edit thread (op.Send cap message) slot invocation h =
+      made_passed (IsEdit p f) (λ service. Send service message true) _ invocation (λ service is. tt) h
+  invocation_edit thread (op.NbSend cap message) slot invocation h =
+      made_passed (IsEdit p f) (λ service. Send service message false) _ invocation (λ service is. tt) h
+  invocation_edit thread (op.Recv cap) slot invocation h =
+      made_passed (IsEdit p f) (λ service. Receive service true) _ invocation (λ service is. tt) h
+  invocation_edit thread (op.NbRecv cap) slot invocation h =
+      made_passed (IsEdit p f) (λ service. Receive service false) _ invocation (λ service is. tt) h
+  invocation_edit thread (op.SetSpace cap root word) slot invocation h =
+      made_passed (IsEdit p f) SetSpace _ invocation (space_shows p f thread slot root word) h
+  invocation_edit thread (op.Suspend cap) slot invocation h =
+      made_passed (IsEdit p f) Suspend _ invocation (tcb_shows f slot) h
+  invocation_edit thread (op.Resume cap) slot invocation h =
+      made_passed (IsEdit p f) Resume _ invocation (tcb_shows f slot) h
 
   pub invoked_edit : (thread : ℕ) (o : Op) (invocation : Invocation) → decoded_op p f thread o ≡ Ok invocation → IsEdit p f invocation
   invoked_edit thread o invocation h =

@@ -10,7 +10,7 @@ use Rattle.abstract_kernel.specs.declared.call.Call.{Call}
 use Rattle.abstract_kernel.specs.declared.call.Reply.TheVariants.{Refused}
 use Rattle.abstract_kernel.specs.declared.invocation.Service.{Service}
 use Rattle.abstract_kernel.specs.declared.invocation.Invocation.{Invocation}
-use Rattle.abstract_kernel.specs.declared.invocation.Invocation.TheVariants.{Send, Receive, Retype, Derive, Move}
+use Rattle.abstract_kernel.specs.declared.invocation.Invocation.TheVariants.{Send, Receive, Retype, Derive, Move, Delete, Revoke, CancelBadged, SetSpace, Suspend, Resume}
 use Rattle.abstract_kernel.specs.Shown.{Shown, waiting_at}
 use Rattle.abstract_kernel.specs.Decode.{decoded_call}
 use Rattle.abstract_kernel.specs.Private.Effects.{send_to_first, receive_from_first, decoded_effect, effect_of}
@@ -32,6 +32,12 @@ invocation_refused p v t (Ok (Receive service block)) refusal h = absurd (receiv
 invocation_refused p v t (Ok (Retype new)) refusal h = cc
 invocation_refused p v t (Ok (Derive placement)) refusal h = cc
 invocation_refused p v t (Ok (Move placement)) refusal h = cc
+invocation_refused p v t (Ok (Delete slot)) refusal h = cc
+invocation_refused p v t (Ok (Revoke slot)) refusal h = cc
+invocation_refused p v t (Ok (CancelBadged service)) refusal h = cc
+invocation_refused p v t (Ok (SetSpace new)) refusal h = cc
+invocation_refused p v t (Ok (Suspend tcb)) refusal h = cc
+invocation_refused p v t (Ok (Resume tcb)) refusal h = cc
 
 pub refused_keeps : (p : ProfileName) (v : Shown) (call : Call) (refusal : Refusal) → (effect_of p v call).reply ≡ Refused refusal → (effect_of p v call).after ≡ v
 refused_keeps p v call refusal h = invocation_refused p v call.thread (decoded_call p v call) refusal h

@@ -10,14 +10,21 @@ use Rattle.cap_core.specs.declared.refusal.Refusal.{Refusal}
 use Rattle.ipc_core.specs.Records.{Instance, SendRecord, ReceiveRecord, same_instance}
 use Rattle.abstract_kernel.specs.declared.call.Call.{Call}
 use Rattle.abstract_kernel.specs.declared.invocation.Invocation.{Invocation}
-use Rattle.abstract_kernel.specs.declared.invocation.Invocation.TheVariants.{Send, Receive, Retype, Derive, Move}
+use Rattle.abstract_kernel.specs.declared.invocation.Invocation.TheVariants.{Send, Receive, Retype, Derive, Move, Delete, Revoke, CancelBadged, SetSpace, Suspend, Resume}
 use Rattle.abstract_kernel.specs.CNodes.{with_derived, with_moved}
+use Rattle.abstract_kernel.specs.Threads.{with_space}
 use Rattle.abstract_kernel.specs.declared.call.Reply.{Reply}
 use Rattle.abstract_kernel.specs.declared.invocation.Service.{Service}
 use Rattle.abstract_kernel.specs.Shown.{endpoints_of}
-use Rattle.abstract_kernel.specs.State.{State, shown, pairs, endpoint_at, sends_to, receives_of}
+use Rattle.abstract_kernel.specs.State.{State, shown, pairs, endpoint_at, thread_at, sends_to, receives_of}
+use Rattle.derivation.specs.Forest.{Forest}
+use Rattle.derivation.specs.Entries.{Entry}
+use Rattle.clearing.specs.Clear.{clear}
+use Rattle.clearing.specs.Revoke.{revoke}
+use Rattle.abstract_kernel.specs.Cancelling.{is_send_ended, is_receive_ended, is_badged_send, is_sent_by, is_received_by, cancelling, stopping}
+use Rattle.abstract_kernel.proofs.Cancelling.Records.{pairs_same}
 use Rattle.abstract_kernel.specs.Decode.{decoded_call}
-use Rattle.abstract_kernel.specs.Step.{Outcome, counted, is_send_awaited, is_receive_awaited, send_accepted, receive_accepted, where_awaited, objects_made, rearranged, step, outcome, performed, send_record, receive_record, reply_to_send, reply_to_receive, replies_of, state_after}
+use Rattle.abstract_kernel.specs.Step.{Outcome, counted, is_send_awaited, is_receive_awaited, send_accepted, receive_accepted, where_awaited, objects_made, objects_ended, changed_to, rearranged, step, outcome, performed, send_record, receive_record, reply_to_send, reply_to_receive, replies_of, state_after}
 use Rattle.abstract_kernel.specs.Reached.{IsReached}
 use Rattle.abstract_kernel.specs.Deliveries.{is_live, is_delivery, delivery, delivered}
 use Rattle.abstract_kernel.proofs.Lists.Paired.{zip_more_some, zip_some_right, all_get}
@@ -159,12 +166,37 @@ receives_grow p A t service false inv pass e =
     awaited_grows A e (is_receive_awaited A (endpoint_at A service.endpoint)) (receive_accepted A t service) Empty refl
     (receive_grows A t service inv pass.endpoint_live _ refl (λ s is. own_record A (endpoint_at A service.endpoint) A.sends (length (receives_of A (endpoint_at A service.endpoint))) s is) e)
 
+-- where records are cancelled, objects end or a thread is stopped, the pairs stay
+cancelling_grows : (A : State) (S : SendRecord → Bool) (Q : ReceiveRecord → Bool) → Invariant A → (e : Instance) →
+    Grows A e (changed_to (cancelling A S Q))
+cancelling_grows A S Q inv e =
+    same_pairs A e (changed_to (cancelling A S Q)) (pairs_same A S Q inv.sends_rising inv.rising inv.unshared e) refl
+
+stopping_grows : (A : State) (t : ℕ) (idle : Bool) → Invariant A → (e : Instance) →
+    Grows A e (changed_to (stopping A (thread_at A t) idle))
+stopping_grows A t idle inv e =
+    same_pairs A e (changed_to (stopping A (thread_at A t) idle))
+    (pairs_same A (is_sent_by (thread_at A t))
+    (is_received_by (thread_at A t)) inv.sends_rising inv.rising inv.unshared e) refl
+
+ending_grows : (A : State) (g : Forest Entry) → Invariant A → (e : Instance) → Grows A e (objects_ended A g)
+ending_grows A g inv e =
+    same_pairs A e (objects_ended A g)
+    (pairs_same A (is_send_ended A g) (is_receive_ended A g) inv.sends_rising inv.rising inv.unshared e) refl
+
 performed_grows : (p : ProfileName) (A : State) (t : ℕ) (invocation : Invocation) → Invariant A → Passes A t invocation → (e : Instance) → Grows A e (performed p A t invocation)
 performed_grows p A t (Send service message block) inv pass e = sends_grow p A t service message block inv pass e
 performed_grows p A t (Receive service block) inv pass e = receives_grow p A t service block inv pass e
 performed_grows p A t (Retype new) inv pass e = same_pairs A e (objects_made p A new) refl refl
 performed_grows p A t (Derive placement) inv pass e = same_pairs A e (rearranged A (with_derived p placement A.derivations)) refl refl
 performed_grows p A t (Move placement) inv pass e = same_pairs A e (rearranged A (with_moved placement A.derivations)) refl refl
+performed_grows p A t (Delete slot) inv pass e = ending_grows A (clear p slot A.derivations) inv e
+performed_grows p A t (Revoke slot) inv pass e = ending_grows A (revoke p slot A.derivations) inv e
+performed_grows p A t (CancelBadged service) inv pass e =
+    cancelling_grows A (is_badged_send (endpoint_at A service.endpoint) service.badge) (λ _. false) inv e
+performed_grows p A t (SetSpace new) inv pass e = ending_grows A (with_space p new A.derivations) inv e
+performed_grows p A t (Suspend tcb) inv pass e = stopping_grows A tcb true inv e
+performed_grows p A t (Resume tcb) inv pass e = stopping_grows A tcb false inv e
 
 outcome_grows : (p : ProfileName) (A : State) (call : Call) → Invariant A → (r : Result Invocation Refusal) → decoded_call p (shown A) call ≡ r → (e : Instance) → Grows A e (outcome p A call.thread r)
 outcome_grows p A call inv (Err refusal) h e = same_pairs A e (outcome p A call.thread (Err refusal)) refl refl

@@ -14,15 +14,22 @@ use Rattle.abstract_kernel.specs.declared.call.Reply.TheVariants.{Dropped, Empty
 use Rattle.abstract_kernel.specs.declared.invocation.Service.{Service}
 use Rattle.abstract_kernel.specs.declared.invocation.NewObjects.{NewObjects}
 use Rattle.abstract_kernel.specs.declared.invocation.Invocation.{Invocation}
-use Rattle.abstract_kernel.specs.declared.invocation.Invocation.TheVariants.{Send, Receive, Retype, Derive, Move}
+use Rattle.abstract_kernel.specs.declared.invocation.Invocation.TheVariants.{Send, Receive, Retype, Derive, Move, Delete, Revoke, CancelBadged, SetSpace, Suspend, Resume}
 use Rattle.abstract_kernel.specs.Shown.{endpoints_of, endpoint_base}
-use Rattle.abstract_kernel.specs.State.{State, endpoint_at, pairs, sends_to, receives_of, shown}
+use Rattle.abstract_kernel.specs.State.{State, endpoint_at, thread_at, pairs, sends_to, receives_of, shown}
 use Rattle.abstract_kernel.specs.Deliveries.{is_live}
+use Rattle.clearing.specs.Clear.{clear}
+use Rattle.clearing.specs.Revoke.{revoke}
+use Rattle.abstract_kernel.specs.Cancelling.{is_send_ended, is_receive_ended, is_badged_send, is_sent_by, is_received_by, cancelling, stopping}
+use Rattle.abstract_kernel.proofs.Cancelling.Records.{pairs_same}
+use Rattle.abstract_kernel.proofs.Cancelling.Waiting.{stays_ended}
+use Rattle.abstract_kernel.proofs.Capabilities.StoresCleared.{live-clear, live-revoke}
 use Rattle.abstract_kernel.specs.Decode.{decoded_call}
 use Rattle.abstract_kernel.specs.Retyping.{with_objects, new_bases}
 use Rattle.abstract_kernel.specs.CNodes.{with_derived, with_moved}
+use Rattle.abstract_kernel.specs.Threads.{with_space}
 use Rattle.abstract_kernel.specs.Reached.{IsReached}
-use Rattle.abstract_kernel.specs.Step.{Outcome, is_send_awaited, is_receive_awaited, send_accepted, receive_accepted, where_awaited, objects_made, rearranged, performed, outcome, step, state_after}
+use Rattle.abstract_kernel.specs.Step.{Outcome, is_send_awaited, is_receive_awaited, send_accepted, receive_accepted, where_awaited, objects_made, objects_ended, changed_to, rearranged, performed, outcome, step, state_after}
 use Rattle.abstract_kernel.proofs.Messages.WaitingSend.{same_tells, sends_elsewhere}
 use Rattle.abstract_kernel.proofs.Messages.WaitingReceive.{receives_elsewhere}
 use Rattle.abstract_kernel.proofs.Capabilities.LiveAfter.{endpoint_is_base}
@@ -30,7 +37,7 @@ use Rattle.abstract_kernel.proofs.Retype.LiveRetyped.{live-objects, endpoint_bas
 use Rattle.abstract_kernel.proofs.Checks.PassedInvocations.{IsEdit}
 use Rattle.abstract_kernel.proofs.Reached.Invariant.{Invariant, Passes, passes}
 use Rattle.abstract_kernel.proofs.Reached.Stores.{checked_edit}
-use Rattle.abstract_kernel.proofs.Reached.Simulation.{Reached, derived_same, moved_same, reached_step, reached_is}
+use Rattle.abstract_kernel.proofs.Reached.Simulation.{Reached, derived_same, moved_same, space_endpoints, reached_step, reached_is}
 
 -- it was born before, is not live after, and its pairs are those it had
 record StaysEnded (A : State) (e : Instance) (o : Outcome) : Type 0 where
@@ -84,6 +91,29 @@ module _ (A : State) (e : Instance) (born : e.birth ≤ A.count) (ended : is_liv
       by true = ne_eqb (A.count + 1) e.birth (λ d. absurd (omega (arith, born, d)))
       by false = ended
 
+  by_ending : (g : Forest Entry) → Invariant A →
+      ((q : ℕ) → list_any (λ k. q == k) (endpoints_of g) ≡ true →
+      list_any (λ k. q == k) (endpoints_of A.derivations) ≡ true) → StaysEnded A e (objects_ended A g)
+  by_ending g inv fewer = record {
+    born = omega (arith, born);
+    ended = stays_ended A g e fewer ended;
+    pairs_same = pairs_same A (is_send_ended A g) (is_receive_ended A g) inv.sends_rising inv.rising inv.unshared e;
+  }
+
+  -- a cancellation, after which other threads may be idle
+  by_cancelling : (S : SendRecord → Bool) (Q : ReceiveRecord → Bool) (idle : Instance → Bool) → Invariant A →
+      StaysEnded A e (changed_to (record (cancelling A S Q) { is_idle = idle }))
+  by_cancelling S Q idle inv = record {
+    born = omega (arith, born);
+    ended = ended;
+    pairs_same = pairs_same A S Q inv.sends_rising inv.rising inv.unshared e;
+  }
+
+  by_stopping : (t : ℕ) (idle : Bool) → Invariant A → StaysEnded A e (changed_to (stopping A (thread_at A t) idle))
+  by_stopping t idle inv =
+      by_cancelling (is_sent_by (thread_at A t)) (is_received_by (thread_at A t))
+      (stopping A (thread_at A t) idle).is_idle inv
+
   by_invocation : (p : ProfileName) (memory t : ℕ) → Reached p memory A → (invocation : Invocation) → Passes A t invocation → IsEdit p A.derivations invocation → StaysEnded A e (performed p A t invocation)
   by_invocation p memory t reached (Send service message true) pass edit = by_send t service message reached.records pass.endpoint_live
   by_invocation p memory t reached (Send service message false) pass edit =
@@ -94,6 +124,17 @@ module _ (A : State) (e : Instance) (born : e.birth ≤ A.count) (ended : is_liv
   by_invocation p memory t reached (Retype new) pass edit = by_making p new (live-objects endpoint_base endpoint_base-freed p new A.derivations (untyped_full new.untyped A.derivations edit.untyped))
   by_invocation p memory t reached (Derive placement) pass edit = by_rearranging (with_derived p placement A.derivations) (derived_same p memory A t reached placement edit endpoint_base endpoint_is_base)
   by_invocation p memory t reached (Move placement) pass edit = by_rearranging (with_moved placement A.derivations) (moved_same p memory A t reached placement edit endpoint_base endpoint_is_base)
+  by_invocation p memory t reached (Delete slot) pass edit =
+      by_ending (clear p slot A.derivations) reached.records (λ q. live-clear endpoint_base q p slot A.derivations)
+  by_invocation p memory t reached (Revoke slot) pass edit =
+      by_ending (revoke p slot A.derivations) reached.records (λ q. live-revoke endpoint_base q p slot A.derivations)
+  by_invocation p memory t reached (CancelBadged service) pass edit =
+      by_cancelling (is_badged_send (endpoint_at A service.endpoint) service.badge)
+      (λ _. false) A.is_idle reached.records
+  by_invocation p memory t reached (SetSpace new) pass edit =
+      by_ending (with_space p new A.derivations) reached.records (space_endpoints p memory A t reached new edit)
+  by_invocation p memory t reached (Suspend tcb) pass edit = by_stopping tcb true reached.records
+  by_invocation p memory t reached (Resume tcb) pass edit = by_stopping tcb false reached.records
 
   by_outcome : (p : ProfileName) (memory : ℕ) → Reached p memory A → (call : Call) (r : Result Invocation Refusal) → decoded_call p (shown A) call ≡ r → StaysEnded A e (outcome p A call.thread r)
   by_outcome p memory reached call (Err refusal) h = record { born = omega (arith, born); ended = ended; pairs_same = refl }

@@ -3,24 +3,37 @@ use Rattle.std.proofs.Common.{◌≡◌, ℕ, true, false, ◌==◌, List, [], �
 use Rattle.std.specs.List.{list_any, filter_map}
 use Rattle.abstract_kernel.specs.declared.call.Call.{Call}
 use Rattle.abstract_kernel.specs.declared.invocation.Invocation.{Invocation}
-use Rattle.abstract_kernel.specs.declared.invocation.Invocation.TheVariants.{Send, Receive, Retype, Derive, Move}
+use Rattle.abstract_kernel.specs.declared.invocation.Invocation.TheVariants.{Send, Receive, Retype, Derive, Move, Delete, Revoke, CancelBadged, SetSpace, Suspend, Resume}
 use Rattle.abstract_kernel.specs.declared.call.Reply.{Reply}
 use Rattle.cap_core.specs.declared.profile.ProfileName.{ProfileName}
-use Rattle.abstract_kernel.specs.Private.Effects.{effect_of, decoded_effect, performed_effect}
+use Rattle.abstract_kernel.specs.Private.Effects.{done, effect_of, decoded_effect, performed_effect}
 use Rattle.abstract_kernel.specs.Reached.{IsReached, StepsTo}
 use Rattle.cap_core.specs.declared.refusal.Refusal.{Refusal}
 use Rattle.abstract_kernel.specs.Shown.{Shown, tcb_base, endpoint_base, endpoints_of, threads_of}
-use Rattle.abstract_kernel.specs.State.{State, shown}
-use Rattle.abstract_kernel.specs.Step.{outcome, performed, state_after, step}
+use Rattle.abstract_kernel.specs.State.{State, endpoint_at, thread_at, shown}
+use Rattle.abstract_kernel.specs.Step.{objects_ended, outcome, performed, state_after, step}
 use Rattle.abstract_kernel.specs.Boot.{boot}
 use Rattle.abstract_kernel.specs.Decode.{decoded_call}
 use Rattle.cap_core.specs.declared.capability.Cap.{Cap}
-use Rattle.derivation.specs.Entries.{caps}
+use Rattle.derivation.specs.Forest.{Forest}
+use Rattle.derivation.specs.Entries.{Entry, caps}
+use Rattle.clearing.specs.Clear.{clear}
+use Rattle.clearing.specs.Revoke.{revoke}
+use Rattle.abstract_kernel.specs.Cancelling.{ending, cancelling_badged, suspending, resuming}
+use Rattle.abstract_kernel.specs.Private.Endings.{after_ending}
+use Rattle.abstract_kernel.proofs.Capabilities.StoresCleared.{live-clear, live-revoke}
+use Rattle.abstract_kernel.proofs.Capabilities.SpacesSet.{live-space}
+use Rattle.abstract_kernel.proofs.Cancelling.InvariantKept.{inv_ending, inv_badged, inv_stopping}
+use Rattle.abstract_kernel.proofs.Cancelling.Stopped.{stopping_shown}
+use Rattle.abstract_kernel.proofs.Cancelling.Badged.{cancelling_badged_shown}
+use Rattle.abstract_kernel.proofs.Cancelling.Ended.{ending_shown}
 use Rattle.abstract_kernel.specs.declared.invocation.NewObjects.{NewObjects}
 use Rattle.abstract_kernel.specs.declared.invocation.CapPlacement.{CapPlacement}
+use Rattle.abstract_kernel.specs.declared.invocation.NewSpace.{NewSpace}
 use Rattle.abstract_kernel.specs.Retyping.{new_bases}
 use Rattle.abstract_kernel.specs.CNodes.{with_derived, with_moved}
-use Rattle.abstract_kernel.specs.Private.Invocations.{IsRetype, IsDerivation, IsMove}
+use Rattle.abstract_kernel.specs.Threads.{with_space}
+use Rattle.abstract_kernel.specs.Private.Invocations.{IsRetype, IsDerivation, IsMove, IsSpace}
 use Rattle.abstract_kernel.specs.Private.Stores.{IsKernelStore}
 use Rattle.abstract_kernel.proofs.Capabilities.LiveAfter.{IsBase, tcb_is_base, endpoint_is_base, live-derived, live-moved}
 use Rattle.abstract_kernel.proofs.Retype.LiveRetyped.{untyped_full}
@@ -55,6 +68,31 @@ module _ (p : ProfileName) (memory : ℕ) (A : State) (t : ℕ) (reached : Reach
   no_thread : (new : NewObjects) → IsRetype p A.derivations new → (b : ℕ) → list_any (λ k. b == k) (new_bases tcb_base p new) ≡ true → list_any (λ k. b == k) (threads_of A.derivations) ≡ false
   no_thread new is = threads_were_not p A.derivations new is memory reached.store.regions reached.store.disjoint reached.store.slots_distinct reached.store.lawful
 
+  -- the objects that are live after a thread's space was set were live
+  pub space_endpoints : (new : NewSpace) → IsSpace p A.derivations new → (q : ℕ) →
+      list_any (λ k. q == k) (endpoints_of (with_space p new A.derivations)) ≡ true →
+      list_any (λ k. q == k) (endpoints_of A.derivations) ≡ true
+  space_endpoints new is = live-space p A.derivations reached.store.slots_distinct new is endpoint_base endpoint_is_base
+
+  space_threads : (new : NewSpace) → IsSpace p A.derivations new → (q : ℕ) →
+      list_any (λ k. q == k) (threads_of (with_space p new A.derivations)) ≡ true →
+      list_any (λ k. q == k) (threads_of A.derivations) ≡ true
+  space_threads new is = live-space p A.derivations reached.store.slots_distinct new is tcb_base tcb_is_base
+
+  -- objects end, where those that are live after were live
+  ends_steps : (g : Forest Entry) →
+      ((q : ℕ) → list_any (λ k. q == k) (endpoints_of g) ≡ true →
+      list_any (λ k. q == k) (endpoints_of A.derivations) ≡ true) →
+      ((q : ℕ) → list_any (λ k. q == k) (threads_of g) ≡ true →
+      list_any (λ k. q == k) (threads_of A.derivations) ≡ true) →
+      IsShown (done (after_ending (shown A) g)) (objects_ended A g)
+  ends_steps g endpoints threads = (refl, sym (ending_shown A g reached.records endpoints threads))
+
+  inv_ends : (g : Forest Entry) →
+      ((q : ℕ) → list_any (λ k. q == k) (endpoints_of g) ≡ true →
+      list_any (λ k. q == k) (endpoints_of A.derivations) ≡ true) → Invariant (objects_ended A g).state
+  inv_ends g endpoints = inv_refused (ending A g) (inv_ending A g reached.records endpoints)
+
   performed_steps : (invocation : Invocation) → Passes A t invocation → IsEdit p A.derivations invocation → IsShown (performed_effect p (shown A) t invocation) (performed p A t invocation)
   performed_steps (Send service message block) pass edit = sends_step p A t service message block reached.records pass
   performed_steps (Receive service block) pass edit = receives_step p A t service block reached.records pass
@@ -63,6 +101,18 @@ module _ (p : ProfileName) (memory : ℕ) (A : State) (t : ℕ) (reached : Reach
       rearranged_steps A (with_derived p placement A.derivations) reached.records (derived_same placement edit tcb_base tcb_is_base) (derived_same placement edit endpoint_base endpoint_is_base)
   performed_steps (Move placement) pass edit =
       rearranged_steps A (with_moved placement A.derivations) reached.records (moved_same placement edit tcb_base tcb_is_base) (moved_same placement edit endpoint_base endpoint_is_base)
+  performed_steps (Delete slot) pass edit =
+      ends_steps (clear p slot A.derivations) (λ q. live-clear endpoint_base q p slot A.derivations)
+      (λ q. live-clear tcb_base q p slot A.derivations)
+  performed_steps (Revoke slot) pass edit =
+      ends_steps (revoke p slot A.derivations) (λ q. live-revoke endpoint_base q p slot A.derivations)
+      (λ q. live-revoke tcb_base q p slot A.derivations)
+  performed_steps (CancelBadged service) pass edit =
+      (refl, sym (cancelling_badged_shown A service.endpoint service.badge reached.records pass.endpoint_live))
+  performed_steps (SetSpace new) pass edit =
+      ends_steps (with_space p new A.derivations) (space_endpoints new edit) (space_threads new edit)
+  performed_steps (Suspend tcb) pass edit = (refl, sym (stopping_shown A tcb true reached.records edit))
+  performed_steps (Resume tcb) pass edit = (refl, sym (stopping_shown A tcb false reached.records edit))
 
   inv_performed : (invocation : Invocation) → Passes A t invocation → IsEdit p A.derivations invocation → Invariant (performed p A t invocation).state
   inv_performed (Send service message block) pass edit = inv_sends p A t service message block reached.records pass
@@ -72,6 +122,18 @@ module _ (p : ProfileName) (memory : ℕ) (A : State) (t : ℕ) (reached : Reach
       inv_rearranged A (with_derived p placement A.derivations) reached.records (derived_same placement edit tcb_base tcb_is_base) (derived_same placement edit endpoint_base endpoint_is_base)
   inv_performed (Move placement) pass edit =
       inv_rearranged A (with_moved placement A.derivations) reached.records (moved_same placement edit tcb_base tcb_is_base) (moved_same placement edit endpoint_base endpoint_is_base)
+  inv_performed (Delete slot) pass edit =
+      inv_ends (clear p slot A.derivations) (λ q. live-clear endpoint_base q p slot A.derivations)
+  inv_performed (Revoke slot) pass edit =
+      inv_ends (revoke p slot A.derivations) (λ q. live-revoke endpoint_base q p slot A.derivations)
+  inv_performed (CancelBadged service) pass edit =
+      inv_refused (cancelling_badged A (endpoint_at A service.endpoint) service.badge)
+      (inv_badged A (endpoint_at A service.endpoint) service.badge reached.records)
+  inv_performed (SetSpace new) pass edit = inv_ends (with_space p new A.derivations) (space_endpoints new edit)
+  inv_performed (Suspend tcb) pass edit =
+      inv_refused (suspending A (thread_at A tcb)) (inv_stopping A (thread_at A tcb) true reached.records)
+  inv_performed (Resume tcb) pass edit =
+      inv_refused (resuming A (thread_at A tcb)) (inv_stopping A (thread_at A tcb) false reached.records)
 
 outcome_steps : (p : ProfileName) (memory : ℕ) (A : State) (call : Call) → Reached p memory A → (r : Result Invocation Refusal) → decoded_call p (shown A) call ≡ r →
     IsShown (decoded_effect p (shown A) call.thread r) (outcome p A call.thread r)

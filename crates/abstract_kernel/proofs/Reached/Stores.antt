@@ -9,7 +9,7 @@ use Rattle.abstract_kernel.specs.declared.call.Reply.{Reply}
 use Rattle.abstract_kernel.specs.declared.call.ThreadState.{ThreadState}
 use Rattle.abstract_kernel.specs.declared.call.ThreadState.TheVariants.{Ready, Inactive, Sending, Receiving}
 use Rattle.abstract_kernel.specs.declared.invocation.Invocation.{Invocation}
-use Rattle.abstract_kernel.specs.declared.invocation.Invocation.TheVariants.{Send, Receive, Retype, Derive, Move}
+use Rattle.abstract_kernel.specs.declared.invocation.Invocation.TheVariants.{Send, Receive, Retype, Derive, Move, Delete, Revoke, CancelBadged, SetSpace, Suspend, Resume}
 use Rattle.abstract_kernel.specs.declared.invocation.NewObjects.{NewObjects}
 use Rattle.abstract_kernel.specs.Decode.{decoded_call, decoded_op, where_live, where_ready}
 use Rattle.abstract_kernel.specs.Retyping.{with_objects}
@@ -19,6 +19,8 @@ use Rattle.abstract_kernel.specs.State.{State, shown, endpoint_at}
 use Rattle.abstract_kernel.specs.Step.{Outcome, outcome, performed, where_awaited, is_send_awaited, is_receive_awaited, send_accepted, receive_accepted}
 use Rattle.abstract_kernel.specs.Private.Invocations.{IsRetype}
 use Rattle.abstract_kernel.proofs.Capabilities.StoresKept.{store-derived, store-moved}
+use Rattle.abstract_kernel.proofs.Capabilities.StoresCleared.{store-clear, store-revoke}
+use Rattle.abstract_kernel.proofs.Capabilities.SpacesSet.{store-space}
 use Rattle.abstract_kernel.proofs.Retype.RetypedForest.{made, made_lawful, made_placed}
 use Rattle.abstract_kernel.proofs.Checks.PassedInvocations.{IsEdit, invoked_edit}
 
@@ -48,6 +50,12 @@ performed_store p memory A t (Receive service false) edit store = awaited_store 
 performed_store p memory A t (Retype new) edit store = store-made p memory A.derivations new edit store
 performed_store p memory A t (Derive placement) edit store = store-derived p memory A.derivations store placement edit
 performed_store p memory A t (Move placement) edit store = store-moved p memory A.derivations store placement edit
+performed_store p memory A t (Delete slot) edit store = store-clear p memory slot A.derivations store
+performed_store p memory A t (Revoke slot) edit store = store-revoke p memory slot A.derivations store
+performed_store p memory A t (CancelBadged service) edit store = store
+performed_store p memory A t (SetSpace new) edit store = store-space p memory A.derivations new edit store
+performed_store p memory A t (Suspend tcb) edit store = store
+performed_store p memory A t (Resume tcb) edit store = store
 
 -- what passed the checks passed those of its operation
 ready_found : (s : ThreadState) (found : Result Invocation Refusal) (invocation : Invocation) → where_ready s found ≡ Ok invocation → found ≡ Ok invocation

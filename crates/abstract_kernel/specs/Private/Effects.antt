@@ -15,15 +15,20 @@ use Rattle.ipc_core.specs.Waits.{first_receiver, first_sender}
 use Rattle.abstract_kernel.specs.declared.call.Call.{Call}
 use Rattle.abstract_kernel.specs.declared.call.Reply.{Reply}
 use Rattle.abstract_kernel.specs.declared.call.Reply.TheVariants.{Done, Delivered, Waiting, Dropped, Empty, Refused}
-use Rattle.abstract_kernel.specs.declared.call.ThreadState.TheVariants.{Ready, Inactive, Sending, Receiving}
+use Rattle.abstract_kernel.specs.declared.call.ThreadState.TheVariants.{Ready, Sending, Receiving}
 use Rattle.abstract_kernel.specs.declared.invocation.Service.{Service}
 use Rattle.abstract_kernel.specs.declared.invocation.NewObjects.{NewObjects}
 use Rattle.abstract_kernel.specs.declared.invocation.Invocation.{Invocation}
 use Rattle.abstract_kernel.specs.declared.invocation.Invocation.TheVariants as invocation
 use Rattle.abstract_kernel.specs.Shown.{Shown, ThreadView, waiting_at, inbox_at, endpoints_of, tcb_base, table}
 use Rattle.abstract_kernel.specs.Retyping.{with_objects, new_bases}
+use Rattle.clearing.specs.Clear.{clear}
+use Rattle.clearing.specs.Revoke.{revoke}
 use Rattle.abstract_kernel.specs.CNodes.{with_derived, with_moved}
+use Rattle.abstract_kernel.specs.Threads.{with_space}
 use Rattle.abstract_kernel.specs.Decode.{decoded_call}
+pub use Rattle.abstract_kernel.specs.Private.Endings.{new_thread}
+use Rattle.abstract_kernel.specs.Private.Endings.{after_ending, after_suspend, after_resume, after_cancel_badge}
 
 -- the reply, and what is shown after
 pub record Effect : Type 0 where
@@ -86,10 +91,6 @@ receive_effect v t service block list = receive_from_first v t service list bloc
 abbrev pub rearranged : Shown → Forest Entry → Shown
 rearranged v f = record v { derivations = f; endpoints = table (endpoints_of f) (waiting_at v) }
 
--- a thread that was just made
-abbrev pub new_thread : ThreadView
-new_thread = record { state = Inactive; inbox = None }
-
 abbrev pub with_threads : List ℕ → FinMap nat_cmp ThreadView → FinMap nat_cmp ThreadView
 with_threads [] threads = threads
 with_threads (base ∷ bases) threads = with_threads bases (insert threads base new_thread)
@@ -109,6 +110,12 @@ performed_effect p v t (invocation.Receive service block) = receive_effect v t s
 performed_effect p v t (invocation.Retype new) = done (objects_shown p v new)
 performed_effect p v t (invocation.Derive placement) = done (rearranged v (with_derived p placement v.derivations))
 performed_effect p v t (invocation.Move placement) = done (rearranged v (with_moved placement v.derivations))
+performed_effect p v t (invocation.Delete slot) = done (after_ending v (clear p slot v.derivations))
+performed_effect p v t (invocation.Revoke slot) = done (after_ending v (revoke p slot v.derivations))
+performed_effect p v t (invocation.CancelBadged service) = done (after_cancel_badge v service.endpoint service.badge)
+performed_effect p v t (invocation.SetSpace new) = done (after_ending v (with_space p new v.derivations))
+performed_effect p v t (invocation.Suspend tcb) = done (after_suspend v tcb)
+performed_effect p v t (invocation.Resume tcb) = done (after_resume v tcb)
 
 abbrev pub decoded_effect : ProfileName → Shown → ℕ → Result Invocation Refusal → Effect
 decoded_effect p v t (Err refusal) = unchanged v (Refused refusal)

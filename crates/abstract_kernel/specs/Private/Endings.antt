@@ -11,7 +11,10 @@ use Rattle.ipc_core.specs.Cancelled.{is_thread, is_sender_with, those, others}
 use Rattle.abstract_kernel.specs.declared.call.ThreadState.{ThreadState}
 use Rattle.abstract_kernel.specs.declared.call.ThreadState.TheVariants.{Ready, Inactive, Sending, Receiving}
 use Rattle.abstract_kernel.specs.Shown.{Shown, ThreadView, threads_of, endpoints_of, table, waiting_at, inbox_at}
-use Rattle.abstract_kernel.specs.Private.Effects.{new_thread}
+
+-- a thread that was just made
+abbrev pub new_thread : ThreadView
+new_thread = record { state = Inactive; inbox = None }
 
 -- what a thread does once an endpoint on which it waited may have ended: it is ready where it did
 abbrev pub state_among : List ℕ → ThreadState → ThreadState

@@ -12,23 +12,23 @@ use Rattle.cap_core.specs.Numbers.{word_bits, label_bits, min_untyped_bits, max_
 use Rattle.cap_core.specs.Rights.{all_rights}
 use Rattle.abstract_kernel.specs.declared.plan.PlanDefect.{PlanDefect}
 use Rattle.abstract_kernel.specs.Plan.{Plan, first_defect}
-use Rattle.setup_format.specs.declared.fault.Wrong.{Wrong}
-use Rattle.setup_format.specs.declared.fault.Wrong.TheVariants.{OtherValue}
+use Rattle.setup_values.specs.declared.values.Wrong.{Wrong}
+use Rattle.setup_values.specs.declared.values.Wrong.TheVariants.{OtherValue}
 use Rattle.setup_format.specs.declared.fault.Place.{Place}
 use Rattle.setup_format.specs.declared.fault.Place.TheVariants as places
 use Rattle.setup_format.specs.declared.fault.SetupFault.{SetupFault}
 use Rattle.setup_format.specs.declared.fault.SetupFault.TheVariants as faults
-use Rattle.setup_format.specs.declared.setup.OpName.{OpName}
-use Rattle.setup_format.specs.declared.setup.OpName.TheVariants as names
+use Rattle.setup_values.specs.declared.values.OpName.{OpName}
+use Rattle.setup_values.specs.declared.values.OpName.TheVariants as names
 use Rattle.setup_format.specs.declared.setup.Sizes.{Sizes}
-use Rattle.setup_format.specs.declared.setup.Words.{Words}
-use Rattle.setup_format.specs.Names.{Names}
+use Rattle.setup_values.specs.declared.values.Words.{Words}
+use Rattle.setup_values.specs.Names.{Names}
 use Rattle.setup_format.specs.Views.{SetupView}
 use Rattle.setup_format.specs.Faults.{Fault, text, at, layout, Gives}
-use Rattle.setup_format.specs.Kinds.{◌>>=◌, below, number, word, rights, label, each, array_in, item_list, words, filled}
+use Rattle.setup_values.specs.Kinds.{◌>>=◌, below, number, word, rights, label, each, array_in, item_list, words, filled}
 use Rattle.setup_format.specs.Tables.{at_key, needed, given_or, required, optional, known_only, least_unknown, no_unknown}
 use Rattle.setup_format.specs.Messages.{IsMessage, SendsMessage, HasMessage}
-use Rattle.setup_format.specs.Operations.{retype_at, slots_at, copy_at, mint_at, move_at, mutate_at, message_at, send_at, nb_send_at, recv_at, nb_recv_at, operation_at}
+use Rattle.setup_format.specs.Operations.{retype_at, slots_at, copy_at, mint_at, move_at, mutate_at, delete_at, revoke_at, cancel_badged_at, message_at, send_at, nb_send_at, recv_at, nb_recv_at, set_space_at, suspend_at, resume_at, operation_at}
 use Rattle.setup_format.specs.Setups.{top_keys, untyped_keys, untyped_at, call_at, sizes_of, planned_with, laid_out, laid_out_unless, setup_with, setup_at, setup_of}
 
 -- a fact holds of what is read, and there is no fault of the text
@@ -204,16 +204,60 @@ reads_mutate p names place table =
     then_reads Anything (SendsMessage p) _ _ (reads_slots p names place table)
     (λ w _. then_reads Anything (SendsMessage p) _ _ (reads_required place table (codes "word") (word p names)) (λ value _. tt))
 
+reads_delete : (p : ProfileName) (names : Names) (place : Place) (table : Members) → Reads (SendsMessage p) (delete_at p names place table)
+unfolding delete_at
+reads_delete p names place table =
+    then_reads Anything (SendsMessage p) _ _ (reads_required place table (codes "cap") (word p names))
+    (λ cap _. then_reads Anything (SendsMessage p) _ _ (reads_required place table (codes "index") (word p names))
+    (λ index _. then_reads Anything (SendsMessage p) _ _ (reads_any place table (codes "depth") (word_bits p) (word p names)) (λ depth _. tt)))
+
+reads_revoke : (p : ProfileName) (names : Names) (place : Place) (table : Members) → Reads (SendsMessage p) (revoke_at p names place table)
+unfolding revoke_at
+reads_revoke p names place table =
+    then_reads Anything (SendsMessage p) _ _ (reads_required place table (codes "cap") (word p names))
+    (λ cap _. then_reads Anything (SendsMessage p) _ _ (reads_required place table (codes "index") (word p names))
+    (λ index _. then_reads Anything (SendsMessage p) _ _ (reads_any place table (codes "depth") (word_bits p) (word p names)) (λ depth _. tt)))
+
+reads_cancel_badged : (p : ProfileName) (names : Names) (place : Place) (table : Members) → Reads (SendsMessage p) (cancel_badged_at p names place table)
+unfolding cancel_badged_at
+reads_cancel_badged p names place table =
+    then_reads Anything (SendsMessage p) _ _ (reads_required place table (codes "cap") (word p names))
+    (λ cap _. then_reads Anything (SendsMessage p) _ _ (reads_required place table (codes "index") (word p names))
+    (λ index _. then_reads Anything (SendsMessage p) _ _ (reads_any place table (codes "depth") (word_bits p) (word p names)) (λ depth _. tt)))
+
+reads_set_space : (p : ProfileName) (names : Names) (place : Place) (table : Members) → Reads (SendsMessage p) (set_space_at p names place table)
+unfolding set_space_at
+reads_set_space p names place table =
+    then_reads Anything (SendsMessage p) _ _ (reads_required place table (codes "cap") (word p names))
+    (λ cap _. then_reads Anything (SendsMessage p) _ _ (reads_required place table (codes "root") (word p names))
+    (λ root _. then_reads Anything (SendsMessage p) _ _ (reads_any place table (codes "word") 0 (word p names)) (λ value _. tt)))
+
+reads_suspend : (p : ProfileName) (names : Names) (place : Place) (table : Members) → Reads (SendsMessage p) (suspend_at p names place table)
+unfolding suspend_at
+reads_suspend p names place table =
+    then_reads Anything (SendsMessage p) _ _ (reads_required place table (codes "cap") (word p names)) (λ cap _. tt)
+
+reads_resume : (p : ProfileName) (names : Names) (place : Place) (table : Members) → Reads (SendsMessage p) (resume_at p names place table)
+unfolding resume_at
+reads_resume p names place table =
+    then_reads Anything (SendsMessage p) _ _ (reads_required place table (codes "cap") (word p names)) (λ cap _. tt)
+
 reads_operation : (p : ProfileName) (op : OpName) (names : Names) (place : Place) (table : Members) → Reads (SendsMessage p) (operation_at p op names place table)
 reads_operation p names.Retype names place table = reads_retype p names place table
 reads_operation p names.CapCopy names place table = reads_copy p names place table
 reads_operation p names.CapMint names place table = reads_mint p names place table
 reads_operation p names.CapMove names place table = reads_move p names place table
 reads_operation p names.CapMutate names place table = reads_mutate p names place table
+reads_operation p names.CapDelete names place table = reads_delete p names place table
+reads_operation p names.CapRevoke names place table = reads_revoke p names place table
+reads_operation p names.CancelBadged names place table = reads_cancel_badged p names place table
 reads_operation p names.Send names place table = reads_send p names place table
 reads_operation p names.NbSend names place table = reads_nb_send p names place table
 reads_operation p names.Recv names place table = reads_recv p names place table
 reads_operation p names.NbRecv names place table = reads_nb_recv p names place table
+reads_operation p names.SetSpace names place table = reads_set_space p names place table
+reads_operation p names.Suspend names place table = reads_suspend p names place table
+reads_operation p names.Resume names place table = reads_resume p names place table
 
 reads_call : (p : ProfileName) (names : Names) (clients n : ℕ) (table : Members) → Reads (HasMessage p) (call_at p names clients n table)
 unfolding call_at

@@ -1,21 +1,11 @@
--- What is seen of the code's own values: of what a kind read, of names and of calls.
-use Rattle.std.specs.Prelude.{ℕ, List, [], ◌∷◌, map, Result, Ok, Err, option_map, string_bytes}
+-- What is seen of the code's own calls.
+use Rattle.std.specs.Prelude.{ℕ, List, [], ◌∷◌, option_map, string_bytes}
 use Rattle.cap_core.specs.declared.profile.ProfileName.{ProfileName}
-use Rattle.setup_format.specs.declared.names.Name.{Name}
 use Rattle.abstract_kernel.specs.declared.call.Call.{Call}
 use Rattle.abstract_kernel.specs.Plan.{Plan}
 use Rattle.setup_format.specs.declared.setup.Caller.{Caller}
 use Rattle.setup_format.specs.declared.setup.SetupCall.{SetupCall}
-use Rattle.setup_format.specs.Names.{Names}
 use Rattle.setup_format.specs.Views.{CallView, SetupView}
-
--- what a function returned, seen by view
-abbrev pub seen : {X A E : Type 0} → (X → A) → Result X E → Result A E
-seen view (Ok x) = Ok (view x)
-seen view (Err e) = Err e
-
-abbrev pub names_view : List Name → Names
-names_view = map (λ n. (string_bytes n.text, n.word))
 
 abbrev pub call_view : SetupCall → CallView
 call_view r = record { call = r.call; client = r.client; expect = option_map string_bytes r.expect }

@@ -3,12 +3,14 @@ use Rattle.std.proofs.lemmas.Result.{err_from_is_err_and}
 use Rattle.std.proofs.lemmas.List.{drop_all}
 use Rattle.std.proofs.lemmas.List.Elements.{All-push}
 use Rattle.toml.specs.View.{table_view}
-use Rattle.setup_format.specs.Kinds.{each}
+use Rattle.setup_values.specs.Kinds.{each}
 use Rattle.setup_format.specs.Faults.{Fails}
-use Rattle.setup_format.specs.Private.Seen.{names_view, call_view}
+use Rattle.setup_format.specs.Private.Seen.{call_view}
+use Rattle.setup_values.specs.Private.Seen.{names_view}
 use Rattle.setup_format.specs.Views.{CallView}
 use Rattle.setup_format.specs.Setups.{call_at}
-use Rattle.setup_format.proofs.Grammar.Loops.{goes_on, fails, is_done}
+use Rattle.setup_values.proofs.Loops.{goes_on, is_done}
+use Rattle.setup_format.proofs.Grammar.Ends.{fails}
 use Rattle.setup_format.proofs.read.calls_of.Goals as goal
 
 pub returns-in_err-call-clause-calls : goal.returns-in_err-call-clause-calls

@@ -4,10 +4,11 @@ use Rattle.std.proofs.lemmas.List.{drop_all}
 use Rattle.std.proofs.lemmas.List.Elements.{All-push}
 use Rattle.toml.specs.View.{table_view}
 use Rattle.abstract_kernel.specs.Plan.{IsUntypedSize}
-use Rattle.setup_format.specs.Kinds.{each}
+use Rattle.setup_values.specs.Kinds.{each}
 use Rattle.setup_format.specs.Faults.{Fails}
 use Rattle.setup_format.specs.Setups.{untyped_at}
-use Rattle.setup_format.proofs.Grammar.Loops.{goes_on, fails, is_done}
+use Rattle.setup_values.proofs.Loops.{goes_on, is_done}
+use Rattle.setup_format.proofs.Grammar.Ends.{fails}
 use Rattle.setup_format.proofs.read.untypeds_of.Goals as goal
 
 pub returns-in_err-region-clause-regions : goal.returns-in_err-region-clause-regions

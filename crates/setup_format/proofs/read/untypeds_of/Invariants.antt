@@ -1,9 +1,9 @@
 use Rattle.std.proofs.Common.{◌≡◌, ◌+◌, All, map, length, drop}
 use Rattle.toml.specs.View.{table_view}
 use Rattle.abstract_kernel.specs.Plan.{IsUntypedSize}
-use Rattle.setup_format.specs.Kinds.{each}
+use Rattle.setup_values.specs.Kinds.{each}
 use Rattle.setup_format.specs.Setups.{untyped_at}
-use Rattle.setup_format.proofs.Grammar.Loops.{with_front}
+use Rattle.setup_values.proofs.Loops.{with_front}
 use Rattle.setup_format.proofs.read.untypeds_of.Given as goal
 
 abbrev pub invariant-loop-i : goal.invariant-loop-i

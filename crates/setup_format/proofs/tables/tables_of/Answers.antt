@@ -2,9 +2,9 @@ use Rattle.std.proofs.Common.{◌≡◌, ◌+◌, ◌++◌, ◌∷◌, [], map, 
 use Rattle.std.proofs.lemmas.List.{map_push, drop_all}
 use Rattle.toml.specs.Data.{as_table}
 use Rattle.toml.specs.View.{view, table_view}
-use Rattle.setup_format.specs.Kinds.{each, table_in}
+use Rattle.setup_values.specs.Kinds.{each, table_in}
 use Rattle.setup_format.specs.Tables.{at_key}
-use Rattle.setup_format.proofs.Grammar.Loops.{goes_on, ends, is_done}
+use Rattle.setup_values.proofs.Loops.{goes_on, ends, is_done}
 use Rattle.setup_format.proofs.tables.tables_of.Goals as goal
 
 pub returns-in-None-clause-tables : goal.returns-in-None-clause-tables

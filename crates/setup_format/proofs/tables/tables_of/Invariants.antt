@@ -1,8 +1,8 @@
 use Rattle.std.proofs.Common.{◌≡◌, ◌+◌, map, length, drop}
 use Rattle.toml.specs.View.{view, table_view}
 use Rattle.toml.specs.Data.{as_table}
-use Rattle.setup_format.specs.Kinds.{each, table_in}
-use Rattle.setup_format.proofs.Grammar.Loops.{with_front}
+use Rattle.setup_values.specs.Kinds.{each, table_in}
+use Rattle.setup_values.proofs.Loops.{with_front}
 use Rattle.setup_format.proofs.tables.tables_of.Given as goal
 
 abbrev pub invariant-loop-element : goal.invariant-loop-element

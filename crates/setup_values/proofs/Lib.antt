@@ -1,0 +1,4 @@
+-- What kinds read of names, of arrays and of words.
+pub mod LookUp
+pub mod Loops
+pub mod Padding

@@ -1,0 +1,191 @@
+-- The kinds of value: what each accepts, and what is wrong with any other value.
+use Rattle.std.specs.Prelude.{codes, ℕ, ◌+◌, ◌-◌, ◌*◌, ◌^◌, ℤ, pos, negsuc, List, [], ◌∷◌, ◌++◌, length, take, drop, replicate, Bool, ◌&&◌, ◌==◌, nat_lt, nat_le, if◌then◌else◌, Option, Some, None, option_and_then, Result, Ok, Err}
+use Rattle.std.specs.Str.{bytes_eq}
+use Rattle.std.specs.List.{list_all}
+use Rattle.toml.specs.Data.{Data, as_integer, as_str, as_array, as_table, Items, no_items, item, Members}
+use Rattle.cap_core.specs.declared.profile.ProfileName.{ProfileName}
+use Rattle.cap_core.specs.declared.profile.ProfileName.TheVariants.{Wide, Narrow}
+use Rattle.cap_core.specs.declared.limits.TheConstants.{MAX_MESSAGE_WORDS}
+use Rattle.cap_core.specs.declared.rights.Rights.{Rights}
+use Rattle.cap_core.specs.Numbers.{word_bits, label_bits}
+use Rattle.cap_core.specs.Rights.{all_rights}
+use Rattle.setup_values.specs.declared.limits.TheConstants.{MAX_EXPECT_BYTES}
+use Rattle.setup_values.specs.declared.values.OpName.{OpName}
+use Rattle.setup_values.specs.declared.values.OpName.TheVariants.{Retype, CapCopy, CapMint, CapMove, CapMutate, CapDelete, CapRevoke, CancelBadged, Send, NbSend, Recv, NbRecv, SetSpace, Suspend, Resume}
+use Rattle.setup_values.specs.declared.values.Words.{Words}
+use Rattle.setup_values.specs.declared.values.Wrong.{Wrong}
+use Rattle.setup_values.specs.declared.values.Wrong.TheVariants.{Unknown, Missing, OtherType, OtherValue}
+use Rattle.setup_values.specs.Names.{Names, word_named}
+
+-- ---- the number of what is wrong with a value or at its key
+
+abbrev pub wrong_code : Wrong → ℕ
+wrong_code Unknown = 201
+wrong_code Missing = 202
+wrong_code OtherType = 203
+wrong_code OtherValue = 204
+
+-- ---- what is read
+
+-- what is read, and then what is made of it
+infixl 10 ◌>>=◌
+abbrev pub ◌>>=◌ : {A B E : Type 0} → Result A E → (A → Result B E) → Result B E
+(Ok x) >>= f = f x
+(Err e) >>= f = Err e
+
+abbrev pub between : ℕ → ℕ → ℕ → Bool
+between low high n = nat_le low n && nat_le n high
+
+-- a number below a bound
+abbrev pub below : ℕ → ℕ → Result ℕ Wrong
+below bound n = if nat_lt n bound then Ok n else Err OtherValue
+
+-- ---- number low..high: an integer from low to high
+
+abbrev pub number_in : ℕ → ℕ → Option ℤ → Result ℕ Wrong
+number_in low high None = Err OtherType
+number_in low high (Some (negsuc n)) = Err OtherValue
+number_in low high (Some (pos n)) = if between low high n then Ok n else Err OtherValue
+
+abbrev pub number : ℕ → ℕ → Data → Result ℕ Wrong
+number low high d = number_in low high (as_integer d)
+
+-- ---- word: an integer not below 0, a text `0x` and 1 to 16 hexadecimal digits of either case, or a text `@` and a name;
+-- in each case below 2^word bits
+
+abbrev pub digit : ℕ → Option ℕ
+digit c =
+    if between 48 57 c then Some (c - 48)
+    else if between 97 102 c then Some (c - 97 + 10)
+    else if between 65 70 c then Some (c - 65 + 10)
+    else None
+
+-- the number of the digits, most significant first, after those that stand for the first number
+abbrev pub digits_after : ℕ → List ℕ → Option ℕ
+digits_after n [] = Some n
+digits_after n (c ∷ cs) = option_and_then (λ d. digits_after (16 * n + d) cs) (digit c)
+
+unfoldable pub hexadecimal : List ℕ → Option ℕ
+hexadecimal text =
+    if bytes_eq (take 2 text) (codes "0x") && between 3 18 (length text)
+    then digits_after 0 (drop 2 text) else None
+
+-- 64 is `@`
+abbrev pub spelt : Names → List ℕ → Option ℕ
+spelt names [] = hexadecimal []
+spelt names (c ∷ cs) = if c == 64 then word_named names cs else hexadecimal (c ∷ cs)
+
+abbrev pub or_other : Option ℕ → Result ℕ Wrong
+or_other None = Err OtherValue
+or_other (Some n) = Ok n
+
+abbrev pub natural_in : Names → Option ℤ → Option (List ℕ) → Result ℕ Wrong
+natural_in names (Some (pos n)) text = Ok n
+natural_in names (Some (negsuc n)) text = Err OtherValue
+natural_in names None (Some text) = or_other (spelt names text)
+natural_in names None None = Err OtherType
+
+abbrev pub natural : Names → Data → Result ℕ Wrong
+natural names d = natural_in names (as_integer d) (as_str d)
+
+abbrev pub word : ProfileName → Names → Data → Result ℕ Wrong
+word p names d = natural names d >>= below (2 ^ word_bits p)
+
+-- ---- label: a word below 2^label bits; it takes no name
+
+abbrev pub label : ProfileName → Data → Result ℕ Wrong
+label p d = word p [] d >>= below (2 ^ label_bits p)
+
+-- ---- rights: a number whose bits are rights
+
+abbrev pub rights : Data → Result Rights Wrong
+rights d = number 0 all_rights.0 d >>= λ n. Ok (record { 0 = n })
+
+-- ---- arrays: each element in turn, with its place, which counts from the first number on
+
+unfoldable pub each : {A B E : Type 0} → (ℕ → A → Result B E) → ℕ → List A → Result (List B) E
+each read n [] = Ok []
+each read n (x ∷ xs) = read n x >>= λ y. each read (n + 1) xs >>= λ ys. Ok (y ∷ ys)
+
+abbrev pub item_list : Items → List Data
+item_list no_items = []
+item_list (item d ds) = d ∷ item_list ds
+
+abbrev pub array_in : ℕ → ℕ → Option Items → Result (List Data) Wrong
+array_in low high None = Err OtherType
+array_in low high (Some ds) = if between low high (length (item_list ds)) then Ok (item_list ds) else Err OtherValue
+
+-- words: an array of no more words than a message has; the other words of the message are 0
+abbrev pub filled : List ℕ → Words
+filled ws = record { words = ws ++ replicate (MAX_MESSAGE_WORDS - length ws) 0; count = length ws }
+
+abbrev pub words : ProfileName → Names → Data → Result Words Wrong
+words p names d = array_in 0 MAX_MESSAGE_WORDS (as_array d) >>= each (λ _. word p names) 0 >>= λ ws. Ok (filled ws)
+
+-- tables low..high: an array of so many tables
+abbrev pub table_in : Option Members → Result Members Wrong
+table_in None = Err OtherType
+table_in (Some ms) = Ok ms
+
+abbrev pub tables : ℕ → ℕ → Data → Result (List Members) Wrong
+tables low high d = array_in low high (as_array d) >>= each (λ _ e. table_in (as_table e)) 0
+
+-- expect: a text of 1 to 120 bytes, each from a space to `~`
+abbrev pub expect_in : Option (List ℕ) → Result (Option (List ℕ)) Wrong
+expect_in None = Err OtherType
+expect_in (Some t) = if between 1 MAX_EXPECT_BYTES (length t) && list_all (between 32 126) t then Ok (Some t) else Err OtherValue
+
+abbrev pub expect : Data → Result (Option (List ℕ)) Wrong
+expect d = expect_in (as_str d)
+
+-- profile: a text that names it
+abbrev pub profile_in : Option (List ℕ) → Result ProfileName Wrong
+profile_in None = Err OtherType
+profile_in (Some t) =
+    if bytes_eq t (codes "wide") then Ok Wide
+    else if bytes_eq t (codes "narrow") then Ok Narrow
+    else Err OtherValue
+
+abbrev pub profile : Data → Result ProfileName Wrong
+profile d = profile_in (as_str d)
+
+-- op: a text that names an operation, on slots, on an endpoint or on a thread
+abbrev pub slot_op : List ℕ → Option OpName
+slot_op t =
+    if bytes_eq t (codes "retype") then Some Retype
+    else if bytes_eq t (codes "copy") then Some CapCopy
+    else if bytes_eq t (codes "mint") then Some CapMint
+    else if bytes_eq t (codes "move") then Some CapMove
+    else if bytes_eq t (codes "mutate") then Some CapMutate
+    else if bytes_eq t (codes "delete") then Some CapDelete
+    else if bytes_eq t (codes "revoke") then Some CapRevoke
+    else if bytes_eq t (codes "cancel_badged") then Some CancelBadged
+    else None
+
+abbrev pub endpoint_op : List ℕ → Option OpName
+endpoint_op t =
+    if bytes_eq t (codes "send") then Some Send
+    else if bytes_eq t (codes "nbsend") then Some NbSend
+    else if bytes_eq t (codes "recv") then Some Recv
+    else if bytes_eq t (codes "nbrecv") then Some NbRecv
+    else None
+
+abbrev pub thread_op : List ℕ → Option OpName
+thread_op t =
+    if bytes_eq t (codes "set_space") then Some SetSpace
+    else if bytes_eq t (codes "suspend") then Some Suspend
+    else if bytes_eq t (codes "resume") then Some Resume
+    else None
+
+abbrev pub one_op : Option OpName → Option OpName → Option OpName → Result OpName Wrong
+one_op (Some op) endpoint thread = Ok op
+one_op None (Some op) thread = Ok op
+one_op None None (Some op) = Ok op
+one_op None None None = Err OtherValue
+
+abbrev pub op_in : Option (List ℕ) → Result OpName Wrong
+op_in None = Err OtherType
+op_in (Some t) = one_op (slot_op t) (endpoint_op t) (thread_op t)
+
+abbrev pub op : Data → Result OpName Wrong
+op d = op_in (as_str d)

@@ -1,0 +1,4 @@
+-- What the values of a set-up's keys are read as; Private has what serves the proofs alone.
+pub mod Names
+pub mod Kinds
+pub mod Private

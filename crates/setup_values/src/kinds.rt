@@ -1,0 +1,256 @@
+//! The kinds of value that a set-up's keys take.
+ghost use Rattle.std.specs.Prelude.{◌≡◌, ◌<◌, ◌≤◌, ◌^◌, length, drop, IfSome, IfOk, Some, map, nat_lt};
+ghost use Rattle.std.specs.List.{list_all};
+ghost use Rattle.toml.specs.View.{view};
+ghost use Rattle.toml.specs.Data.{as_array, as_integer, as_str};
+ghost use Rattle.cap_core.specs.Numbers.{word_bits, label_bits};
+ghost use Rattle.setup_values.specs.Private.Seen.{names_view, seen};
+ghost use Rattle.setup_values.specs.Kinds as kind;
+
+use crate::limits::MAX_EXPECT_BYTES;
+use crate::names::{Name, word_of};
+use crate::values::{OpName, Words, Wrong};
+use cap_core::limits::MAX_MESSAGE_WORDS;
+use cap_core::{Profile, ProfileName, Rights};
+use toml::Value;
+
+/// An integer from `low` to `high`.
+pub fn number(value: &Value, low: u32, high: u32) -> Result<u32, Wrong>
+    ensures number { result ≡ kind.number low high (view value.now) }
+    ensures within { IfOk result (λ n. (low ≤ n) × (n ≤ high)) }
+{
+    match value.as_integer() {
+        None => Err(Wrong::OtherType),
+        Some(n) => {
+            if n < i64::from(low) || n > i64::from(high) {
+                Err(Wrong::OtherValue)
+            } else {
+                Ok(n as u32)
+            }
+        }
+    }
+}
+
+fn digit(byte: u8) -> Option<u8>
+    ensures digit { result ≡ kind.digit byte }
+    ensures small { IfSome result (λ d. d < 16) }
+{
+    match byte {
+        b'0'..=b'9' => Some(byte - b'0'),
+        b'a'..=b'f' => Some(byte - b'a' + 10),
+        b'A'..=b'F' => Some(byte - b'A' + 10),
+        _ => None,
+    }
+}
+
+fn digits(text: &[u8]) -> Option<u64>
+    requires { length text.now ≤ 16 }
+    ensures { result ≡ kind.digits_after 0 text.now }
+{
+    let mut number = 0u64;
+    for byte in text {
+        match digit(*byte) {
+            None => return None,
+            Some(d) => number = 16 * number + u64::from(d),
+        }
+    }
+    Some(number)
+}
+
+#[tactic(auto, unfolding(crate::specs::Kinds::hexadecimal))]
+fn hexadecimal(text: &[u8]) -> Option<u64>
+    ensures { result ≡ kind.hexadecimal text.now }
+{
+    if text.len() < 3 || text.len() > 18 || &text[..2] != b"0x".as_slice() {
+        return None;
+    }
+    digits(&text[2..])
+}
+
+/// The number that a text stands for: `@` and a name, or `0x` and hexadecimal digits.
+fn spelt(names: &[Name], text: &[u8]) -> Option<u64>
+    ensures { result ≡ kind.spelt (names_view names.now) text.now }
+{
+    match text {
+        [b'@', name @ ..] => word_of(names, name),
+        _ => hexadecimal(text),
+    }
+}
+
+/// A number not below 0, as an integer or as a text.
+fn natural(names: &[Name], value: &Value) -> Result<u64, Wrong>
+    ensures { result ≡ kind.natural (names_view names.now) (view value.now) }
+{
+    if let Some(n) = value.as_integer() {
+        return if n < 0 {
+            Err(Wrong::OtherValue)
+        } else {
+            Ok(n as u64)
+        };
+    }
+    match value.as_str() {
+        None => Err(Wrong::OtherType),
+        Some(text) => spelt(names, text.as_bytes()).ok_or(Wrong::OtherValue),
+    }
+}
+
+fn is_word<P: Profile>(number: u64) -> bool
+    ensures { result ≡ nat_lt number (2 ^ word_bits P.the) }
+{
+    number <= u64::MAX >> (u64::BITS - P::WORD_BITS)
+}
+
+/// A number that fits a word: an integer, a text `0x` and 1 to 16 hexadecimal digits, or a text `@` and a name.
+pub fn word<P: Profile>(names: &[Name], value: &Value) -> Result<u64, Wrong>
+    ensures { result ≡ kind.word P.the (names_view names.now) (view value.now) }
+{
+    let number = natural(names, value)?;
+    if is_word::<P>(number) {
+        Ok(number)
+    } else {
+        Err(Wrong::OtherValue)
+    }
+}
+
+/// A word that fits a label. It takes no name.
+pub fn label<P: Profile>(value: &Value) -> Result<u64, Wrong>
+    ensures { result ≡ kind.label P.the (view value.now) }
+{
+    let number = word::<P>(&[], value)?;
+    if number < 1 << P::LABEL_BITS {
+        Ok(number)
+    } else {
+        Err(Wrong::OtherValue)
+    }
+}
+
+/// The rights that a number from 0 to that of all rights stands for.
+pub fn rights(value: &Value) -> Result<Rights, Wrong>
+    ensures { result ≡ kind.rights (view value.now) }
+{
+    let number = number(value, 0, u32::from(Rights::ALL.0))?;
+    Ok(Rights(number as u8))
+}
+
+/// The elements of an array of `low` to `high` elements.
+#[tactic(auto, using(crate::proofs::Loops::array_short, crate::proofs::Loops::array_long, crate::proofs::Loops::array_fits))]
+pub fn array(value: &Value, low: usize, high: usize) -> Result<&[Value], Wrong>
+    ensures elements { seen (λ a. map view a.now) result ≡ kind.array_in low high (as_array (view value.now)) }
+    ensures length { IfOk result (λ a. length a.now ≤ high) }
+{
+    let Some(array) = value.as_array() else {
+        return Err(Wrong::OtherType);
+    };
+    let elements = array.as_slice();
+    if elements.len() < low {
+        return Err(Wrong::OtherValue);
+    }
+    if elements.len() > high {
+        return Err(Wrong::OtherValue);
+    }
+    Ok(elements)
+}
+
+/// An array of no more words than a message has. The other words are 0.
+pub fn words<P: Profile>(names: &[Name], value: &Value) -> Result<Words, Wrong>
+    ensures { result ≡ kind.words P.the (names_view names.now) (view value.now) }
+{
+    let elements = array(value, 0, MAX_MESSAGE_WORDS)?;
+    let mut words = [0; MAX_MESSAGE_WORDS];
+    for (i, element) in elements.iter().enumerate() {
+        words[i] = word::<P>(names, element)?;
+    }
+    Ok(Words {
+        words,
+        count: elements.len() as u32,
+    })
+}
+
+fn is_shown(text: &[u8]) -> bool
+    ensures { result ≡ list_all (kind.between 32 126) text.now }
+{
+    text.iter().all(|b| b' ' <= *b && *b <= b'~')
+}
+
+/// A text of 1 to 120 bytes, each from a space to `~`.
+pub fn expect(value: &Value) -> Result<&str, Wrong>
+    ensures { seen (λ s. Some s.now) result ≡ kind.expect (view value.now) }
+{
+    let Some(text) = value.as_str() else {
+        return Err(Wrong::OtherType);
+    };
+    if text.len() < 1 || text.len() > MAX_EXPECT_BYTES || !is_shown(text.as_bytes()) {
+        return Err(Wrong::OtherValue);
+    }
+    Ok(text)
+}
+
+/// The profile that a text names.
+pub fn profile(value: &Value) -> Result<ProfileName, Wrong>
+    ensures { result ≡ kind.profile (view value.now) }
+{
+    match value.as_str() {
+        None => Err(Wrong::OtherType),
+        Some("wide") => Ok(ProfileName::Wide),
+        Some("narrow") => Ok(ProfileName::Narrow),
+        Some(_) => Err(Wrong::OtherValue),
+    }
+}
+
+/// The operation on slots that a text names.
+fn slot_op(text: &str) -> Option<OpName>
+    ensures { result ≡ kind.slot_op text.now }
+{
+    match text {
+        "retype" => Some(OpName::Retype),
+        "copy" => Some(OpName::CapCopy),
+        "mint" => Some(OpName::CapMint),
+        "move" => Some(OpName::CapMove),
+        "mutate" => Some(OpName::CapMutate),
+        "delete" => Some(OpName::CapDelete),
+        "revoke" => Some(OpName::CapRevoke),
+        "cancel_badged" => Some(OpName::CancelBadged),
+        _ => None,
+    }
+}
+
+/// The operation on an endpoint that a text names.
+fn endpoint_op(text: &str) -> Option<OpName>
+    ensures { result ≡ kind.endpoint_op text.now }
+{
+    match text {
+        "send" => Some(OpName::Send),
+        "nbsend" => Some(OpName::NbSend),
+        "recv" => Some(OpName::Recv),
+        "nbrecv" => Some(OpName::NbRecv),
+        _ => None,
+    }
+}
+
+/// The operation on a thread that a text names.
+fn thread_op(text: &str) -> Option<OpName>
+    ensures { result ≡ kind.thread_op text.now }
+{
+    match text {
+        "set_space" => Some(OpName::SetSpace),
+        "suspend" => Some(OpName::Suspend),
+        "resume" => Some(OpName::Resume),
+        _ => None,
+    }
+}
+
+/// A text that names an operation.
+pub fn op(value: &Value) -> Result<OpName, Wrong>
+    ensures { result ≡ kind.op (view value.now) }
+{
+    let Some(text) = value.as_str() else {
+        return Err(Wrong::OtherType);
+    };
+    if let Some(op) = slot_op(text) {
+        return Ok(op);
+    }
+    if let Some(op) = endpoint_op(text) {
+        return Ok(op);
+    }
+    thread_op(text).ok_or(Wrong::OtherValue)
+}

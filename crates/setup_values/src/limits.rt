@@ -1,0 +1,4 @@
+//! The bounds of values. They are this project's profile.
+
+/// The most bytes of an expectation.
+pub const MAX_EXPECT_BYTES: usize = 120;

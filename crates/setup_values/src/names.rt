@@ -1,0 +1,27 @@
+//! Names that stand for words.
+ghost use Rattle.std.specs.Prelude.{◌≡◌, find, option_copied, string_bytes};
+ghost use Rattle.std.specs.Str.{bytes_eq};
+ghost use Rattle.setup_values.specs.Names.{word_named};
+ghost use Rattle.setup_values.specs.Private.Seen.{names_view};
+
+/// A name that a set-up gives to a word. A call can then write `@NAME` for the word. Set-ups of format 1 give none.
+#[derive(Drop)]
+pub struct Name {
+    pub text: String,
+    pub word: u64,
+}
+
+fn named<'t>(names: &'t [Name], text: &[u8]) -> Option<&'t Name>
+    ensures { option_copied result ≡ find (λ n. bytes_eq (string_bytes n.text) text.now) names.now }
+{
+    names.iter().find(|name| name.text.as_bytes() == text)
+}
+
+/// The word of a name.
+#[tactic(auto, using(crate::proofs::LookUp::no_word, crate::proofs::LookUp::one_word))]
+pub fn word_of(names: &[Name], text: &[u8]) -> Option<u64>
+    ensures { result ≡ word_named (names_view names.now) text.now }
+{
+    let name = named(names, text)?;
+    Some(name.word)
+}
