@@ -6,3 +6,5 @@ pub mod States
 pub mod Ended
 pub mod Stopped
 pub mod Badged
+pub mod NothingEnds
+pub mod ObjectsAdded

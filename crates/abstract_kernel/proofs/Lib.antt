@@ -5,5 +5,6 @@ pub mod Checks
 pub mod Capabilities
 pub mod Retype
 pub mod Boot
+pub mod Housed
 pub mod Reached
 pub mod Cancelling

@@ -44,7 +44,7 @@ is_send_ended A g s = is_ended A g s.endpoint s.thread
 abbrev pub is_receive_ended : State → Forest Entry → ReceiveRecord → Bool
 is_receive_ended A g a = is_ended A g a.endpoint a.thread
 
--- the capabilities become those of a forest, and each open record whose endpoint or thread is then not live is cancelled
+-- the capabilities become those of a forest, and each open record is cancelled whose endpoint or thread is not live then
 abbrev pub ending : State → Forest Entry → State
 ending A g = record (cancelling A (is_send_ended A g) (is_receive_ended A g)) { derivations = g }
 

@@ -3,3 +3,4 @@ pub mod Threads
 pub mod Booted
 pub mod Messages
 pub mod Capabilities
+pub mod Endings

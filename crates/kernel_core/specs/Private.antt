@@ -1,3 +1,7 @@
 -- These serve the proofs of private functions, no public contract cites them.
 pub mod BootRows
 pub mod NewRows
+pub mod Ended
+pub mod EndedLaws
+pub mod Spaces
+pub mod Invoked

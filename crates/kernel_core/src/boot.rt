@@ -8,10 +8,12 @@ ghost use Rattle.cap_core.specs.Numbers.{tcb_bits, tcb_size};
 ghost use Rattle.abstract_kernel.specs.Plan.{IsPlan, IsWithinLimits, first_tcb};
 ghost use Rattle.abstract_kernel.specs.Boot.{root_cap, tcb_caps, endpoint_caps, untyped_caps, boot_caps, with_roots, boot_forest, boot as booted};
 
+use crate::ending::Threads;
 use crate::kernel::Kernel;
 use crate::plan::BootPlan;
 use crate::rows::ThreadRow;
 use cap_core::{Badge, Cap, Guard, Profile, Rights};
+use clearing::SlotChain;
 use ipc_core::MakeWaiters;
 use slot_core::{CapStore, MakeStore, Slot};
 use std::alloc::{AllocError, Global};
@@ -33,15 +35,19 @@ impl<P: Profile, S: MakeStore<P>, W: MakeWaiters<P>> Kernel<P, S, W> {
         let caps = root_capabilities::<P>(alloc, plan)?;
         let mut store = S::new(alloc, plan.memory_bits())?;
         let waiters = W::new(alloc, plan.memory_bits())?;
-        let threads = boot_threads::<P>(alloc, plan)?;
+        let rows = boot_threads::<P>(alloc, plan)?;
+        let chain = SlotChain::new(alloc, 1 << (plan.memory_bits() - P::SLOT_BITS))?;
         put_all::<P, S>(&mut store, plan, caps.as_slice());
         derive_spaces::<P, S>(&mut store, plan);
         Ok(Kernel {
             store,
-            waiters,
-            threads,
-            memory_bits: plan.memory_bits(),
-            of: PhantomData,
+            threads: Threads {
+                waiters,
+                rows,
+                memory_bits: plan.memory_bits(),
+                of: PhantomData,
+            },
+            chain,
         })
     }
 }

@@ -10,8 +10,10 @@ ghost use Rattle.abstract_kernel.specs.Retyping.{decoded_retype};
 ghost use Rattle.abstract_kernel.specs.CNodes.{decoded_placement};
 
 use crate::decode::cnodes::decode_placement;
+use crate::decode::deletion::{decode_cancel_badged, decode_delete, decode_revoke};
 use crate::decode::lookup::named_slot;
 use crate::decode::retyping::decode_retype;
+use crate::decode::threads::{decode_resume, decode_set_space, decode_suspend};
 use abstract_kernel::call::Op;
 use abstract_kernel::invocation::{Change, Invocation, RetypeArguments, Service, SlotArguments};
 use bitflags::Flags;
@@ -20,8 +22,10 @@ use cap_core::{Cap, Message, Profile, Refusal, Rights};
 use slot_core::{CapStore, Slot};
 
 mod cnodes;
+mod deletion;
 pub mod lookup;
 mod retyping;
+mod threads;
 
 /// What an operation of a thread does, or the first check that fails: the lookup of the word that names the invoked
 /// capability, and then the operation's own.
@@ -48,10 +52,16 @@ fn service_word(op: &Op) -> u64
         | Op::CapMint { cap, .. }
         | Op::CapMove { cap, .. }
         | Op::CapMutate { cap, .. }
+        | Op::CapDelete { cap, .. }
+        | Op::CapRevoke { cap, .. }
+        | Op::CancelBadged { cap, .. }
         | Op::Send { cap, .. }
         | Op::NbSend { cap, .. }
         | Op::Recv { cap }
-        | Op::NbRecv { cap } => cap,
+        | Op::NbRecv { cap }
+        | Op::SetSpace { cap, .. }
+        | Op::Suspend { cap }
+        | Op::Resume { cap } => cap,
     }
 }
 
@@ -89,10 +99,24 @@ fn decode_invocation<P: Profile, S: CapStore<P>>(
             let slots = SlotArguments { index, depth, src_root, src_index, src_depth };
             decode_move::<P, S>(store, thread, store.get(slot), slots, Change::Mutate(word))
         }
+        Op::CapDelete { index, depth, .. } => {
+            decode_delete::<P, S>(store, store.get(slot), index, depth)
+        }
+        Op::CapRevoke { index, depth, .. } => {
+            decode_revoke::<P, S>(store, store.get(slot), index, depth)
+        }
+        Op::CancelBadged { index, depth, .. } => {
+            decode_cancel_badged::<P, S>(store, store.get(slot), index, depth)
+        }
         Op::Send { message, .. } => decode_send(store.get(slot), message, true),
         Op::NbSend { message, .. } => decode_send(store.get(slot), message, false),
         Op::Recv { .. } => decode_receive(store.get(slot), true),
         Op::NbRecv { .. } => decode_receive(store.get(slot), false),
+        Op::SetSpace { root, word, .. } => {
+            decode_set_space::<P, S>(store, thread, slot, root, word)
+        }
+        Op::Suspend { .. } => decode_suspend(store.get(slot)),
+        Op::Resume { .. } => decode_resume(store.get(slot)),
     }
 }
 

@@ -19,15 +19,17 @@ ghost use Rattle.abstract_kernel.specs.Reached.{IsReached, StepsTo};
 
 use crate::decode::decode_op;
 use crate::decode::lookup::{is_endpoint_address, slot_within};
+use crate::ending::Threads;
 use crate::objects::{add_threads, make_objects};
 use crate::placements::{derive_in, move_in};
 use crate::rows::{ThreadRow, row_at, set_row};
 use abstract_kernel::call::{Call, Inbox, Reply, ThreadState};
 use abstract_kernel::invocation::{CapPlacement, Invocation, NewObjects, Service};
 use cap_core::{Cap, Kind, Message, Profile, Refusal};
+use clearing::SlotChain;
 use ipc_core::{Received, Sent, Waiters};
 use slot_core::{CapStore, Slot};
-use std::marker::{Model, PhantomData};
+use std::marker::Model;
 
 /// The capability part of a kernel, over a store of capabilities and a store of waiting threads.
 ///
@@ -36,11 +38,9 @@ use std::marker::{Model, PhantomData};
 #[derive(Drop)]
 pub struct Kernel<P: Profile, S: CapStore<P> + Drop, W: Waiters<P> + Drop> {
     pub(crate) store: S,
-    pub(crate) waiters: W,
-    /// Row k is that of the thread control block at k times its size.
-    pub(crate) threads: Vec<Option<ThreadRow>>,
-    pub(crate) memory_bits: u32,
-    pub(crate) of: PhantomData<P>,
+    pub(crate) threads: Threads<P, W>,
+    /// For slots that are cleared: a link for each slot of the memory, and no slot in it between calls.
+    pub(crate) chain: SlotChain<P>,
 }
 
 impl<P: Profile, S: CapStore<P> + Drop, W: Waiters<P> + Drop> Model for Kernel<P, S, W> {
@@ -53,11 +53,12 @@ impl<P: Profile, S: CapStore<P> + Drop, W: Waiters<P> + Drop> Model for Kernel<P
 
     ghost coded = { Prim.hlevel (codes, coded_map, coded_forest) };
 
-    ghost use Rattle.kernel_core.specs.Rows.{kernel_shown, IsKernel};
+    ghost use Rattle.kernel_core.specs.Rows.{kernel_shown, IsBetweenCalls};
 
-    ghost view = { λ a. kernel_shown P.the (S.forest a.store) a.threads.items (W.waits a.waiters) };
+    ghost view = { λ a. kernel_shown P.the (S.forest a.store) a.threads.rows.items (W.waits a.threads.waiters) };
 
-    ghost invariant = { λ a. IsKernel P.the a.memory_bits (S.memory_bits a.store) (W.memory_bits a.waiters) (S.forest a.store) a.threads.items (W.waits a.waiters) };
+    ghost invariant = { λ a. IsBetweenCalls P.the a.threads.memory_bits (S.memory_bits a.store)
+        (W.memory_bits a.threads.waiters) (S.forest a.store) a.threads.rows.items (W.waits a.threads.waiters) a.chain };
 }
 
 impl<P: Profile, S: CapStore<P> + Drop, W: Waiters<P> + Drop> Kernel<P, S, W> {
@@ -67,8 +68,9 @@ impl<P: Profile, S: CapStore<P> + Drop, W: Waiters<P> + Drop> Kernel<P, S, W> {
     /// - `NoThread` where no live thread control block is at the address, `NotReady` where the thread is not ready;
     /// - `FailedLookup` with its kind where the word `cap`, all its bits, leads to no slot of the thread's capability
     ///   space;
-    /// - `InvalidCapability` where that slot is empty, `IllegalOperation` where it holds a capability of another kind than the
-    ///   operation asks for: an endpoint's to send and to receive, an untyped one to retype, a CNode's for the others;
+    /// - `InvalidCapability` where that slot is empty, `IllegalOperation` where it holds a capability of another kind
+    ///   than the operation asks for: an endpoint's to send and to receive, an untyped one to retype, a thread's to set
+    ///   its space, to suspend and to resume it, a CNode's for the others;
     /// - `InvalidCapability` where an endpoint's capability lacks the right: to write for a send, to read for a receive.
     ///
     /// Those of a retype: `FailedLookup` where `root` leads to no slot; `InvalidArgument` where no kind has the number, and
@@ -81,6 +83,12 @@ impl<P: Profile, S: CapStore<P> + Drop, W: Waiters<P> + Drop> Kernel<P, S, W> {
     /// depth beyond the profile, or `FailedLookup`, where the slot to fill is not found, and `DeleteFirst` where it is full;
     /// the same two where the source is not found, and `MissingCapability` where it is empty; `IllegalOperation` where its
     /// data cannot be set, `RevokeFirst` where an untyped one has children and is derived from.
+    ///
+    /// Those of a delete, a revoke and a cancelling of badged sends: `RangeError` for a depth beyond the profile, or
+    /// `FailedLookup`, where the slot is not found; of the last `IllegalOperation` where the slot does not hold an
+    /// endpoint's capability with all rights. Those of the setting of a space: `FailedLookup` where `root` leads to no
+    /// slot, `IllegalOperation` where that does not hold a CNode's capability or its guard cannot be set. A thread may
+    /// end itself by a call: it is answered `Done`.
     ///
     /// For a kernel that stands for a state that runs reach, the reply and what is shown after are those of the abstract
     /// step. It takes no memory.
@@ -118,7 +126,7 @@ impl<P: Profile, S: CapStore<P> + Drop, W: Waiters<P> + Drop> Kernel<P, S, W> {
     fn keeps_apart(&self)
         ensures { AreObjectsApart P.the self.now.derivations }
     {
-        let _ = &self.memory_bits;
+        let _ = &self.store;
     }
 
     fn perform(&mut self, call: &Call) -> Reply
@@ -151,6 +159,12 @@ impl<P: Profile, S: CapStore<P> + Drop, W: Waiters<P> + Drop> Kernel<P, S, W> {
             Invocation::Retype(new) => self.retype(new),
             Invocation::Derive(placement) => self.derive(placement),
             Invocation::Move(placement) => self.relocate(placement),
+            Invocation::Delete(slot) => self.delete(slot),
+            Invocation::Revoke(slot) => self.revoke(slot),
+            Invocation::CancelBadged(service) => self.cancel_badged(service),
+            Invocation::SetSpace(new) => self.set_space(new),
+            Invocation::Suspend(tcb) => self.suspend(tcb),
+            Invocation::Resume(tcb) => self.resume(tcb),
         }
     }
 
@@ -175,7 +189,7 @@ impl<P: Profile, S: CapStore<P> + Drop, W: Waiters<P> + Drop> Kernel<P, S, W> {
     {
         make_objects::<P, S>(&mut self.store, new);
         match new.shape.kind {
-            Kind::Tcb => add_threads::<P>(&mut self.threads, new.placed, new.count),
+            Kind::Tcb => add_threads::<P>(&mut self.threads.rows, new.placed, new.count),
             Kind::Untyped | Kind::Endpoint | Kind::CNode => {}
         }
         Reply::Done
@@ -209,14 +223,18 @@ impl<P: Profile, S: CapStore<P> + Drop, W: Waiters<P> + Drop> Kernel<P, S, W> {
         ensures after { self.new ≡ (send_effect self.old thread service message block (waiting_at self.old service.endpoint)).after }
     {
         let Service { endpoint, badge } = service;
-        match self.waiters.send(endpoint, thread, badge, message, block) {
+        match self
+            .threads
+            .waiters
+            .send(endpoint, thread, badge, message, block)
+        {
             Sent::Delivered { to } => {
                 let inbox = Some(Inbox { badge, message });
                 let row = ThreadRow {
                     inactive: false,
                     inbox,
                 };
-                set_row::<P>(&mut self.threads, to, row);
+                set_row::<P>(&mut self.threads.rows, to, row);
                 Reply::Delivered {
                     endpoint,
                     from: thread,
@@ -238,7 +256,7 @@ impl<P: Profile, S: CapStore<P> + Drop, W: Waiters<P> + Drop> Kernel<P, S, W> {
         ensures after { self.new ≡ (receive_effect self.old thread service block (waiting_at self.old service.endpoint)).after }
     {
         let endpoint = service.endpoint;
-        match self.waiters.recv(endpoint, thread, block) {
+        match self.threads.waiters.recv(endpoint, thread, block) {
             Received::Delivered {
                 from,
                 badge,
@@ -249,7 +267,7 @@ impl<P: Profile, S: CapStore<P> + Drop, W: Waiters<P> + Drop> Kernel<P, S, W> {
                     inactive: false,
                     inbox,
                 };
-                set_row::<P>(&mut self.threads, thread, row);
+                set_row::<P>(&mut self.threads.rows, thread, row);
                 Reply::Delivered {
                     endpoint,
                     from,
@@ -267,8 +285,8 @@ impl<P: Profile, S: CapStore<P> + Drop, W: Waiters<P> + Drop> Kernel<P, S, W> {
     pub fn thread_state(&self, tcb: u64) -> Option<ThreadState>
         ensures { result ≡ state_at self.now tcb }
     {
-        let row = row_at::<P>(self.threads.as_slice(), tcb)?;
-        Some(row.state(self.waiters.role(tcb)))
+        let row = row_at::<P>(self.threads.rows.as_slice(), tcb)?;
+        Some(row.state(self.threads.waiters.role(tcb)))
     }
 
     /// The last message that was delivered to a thread since it was made, with its badge; `None` where there is none, and
@@ -276,7 +294,7 @@ impl<P: Profile, S: CapStore<P> + Drop, W: Waiters<P> + Drop> Kernel<P, S, W> {
     pub fn inbox(&self, tcb: u64) -> Option<Inbox>
         ensures { result ≡ inbox_at self.now tcb }
     {
-        row_at::<P>(self.threads.as_slice(), tcb)?.inbox
+        row_at::<P>(self.threads.rows.as_slice(), tcb)?.inbox
     }
 
     /// The capability that the slot at an address holds: `Null` where the slot is empty, and where no slot can stand at
@@ -285,7 +303,7 @@ impl<P: Profile, S: CapStore<P> + Drop, W: Waiters<P> + Drop> Kernel<P, S, W> {
         ensures cap { result ≡ cap_held self.now.derivations slot }
         ensures aligned { All (IsAligned P.the) (slots self.now.derivations) }
     {
-        match slot_within::<P>(self.memory_bits, slot) {
+        match slot_within::<P>(self.threads.memory_bits, slot) {
             Some(slot) => self.store.get(slot),
             None => Cap::Null,
         }
@@ -295,7 +313,7 @@ impl<P: Profile, S: CapStore<P> + Drop, W: Waiters<P> + Drop> Kernel<P, S, W> {
     pub fn has_children(&self, slot: u64) -> bool
         ensures { result ≡ has_child slot self.now.derivations }
     {
-        match slot_within::<P>(self.memory_bits, slot) {
+        match slot_within::<P>(self.threads.memory_bits, slot) {
             Some(slot) => self.store.first_child(slot).is_some(),
             None => false,
         }
@@ -306,8 +324,8 @@ impl<P: Profile, S: CapStore<P> + Drop, W: Waiters<P> + Drop> Kernel<P, S, W> {
     pub fn waiting(&self, endpoint: u64, place: u64) -> Option<u64>
         ensures { result ≡ option_map thread_of (slice_get (waiting_at self.now endpoint) place) }
     {
-        if is_endpoint_address::<P>(self.memory_bits, endpoint) {
-            self.waiters.waiting(endpoint, place)
+        if is_endpoint_address::<P>(self.threads.memory_bits, endpoint) {
+            self.threads.waiters.waiting(endpoint, place)
         } else {
             None
         }

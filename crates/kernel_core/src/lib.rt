@@ -2,7 +2,11 @@
 #![tactic(auto)]
 
 mod boot;
+mod cancelling;
+mod copying;
 mod decode;
+mod deletion;
+mod ending;
 pub mod kernel;
 mod objects;
 mod placements;

@@ -61,7 +61,8 @@ with_spaces-keeps p memory base radix guard (t ∷ ts) f h d r =
     (distinct-derived (slot_size p) t (CNode base radix guard) f d h.full first.empty)
     (regions-derived p (slot_size p) t (CNode base radix guard) f r d first.empty first.same)
 
-each-with_spaces : (P : Entry → Type 0) (p : ProfileName) (cap : Cap) (tcbs : List ℕ) (f : Forest Entry) → Each P (preorder f)
+pub each-with_spaces : (P : Entry → Type 0) (p : ProfileName) (cap : Cap) (tcbs : List ℕ) (f : Forest Entry) →
+    Each P (preorder f)
     → Each (λ (t : ℕ). (original : Bool) → P (entry t cap original)) tcbs → Each P (preorder (with_spaces p cap tcbs f))
 each-with_spaces P p cap [] f h new = h
 each-with_spaces P p cap (t ∷ ts) f h new =

@@ -239,11 +239,16 @@ length_caps p plan =
     let e = length-map plan.untypeds (λ (u : ℕ × ℕ). Untyped u.0 u.1 0) in
     omega arith
 
-pub slots_fit : (p : ProfileName) (plan : Plan) → IsPlan p plan → (1 + length (boot_caps p plan)) * slot_size p ≤ 2 ^ (slot_bits p + plan.root_radix)
-slots_fit p plan h =
+pub caps_fit : (p : ProfileName) (plan : Plan) → IsPlan p plan → 1 + length (boot_caps p plan) ≤ 2 ^ plan.root_radix
+caps_fit p plan h =
     let l = length_caps p plan in
     let w = slots_within p plan h in
-    let m = mul-le-mul_right (slot_size p) (let n : 1 + length (boot_caps p plan) ≤ 2 ^ plan.root_radix = omega arith in n) in
+    omega arith
+
+pub slots_fit : (p : ProfileName) (plan : Plan) → IsPlan p plan →
+    (1 + length (boot_caps p plan)) * slot_size p ≤ 2 ^ (slot_bits p + plan.root_radix)
+slots_fit p plan h =
+    let m = mul-le-mul_right (slot_size p) (caps_fit p plan h) in
     let e = pow-add 2 (slot_bits p) plan.root_radix in
     omega arith
 

@@ -10,6 +10,8 @@ use Rattle.derivation.specs.Forest.{Forest}
 use Rattle.derivation.specs.Entries.{Entry, caps, slots, cap_at, is_full}
 use Rattle.derivation.specs.Derivation.{derived, freed, names_same}
 use Rattle.cspace_core.specs.Resolution.{is_cnode}
+use Rattle.clearing.specs.Members.{In}
+use Rattle.clearing.specs.Slots.{slots_of}
 use Rattle.clearing.specs.Clear.{clear}
 use Rattle.abstract_kernel.specs.declared.invocation.NewSpace.{NewSpace}
 use Rattle.abstract_kernel.specs.declared.invocation.CapPlacement.{CapPlacement}
@@ -19,6 +21,7 @@ use Rattle.abstract_kernel.specs.Private.Invocations.{IsDerivation, IsSpace}
 use Rattle.abstract_kernel.specs.Private.Stores.{IsKernelStore}
 use Rattle.abstract_kernel.proofs.Checks.FoundSlots.{lawful_at, lawful_full}
 use Rattle.abstract_kernel.proofs.Checks.PassedSpaceChecks.{tcb_placed}
+use Rattle.abstract_kernel.proofs.Housed.FoundSlots.{housed_by, root_slot_in}
 use Rattle.abstract_kernel.proofs.Capabilities.StoresKept.{store-derived}
 use Rattle.abstract_kernel.proofs.Capabilities.StoresCleared.{cap-clear, empty-clear, store-clear, live-clear}
 use Rattle.abstract_kernel.proofs.Capabilities.LiveAfter.{IsBase, live-derived}
@@ -70,6 +73,9 @@ module _ (p : ProfileName) (f : Forest Entry) (distinct : IsDistinct eqb (slots 
           full = full;
           empty = empty-clear p new.tcb f;
           placed = tcb_placed p g new.invoked new.tcb tcb;
+          housed =
+              housed_by p g new.invoked new.tcb
+              (subst (λ cap. In new.tcb (slots_of p cap)) (sym tcb) (root_slot_in p new.tcb));
           lawful = λ memory all. is.remade memory (subst (IsLawful p memory) source
               (lawful_full p memory (cap_at g new.source) (same_full (cap_at g new.source) new.cap same)
               (lawful_at p memory g all new.source)));

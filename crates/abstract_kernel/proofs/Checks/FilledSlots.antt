@@ -48,7 +48,7 @@ slots_there radix offset count h =
     record { some = leb-true _ _ second.0; most = leb-true _ _ third.0; within = omega arith }
 
 -- the slots from one of a CNode's on, by the first one's address
-along : (p : ProfileName) (base offset i : ℕ) → slot_of p (slot_of p base offset) i ≡ slot_of p base (offset + i)
+pub along : (p : ProfileName) (base offset i : ℕ) → slot_of p (slot_of p base offset) i ≡ slot_of p base (offset + i)
 along p base offset i =
     let d : (offset + i) * slot_size p ≡ offset * slot_size p + i * slot_size p = grind arith in
     omega arith

@@ -115,7 +115,8 @@ pub held_passed : (f : Forest Entry) (r : Result ℕ Refusal) (cap : Cap) → he
 held_passed f (Err refusal) cap h = cc
 held_passed f (Ok slot) cap h = (slot, ok_same (cap_at f slot) cap h)
 
-whole_passed : (r : Result Found LookupFault) (slot : ℕ) → found_whole r ≡ Ok slot → (found : Found) × ((r ≡ Ok found) × (found.slot ≡ slot))
+pub whole_passed : (r : Result Found LookupFault) (slot : ℕ) → found_whole r ≡ Ok slot →
+    (found : Found) × ((r ≡ Ok found) × (found.slot ≡ slot))
 whole_passed (Err fault) slot h = cc
 whole_passed (Ok found) slot h =
     let whole = cond_passed (found.left == 0) (Ok found.slot) (FailedLookup DepthMismatch) slot h in

@@ -25,7 +25,9 @@ use Rattle.abstract_kernel.specs.Shown.{has_child}
 use Rattle.abstract_kernel.specs.Lookups.{extra_cap, where_kind, empty_slot, full_slot}
 use Rattle.abstract_kernel.specs.CNodes.{where_set, where_derivable, changed_cap, decoded_placement}
 use Rattle.abstract_kernel.specs.Private.Invocations.{IsPlacement, IsDerivation, IsMove}
+use Rattle.clearing.specs.Housed.{is_housed}
 use Rattle.abstract_kernel.proofs.Checks.FoundSlots.{passed, cond_failed, ok_same, kind_passed, lawful_at, lawful_full, empty_at, full_at, empty_passed, full_passed, target_passed}
+use Rattle.abstract_kernel.proofs.Housed.FoundSlots.{target_housed}
 
 -- a new capability of the object that another names, as lawful as that one
 pub record IsRemade (p : ProfileName) (cap made : Cap) : Type 0 where
@@ -180,6 +182,7 @@ record IsFound (p : ProfileName) (f : Forest Entry) (change : Change) (placement
   full : is_null (cap_at f placement.source) ≡ false
   empty : is_null (cap_at f placement.slot) ≡ true
   placed : (memory : ℕ) → All (IsLawful p memory) (caps f) → IsSlotAddress p memory placement.slot
+  housed : is_housed p f placement.slot ≡ true
   changed : changed_cap p f placement.source change (cap_at f placement.source) ≡ Ok placement.cap
 
 placement_found : (p : ProfileName) (f : Forest Entry) (thread slot : ℕ) (asked : SlotArguments) (change : Change) (placement : CapPlacement) →
@@ -200,6 +203,7 @@ placement_found p f thread slot asked change placement h =
       empty = empty.0;
       placed = λ memory all. target_passed p memory f node.0 asked.index asked.depth target.0 all
           (subst (λ cap. (cap ≡ Null) ⊎ IsLawful p memory cap) invoked (lawful_at p memory f all slot)) empty.1;
+      housed = target_housed p f slot node.0 asked.index asked.depth target.0 (sym invoked) empty.1;
       changed = made.1.0;
     })
 
@@ -209,6 +213,7 @@ placement_passed p memory f change placement all found remade = record {
   full = full_at f placement.source found.full;
   empty = empty_at p memory f all placement.slot found.empty;
   placed = found.placed;
+  housed = found.housed;
   lawful = λ m lawful. remade.lawful m (lawful_full p m (cap_at f placement.source) found.full (lawful_at p m f lawful placement.source));
   same = remade.same;
 }

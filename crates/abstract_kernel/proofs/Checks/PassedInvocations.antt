@@ -1,5 +1,5 @@
 -- What the checks show of an invocation.
-use Rattle.std.proofs.Common.{◌≡◌, ℕ, ◌<◌, ◌≤◌, ◌⊎◌, Bool, true, false, cond, ◌==◌, not, Ok, All, sym, subst, ◌∙◌}
+use Rattle.std.proofs.Common.{◌≡◌, ℕ, ◌+◌, ◌<◌, ◌≤◌, ◌⊎◌, Bool, true, false, cond, ◌==◌, not, Ok, All, sym, subst, ◌∙◌, arith}
 use Rattle.cap_core.specs.declared.profile.ProfileName.{ProfileName}
 use Rattle.cap_core.specs.declared.capability.Cap.{Cap}
 use Rattle.cap_core.specs.declared.capability.Cap.TheVariants.{Null, Untyped, Endpoint, CNode, Tcb}
@@ -31,7 +31,12 @@ use Rattle.abstract_kernel.specs.Decode.{decoded_invocation, decoded_op}
 use Rattle.abstract_kernel.specs.Private.Invocations.{IsRetype, IsDerivation, IsMove, IsNamedSlot, IsLiveThread, IsSpace}
 use Rattle.abstract_kernel.proofs.Checks.FoundSlots.{passed, made_passed, cond_passed, cond_failed, ok_same, kind_passed, lawful_at, empty_at, held_passed, none_of_range, not_false}
 use Rattle.mem_core.proofs.Placing.{placed_lie}
-use Rattle.abstract_kernel.proofs.Checks.FilledSlots.{slots_there, slot_address}
+use Rattle.abstract_kernel.proofs.Checks.FilledSlots.{along, slots_there, slot_address}
+use Rattle.cspace_core.specs.Inside.{IsSlotOf}
+use Rattle.clearing.specs.Members.{In}
+use Rattle.clearing.specs.Slots.{slots_of}
+use Rattle.clearing.specs.Housed.{is_housed}
+use Rattle.abstract_kernel.proofs.Housed.FoundSlots.{slot_in, housed_by}
 use Rattle.abstract_kernel.proofs.Checks.PassedCNodeChecks.{copy_derives, mint_derives, move_moves, mutate_moves}
 use Rattle.abstract_kernel.proofs.Checks.PassedSpaceChecks.{slot_shows, tcb_shows, space_shows}
 
@@ -40,6 +45,7 @@ record AreFilled (p : ProfileName) (f : Forest Entry) (first count : ℕ) (node 
   some : 1 ≤ count
   most : count ≤ MAX_RETYPE_COUNT
   empty : (i : ℕ) → i < count → is_null (cap_at f (slot_of p first i)) ≡ true
+  housed : ((slot : ℕ) × (cap_at f slot ≡ node)) → (i : ℕ) → i < count → is_housed p f (slot_of p first i) ≡ true
   slots : (memory : ℕ) → (node ≡ Null) ⊎ IsLawful p memory node → (i : ℕ) → i < count → IsSlotAddress p memory (slot_of p first i)
 
 first_passed : (p : ProfileName) (f : Forest Entry) (offset count first : ℕ) (node : Cap) → first_slot p f offset count node ≡ Ok first → AreFilled p f first count node
@@ -55,6 +61,13 @@ first_passed p f offset count first (CNode base radix guard) h =
       some = there.some;
       most = there.most;
       empty = λ i low. not_false _ (none_of_range (λ i. not (is_null (cap_at f (slot_of p (slot_of p base offset) i)))) count i empty.0 low);
+      housed = λ held i low.
+          let fits = there.within in
+          let at : IsSlotOf p (CNode base radix guard) (slot_of p (slot_of p base offset) i) =
+          (offset + i, (omega (arith, fits, low), along p base offset i)) in
+          housed_by p f held.0 (slot_of p (slot_of p base offset) i)
+          (subst (λ cap. In (slot_of p (slot_of p base offset) i) (slots_of p cap)) (sym held.1)
+          (slot_in p (CNode base radix guard) (slot_of p (slot_of p base offset) i) at));
       slots = λ memory lawful i low. slot_address p memory base radix offset count i guard (lawful_node p memory base radix guard lawful) there low;
     })
 first_passed p f offset count first (Tcb base) h = cc
@@ -88,6 +101,7 @@ retype_shows p memory f all thread slot asked new h =
       placed = subst (λ cap. LieInUntyped cap (has_child slot f) shape.0.bits asked.count placed.0) (sym found_kind.1)
           (placed_lie (has_child slot f) shape.0.bits asked.count untyped.0 placed.0 filled.some placed.1.0);
       empty = λ i low. empty_at p memory f all (slot_of p first.0 i) (filled.empty i low);
+      housed = λ i low. filled.housed there i low;
       slots = λ m lawful i low. filled.slots m (subst (λ cap. (cap ≡ Null) ⊎ IsLawful p m cap) there.1 (lawful_at p m f lawful there.0)) i low;
     })
 

@@ -18,6 +18,7 @@ use Rattle.cap_core.specs.declared.capability.Cap.{Cap}
 use Rattle.derivation.specs.Forest.{Forest}
 use Rattle.derivation.specs.Entries.{Entry, caps}
 use Rattle.clearing.specs.Clear.{clear}
+use Rattle.clearing.specs.Housed.{IsHoused}
 use Rattle.clearing.specs.Revoke.{revoke}
 use Rattle.abstract_kernel.specs.Cancelling.{ending, cancelling_badged, suspending, resuming}
 use Rattle.abstract_kernel.specs.Private.Endings.{after_ending}
@@ -39,7 +40,8 @@ use Rattle.abstract_kernel.proofs.Capabilities.LiveAfter.{IsBase, tcb_is_base, e
 use Rattle.abstract_kernel.proofs.Retype.LiveRetyped.{untyped_full}
 use Rattle.abstract_kernel.proofs.Checks.PassedInvocations.{IsEdit}
 use Rattle.abstract_kernel.proofs.Boot.BootedStore.{store_at_boot}
-use Rattle.abstract_kernel.proofs.Reached.Stores.{checked_edit, outcome_store}
+use Rattle.abstract_kernel.proofs.Housed.Boot.{housed_at_boot}
+use Rattle.abstract_kernel.proofs.Reached.Stores.{checked_edit, outcome_store, outcome_housed}
 use Rattle.abstract_kernel.proofs.Reached.Invariant.{Invariant, Passes, passes, IsShown, inv_boot, inv_refused}
 use Rattle.abstract_kernel.proofs.Capabilities.Rearranged.{rearranged_steps, inv_rearranged}
 use Rattle.abstract_kernel.proofs.Retype.ObjectsMade.{made_steps, inv_made}
@@ -49,6 +51,7 @@ use Rattle.abstract_kernel.proofs.Messages.RecordsAdded.{sends_step, receives_st
 -- what holds of each reached state, whose slots stand in a memory of 2^memory bytes
 pub record Reached (p : ProfileName) (memory : ℕ) (A : State) : Type 0 where
   pub store : IsKernelStore p memory A.derivations
+  pub housed : IsHoused p A.derivations
   pub records : Invariant A
 
 module _ (p : ProfileName) (memory : ℕ) (A : State) (t : ℕ) (reached : Reached p memory A) where
@@ -151,6 +154,7 @@ inv_outcome p memory A call (Ok invocation) h reached = inv_performed p memory A
 pub reached_step : (p : ProfileName) (memory : ℕ) (A : State) (call : Call) → Reached p memory A → Reached p memory (step p A call).state
 reached_step p memory A call reached = record {
   store = outcome_store p memory A call (decoded_call p (shown A) call) refl reached.store;
+  housed = outcome_housed p memory A call (decoded_call p (shown A) call) refl reached.store reached.housed;
   records = inv_outcome p memory A call (decoded_call p (shown A) call) refl reached;
 }
 
@@ -159,7 +163,17 @@ reached_run p memory [] A reached = reached
 reached_run p memory (call ∷ calls) A reached = reached_run p memory calls (step p A call).state (reached_step p memory A call reached)
 
 pub reached_is : (p : ProfileName) (A : State) (r : IsReached p A) → Reached p r.plan.memory_bits A
-reached_is p A r = subst (Reached p r.plan.memory_bits) (sym r.is) (reached_run p r.plan.memory_bits r.calls (boot p r.plan) (record { store = store_at_boot p r.plan r.lawful; records = inv_boot p r.plan }))
+reached_is p A r =
+    subst (Reached p r.plan.memory_bits) (sym r.is)
+    (reached_run p r.plan.memory_bits r.calls (boot p r.plan)
+    (record {
+      store = store_at_boot p r.plan r.lawful;
+      housed = housed_at_boot p r.plan r.lawful;
+      records = inv_boot p r.plan;
+    }))
+
+pub reached_housed : (p : ProfileName) (A : State) → IsReached p A → IsHoused p A.derivations
+reached_housed p A r = (reached_is p A r).housed
 
 pub reached_inv : (p : ProfileName) (A : State) → IsReached p A → Invariant A
 reached_inv p A r = (reached_is p A r).records

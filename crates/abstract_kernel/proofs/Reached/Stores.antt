@@ -23,6 +23,9 @@ use Rattle.abstract_kernel.proofs.Capabilities.StoresCleared.{store-clear, store
 use Rattle.abstract_kernel.proofs.Capabilities.SpacesSet.{store-space}
 use Rattle.abstract_kernel.proofs.Retype.RetypedForest.{made, made_lawful, made_placed}
 use Rattle.abstract_kernel.proofs.Checks.PassedInvocations.{IsEdit, invoked_edit}
+use Rattle.clearing.specs.Housed.{IsHoused}
+use Rattle.clearing.proofs.Kept.{housed-clear, housed-revoke}
+use Rattle.abstract_kernel.proofs.Housed.Edits.{housed-with_objects, housed-with_derived, housed-with_moved, housed-with_space}
 
 pub store-made : (p : ProfileName) (memory : ℕ) (f : Forest Entry) (new : NewObjects) → IsRetype p f new → IsKernelStore p memory f → IsKernelStore p memory (with_objects p new f)
 store-made p memory f new is store =
@@ -42,6 +45,12 @@ awaited_store : (p : ProfileName) (memory : ℕ) (A : State) (awaited : Bool) (a
 awaited_store p memory A true accepted reply store kept = kept
 awaited_store p memory A false accepted reply store kept = store
 
+awaited_housed : (p : ProfileName) (A : State) (awaited : Bool) (accepted : Outcome) (reply : Reply) →
+    IsHoused p A.derivations → IsHoused p accepted.state.derivations →
+    IsHoused p (where_awaited A awaited accepted reply).state.derivations
+awaited_housed p A true accepted reply h kept = kept
+awaited_housed p A false accepted reply h kept = h
+
 performed_store : (p : ProfileName) (memory : ℕ) (A : State) (t : ℕ) (invocation : Invocation) → IsEdit p A.derivations invocation → IsKernelStore p memory A.derivations → IsKernelStore p memory (performed p A t invocation).state.derivations
 performed_store p memory A t (Send service message true) edit store = store
 performed_store p memory A t (Send service message false) edit store = awaited_store p memory A (is_send_awaited A (endpoint_at A service.endpoint)) (send_accepted A t service message) _ store store
@@ -56,6 +65,30 @@ performed_store p memory A t (CancelBadged service) edit store = store
 performed_store p memory A t (SetSpace new) edit store = store-space p memory A.derivations new edit store
 performed_store p memory A t (Suspend tcb) edit store = store
 performed_store p memory A t (Resume tcb) edit store = store
+
+-- full slots lie in live objects
+performed_housed : (p : ProfileName) (memory : ℕ) (A : State) (t : ℕ) (invocation : Invocation) →
+    IsEdit p A.derivations invocation →
+    IsKernelStore p memory A.derivations → IsHoused p A.derivations →
+    IsHoused p (performed p A t invocation).state.derivations
+performed_housed p memory A t (Send service message true) edit store h = h
+performed_housed p memory A t (Send service message false) edit store h =
+    awaited_housed p A (is_send_awaited A (endpoint_at A service.endpoint)) (send_accepted A t service message) _ h h
+performed_housed p memory A t (Receive service true) edit store h = h
+performed_housed p memory A t (Receive service false) edit store h =
+    awaited_housed p A (is_receive_awaited A (endpoint_at A service.endpoint)) (receive_accepted A t service) _ h h
+performed_housed p memory A t (Retype new) edit store h = housed-with_objects p A.derivations new edit h
+performed_housed p memory A t (Derive placement) edit store h =
+    housed-with_derived p A.derivations placement edit.ends h
+performed_housed p memory A t (Move placement) edit store h =
+    housed-with_moved p A.derivations placement store.slots_distinct edit.ends h
+performed_housed p memory A t (Delete slot) edit store h = housed-clear p slot A.derivations h
+performed_housed p memory A t (Revoke slot) edit store h = housed-revoke p slot A.derivations h
+performed_housed p memory A t (CancelBadged service) edit store h = h
+performed_housed p memory A t (SetSpace new) edit store h =
+    housed-with_space p A.derivations new store.slots_distinct edit h
+performed_housed p memory A t (Suspend tcb) edit store h = h
+performed_housed p memory A t (Resume tcb) edit store h = h
 
 -- what passed the checks passed those of its operation
 ready_found : (s : ThreadState) (found : Result Invocation Refusal) (invocation : Invocation) → where_ready s found ≡ Ok invocation → found ≡ Ok invocation
@@ -76,3 +109,10 @@ checked_edit p memory A call invocation store h =
 pub outcome_store : (p : ProfileName) (memory : ℕ) (A : State) (call : Call) (r : Result Invocation Refusal) → decoded_call p (shown A) call ≡ r → IsKernelStore p memory A.derivations → IsKernelStore p memory (outcome p A call.thread r).state.derivations
 outcome_store p memory A call (Err refusal) h store = store
 outcome_store p memory A call (Ok invocation) h store = performed_store p memory A call.thread invocation (checked_edit p memory A call invocation store h) store
+
+pub outcome_housed : (p : ProfileName) (memory : ℕ) (A : State) (call : Call) (r : Result Invocation Refusal) →
+    decoded_call p (shown A) call ≡ r → IsKernelStore p memory A.derivations → IsHoused p A.derivations →
+    IsHoused p (outcome p A call.thread r).state.derivations
+outcome_housed p memory A call (Err refusal) passed store h = h
+outcome_housed p memory A call (Ok invocation) passed store h =
+    performed_housed p memory A call.thread invocation (checked_edit p memory A call invocation store passed) store h

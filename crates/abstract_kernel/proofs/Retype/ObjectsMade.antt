@@ -36,7 +36,7 @@ filter_none p [] h = refl
 filter_none p (x ∷ xs) h = ap (λ (b : Bool). cond b (x ∷ filter p xs) (filter p xs)) h.0 ∙ filter_none p xs h.1
 
 -- new threads in the map of threads
-get_threads : (bases : List ℕ) (threads : FinMap nat_cmp ThreadView) (q : ℕ) → get (with_threads bases threads) q ≡ cond (list_any (λ k. q == k) bases) (Some new_thread) (get threads q)
+pub get_threads : (bases : List ℕ) (threads : FinMap nat_cmp ThreadView) (q : ℕ) → get (with_threads bases threads) q ≡ cond (list_any (λ k. q == k) bases) (Some new_thread) (get threads q)
 get_threads [] threads q = refl
 get_threads (base ∷ bases) threads q =
     get_threads bases (insert threads base new_thread) q

@@ -60,12 +60,15 @@ abbrev pub readied : Bool → Option ThreadView → ThreadView
 readied named None = new_thread
 readied named (Some thread) = record { state = cond named Ready thread.state; inbox = thread.inbox }
 
+-- a thread, ready where it is among those that a test names on an endpoint
+abbrev pub view_released : Shown → ℕ → (Waiter → Bool) → ℕ → ThreadView
+view_released v e names t = readied (list_any (is_thread t) (those names (waiting_at v e))) (get v.threads t)
+
 -- on an endpoint, those that a test names wait no more
 abbrev pub after_release : Shown → ℕ → (Waiter → Bool) → Shown
 after_release v e names =
     record v {
-      threads =
-          table (threads_of v.derivations) (λ t. readied (list_any (is_thread t) (those names (waiting_at v e))) (get v.threads t));
+      threads = table (threads_of v.derivations) (view_released v e names);
       endpoints = insert v.endpoints e (others names (waiting_at v e));
     }
 

@@ -11,6 +11,7 @@ use Rattle.derivation.specs.Forest.{Forest}
 use Rattle.derivation.specs.Entries.{Entry, caps, cap_at, is_full, first_child}
 use Rattle.derivation.specs.Derivation.{names_same}
 use Rattle.cspace_core.specs.Resolution.{slot_of, is_cnode}
+use Rattle.clearing.specs.Housed.{is_housed}
 use Rattle.abstract_kernel.specs.declared.invocation.NewObjects.{NewObjects}
 use Rattle.abstract_kernel.specs.declared.invocation.CapPlacement.{CapPlacement}
 use Rattle.abstract_kernel.specs.declared.invocation.NewSpace.{NewSpace}
@@ -26,6 +27,7 @@ pub record IsPlacement (p : ProfileName) (f : Forest Entry) (placement : CapPlac
   pub full : is_full placement.source f ≡ true
   pub empty : is_full placement.slot f ≡ false
   pub placed : (memory : ℕ) → All (IsLawful p memory) (caps f) → IsSlotAddress p memory placement.slot
+  pub housed : is_housed p f placement.slot ≡ true
   pub lawful : (memory : ℕ) → All (IsLawful p memory) (caps f) → IsLawful p memory placement.cap
   pub same : names_same (cap_at f placement.source) placement.cap ≡ true
 
@@ -50,6 +52,7 @@ pub record IsRetype (p : ProfileName) (f : Forest Entry) (new : NewObjects) : Ty
   pub placed : LieInUntyped (cap_at f new.untyped) (has_child new.untyped f) new.shape.bits new.count new.placed
   pub empty : (i : ℕ) → i < new.count → is_full (slot_of p new.first_slot i) f ≡ false
   pub slots : (memory : ℕ) → All (IsLawful p memory) (caps f) → (i : ℕ) → i < new.count → IsSlotAddress p memory (slot_of p new.first_slot i)
+  pub housed : (i : ℕ) → i < new.count → is_housed p f (slot_of p new.first_slot i) ≡ true
 
 -- a slot can stand there, in whatever memory all capabilities are lawful
 abbrev pub IsNamedSlot : ProfileName → Forest Entry → ℕ → Type 0

@@ -1,16 +1,23 @@
 -- What the calls of a store receive, of the slots and the capability of a derivation and of a move.
-use Rattle.std.proofs.Common.{◌≡◌, ◌≤◌, ◌<◌, ◌+◌, ◌*◌, ◌^◌, ◌%◌, ℕ, Bool, true, cond, refl, sym, ◌∙◌, ap, subst, arith}
+use Rattle.std.proofs.Common.{◌≡◌, ◌≤◌, ◌<◌, ◌+◌, ◌*◌, ◌^◌, ◌%◌, ℕ, Bool, true, false, cond, All, inl, inr, refl, sym, ◌∙◌, ap, subst, arith}
 use Rattle.std.proofs.Math.Pow.{pow-lt}
 use Rattle.cap_core.specs.declared.profile.ProfileName.{ProfileName}
 use Rattle.cap_core.specs.declared.profile.ProfileName.TheVariants.{Wide, Narrow}
 use Rattle.cap_core.specs.declared.capability.Cap.{Cap}
-use Rattle.cap_core.specs.declared.capability.Cap.TheVariants.{Untyped}
+use Rattle.cap_core.specs.declared.capability.Cap.TheVariants.{Null, Untyped, Endpoint, CNode, Tcb}
 use Rattle.cap_core.specs.Numbers.{slot_size, word_bits, max_object_bits}
-use Rattle.cap_core.specs.Objects.{is_untyped, bits_of, IsLawful}
-use Rattle.derivation.specs.Forest.{Forest}
-use Rattle.derivation.specs.Entries.{Entry, cap_at}
+use Rattle.cap_core.specs.Objects.{is_null, is_untyped, bits_of, IsLawful}
+use Rattle.derivation.specs.Forest.{Forest, preorder}
+use Rattle.derivation.specs.Entries.{Entry, caps, cap_at, is_full}
 use Rattle.derivation.specs.Derivation.{derived, moved, freed, with_free}
 use Rattle.derivation.specs.Disjoint.{IsDisjoint}
+use Rattle.std.specs.List.{Contains}
+use Rattle.std.proofs.lemmas.Bool.{false≢true}
+use Rattle.derivation.proofs.Slots.Edits.{entry_at}
+use Rattle.cspace_core.specs.Resolution.{is_cnode}
+use Rattle.clearing.proofs.Members.{tells, each_in}
+use Rattle.clearing.proofs.Clearable.{contains_in, each_mapped}
+use Rattle.clearing.proofs.Steps.{full_here}
 use Rattle.derivation.proofs.Disjoint.Alike.{alike_named}
 use Rattle.abstract_kernel.specs.declared.invocation.CapPlacement.{CapPlacement}
 use Rattle.abstract_kernel.specs.Private.Stores.{IsKernelStore}
@@ -19,7 +26,7 @@ use Rattle.abstract_kernel.specs.CNodes.{with_derived}
 use Rattle.abstract_kernel.proofs.Capabilities.StoresKept.{slot_ends, source_placed, slot_placed, put_disjoint, moved_disjoint, source_held, lawful-freed, source_lawful}
 
 -- slot 0 of a node stands where the node does
-first_slot : (p : ProfileName) (a slot : ℕ) → a ≡ slot + 0 * slot_size p → a ≡ slot
+pub first_slot : (p : ProfileName) (a slot : ℕ) → a ≡ slot + 0 * slot_size p → a ≡ slot
 first_slot p a slot h = omega arith
 
 bits_fit : (p : ProfileName) (memory base bits free : ℕ) → IsLawful p memory (Untyped base bits free) → bits < 64
@@ -29,7 +36,7 @@ bits_fit p memory base bits free h = let m : bits ≤ max_object_bits p = h.hold
     fit Wide m = omega arith
     fit Narrow m = omega arith
 
-pow_fits : (bits : ℕ) → bits < 64 → 1 * 2 ^ bits % 2 ^ 64 ≡ 2 ^ bits
+pub pow_fits : (bits : ℕ) → bits < 64 → 1 * 2 ^ bits % 2 ^ 64 ≡ 2 ^ bits
 pow_fits bits h = let lt : 2 ^ bits < 2 ^ 64 = pow-lt {i = bits} {j = 64} h in small (2 ^ bits) lt
   where
     small : (n : ℕ) → n < 2 ^ 64 → 1 * n % 2 ^ 64 ≡ n
@@ -88,3 +95,28 @@ module _ (p : ProfileName) (memory : ℕ) (f : Forest Entry) (store : IsKernelSt
             ∙ ap (freed a (2 ^ bits_of p placement.cap)) after
             ∙ there (λ (i j : ℕ). freed i (2 ^ bits_of p placement.cap) (derived i j placement.cap f) ≡ freed placement.source (2 ^ bits_of p placement.cap) (derived placement.source placement.slot placement.cap f)) refl
             ∙ sym (ap (λ (b : Bool). cond b (freed placement.source (2 ^ bits_of p placement.cap) (derived placement.source placement.slot placement.cap f)) (derived placement.source placement.slot placement.cap f)) (ap is_untyped is))
+
+-- a CNode's capability is derived as it is
+pub node_derived : (p : ProfileName) (placement : CapPlacement) (f : Forest Entry) → is_cnode placement.cap ≡ true → with_derived p placement f ≡ derived placement.source placement.slot placement.cap f
+node_derived p placement f node =
+    ap (λ (b : Bool). cond b (freed placement.source (2 ^ bits_of p placement.cap) (derived placement.source placement.slot placement.cap f)) (derived placement.source placement.slot placement.cap f)) (typed placement.cap node)
+  where
+    typed : (cap : Cap) → is_cnode cap ≡ true → is_untyped cap ≡ false
+    typed Null h = refl
+    typed (Untyped base bits free) h = absurd (false≢true h)
+    typed (Endpoint base badge rights) h = refl
+    typed (CNode base radix guard) h = refl
+    typed (Tcb base) h = refl
+
+-- whether a slot is full, by what it holds
+pub empty_slot : (p : ProfileName) (memory slot : ℕ) (f : Forest Entry) (cap : Cap) → All (IsLawful p memory) (caps f) → cap ≡ cap_at f slot → cap ≡ Null → is_full slot f ≡ false
+empty_slot p memory slot f cap lawful is null = elim (tells (is_full slot f)) [
+  | inl full ↦
+      let e : (e : Entry) × Contains (preorder f) e × (e.slot ≡ slot) × (e.cap ≡ cap_at f slot) = entry_at slot f full in
+      let law : IsLawful p memory e.0.cap = each_in (λ (x : Entry). IsLawful p memory x.cap) (preorder f) e.0 (each_mapped (IsLawful p memory) (λ (x : Entry). x.cap) (preorder f) lawful) (contains_in (preorder f) e.0 e.1) in
+      absurd (false≢true (sym law.full ∙ ap is_null (e.3 ∙ sym is ∙ null)))
+  | inr none ↦ none
+]
+
+pub full_slot : (slot : ℕ) (f : Forest Entry) (cap : Cap) → cap ≡ cap_at f slot → (cap ≡ Null → ⊥) → is_full slot f ≡ true
+full_slot slot f cap is some = full_here (preorder f) slot cap is some

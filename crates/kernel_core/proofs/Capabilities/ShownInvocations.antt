@@ -13,9 +13,8 @@ use Rattle.abstract_kernel.specs.Regions.{IsForest}
 use Rattle.abstract_kernel.specs.Private.Effects.{performed_effect}
 use Rattle.abstract_kernel.proofs.Capabilities.StaysInMemory.{invocation_within}
 use Rattle.abstract_kernel.specs.declared.call.Op.{Op}
-use Rattle.abstract_kernel.specs.declared.call.Op.TheVariants as op
 use Rattle.abstract_kernel.specs.declared.invocation.Invocation.{Invocation}
-use Rattle.abstract_kernel.specs.declared.invocation.Invocation.TheVariants.{Send, Receive, Retype, Derive, Move}
+use Rattle.abstract_kernel.specs.declared.invocation.Invocation.TheVariants.{Send, Receive, Retype, Derive, Move, Delete, Revoke, CancelBadged, SetSpace, Suspend, Resume}
 use Rattle.kernel_core.specs.Rows.{kernel_shown}
 use Rattle.kernel_core.specs.declared.rows.ThreadRow.{ThreadRow}
 use Rattle.ipc_core.specs.Waits.{Waits}
@@ -39,6 +38,12 @@ invocation_shown p f rows w (Receive service block) live edit = live_there f w s
 invocation_shown p f rows w (Retype new) live edit = edit
 invocation_shown p f rows w (Derive placement) live edit = edit
 invocation_shown p f rows w (Move placement) live edit = edit
+invocation_shown p f rows w (Delete slot) live edit = edit
+invocation_shown p f rows w (Revoke slot) live edit = edit
+invocation_shown p f rows w (CancelBadged service) live edit = live_there f w service.endpoint live
+invocation_shown p f rows w (SetSpace new) live edit = edit
+invocation_shown p f rows w (Suspend tcb) live edit = edit
+invocation_shown p f rows w (Resume tcb) live edit = edit
 
 pub invocation_passed : (p : ProfileName) (memory : ℕ) (f : Forest Entry) (rows : List (Option ThreadRow)) (w : Waits) (v : Shown) (thread : ℕ) (o : Op) (r : Result Invocation Refusal) →
     All (IsLawful p memory) (caps f) → kernel_shown p f rows w ≡ v → r ≡ decoded_op p f thread o → IfOk r (IsInvocation p v)

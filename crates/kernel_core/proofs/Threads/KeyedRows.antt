@@ -46,22 +46,27 @@ get_row size q rows h e =
 pub get_no_row : {X : Type 0} (size q : ℕ) (rows : List (Option X)) → (q % size ≡ 0 → ⊥) → get (rows_map size rows) q ≡ None
 get_no_row size q rows h = get_at (keyed size 0 rows) q ∙ at_absent size 0 q rows (λ k le e. h (ap (λ n. n % size) e ∙ mul-mod_right size k))
 
+-- what rows have at an address after one of them was set
+pub row_set : {X : Type 0} (size q : ℕ) (rows : List (Option X)) (o : Option X) → 0 < size → q % size ≡ 0 → q / size < length rows → (p : ℕ) →
+    get (rows_map size (set rows (q / size) o)) p ≡ cond (p == q) o (get (rows_map size rows) p)
+row_set size q rows o h e lt p =
+    elim (eqb_tells (p % size) 0) [
+      | inl w ↦ get_row size p (set rows (q / size) o) h w.1 ∙ at_row w.1
+      | inr w ↦ get_no_row size p (set rows (q / size) o) w.1 ∙ sym (ap (λ b. cond b o (get (rows_map size rows) p)) (ne_eqb p q (λ d. w.1 (ap (λ n. n % size) d ∙ e))) ∙ get_no_row size p rows w.1)
+    ]
+  where
+    same_place : p % size ≡ 0 → p / size ≡ q / size → p ≡ q
+    same_place w k = let f : size * (p / size) ≡ size * (q / size) = ap (λ n. size * n) k in omega (arith, div-add-mod p size, div-add-mod q size, f)
+
+    at_row : p % size ≡ 0 → get_or (set rows (q / size) o) (p / size) None ≡ cond (p == q) o (get (rows_map size rows) p)
+    at_row w = elim (eqb_tells p q) [
+      | inl d ↦ ap (λ n. get_or (set rows (q / size) o) (n / size) None) d.1 ∙ get_or-set_same rows (q / size) o None lt ∙ sym (ap (λ b. cond b o (get (rows_map size rows) p)) d.0)
+      | inr d ↦ get_or-set_other rows (q / size) (p / size) o None (λ k. d.1 (same_place w k)) ∙ sym (ap (λ b. cond b o (get (rows_map size rows) p)) d.0 ∙ get_row size p rows h w)
+    ]
+
 -- a row is changed
 pub row_changed : {X : Type 0} (size q : ℕ) (rows : List (Option X)) (x : X) → 0 < size → q % size ≡ 0 → q / size < length rows → rows_map size (set rows (q / size) (Some x)) ≡ insert (rows_map size rows) q x
-row_changed size q rows x h e lt = same_nat_map _ _ (λ p.
-    elim (eqb_tells (p % size) 0) [
-      | inl w ↦ get_row size p (set rows (q / size) (Some x)) h w.1 ∙ at_row p w.1 ∙ sym (get_after (rows_map size rows) q x p)
-      | inr w ↦ get_no_row size p (set rows (q / size) (Some x)) w.1 ∙ sym (get_after (rows_map size rows) q x p ∙ ap (λ b. cond b (Some x) (get (rows_map size rows) p)) (ne_eqb p q (λ d. w.1 (ap (λ n. n % size) d ∙ e))) ∙ get_no_row size p rows w.1)
-    ])
-  where
-    same_place : (p : ℕ) → p % size ≡ 0 → p / size ≡ q / size → p ≡ q
-    same_place p w k = let f : size * (p / size) ≡ size * (q / size) = ap (λ n. size * n) k in omega (arith, div-add-mod p size, div-add-mod q size, f)
-
-    at_row : (p : ℕ) → p % size ≡ 0 → get_or (set rows (q / size) (Some x)) (p / size) None ≡ cond (p == q) (Some x) (get (rows_map size rows) p)
-    at_row p w = elim (eqb_tells p q) [
-      | inl d ↦ ap (λ n. get_or (set rows (q / size) (Some x)) (n / size) None) d.1 ∙ get_or-set_same rows (q / size) (Some x) None lt ∙ sym (ap (λ b. cond b (Some x) (get (rows_map size rows) p)) d.0)
-      | inr d ↦ get_or-set_other rows (q / size) (p / size) (Some x) None (λ k. d.1 (same_place p w k)) ∙ sym (ap (λ b. cond b (Some x) (get (rows_map size rows) p)) d.0 ∙ get_row size p rows h w)
-    ]
+row_changed size q rows x h e lt = same_nat_map _ _ (λ p. row_set size q rows (Some x) h e lt p ∙ sym (get_after (rows_map size rows) q x p))
 
 pub get_row_past : {X : Type 0} (size q : ℕ) (rows : List (Option X)) → 0 < size → q % size ≡ 0 → length rows ≤ q / size → get (rows_map size rows) q ≡ None
 get_row_past size q rows h e le = get_row size q rows h e ∙ get_or_past rows (q / size) None le

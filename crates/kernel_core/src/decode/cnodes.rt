@@ -63,8 +63,9 @@ fn changed<P: Profile, S: CapStore<P>>(
     }
 }
 
+/// A capability with its data set by a word, where it has such data.
 #[inline(always)]
-fn with_word<P: Profile>(preserve: bool, word: u64, cap: Cap) -> Result<Cap, Refusal>
+pub fn with_word<P: Profile>(preserve: bool, word: u64, cap: Cap) -> Result<Cap, Refusal>
     ensures { result ≡ where_set (with_data P.the preserve word cap) }
 {
     set_data::<P>(preserve, word, cap).ok_or(Refusal::IllegalOperation)

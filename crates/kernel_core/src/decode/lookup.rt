@@ -37,6 +37,14 @@ pub fn is_endpoint_address<P: Profile>(memory_bits: u32, address: u64) -> bool
     address >> memory_bits == 0 && address % (1 << P::ENDPOINT_BITS) == 0
 }
 
+/// Whether a thread control block can stand at an address within a memory of 2^`memory_bits` bytes.
+pub fn is_thread_address<P: Profile>(memory_bits: u32, address: u64) -> bool
+    requires { memory_bits ≤ MAX_MEMORY_BITS }
+    ensures { IsTrue result ↔ IsThreadAddress P.the memory_bits address }
+{
+    address >> memory_bits == 0 && address % (1 << P::TCB_BITS) == 0
+}
+
 /// The slot that a word names in a thread's capability space, whose root is in the slot at the thread's own address. All the
 /// word's bits are looked up, and bits left over are ignored.
 #[inline(always)]

@@ -7,4 +7,4 @@ use Rattle.kernel_core.proofs.kernel.Kernel.keeps_apart.Goals as goal
 pub returns : goal.returns
 returns g c =
     subst (λ (v : Shown). AreObjectsApart g.P.Profile.the v.derivations) c.self.view_is
-    (record { disjoint = c.self.invariant.disjoint; used = c.self.invariant.regions.used })
+    (record { disjoint = c.self.invariant.kernel.disjoint; used = c.self.invariant.kernel.regions.used })

@@ -9,10 +9,10 @@ use Rattle.kernel_core.proofs.kernel.Kernel.waiting.Goals as goal
 
 pub returns-then-is_endpoint_address : goal.returns-then-is_endpoint_address
 returns-then-is_endpoint_address g c =
-    let list = ap (λ (v : Shown). waiting_at v c.args.endpoint) (sym c.self.view_is) ∙ waiting_is g.P.Profile.the c.self.inside.memory_bits (g.S.CapStore.memory_bits c.self.inside.store) (g.W.Waiters.memory_bits c.self.inside.waiters) (g.S.CapStore.forest c.self.inside.store) c.self.inside.threads.items (g.W.Waiters.waits c.self.inside.waiters) c.self.invariant c.args.endpoint in
+    let list = ap (λ (v : Shown). waiting_at v c.args.endpoint) (sym c.self.view_is) ∙ waiting_is g.P.Profile.the c.self.inside.threads.memory_bits (g.S.CapStore.memory_bits c.self.inside.store) (g.W.Waiters.memory_bits c.self.inside.threads.waiters) (g.S.CapStore.forest c.self.inside.store) c.self.inside.threads.rows.items (g.W.Waiters.waits c.self.inside.threads.waiters) c.self.invariant.kernel c.args.endpoint in
     c.waiting.ensures ∙ sym (ap (λ (xs : List Waiter). option_map thread_of (slice_get xs c.args.place)) list)
 
 pub returns-else-is_endpoint_address : goal.returns-else-is_endpoint_address
 returns-else-is_endpoint_address g c =
-    let away = nobody_there g.P.Profile.the c.self.inside.memory_bits (g.S.CapStore.memory_bits c.self.inside.store) (g.W.Waiters.memory_bits c.self.inside.waiters) (g.S.CapStore.forest c.self.inside.store) c.self.inside.threads.items (g.W.Waiters.waits c.self.inside.waiters) c.self.invariant c.args.endpoint (λ h. false≢true (sym c.if-is_endpoint_address.false ∙ c.is_endpoint_address.ensures.1 h)) in
+    let away = nobody_there g.P.Profile.the c.self.inside.threads.memory_bits (g.S.CapStore.memory_bits c.self.inside.store) (g.W.Waiters.memory_bits c.self.inside.threads.waiters) (g.S.CapStore.forest c.self.inside.store) c.self.inside.threads.rows.items (g.W.Waiters.waits c.self.inside.threads.waiters) c.self.invariant.kernel c.args.endpoint (λ h. false≢true (sym c.if-is_endpoint_address.false ∙ c.is_endpoint_address.ensures.1 h)) in
     sym (ap (λ (xs : List Waiter). option_map thread_of (slice_get xs c.args.place)) (ap (λ (v : Shown). waiting_at v c.args.endpoint) (sym c.self.view_is) ∙ away))

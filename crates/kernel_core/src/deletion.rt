@@ -1,0 +1,89 @@
+//! Capabilities that are deleted, and what ends with them.
+ghost use Rattle.std.specs.Prelude.{◌≡◌, ◌^◌, []};
+ghost use Rattle.clearing.specs.Clear.{clear as cleared, ended};
+ghost use Rattle.clearing.specs.Revoke.{revoke as revoked};
+ghost use Rattle.abstract_kernel.specs.declared.call.Reply.TheVariants.{Done};
+ghost use Rattle.abstract_kernel.specs.Threads.{with_space};
+ghost use Rattle.abstract_kernel.specs.Memory.{IsSlotAddress};
+ghost use Rattle.abstract_kernel.specs.Private.Stores.{IsKernelStore};
+ghost use Rattle.abstract_kernel.specs.Private.Endings.{after_ending};
+ghost use Rattle.abstract_kernel.specs.Private.Invocations.{IsNamedSlot, IsSpace};
+
+use crate::kernel::Kernel;
+use crate::placements::set_root;
+use abstract_kernel::call::Reply;
+use abstract_kernel::invocation::NewSpace;
+use cap_core::Profile;
+use clearing::{Finalise, SlotChain, clear, revoke};
+use ipc_core::Waiters;
+use slot_core::{CapStore, Slot};
+
+impl<P: Profile, S: CapStore<P> + Drop, W: Waiters<P> + Drop> Kernel<P, S, W> {
+    /// Clears a slot.
+    pub(crate) fn delete(&mut self, slot: u64) -> Reply
+        requires { IsNamedSlot P.the self.old.derivations slot }
+        ensures reply { result ≡ Done }
+        ensures after { self.new ≡ after_ending self.old (cleared P.the slot self.old.derivations) }
+    {
+        clear_at(&mut self.store, &mut self.threads, &mut self.chain, slot);
+        Reply::Done
+    }
+
+    /// Clears what was derived from the capability in a slot.
+    pub(crate) fn revoke(&mut self, slot: u64) -> Reply
+        requires { IsNamedSlot P.the self.old.derivations slot }
+        ensures reply { result ≡ Done }
+        ensures after { self.new ≡ after_ending self.old (revoked P.the slot self.old.derivations) }
+    {
+        revoke_at(&mut self.store, &mut self.threads, &mut self.chain, slot);
+        Reply::Done
+    }
+
+    /// Gives a thread another root of its capability space: its root slot is cleared, and filled anew where the slots of
+    /// the invoked capability and of the CNode's are still full then.
+    pub(crate) fn set_space(&mut self, new: NewSpace) -> Reply
+        requires { IsSpace P.the self.old.derivations new }
+        ensures reply { result ≡ Done }
+        ensures after { self.new ≡ after_ending self.old (with_space P.the new self.old.derivations) }
+    {
+        clear_at(&mut self.store, &mut self.threads, &mut self.chain, new.tcb);
+        set_root::<P, S>(&mut self.store, new);
+        Reply::Done
+    }
+}
+
+/// Clears the slot at an address.
+fn clear_at<P: Profile, S: CapStore<P>, F: Finalise>(
+    store: &mut S,
+    rest: &mut F,
+    chain: &mut SlotChain<P>,
+    slot: u64,
+)
+    requires store { IsKernelStore P.the (S.memory_bits store.old) (S.forest store.old) }
+    requires slot { IsSlotAddress P.the (S.memory_bits store.old) slot }
+    requires chain { chain.old ≡ ([], 2 ^ S.memory_bits store.old) }
+    ensures forest { S.forest store.new ≡ cleared P.the slot (S.forest store.old) }
+    ensures memory { S.memory_bits store.new ≡ S.memory_bits store.old }
+    ensures ended { F.Ended (ended (S.forest store.old) (cleared P.the slot (S.forest store.old))) rest.old rest.new }
+    ensures chain { chain.new ≡ chain.old }
+{
+    clear(store, rest, chain, Slot::of_node::<P>(slot, 0));
+}
+
+/// Clears what was derived from the capability in the slot at an address.
+fn revoke_at<P: Profile, S: CapStore<P>, F: Finalise>(
+    store: &mut S,
+    rest: &mut F,
+    chain: &mut SlotChain<P>,
+    slot: u64,
+)
+    requires store { IsKernelStore P.the (S.memory_bits store.old) (S.forest store.old) }
+    requires slot { IsSlotAddress P.the (S.memory_bits store.old) slot }
+    requires chain { chain.old ≡ ([], 2 ^ S.memory_bits store.old) }
+    ensures forest { S.forest store.new ≡ revoked P.the slot (S.forest store.old) }
+    ensures memory { S.memory_bits store.new ≡ S.memory_bits store.old }
+    ensures ended { F.Ended (ended (S.forest store.old) (revoked P.the slot (S.forest store.old))) rest.old rest.new }
+    ensures chain { chain.new ≡ chain.old }
+{
+    revoke(store, rest, chain, Slot::of_node::<P>(slot, 0));
+}
