@@ -11,7 +11,8 @@ use std::alloc::{AllocError, Global};
 use std::marker::PhantomData;
 
 impl<P: Profile, S: MakeStore<P>, W: MakeWaiters<P>> Kernel<P, S, W> {
-    /// A kernel of its own that shows the same, with all the room that a boot takes: no call of either changes the other.
+    /// A kernel of its own that shows the same, with all the room that a boot takes. No call of either changes the
+    /// other.
     ///
     /// # Errors
     ///

@@ -39,8 +39,8 @@ impl<P: Profile, S: CapStore<P> + Drop, W: Waiters<P> + Drop> Kernel<P, S, W> {
         Reply::Done
     }
 
-    /// Gives a thread another root of its capability space: its root slot is cleared, and filled anew where the slots of the
-    /// invoked capability and of the CNode's are still full then.
+    /// Gives a thread another root of its capability space: its root slot is cleared, and filled anew where the slots of
+    /// the invoked capability and of the CNode's are still full then.
     pub(crate) fn set_space(&mut self, new: NewSpace) -> Reply
         requires { IsSpace P.the self.old.derivations new }
         ensures reply { result ≡ Done }

@@ -35,7 +35,8 @@ impl<P: Profile, W: Waiters<P> + Drop> Threads<P, W> {
     pub fn stop(&mut self, thread: u64, inactive: bool)
         requires { IsSome (get (rows_map (tcb_size P.the) self.old.rows.items) thread) }
         ensures waits { W.waits self.new.waiters ≡ after_cancel_thread thread (W.waits self.old.waiters) }
-        ensures rows { rows_map (tcb_size P.the) self.new.rows.items ≡ with_stopped thread inactive (rows_map (tcb_size P.the) self.old.rows.items) }
+        ensures rows { rows_map (tcb_size P.the) self.new.rows.items ≡
+            with_stopped thread inactive (rows_map (tcb_size P.the) self.old.rows.items) }
         ensures memory { self.new.memory_bits ≡ self.old.memory_bits }
     {
         self.waiters.cancel_thread(thread);
@@ -50,7 +51,9 @@ impl<P: Profile, W: Waiters<P> + Drop> Threads<P, W> {
 
     /// Nobody waits on an endpoint that ended.
     fn end_endpoint(&mut self, endpoint: u64)
-        ensures { IsEndpointAddress P.the self.old.memory_bits endpoint → AreLeft P.the (is_endpoint_at endpoint) self.old.memory_bits self.new.memory_bits self.old.rows.items self.new.rows.items (W.waits self.old.waiters) (W.waits self.new.waiters) }
+        ensures { IsEndpointAddress P.the self.old.memory_bits endpoint →
+            AreLeft P.the (is_endpoint_at endpoint) self.old.memory_bits self.new.memory_bits
+            self.old.rows.items self.new.rows.items (W.waits self.old.waiters) (W.waits self.new.waiters) }
     {
         if is_endpoint_address::<P>(self.memory_bits, endpoint) {
             self.waiters.cancel_endpoint(endpoint);
@@ -59,7 +62,9 @@ impl<P: Profile, W: Waiters<P> + Drop> Threads<P, W> {
 
     /// A thread that ended waits nowhere, and has no row.
     fn end_thread(&mut self, tcb: u64)
-        ensures { IsThreadAddress P.the self.old.memory_bits tcb → AreLeft P.the (is_thread_at tcb) self.old.memory_bits self.new.memory_bits self.old.rows.items self.new.rows.items (W.waits self.old.waiters) (W.waits self.new.waiters) }
+        ensures { IsThreadAddress P.the self.old.memory_bits tcb →
+            AreLeft P.the (is_thread_at tcb) self.old.memory_bits self.new.memory_bits
+            self.old.rows.items self.new.rows.items (W.waits self.old.waiters) (W.waits self.new.waiters) }
     {
         if is_thread_address::<P>(self.memory_bits, tcb) {
             self.waiters.cancel_thread(tcb);
@@ -70,11 +75,13 @@ impl<P: Profile, W: Waiters<P> + Drop> Threads<P, W> {
 }
 
 impl<P: Profile, W: Waiters<P> + Drop> Finalise for Threads<P, W> {
-    ghost Ended = { λ ended old new. HaveEnded P.the ended old.memory_bits new.memory_bits old.rows.items new.rows.items (W.waits old.waiters) (W.waits new.waiters) };
+    ghost Ended = { λ ended old new. HaveEnded P.the ended old.memory_bits new.memory_bits
+        old.rows.items new.rows.items (W.waits old.waiters) (W.waits new.waiters) };
 
     ghost none_ended = { λ w. nothing_ended P.the w.memory_bits w.rows.items (W.waits w.waiters) };
 
-    ghost both_ended = { λ p q u v w first then. ended_twice P.the p q u.memory_bits v.memory_bits w.memory_bits u.rows.items v.rows.items w.rows.items (W.waits u.waiters) (W.waits v.waiters) (W.waits w.waiters) first then };
+    ghost both_ended = { λ p q u v w first then. ended_twice P.the p q u.memory_bits v.memory_bits w.memory_bits
+        u.rows.items v.rows.items w.rows.items (W.waits u.waiters) (W.waits v.waiters) (W.waits w.waiters) first then };
 
     fn finalise(&mut self, cap: Cap) {
         match cap {

@@ -57,7 +57,8 @@ impl<P: Profile, S: CapStore<P> + Drop, W: Waiters<P> + Drop> Model for Kernel<P
 
     ghost view = { λ a. kernel_shown P.the (S.forest a.store) a.threads.rows.items (W.waits a.threads.waiters) };
 
-    ghost invariant = { λ a. IsBetweenCalls P.the a.threads.memory_bits (S.memory_bits a.store) (W.memory_bits a.threads.waiters) (S.forest a.store) a.threads.rows.items (W.waits a.threads.waiters) a.chain };
+    ghost invariant = { λ a. IsBetweenCalls P.the a.threads.memory_bits (S.memory_bits a.store)
+        (W.memory_bits a.threads.waiters) (S.forest a.store) a.threads.rows.items (W.waits a.threads.waiters) a.chain };
 }
 
 impl<P: Profile, S: CapStore<P> + Drop, W: Waiters<P> + Drop> Kernel<P, S, W> {
@@ -67,8 +68,9 @@ impl<P: Profile, S: CapStore<P> + Drop, W: Waiters<P> + Drop> Kernel<P, S, W> {
     /// - `NoThread` where no live thread control block is at the address, `NotReady` where the thread is not ready;
     /// - `FailedLookup` with its kind where the word `cap`, all its bits, leads to no slot of the thread's capability
     ///   space;
-    /// - `InvalidCapability` where that slot is empty, `IllegalOperation` where it holds a capability of another kind than the
-    ///   operation asks for: an endpoint's to send and to receive, an untyped one to retype, a CNode's for the others;
+    /// - `InvalidCapability` where that slot is empty, `IllegalOperation` where it holds a capability of another kind
+    ///   than the operation asks for: an endpoint's to send and to receive, an untyped one to retype, a thread's to set
+    ///   its space, to suspend and to resume it, a CNode's for the others;
     /// - `InvalidCapability` where an endpoint's capability lacks the right: to write for a send, to read for a receive.
     ///
     /// Those of a retype: `FailedLookup` where `root` leads to no slot; `InvalidArgument` where no kind has the number, and
@@ -81,6 +83,12 @@ impl<P: Profile, S: CapStore<P> + Drop, W: Waiters<P> + Drop> Kernel<P, S, W> {
     /// depth beyond the profile, or `FailedLookup`, where the slot to fill is not found, and `DeleteFirst` where it is full;
     /// the same two where the source is not found, and `MissingCapability` where it is empty; `IllegalOperation` where its
     /// data cannot be set, `RevokeFirst` where an untyped one has children and is derived from.
+    ///
+    /// Those of a delete, a revoke and a cancelling of badged sends: `RangeError` for a depth beyond the profile, or
+    /// `FailedLookup`, where the slot is not found; of the last `IllegalOperation` where the slot does not hold an
+    /// endpoint's capability with all rights. Those of the setting of a space: `FailedLookup` where `root` leads to no
+    /// slot, `IllegalOperation` where that does not hold a CNode's capability or its guard cannot be set. A thread may
+    /// end itself by a call: it is answered `Done`.
     ///
     /// For a kernel that stands for a state that runs reach, the reply and what is shown after are those of the abstract
     /// step. It takes no memory.

@@ -45,7 +45,8 @@ pub fn set_root<P: Profile, S: CapStore<P>>(store: &mut S, new: NewSpace)
     requires source { IsSlotAddress P.the (S.memory_bits store.old) new.source }
     requires invoked { IsSlotAddress P.the (S.memory_bits store.old) new.invoked }
     requires node { is_cnode new.cap ≡ true }
-    requires derivation { is_full new.source (S.forest store.old) ≡ true → is_full new.invoked (S.forest store.old) ≡ true → IsDerivation P.the (S.forest store.old) (space_placement new) }
+    requires derivation { is_full new.source (S.forest store.old) ≡ true →
+        is_full new.invoked (S.forest store.old) ≡ true → IsDerivation P.the (S.forest store.old) (space_placement new) }
     ensures forest { S.forest store.new ≡ with_root new (S.forest store.old) }
     ensures memory { S.memory_bits store.new ≡ S.memory_bits store.old }
 {

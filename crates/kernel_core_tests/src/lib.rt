@@ -1,10 +1,13 @@
-//! Tests of the kernel: plans, boot, sends and receives, and the calls that make, copy and move capabilities.
+//! Tests of the kernel: plans, boot, sends and receives, the calls that make, copy and move capabilities, and those by
+//! which objects end and threads wait no more.
 #![tactic(auto)]
 
 #[cfg(test)]
 mod boot;
 #[cfg(test)]
 mod capabilities;
+#[cfg(test)]
+mod endings;
 #[cfg(test)]
 mod looks;
 #[cfg(test)]

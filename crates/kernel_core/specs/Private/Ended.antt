@@ -1,4 +1,5 @@
--- These serve the proofs of private functions, no public contract cites them: what becomes of the threads where objects end.
+-- These serve the proofs of private functions, no public contract cites them: what becomes of the threads where objects
+-- end.
 use Rattle.std.specs.Prelude.{◌≡◌, ℕ, Bool, true, cond, List, [], Option, None, Some, ⊤}
 use Rattle.std.specs.FinMap.{get}
 use Rattle.cap_core.specs.declared.profile.ProfileName.{ProfileName}
@@ -14,7 +15,8 @@ use Rattle.ipc_core.specs.Cancelled.{others}
 use Rattle.kernel_core.specs.declared.rows.ThreadRow.{ThreadRow}
 use Rattle.kernel_core.specs.Rows.{rows_map}
 
--- the endpoint, or the thread, at an address is among the objects that ended, by a test of the capabilities that name them
+-- the endpoint, or the thread, at an address is among the objects that ended, by a test of the capabilities that name
+-- them
 abbrev pub ends_endpoint : (Cap → Bool) → ℕ → Bool
 ends_endpoint ended e = ended (Endpoint e (record { 0 = 0 }) all_rights)
 
@@ -42,13 +44,17 @@ role_left ended None = None
 role_left ended (Some role) = cond (ends_endpoint ended (endpoint_of role)) None (Some role)
 
 -- threads that ended have no rows and wait nowhere, and nobody waits on an endpoint that ended
-pub record AreLeft (p : ProfileName) (ended : Cap → Bool) (memory memory' : ℕ) (rows rows' : List (Option ThreadRow)) (w w' : Waits) : Type 0 where
+pub record AreLeft (p : ProfileName) (ended : Cap → Bool) (memory memory' : ℕ) (rows rows' : List (Option ThreadRow))
+    (w w' : Waits) : Type 0 where
   pub memory_is : memory' ≡ memory
-  pub rows_left : (t : ℕ) → get (rows_map (tcb_size p) rows') t ≡ cond (ends_thread ended t) None (get (rows_map (tcb_size p) rows) t)
-  pub queues_left : (e : ℕ) → w'.queue e ≡ cond (ends_endpoint ended e) [] (others (λ (x : Waiter). ends_thread ended (thread_of x)) (w.queue e))
+  pub rows_left : (t : ℕ) →
+      get (rows_map (tcb_size p) rows') t ≡ cond (ends_thread ended t) None (get (rows_map (tcb_size p) rows) t)
+  pub queues_left : (e : ℕ) → w'.queue e ≡
+      cond (ends_endpoint ended e) [] (others (λ (x : Waiter). ends_thread ended (thread_of x)) (w.queue e))
   pub roles_left : (t : ℕ) → w'.role t ≡ cond (ends_thread ended t) None (role_left ended (w.role t))
 
 -- so it is where all that ended stood in the memory
-abbrev pub HaveEnded : ProfileName → (Cap → Bool) → ℕ → ℕ → List (Option ThreadRow) → List (Option ThreadRow) → Waits → Waits → Type 0
+abbrev pub HaveEnded : ProfileName → (Cap → Bool) → ℕ → ℕ → List (Option ThreadRow) → List (Option ThreadRow) →
+    Waits → Waits → Type 0
 HaveEnded p ended memory memory' rows rows' w w' =
     ((c : Cap) → ended c ≡ true → StandsIn p memory c) → AreLeft p ended memory memory' rows rows' w w'

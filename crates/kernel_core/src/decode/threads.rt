@@ -25,14 +25,15 @@ pub fn decode_set_space<P: Profile, S: CapStore<P>>(
 ) -> Result<Invocation, Refusal>
     requires memory { S.memory_bits store.now ≤ MAX_MEMORY_BITS }
     requires thread { IsThreadAddress P.the (S.memory_bits store.now) thread }
-    ensures { result ≡ invokes SetSpace (decoded_space P.the (S.forest store.now) thread (address_of P.the slot) (cap_at (S.forest store.now) (address_of P.the slot)) root word) }
+    ensures { let f = S.forest store.now in let at = address_of P.the slot in
+        result ≡ invokes SetSpace (decoded_space P.the f thread at (cap_at f at) root word) }
 {
     let new = decode_space::<P, S>(store, thread, slot, root, word)?;
     Ok(Invocation::SetSpace(new))
 }
 
-/// A thread's new space, or the first check that fails: the invoked capability is a thread's, the extra word leads to a slot,
-/// which holds a CNode's capability, and the guard can be set. Nothing is cleared before all of them pass.
+/// A thread's new space, or the first check that fails: the invoked capability is a thread's, the extra word leads to
+/// a slot, which holds a CNode's capability, and the guard can be set. Nothing is cleared before all of them pass.
 #[inline(always)]
 fn decode_space<P: Profile, S: CapStore<P>>(
     store: &S,
@@ -43,7 +44,8 @@ fn decode_space<P: Profile, S: CapStore<P>>(
 ) -> Result<NewSpace, Refusal>
     requires memory { S.memory_bits store.now ≤ MAX_MEMORY_BITS }
     requires thread { IsThreadAddress P.the (S.memory_bits store.now) thread }
-    ensures { result ≡ decoded_space P.the (S.forest store.now) thread (address_of P.the slot) (cap_at (S.forest store.now) (address_of P.the slot)) root word }
+    ensures { let f = S.forest store.now in let at = address_of P.the slot in
+        result ≡ decoded_space P.the f thread at (cap_at f at) root word }
 {
     let tcb = decode_tcb(store.get(slot))?;
     let source = named_slot::<P, S>(store, thread, root)?;
