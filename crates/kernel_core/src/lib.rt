@@ -3,16 +3,14 @@
 
 mod boot;
 mod cancelling;
-mod copying;
 mod decode;
 mod deletion;
 mod ending;
 pub mod kernel;
 mod objects;
 mod placements;
-pub mod plan;
 mod rows;
 
 pub use abstract_kernel::{Call, Inbox, Op, Reply, ThreadState, call, invocation};
+pub use boot_plan::{BootPlan, PlanDefect, plan};
 pub use kernel::Kernel;
-pub use plan::{BootPlan, PlanDefect};

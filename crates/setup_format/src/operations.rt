@@ -8,9 +8,9 @@ ghost use Rattle.setup_format.specs.Operations as spec;
 
 use crate::fault::{Place, SetupFault};
 use crate::tables::{label_or, rights_or_all, word_at, word_or, words_or_none};
+use abstract_kernel::Op;
 use abstract_kernel::invocation::SlotArguments;
 use cap_core::{Message, Profile};
-use kernel_core::Op;
 use setup_values::{Name, OpName, Words};
 use toml::Table;
 

@@ -19,12 +19,13 @@ use crate::tables::{
     expect_or_none, known_only, number_at, number_or, op_at, profile_or_wide, tables_or_none,
     word_at,
 };
+use abstract_kernel::Call;
+use boot_plan::BootPlan;
 use cap_core::limits::{
     MAX_BOOT_ENDPOINTS, MAX_BOOT_THREADS, MAX_BOOT_UNTYPEDS, MAX_CLIENTS, MAX_HISTORY_LIMIT,
     MAX_MEMORY_BITS, MAX_ROOT_RADIX, MIN_BOOT_THREADS, MIN_MEMORY_BITS, MIN_ROOT_RADIX,
 };
 use cap_core::{Narrow, Profile, ProfileName, Wide};
-use kernel_core::{BootPlan, Call};
 use setup_values::Name;
 use std::alloc::Global;
 use toml::Table;

@@ -1,7 +1,7 @@
 -- The proof of `untypeds_defect`: what holds at each turn of its loop.
 use Rattle.std.proofs.Common.{◌≡◌, drop}
 use Rattle.abstract_kernel.specs.Plan.{untypeds_defect}
-use Rattle.kernel_core.proofs.plan.BootPlan.untypeds_defect.Given as goal
+use Rattle.boot_plan.proofs.plan.BootPlan.untypeds_defect.Given as goal
 
 -- the regions before `place` have no defect
 abbrev pub invariant-loop-place : goal.invariant-loop-place

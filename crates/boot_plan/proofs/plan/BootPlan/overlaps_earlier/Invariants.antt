@@ -1,7 +1,7 @@
 -- The proof of `overlaps_earlier`: what holds at each turn of its loop.
 use Rattle.std.proofs.Common.{◌≡◌, false}
 use Rattle.abstract_kernel.specs.Plan.{overlaps_earlier}
-use Rattle.kernel_core.proofs.plan.BootPlan.overlaps_earlier.Given as goal
+use Rattle.boot_plan.proofs.plan.BootPlan.overlaps_earlier.Given as goal
 
 -- no region before the one at i overlaps
 abbrev pub invariant-loop-i : goal.invariant-loop-i

@@ -4,7 +4,7 @@ use Rattle.std.specs.List.{list_any}
 use Rattle.std.proofs.lemmas.List.{get_or-take, length-take-le}
 use Rattle.std.proofs.lemmas.List.Folds.{list_any_at}
 use Rattle.abstract_kernel.specs.Plan.{Plan, overlap, untyped_extent}
-use Rattle.kernel_core.proofs.plan.BootPlan.overlaps_earlier.Goals as goal
+use Rattle.boot_plan.proofs.plan.BootPlan.overlaps_earlier.Goals as goal
 
 -- one of the first n settles it
 list_any_taken : {X : Type 0} (p : X → Bool) (xs : List X) (i n : ℕ) (d : X) → i < n → n ≤ length xs → p (get_or xs i d) ≡ true → list_any p (take n xs) ≡ true
