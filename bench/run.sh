@@ -14,5 +14,7 @@ for library in "$@"; do
     BENCH_LIBRARIES="$PWD/crates/$library/out:$BENCH_LIBRARIES"
 done
 export BENCH_LIBRARIES
+# The C library keeps the memory that it is given back, so that no run measures the pages that the system hands out anew.
+export MALLOC_MMAP_THRESHOLD_=1000000000 MALLOC_TRIM_THRESHOLD_=1000000000
 cd "bench/$name"
 CARGO_TARGET_DIR=out/target cargo run --release --quiet

@@ -35,16 +35,25 @@ pub fn revoke_run(slots: u32, deep: bool, revokes: bool) -> bool {
     let prepared = accepts(&mut kernel, new_cnode()) && accepts(&mut kernel, mint());
     let source = if deep { SMALL_UNTYPED } else { BADGED };
     prepared
-        && (0..ALL_SLOTS).all(|place| {
-            let from_source = !deep || place == 0 || revokes && place % slots == 0;
-            let copied = if from_source {
-                copy(place, ROOT, source, DEPTH)
-            } else {
-                copy(place, CNODE, u64::from(place - 1), CNODE_RADIX)
-            };
-            let ends = revokes && (place + 1) % slots == 0;
-            accepts(&mut kernel, copied) && (!ends || accepts(&mut kernel, revoke(source)))
+        && (0..ALL_SLOTS).step_by(slots as usize).all(|first| {
+            fills(&mut kernel, first, first + slots, source, !deep, revokes || first == 0)
+                && (!revokes || accepts(&mut kernel, revoke(source)))
         })
+}
+
+/// Fills the slots from one up to another, with copies of the source, or each with a copy of what the slot before it holds,
+/// and the first with one of the source where it is `fresh`. It is not inlined, so that it is the same with revocations and
+/// without.
+#[inline(never)]
+fn fills(kernel: &mut Kernel, first: u32, end: u32, source: u64, wide: bool, fresh: bool) -> bool {
+    (first..end).all(|place| {
+        let copied = if wide || fresh && place == first {
+            copy(place, ROOT, source, DEPTH)
+        } else {
+            copy(place, CNODE, u64::from(place - 1), CNODE_RADIX)
+        };
+        accepts(kernel, copied)
+    })
 }
 
 fn accepts(kernel: &mut Kernel, op: Op) -> bool {

@@ -72,12 +72,34 @@ fn run(kernel: &mut LinkedKernel, slots: u32, deep: bool, revokes: bool) -> bool
 {
     let source = if deep { SMALL_UNTYPED } else { BADGED };
     let mut all = true;
-    for place in 0..ALL_SLOTS {
-        let from_source = !deep || (revokes && place % slots == 0);
-        all = accepts(kernel, copy_to(place, source, from_source)) && all;
-        if revokes && (place + 1) % slots == 0 {
+    let mut first = 0u32;
+    for _ in 0..ALL_SLOTS / slots {
+        let end = first.wrapping_add(slots);
+        all = fills(kernel, first, end, source, !deep, revokes || first == 0) && all;
+        if revokes {
             all = accepts(kernel, revoke(source)) && all;
         }
+        first = end;
+    }
+    all
+}
+
+/// Fills the slots from one up to another, with copies of the source, or each with a copy of what the slot before it holds,
+/// and the first with one of the source where it is `fresh`. It is not inlined, so that it is the same with revocations and
+/// without.
+#[inline(never)]
+fn fills(
+    kernel: &mut LinkedKernel,
+    first: u32,
+    end: u32,
+    source: u64,
+    wide: bool,
+    fresh: bool,
+) -> bool {
+    let mut all = true;
+    for place in first..end {
+        let from_source = wide || (fresh && place == first);
+        all = accepts(kernel, copy_to(place, source, from_source)) && all;
     }
     all
 }
