@@ -101,7 +101,7 @@ revoked_enough p (suc j) (suc k) s f h g = elim (child_or_none (first_child s f)
       revoked_some p j s w.0 f w.1 ∙ revoked_enough p j k s (clear p w.0 f) (omega arith) (omega arith) ∙ sym (revoked_some p k s w.0 f w.1)
 ]
 
--- D8, as two equations
+-- revocation, as two equations
 pub revoke_none : (p : ProfileName) (s : ℕ) (f : Forest Entry) → first_child s f ≡ None → revoke p s f ≡ f
 unfolding revoke
 revoke_none p s f e = revoked_none p (length (preorder f)) s f e
