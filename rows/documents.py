@@ -1,0 +1,122 @@
+#!/usr/bin/env python3
+"""documents.py FOLDER PAGE..: runs what the pages print, with the program in FOLDER, and compares what it writes.
+
+A page's blocks are taken in order, in a folder of the page's own that has `crates` in it:
+
+- ```toml NAME      is written to the file NAME; with the word `more` behind the name it is added to its end;
+- ```console        has commands, each behind `$ `, and below each what it writes, both streams together;
+- ```report         stands in what the last command wrote, behind the reports that came before;
+- ```sh             builds or proves: it is not run, and each `make` has to name a target of the Makefile;
+- ```rust FILE      stands in that file, line for line;
+- ```text           is not run.
+
+A line of three dots stands for any lines. A block of another kind is a fault, so that none is forgotten.
+"""
+import os
+import pathlib
+import re
+import subprocess
+import sys
+import tempfile
+
+ROOT = pathlib.Path(__file__).resolve().parent.parent
+ANY_LINES = r"(?:.*\n)*?"
+
+
+def blocks(page):
+    """The number of a block's first line, the words behind its fence, and its lines."""
+    start = None
+    for number, line in enumerate(page.read_text().splitlines(), 1):
+        if start is None and line.startswith("```"):
+            start, words, lines = number, line[3:].split(), []
+        elif line.startswith("```"):
+            yield start, words, lines
+            start = None
+        elif start is not None:
+            lines.append(line)
+
+
+def pattern(lines):
+    """What matches these lines, where three dots stand for any lines."""
+    return "".join(ANY_LINES if line == "..." else re.escape(line) + r"\n" for line in lines)
+
+
+def commands(lines):
+    """Each command with the lines that it is to write."""
+    found = []
+    for line in lines:
+        if line.startswith("$ "):
+            found.append((line[2:], []))
+        else:
+            found[-1][1].append(line)
+    return found
+
+
+class Runner:
+    """Takes the blocks of one page; each kind of block has a method that yields what is wrong."""
+
+    def __init__(self, folder, program):
+        self.folder, self.written = folder, ""
+        self.environment = {**os.environ, "PATH": f"{program}:{os.environ['PATH']}"}
+
+    def toml(self, words, lines):
+        with open(self.folder / words[0], "a" if words[1:] == ["more"] else "w") as file:
+            file.writelines(f"{line}\n" for line in lines)
+        return []
+
+    def console(self, _, lines):
+        for command, wanted in commands(lines):
+            done = subprocess.run(["sh", "-c", command], cwd=self.folder, env=self.environment, timeout=60, text=True,
+                                  stdin=subprocess.DEVNULL, stdout=subprocess.PIPE, stderr=subprocess.STDOUT)
+            self.written = done.stdout
+            if not re.fullmatch(pattern(wanted), done.stdout):
+                yield f"`{command}` wrote\n{done.stdout}"
+
+    def report(self, _, lines):
+        met = re.match(ANY_LINES + pattern(lines), self.written)
+        if met is None:
+            yield f"these lines are not in what was left of the report\n{self.written}"
+        else:
+            self.written = self.written[met.end() :]
+
+    def sh(self, _, lines):
+        targets = re.findall(r"^(\w+):", (ROOT / "Makefile").read_text(), re.M)
+        named = [word for line in lines for word in re.findall(r"^make (\w+)", line)]
+        return [f"the Makefile has no target {word}" for word in named if word not in targets]
+
+    def rust(self, words, lines):
+        stands = "\n".join(lines) in (ROOT / words[0]).read_text()
+        return [] if stands else [f"these lines do not stand in {words[0]}"]
+
+    def text(self, *_):
+        return []
+
+
+KINDS = {"toml", "console", "report", "sh", "rust", "text"}
+
+
+def faults(page, program):
+    """What is wrong on a page."""
+    with tempfile.TemporaryDirectory() as name:
+        folder = pathlib.Path(name)
+        (folder / "crates").symlink_to(ROOT / "crates")
+        runner = Runner(folder, program)
+        for number, words, lines in blocks(page):
+            if not words or words[0] not in KINDS:
+                yield f"{page}:{number}: a block of no known kind"
+                continue
+            for fault in getattr(runner, words[0])(words[1:], lines):
+                yield f"{page}:{number}: {fault}"
+
+
+def main():
+    program = pathlib.Path(sys.argv[1]).resolve()
+    pages = [pathlib.Path(page) for page in sys.argv[2:]]
+    wrong = [fault for page in pages for fault in faults(page, program)]
+    for fault in wrong:
+        print(fault)
+    print(f"{len(pages)} pages, {len(wrong)} faults")
+    return 1 if wrong or not pages else 0
+
+
+sys.exit(main())
