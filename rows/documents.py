@@ -47,9 +47,9 @@ def commands(lines):
     for line in lines:
         if line.startswith("$ "):
             found.append((line[2:], []))
-        else:
+        elif found:
             found[-1][1].append(line)
-    return found
+    return found or [("false", [f"no command in {lines}"])]
 
 
 class Runner:
@@ -92,7 +92,8 @@ class Runner:
         return []
 
 
-KINDS = {"toml", "console", "report", "sh", "rust", "text"}
+# The kinds of block, and whether a file is named behind the kind.
+KINDS = {"toml": True, "console": False, "report": False, "sh": False, "rust": True, "text": False}
 
 
 def faults(page, program):
@@ -102,8 +103,8 @@ def faults(page, program):
         (folder / "crates").symlink_to(ROOT / "crates")
         runner = Runner(folder, program)
         for number, words, lines in blocks(page):
-            if not words or words[0] not in KINDS:
-                yield f"{page}:{number}: a block of no known kind"
+            if not words or words[0] not in KINDS or (KINDS[words[0]] and len(words) == 1):
+                yield f"{page}:{number}: a block of no known kind, or without a name"
                 continue
             for fault in getattr(runner, words[0])(words[1:], lines):
                 yield f"{page}:{number}: {fault}"
