@@ -4,7 +4,8 @@
 A page's blocks are taken in order, in a folder of the page's own that has `crates` in it:
 
 - ```toml NAME      is written to the file NAME; with the word `more` behind the name it is added to its end;
-- ```console        has commands, each behind `$ `, and below each what it writes, both streams together;
+- ```console        has commands, each behind `$ `, and below each what it writes: standard output, with or without what
+                    standard error has before it;
 - ```report         stands in what the last command wrote, behind the reports that came before;
 - ```sh             builds or proves: it is not run, and each `make` has to name a target of the Makefile;
 - ```rust FILE      stands in that file, line for line;
@@ -67,10 +68,10 @@ class Runner:
     def console(self, _, lines):
         for command, wanted in commands(lines):
             done = subprocess.run(["sh", "-c", command], cwd=self.folder, env=self.environment, timeout=60, text=True,
-                                  stdin=subprocess.DEVNULL, stdout=subprocess.PIPE, stderr=subprocess.STDOUT)
+                                  stdin=subprocess.DEVNULL, capture_output=True)
             self.written = done.stdout
-            if not re.fullmatch(pattern(wanted), done.stdout):
-                yield f"`{command}` wrote\n{done.stdout}"
+            if not any(re.fullmatch(pattern(wanted), text) for text in (done.stdout, done.stderr + done.stdout)):
+                yield f"`{command}` wrote\n{done.stderr}{done.stdout}"
 
     def report(self, _, lines):
         met = re.match(ANY_LINES + pattern(lines), self.written)
