@@ -1,4 +1,5 @@
 pub mod CommandLine
 pub mod Devices
 pub mod Program
+pub mod Runs
 pub mod Statuses

@@ -102,6 +102,7 @@ fn faults_say_what_went_wrong(rt: HostRuntime) -> Result<(), Fail> {
         (RunFault::Reading, "reading failed"),
         (RunFault::Writing, "writing failed"),
         (RunFault::Memory, "out of memory"),
+        (RunFault::Thread, "thread not started"),
     ];
     for (fault, said) in faults {
         assert!(rt; says(rt.alloc(), fault, said)?, "{said}");
