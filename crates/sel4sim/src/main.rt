@@ -39,6 +39,7 @@ fn complain(rt: &impl Eprint, fault: impl Display + Drop) {
 fn run_line<R: Files + Input + Print + Eprint + AllocGlobal>(rt: &R, line: Line<'_>) -> u8 {
     let answer = match line.job {
         Job::Check => check_file(rt, line.file),
+        Job::Threads | Job::Migrate => return refuse_line(rt, &LineFault::Refused),
     };
     if let Err(fault) = &answer {
         complain(rt, fault);
