@@ -41,14 +41,14 @@ numbered prefix word count = map (λ i. (prefix ++ decimal i, word i)) (range_wi
 abbrev pub boot_names : ProfileName → Plan → Names
 boot_names p plan =
     numbered (codes "untyped_") (λ k. 2 + plan.threads + plan.endpoints + k) (length plan.untypeds)
-    ++ numbered (codes "ep_") (λ j. 2 + plan.threads + j) plan.endpoints
-    ++ numbered (codes "tcb_") (λ i. 2 + i) plan.threads
-    ++ numbered (codes "thread_") (tcb_place p plan) plan.threads
+    ++ (numbered (codes "ep_") (λ j. 2 + plan.threads + j) plan.endpoints
+    ++ (numbered (codes "tcb_") (λ i. 2 + i) plan.threads
+    ++ numbered (codes "thread_") (tcb_place p plan) plan.threads))
 
 -- a table with the word of each name
 abbrev pub with_words : Names → Members → Members
-with_words [] table = table
-with_words (n ∷ ns) table = with_words ns (with_member n.0 (integer (pos n.1)) table)
+with_words [] ms = ms
+with_words (n ∷ ns) ms = with_words ns (with_member n.0 (integer (pos n.1)) ms)
 
 -- ---- the calls
 
@@ -88,6 +88,6 @@ migrated p plan ms =
 -- the table that the bytes of a set-up of the first format are migrated to, or its first fault
 unfoldable pub migrated_bytes : List ℕ → Result Members Fault
 migrated_bytes bytes = do
-  table ← document_of bytes
-  setup ← first_format_setup_of table
-  Ok (migrated setup.profile setup.plan table)
+  document ← document_of bytes
+  setup ← first_format_setup_of document
+  Ok (migrated setup.profile setup.plan document)

@@ -1,5 +1,5 @@
 -- A call whose boot thread stands by its name is read as it was.
-use Rattle.std.proofs.Common.{◌≡◌, ℕ, ◌+◌, ◌^◌, ◌++◌, codes, List, [], ◌∷◌, length, map, not, nat_lt, Bool, Option, Some, None, option_map, option_and_then, Result, Ok, Err, refl, sym, ap, ◌∙◌, inl, inr}
+use Rattle.std.proofs.Common.{◌≡◌, ℕ, ◌+◌, ◌-◌, ◌^◌, ◌++◌, codes, List, [], ◌∷◌, length, map, not, nat_lt, Bool, Option, Some, None, option_map, option_and_then, Result, Ok, Err, refl, sym, ap, ◌∙◌, inl, inr}
 use Rattle.std.proofs.lemmas.Bool.{cases_Bool}
 use Rattle.std.proofs.lemmas.List.{length-map}
 use Rattle.std.specs.Fmt.{decimal}
@@ -36,7 +36,7 @@ below_itself : (bound n w : ℕ) → below bound n ≡ Ok w → below bound w �
 below_itself bound n w e =
     elim (cases_Bool (nat_lt n bound)) [
       | inl less ↦
-          let same_word : Ok {E = Wrong} n ≡ Ok w = rw less at e in
+          let same_word : ◌≡◌ {A = Result ℕ Wrong} (Ok n) (Ok w) = rw less at e in
           let here : n ≡ w = cc in
           rw (← here, less)
       | inr more ↦ no_answer OtherValue w (rw more at e)
@@ -128,7 +128,7 @@ array_named : (p : ProfileName) (plan : Plan) (low high : ℕ) (ds : Items) (es 
 array_named p plan low high ds es e =
     elim (cases_Bool (between low high (length (item_list ds)))) [
       | inl within ↦
-          let whole : Ok {E = Wrong} (item_list ds) ≡ Ok es = rw within at e in
+          let whole : ◌≡◌ {A = Result (List Data) Wrong} (Ok (item_list ds)) (Ok es) = rw within at e in
           let here : item_list ds ≡ es = cc in
           rw (items_named, length-map, within) (ap (λ xs. Ok (map (named_call p plan) xs)) here)
       | inr outside ↦ no_answer OtherValue es (rw outside at e)

@@ -17,7 +17,7 @@ pub equal : {A E : Type 0} (r s : Result A E) → s ≡ r → Follows r s
 equal r s e = record { follows = λ x given. e ∙ given }
 
 -- a fault is no answer
-pub no_answer : {A E : Type 0} {Y : Type 0} (e : E) (x : A) → Err {T = A} e ≡ Ok x → Y
+pub no_answer : {A E Y : Type 0} (e : E) (x : A) → ◌≡◌ {A = Result A E} (Err e) (Ok x) → Y
 no_answer e x h = absurd (cc)
 
 -- where one reading after another gives something, the first one does, and then the second
@@ -37,9 +37,14 @@ both (Err e) s f g first then y eq = no_answer e y eq
 pub after : {A B E : Type 0} {r s : Result A E} {f g : A → Result B E} → Follows r s → ((x : A) → Follows (f x) (g x)) → Follows (r >>= f) (s >>= g)
 after {r = r} {s = s} {f = f} {g = g} first then = record { follows = both r s f g (λ x. first.follows x) (λ x. (then x).follows) }
 
-at_key_follows : {A : Type 0} (place : Place) (key : List ℕ) (r s : Result A Wrong) → Follows r s → Follows (at_key place key r) (at_key place key s)
+pub at_key_follows : {A : Type 0} (place : Place) (key : List ℕ) (r s : Result A Wrong) → Follows r s → Follows (at_key place key r) (at_key place key s)
 at_key_follows place key (Ok x) s h = record { follows = λ y e. ap (at_key place key) (h.follows x refl) ∙ e }
 at_key_follows place key (Err wrong) s h = record { follows = λ y e. no_answer _ y e }
+
+-- what is read at a key is what the kind gives
+pub at_key_gives : {A : Type 0} (place : Place) (key : List ℕ) (r : Result A Wrong) (x : A) → at_key place key r ≡ Ok x → r ≡ Ok x
+at_key_gives place key (Ok y) x e = let same : y ≡ x = cc in ap Ok same
+at_key_gives place key (Err wrong) x e = no_answer _ x e
 
 needed_follows : {A : Type 0} (f g : Data → Result A Wrong) (o : Option Data) → ((d : Data) → Follows (f d) (g d)) → Follows (needed f o) (needed g o)
 needed_follows f g None h = same _

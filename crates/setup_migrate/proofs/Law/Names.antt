@@ -1,7 +1,6 @@
 -- The names of a migrated set-up are read as what they were made of.
-use Rattle.std.proofs.Common.{◌≡◌, ℕ, zero, suc, ◌+◌, ◌*◌, ◌^◌, ◌<◌, ◌≤◌, Bool, true, false, cond, ◌&&◌, ◌==◌, nat_lt, nat_le, codes, ℤ, pos, negsuc, List, [], ◌∷◌, ◌++◌, length, map, find, Option, Some, None, option_map, Result, Ok, Err, Ordering, Less, Equal, Greater, nat_cmp, is_eq, refl, sym, ap, ◌∙◌, inl, inr, ◌⊎◌, arith, length-append, is_err}
+use Rattle.std.proofs.Common.{◌≡◌, ℕ, zero, suc, ◌+◌, ◌*◌, ◌^◌, ◌<◌, ◌≤◌, Bool, true, false, cond, ◌&&◌, ◌==◌, nat_lt, nat_le, codes, ℤ, pos, negsuc, List, [], ◌∷◌, ◌++◌, length, map, find, Option, Some, None, option_map, Result, Ok, Err, Ordering, Less, Equal, Greater, nat_cmp, is_eq, refl, sym, ap, ◌∙◌, inl, inr, ◌⊎◌, arith, length-append, is_err, le-leb, ◌%◌, subst, ◌||◌}
 use Rattle.std.proofs.lemmas.Bool.{cases_Bool, false≢true}
-use Rattle.std.proofs.lemmas.Bool.{lt-leb}
 use Rattle.std.proofs.lemmas.Bool.Decides.{nat_tests}
 use Rattle.std.proofs.lemmas.Cmp.{nat_list_cmp_total}
 use Rattle.std.proofs.lemmas.Fmt.{decimal_injective, decimal_by_steps, length-decimal-le}
@@ -20,7 +19,7 @@ use Rattle.cap_core.specs.Numbers.{word_bits}
 use Rattle.setup_values.specs.declared.values.Wrong.{Wrong}
 use Rattle.setup_values.specs.Names.{Names, word_named}
 use Rattle.setup_values.specs.Keys.{entries_of}
-use Rattle.setup_values.specs.Kinds.{◌>>=◌, each, is_name, is_name_byte, entry, names_in, names, word}
+use Rattle.setup_values.specs.Kinds.{◌>>=◌, between, each, is_name, is_name_byte, entry, names_in, names, word}
 use Rattle.setup_migrate.specs.Migration.{with_member, with_words, numbered}
 use Rattle.setup_migrate.proofs.Parts.{get_with, get_with_other, texts_tied, cases_ordering}
 
@@ -78,7 +77,7 @@ names_read no_members = []
 names_read (member k d ms) = (k, word_in d) ∷ names_read ms
 
 entry_read : (p : ProfileName) (k : List ℕ) (d : Data) → IsNamed p k d → entry p (k, d) ≡ Ok (k, word_in d)
-entry_read p k d h = rw (h.name, h.value, lt-leb h.word (2 ^ word_bits p) h.fits)
+entry_read p k d h = rw (h.name, h.value, le-leb (suc h.word) (2 ^ word_bits p) h.fits)
 
 none_at_fault : (p : ProfileName) (ms : Members) → AreNamed p ms → filter (λ e. is_err (entry p e)) (entries_of ms) ≡ []
 none_at_fault p no_members hs = refl
@@ -122,31 +121,44 @@ apart_numbers prefix i j hi hj differ =
       | inr other ↦ other
     ]
 
-numbered-more : (prefix : List ℕ) (word : ℕ → ℕ) (n : ℕ) (t : Members)
+pub numbered-more : (prefix : List ℕ) (word : ℕ → ℕ) (n : ℕ) (t : Members)
     → with_words (numbered prefix word (n + 1)) t ≡ with_member (prefix ++ decimal n) (integer (pos (word n))) (with_words (numbered prefix word n) t)
 numbered-more prefix word n t =
-    ap (λ ns. with_words ns t) (map-range_with_len_more (λ i. (prefix ++ decimal i, word i)) 0 n n refl)
+    ap (λ ns. with_words ns t) (map-range_with_len_more (λ i. (prefix ++ decimal i, word i)) 0 n n (omega arith))
     ∙ with_words-append (numbered prefix word n) ((prefix ++ decimal n, word n) ∷ []) t
+
+last_or_before : (i n : ℕ) → i < n + 1 → (i ≡ n) ⊎ (i < n)
+last_or_before i n lt =
+    elim (cases_Bool (nat_lt i n)) [
+      | inl less ↦ inr (grind (arith, nat_tests))
+      | inr more ↦ inl (grind (arith, nat_tests))
+    ]
+
+-- the word of one of so many names, where one more is put into the table
+get_more : (prefix : List ℕ) (word : ℕ → ℕ) (n i : ℕ) (t : Members) → n < 2 ^ 64 → (i ≡ n) ⊎ (i < n) → (i < n → get_member (prefix ++ decimal i) t ≡ Some (integer (pos (word i))))
+    → get_member (prefix ++ decimal i) (with_member (prefix ++ decimal n) (integer (pos (word n))) t) ≡ Some (integer (pos (word i)))
+get_more prefix word n i t fits (inl e) before = rw e (get_with (prefix ++ decimal n) (integer (pos (word n))) t)
+get_more prefix word n i t fits (inr less) before =
+    get_with_other (prefix ++ decimal i) (prefix ++ decimal n) (integer (pos (word n))) t (apart_numbers prefix i n (omega arith) fits (λ e. absurd (omega arith))) ∙ before less
 
 pub get_numbered : (prefix : List ℕ) (word : ℕ → ℕ) (n i : ℕ) (t : Members) → i < n → n ≤ 2 ^ 64 → get_member (prefix ++ decimal i) (with_words (numbered prefix word n) t) ≡ Some (integer (pos (word i)))
 get_numbered prefix word zero i t lt le = absurd (omega arith)
 get_numbered prefix word (suc n) i t lt le =
     let more : suc n ≡ n + 1 = omega arith in
-    rw (more, numbered-more prefix word n t) (at_or_before (cases_last i n lt))
-  where
-    cases_last : (i n : ℕ) → i < suc n → (i ≡ n) ⊎ (i < n)
-    cases_last i n lt = ?
-    at_or_before : (i ≡ n) ⊎ (i < n) → get_member (prefix ++ decimal i) (with_member (prefix ++ decimal n) (integer (pos (word n))) (with_words (numbered prefix word n) t)) ≡ Some (integer (pos (word i)))
-    at_or_before (inl e) = rw e (get_with (prefix ++ decimal n) (integer (pos (word n))) (with_words (numbered prefix word n) t))
-    at_or_before (inr less) =
-        get_with_other (prefix ++ decimal i) (prefix ++ decimal n) _ _ (apart_numbers prefix i n (omega arith) (omega arith) (λ e. absurd (omega arith)))
-        ∙ get_numbered prefix word n i t less (omega arith)
+    let fits : n < 2 ^ 64 = omega arith in
+    subst (λ m. get_member (prefix ++ decimal i) (with_words (numbered prefix word m) t) ≡ Some (integer (pos (word i)))) (sym more)
+    (ap (get_member (prefix ++ decimal i)) (numbered-more prefix word n t)
+    ∙ get_more prefix word n i (with_words (numbered prefix word n) t) fits (last_or_before i n (omega arith)) (λ less. get_numbered prefix word n i t less (omega arith)))
+
+or_true : (b : Bool) → (b || true) ≡ true
+or_true true = refl
+or_true false = refl
 
 name_bytes : (n : ℕ) → n < 2 ^ 64 → list_all is_name_byte (decimal n) ≡ true
 name_bytes n h = decimal_by_steps (λ _ ds. list_all is_name_byte ds ≡ true) one more n h
   where
     digit_byte : (n : ℕ) → n < 10 → is_name_byte (48 + n) ≡ true
-    digit_byte n h = ?
+    digit_byte n h = rw (le-leb 48 (48 + n) (omega arith), le-leb (48 + n) 57 (omega arith)) (or_true (between 97 122 (48 + n)))
     one : (n : ℕ) → n < 10 → list_all is_name_byte ((48 + n) ∷ []) ≡ true
     one n h = rw (digit_byte n h)
     more : (n : ℕ) (ds : List ℕ) → 10 ≤ n → list_all is_name_byte ds ≡ true → list_all is_name_byte (ds ++ ((48 + n % 10) ∷ [])) ≡ true
@@ -157,7 +169,7 @@ pub is_name-numbered : (prefix : List ℕ) (i : ℕ) → 1 ≤ length prefix →
 is_name-numbered prefix i some few bytes small =
     let digits : length (decimal i) ≤ 3 = length-decimal-le 3 i (omega arith) (omega arith) (omega arith) in
     let long : length (prefix ++ decimal i) ≡ length prefix + length (decimal i) = length-append prefix (decimal i) in
-    rw (list_all-append, bytes, name_bytes i (omega arith)) ?
+    rw (list_all-append, bytes, name_bytes i (omega arith), le-leb 1 (length (prefix ++ decimal i)) (omega arith), le-leb (length (prefix ++ decimal i)) 40 (omega arith))
 
 pub all_named-numbered : (p : ProfileName) (prefix : List ℕ) (word : ℕ → ℕ) (a n : ℕ) → 1 ≤ length prefix → length prefix ≤ 20 → list_all is_name_byte prefix ≡ true → a + n ≤ 1000
     → ((i : ℕ) → i < a + n → word i < 2 ^ word_bits p) → AllNamed p (map (λ i. (prefix ++ decimal i, word i)) (range_with_len a n))

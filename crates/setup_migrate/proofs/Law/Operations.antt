@@ -1,5 +1,5 @@
 -- An operation that was read without names is read the same with names, whatever the call's thread is.
-use Rattle.std.proofs.Common.{◌≡◌, ℕ, ◌^◌, codes, List, [], ◌∷◌, Bool, true, false, ◌==◌, ℤ, pos, negsuc, Option, Some, None, Result, Ok, Err, refl, sym, ap, ◌∙◌, inl, inr}
+use Rattle.std.proofs.Common.{◌≡◌, ℕ, ◌^◌, codes, List, [], ◌∷◌, Bool, true, false, cond, ◌==◌, ℤ, pos, negsuc, Option, Some, None, Result, Ok, Err, refl, sym, ap, ◌∙◌, inl, inr}
 use Rattle.std.proofs.lemmas.Bool.{cases_Bool}
 use Rattle.toml.specs.Data.{Data, Members, get_member, same_key, as_array, as_integer, as_str}
 use Rattle.cap_core.specs.declared.profile.ProfileName.{ProfileName}

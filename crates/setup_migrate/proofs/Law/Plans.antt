@@ -66,11 +66,11 @@ found_in_range : (test : ℕ → Bool) (a n i : ℕ) → find test (range_with_l
 found_in_range test a zero i e = absurd (none-some i e)
 found_in_range test a (suc n) i e =
     elim (cases_Bool (test a)) [
-      | inl yes ↦
-          let here : a ≡ i = same_Some a i (rw yes at e) in
-          (rw (← here) yes, rw (← here) (omega arith))
-      | inr no ↦
-          let later = found_in_range test (a + 1) n i (rw no at e) in
+      | inl passes ↦
+          let here : a ≡ i = same_Some a i (rw passes at e) in
+          (rw (← here) passes, rw (← here) (omega arith))
+      | inr fails ↦
+          let later = found_in_range test (a + 1) n i (rw fails at e) in
           (later.0, omega arith)
     ]
 
@@ -86,4 +86,4 @@ names_threads p plan h = record { stands = stands }
     stands i address found =
         let at = found_in_range (λ k. tcb_place p plan k == address) 0 plan.threads i found in
         let same : tcb_place p plan i ≡ address = grind (arith, nat_tests, at.0) in
-        word_named_read (codes "thread_" ++ decimal i) (name_table p plan) ∙ (ap (option_map word_in) (thread_word p plan i h at.1) ∙ ap Some same)
+        word_named_read (codes "thread_" ++ decimal i) (name_table p plan) ∙ (ap (option_map word_in) (thread_word p plan i h (omega (arith, at.1))) ∙ ap Some same)
