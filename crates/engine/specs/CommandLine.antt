@@ -6,19 +6,31 @@ use Rattle.clap.specs.Simple.{on_top}
 use Rattle.clap.specs.declared.error.kind.ErrorKind.{ErrorKind}
 use Rattle.clap.specs.declared.error.kind.ErrorKind.TheVariants.{DisplayHelp, OutOfMemory}
 use Rattle.engine.specs.declared.arguments.Job.{Job}
-use Rattle.engine.specs.declared.arguments.Job.TheVariants.{Check}
+use Rattle.engine.specs.declared.arguments.Job.TheVariants.{Check, Threads, Migrate}
 use Rattle.engine.specs.declared.arguments.LineFault.{LineFault}
 use Rattle.engine.specs.declared.arguments.LineFault.TheVariants.{Help, Refused, Memory}
 
--- `sel4sim`, with the subcommand `check`, which has the argument FILE, and without clap's subcommand `help`
+-- a subcommand of that name, which has the argument FILE
+abbrev pub with_file : Text → App
+with_file name = with_rule (new_app name) (new_rule (codes "FILE"))
+
+-- `sel4sim` without clap's subcommand `help`
+abbrev pub bare_command : App
+bare_command = on_top (λ s. record s { disable_help_subcommand = true }) (new_app (codes "sel4sim"))
+
+-- `sel4sim`, with the subcommands `check`, `threads` and `migrate`
 unfoldable pub command : App
 command = with_subcommand
-    (on_top (λ s. record s { disable_help_subcommand = true }) (new_app (codes "sel4sim")))
-    (with_rule (new_app (codes "check")) (new_rule (codes "FILE"))).top
+    (with_subcommand (with_subcommand bare_command (with_file (codes "check")).top) (with_file (codes "threads")).top)
+    (with_file (codes "migrate")).top
 
 -- the job of a subcommand's name
 abbrev pub job_named : Text → Option Job
-job_named name = if bytes_eq name (codes "check") then Some Check else None
+job_named name =
+    if bytes_eq name (codes "check") then Some Check
+    else if bytes_eq name (codes "threads") then Some Threads
+    else if bytes_eq name (codes "migrate") then Some Migrate
+    else None
 
 -- the job where a subcommand of that name is met, and where none is
 abbrev pub job_of : Option Text → Option Job

@@ -8,6 +8,10 @@ use thiserror::Error;
 pub enum Job {
     /// Run a set-up and compare its replies with what it expects.
     Check,
+    /// Run a set-up's clients in threads of their own.
+    Threads,
+    /// Write a set-up of format 1 in format 2.
+    Migrate,
 }
 
 /// A command line that was taken: what to do, and with which file; without a file, with standard input.
@@ -57,6 +61,10 @@ impl Job {
     {
         if name == "check" {
             Some(Job::Check)
+        } else if name == "threads" {
+            Some(Job::Threads)
+        } else if name == "migrate" {
+            Some(Job::Migrate)
         } else {
             None
         }

@@ -1,27 +1,48 @@
 //! The words of the command line.
-ghost use Rattle.std.specs.Prelude.{◌≡◌, [], option_map, IfOk, IfErr, IsSome, OnOk};
+ghost use Rattle.std.specs.Prelude.{◌≡◌, [], false, option_map, IfOk, IfErr, IsSome, OnOk};
 ghost use Rattle.clap.specs.Words.{app_of, fault_of, subcommand_name_of, subcommand_rows_of};
+ghost use Rattle.clap.specs.declared.builder.command.Command.TheViews.{out-Command};
 ghost use Rattle.clap.specs.Values.{kind_of};
 ghost use Rattle.clap.specs.Walk.{texts};
-ghost use Rattle.engine.specs.CommandLine.{Explains, StandsFor, command as definition, file_asked, file_of, job_asked, job_of};
+ghost use Rattle.engine.specs.CommandLine.{Explains, StandsFor, command as definition, file_asked, file_of, job_asked, job_of, with_file as with_file_definition};
 
 use crate::arguments::{Job, Line, LineFault};
 use clap::error::ErrorKind;
 use clap::{Arg, ArgMatches, Command, Error};
 use std::alloc::{AllocError, Global};
 
+/// A subcommand, which has the argument FILE.
+fn with_file<'a>(alloc: Global, name: &'a str, about: &'a str) -> Result<Command<'a>, AllocError>
+    ensures app { IfOk result (λ c. app_of c ≡ with_file_definition name.now) }
+    ensures local { IfOk result (λ c. (out-Command c).has_globals ≡ false) }
+{
+    let file = Arg::new(alloc, "FILE").help("The set-up; without it, standard input is read");
+    let command = Command::new(alloc, name).about(about).arg(file)?;
+    Ok(command)
+}
+
 /// The command as clap reads it.
 fn command<'a>(alloc: Global) -> Result<Command<'a>, AllocError>
     ensures { IfOk result (λ c. app_of c ≡ definition) }
 {
-    let file = Arg::new(alloc, "FILE").help("The set-up; without it, standard input");
-    let check = Command::new(alloc, "check")
-        .about("Runs a set-up and writes its report")
-        .arg(file)?;
+    let check = with_file(alloc, "check", "Runs a set-up and prints its report")?;
+    let threads = with_file(
+        alloc,
+        "threads",
+        "Runs each client of a set-up in a thread of its own and prints what was done, in order",
+    )?;
+    let migrate = with_file(
+        alloc,
+        "migrate",
+        "Prints a set-up of format 1 as one of format 2",
+    )?;
     let whole = Command::new(alloc, "sel4sim")
         .about("Simulates the capability part of the seL4 microkernel")
+        .after_help("Without a command, the set-up on standard input is run as by check.")
         .disable_help_subcommand(true)
-        .subcommand(check)?;
+        .subcommand(check)?
+        .subcommand(threads)?
+        .subcommand(migrate)?;
     Ok(whole)
 }
 

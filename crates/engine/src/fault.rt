@@ -27,6 +27,9 @@ pub enum RunFault {
     /// Memory ran out.
     #[error("out of memory")]
     Memory,
+    /// A thread could not be started.
+    #[error("thread not started")]
+    Thread,
 }
 
 /// The program's exit status: 0 where all expectations are met, 1 where one is not, 2 where the set-up is refused, 3 after a fault.

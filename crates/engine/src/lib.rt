@@ -5,18 +5,25 @@
 mod arguments;
 mod checking;
 mod command_line;
+mod depth;
 mod device;
+mod engines;
 mod fault;
+mod limits;
+mod migrating;
 mod run;
 mod sink;
 mod source;
 mod streams;
 
 pub use arguments::{Job, Line, LineFault};
-pub use checking::{INPUT_LIMIT, check};
+pub use checking::check;
 pub use command_line::line;
 pub use device::DeviceFault;
+pub use engines::{Engine, run_engine};
 pub use fault::{RunFault, Verdict, status_of};
+pub use limits::INPUT_LIMIT;
+pub use migrating::migrate_run;
 pub use run::text_of;
 pub use sink::{Sink, WriterSink};
 pub use source::{ReaderSource, Source};

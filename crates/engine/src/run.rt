@@ -58,7 +58,7 @@ fn verdict_on(count: ExpectationCount) -> Verdict
 }
 
 /// The line by which a set-up is refused.
-fn refusal(alloc: Global, fault: &SetupFault) -> Result<Vec<u8>, AllocError>
+pub fn refusal(alloc: Global, fault: &SetupFault) -> Result<Vec<u8>, AllocError>
     ensures { IfOk result (λ text. text.items ≡ setup_fault_text fault.now ++ codes "\n") }
 {
     let text = format!(in alloc; "{fault}\n")?;

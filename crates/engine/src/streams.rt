@@ -28,6 +28,7 @@ pub fn read_below<S: Source>(
         → (S.failed source.new ≡ true) ⊎ GaveAsMany S.left S.given source.old source.new limit }
     ensures marked { S.failed source.new ≡ true → result ≡ Err RunFault.Reading }
     ensures never_writing { IfErr result (λ fault. fault ≢ RunFault.Writing) }
+    ensures never_thread { IfErr result (λ fault. fault ≢ RunFault.Thread) }
 {
     let mut bytes = Vec::new(alloc);
     let mut piece = [0u8; PIECE_LENGTH];

@@ -3,10 +3,19 @@ use engine::{Job, LineFault, RunFault, Verdict, line, status_of};
 use std::alloc::{AllocError, Global};
 use std::test::Fail;
 
-/// Whether the words are taken, with this file.
-fn is_taken(alloc: Global, words: &[&str], file: Option<&str>) -> bool {
+/// The subcommand that asks for a job.
+fn name_of(job: Job) -> &'static str {
+    match job {
+        Job::Check => "check",
+        Job::Threads => "threads",
+        Job::Migrate => "migrate",
+    }
+}
+
+/// Whether the words are taken, for this job with this file.
+fn is_taken(alloc: Global, words: &[&str], job: &str, file: Option<&str>) -> bool {
     match line(alloc, words) {
-        Ok(taken) => matches!(taken.job, Job::Check) && taken.file == file,
+        Ok(taken) => name_of(taken.job) == job && taken.file == file,
         Err(_) => false,
     }
 }
@@ -41,23 +50,40 @@ fn says(alloc: Global, fault: RunFault, said: &str) -> Result<bool, AllocError> 
 
 #[test]
 fn lines_are_taken(rt: HostRuntime) {
-    let forms: [(&[&str], Option<&str>); 4] = [
-        (&["sel4sim"], None),
-        (&["sel4sim", "check"], None),
-        (&["sel4sim", "check", "rows.toml"], Some("rows.toml")),
-        (&["sel4sim", "check", "--", "--help"], Some("--help")),
+    let forms: [(&[&str], &str, Option<&str>); 8] = [
+        (&["sel4sim"], "check", None),
+        (&["sel4sim", "check"], "check", None),
+        (
+            &["sel4sim", "check", "rows.toml"],
+            "check",
+            Some("rows.toml"),
+        ),
+        (
+            &["sel4sim", "check", "--", "--help"],
+            "check",
+            Some("--help"),
+        ),
+        (&["sel4sim", "threads"], "threads", None),
+        (
+            &["sel4sim", "threads", "rows.toml"],
+            "threads",
+            Some("rows.toml"),
+        ),
+        (&["sel4sim", "migrate"], "migrate", None),
+        (&["sel4sim", "migrate", "check"], "migrate", Some("check")),
     ];
-    for (words, file) in forms {
-        assert!(rt; is_taken(rt.alloc(), words, file), "{words:?}");
+    for (words, job, file) in forms {
+        assert!(rt; is_taken(rt.alloc(), words, job, file), "{words:?}");
     }
 }
 
 #[test]
 fn help_has_its_text(rt: HostRuntime) {
-    let forms: [&[&str]; 3] = [
+    let forms: [&[&str]; 4] = [
         &["sel4sim", "--help"],
         &["sel4sim", "-h"],
         &["sel4sim", "check", "--help"],
+        &["sel4sim", "migrate", "--help"],
     ];
     for words in forms {
         assert!(rt; is_help(rt.alloc(), words), "{words:?}");
@@ -67,8 +93,8 @@ fn help_has_its_text(rt: HostRuntime) {
 #[test]
 fn other_words_are_refused(rt: HostRuntime) -> Result<(), Fail> {
     let forms: [&[&str]; 9] = [
-        &["sel4sim", "threads"],
-        &["sel4sim", "migrate", "rows.toml"],
+        &["sel4sim", "chek"],
+        &["sel4sim", "migrate", "rows.toml", "more.toml"],
         &["sel4sim", "help"],
         &["sel4sim", ""],
         &["sel4sim", "rows.toml"],
@@ -102,6 +128,7 @@ fn faults_say_what_went_wrong(rt: HostRuntime) -> Result<(), Fail> {
         (RunFault::Reading, "reading failed"),
         (RunFault::Writing, "writing failed"),
         (RunFault::Memory, "out of memory"),
+        (RunFault::Thread, "thread not started"),
     ];
     for (fault, said) in faults {
         assert!(rt; says(rt.alloc(), fault, said)?, "{said}");

@@ -1,4 +1,4 @@
-//! Tests of `engine`: reads and writes that fail, a source without an end, the command line and the exit statuses.
+//! Tests of `engine`: reads and writes that fail, a source without an end, the command line, migrations and the exit statuses.
 #![tactic(auto)]
 
 #[cfg(test)]
@@ -7,5 +7,7 @@ mod command_line;
 mod devices;
 #[cfg(test)]
 mod fakes;
+#[cfg(test)]
+mod migrations;
 #[cfg(test)]
 mod stored_run;

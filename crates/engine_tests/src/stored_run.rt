@@ -5,7 +5,7 @@ use std::alloc::Global;
 use std::test::Fail;
 
 /// The set-up of the stored run.
-const STORED: &[u8] =
+pub const STORED: &[u8] =
     b"format = 1\nmemory_bits = 16\nroot_radix = 4\nthreads = 2\nendpoints = 1\n[[untyped]]\nbase = 16384\nbits = 12\n[[call]]\nthread = 2048\nop = \"send\"\ncap = 4\nlabel = 7\nwords = [1, 2]\n[[call]]\nthread = 4096\nop = \"recv\"\ncap = 4\nexpect = \"delivered 6144 from 2048\"\n";
 
 /// The stored run, read in pieces of so many bytes until a read fails, and written to this writer.

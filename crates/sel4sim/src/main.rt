@@ -1,31 +1,47 @@
-//! The program `sel4sim`: reads a set-up from a file or from standard input, runs it, and writes the report.
+//! The program `sel4sim`: reads a set-up from a file or from standard input, runs it and writes the report, or writes it in the
+//! newest format.
 //!
-//! The exit status is 0 where all expectations are met, 1 where one is not, 2 where the set-up is refused, 3 where the program
-//! could not read, write or get memory, and 4 where the command line is refused; for 3 and 4 standard error has one line that
-//! says what went wrong.
+//! The exit status is 0 where all expectations are met or the set-up is migrated, 1 where an expectation is not met, 2 where the
+//! set-up is refused, 3 where the program could not read, write or get memory, and 4 where the command line is refused; for 3
+//! and 4 the first line of standard error says what went wrong.
 #![tactic(auto)]
 
 use engine::{
-    Job, Line, LineFault, ReaderSource, RunFault, Verdict, WriterSink, check, line, status_of,
-    write_all,
+    Job, Line, LineFault, ReaderSource, RunFault, Verdict, WriterSink, check, line, migrate_run,
+    status_of, write_all,
 };
 use std::env::{self, Env};
 use std::fmt::Display;
 use std::fs::{self, Files};
-use std::io::{self, Eprint, ErrorKind, Input};
+use std::io::{self, Eprint, ErrorKind, Input, Read};
 use std::process::ExitCode;
 
-/// Runs the set-up of the file, or of standard input where no file is named. A file that cannot be opened is a failed read.
-fn check_file<R: Files + Input + Print + AllocGlobal>(
+/// Does the job with the set-up that a reader of which nothing was read gives, and writes to standard output.
+fn run_job<R: Print + AllocGlobal, T: Read + Drop>(
     rt: &R,
-    file: Option<&str>,
+    job: Job,
+    reader: T,
 ) -> Result<Verdict, RunFault> {
+    let mut source = ReaderSource::new(reader);
     let mut sink = WriterSink::new(io::writer(rt));
-    match file {
-        None => check(rt.alloc(), &mut ReaderSource::new(rt.reader()), &mut sink),
+    match job {
+        Job::Check => check(rt.alloc(), &mut source, &mut sink),
+        Job::Migrate => migrate_run(rt.alloc(), &mut source, &mut sink),
+        Job::Threads => Err(RunFault::Thread),
+    }
+}
+
+/// Does the job with the set-up of the file, or of standard input where no file is named. A file that cannot be opened is a
+/// failed read.
+fn run_file<R: Files + Input + Print + AllocGlobal>(
+    rt: &R,
+    line: Line<'_>,
+) -> Result<Verdict, RunFault> {
+    match line.file {
+        None => run_job(rt, line.job, rt.reader()),
         Some(path) => {
             let reader = fs::open(rt, path).map_err(|_| RunFault::Reading)?;
-            check(rt.alloc(), &mut ReaderSource::new(reader), &mut sink)
+            run_job(rt, line.job, reader)
         }
     }
 }
@@ -37,9 +53,10 @@ fn complain(rt: &impl Eprint, fault: impl Display + Drop) {
 
 /// Does what the line asks for, and answers the exit status.
 fn run_line<R: Files + Input + Print + Eprint + AllocGlobal>(rt: &R, line: Line<'_>) -> u8 {
-    let answer = match line.job {
-        Job::Check => check_file(rt, line.file),
-    };
+    if let Job::Threads = line.job {
+        return refuse_line(rt, &LineFault::Refused);
+    }
+    let answer = run_file(rt, line);
     if let Err(fault) = &answer {
         complain(rt, fault);
     }

@@ -1,5 +1,6 @@
 -- What a set-up is read as, by its grammar; Private has what serves the proofs alone.
 pub use Rattle.setup_values.specs.Names
+pub use Rattle.setup_values.specs.Keys
 pub use Rattle.setup_values.specs.Kinds
 pub mod Faults
 pub mod Tables

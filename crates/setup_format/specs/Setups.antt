@@ -9,11 +9,11 @@ use Rattle.cap_core.specs.declared.limits.TheConstants.{MIN_MEMORY_BITS, MAX_MEM
 use Rattle.cap_core.specs.Numbers.{min_untyped_bits, max_object_bits}
 use Rattle.abstract_kernel.specs.declared.plan.PlanDefect.{PlanDefect}
 use Rattle.abstract_kernel.specs.Plan.{Plan, planned, first_defect}
-use Rattle.setup_format.specs.declared.limits.TheConstants.{FORMAT, MAX_CALLS}
+use Rattle.setup_format.specs.declared.limits.TheConstants.{FIRST_FORMAT, NEWEST_FORMAT, MAX_CALLS}
 use Rattle.setup_format.specs.declared.fault.Place.TheVariants as places
 use Rattle.setup_format.specs.declared.setup.Sizes.{Sizes}
 use Rattle.setup_values.specs.Names.{Names}
-use Rattle.setup_values.specs.Kinds.{◌>>=◌, number, word, expect, op, profile, tables, each}
+use Rattle.setup_values.specs.Kinds.{◌>>=◌, number, word, names, expect, op, profile, tables, each}
 use Rattle.setup_format.specs.Faults.{Fault, text, layout}
 use Rattle.setup_format.specs.Tables.{required, optional, known_only}
 use Rattle.setup_format.specs.Operations.{call_keys, operation_at}
@@ -45,10 +45,15 @@ call_at p names clients n table = do
 
 -- ---- the top table
 
-abbrev pub top_keys : List (List ℕ)
-top_keys =
+-- the keys of the first format
+abbrev pub first_keys : List (List ℕ)
+first_keys =
     codes "format" ∷ codes "profile" ∷ codes "memory_bits" ∷ codes "root_radix" ∷ codes "threads" ∷ codes "endpoints" ∷ codes "clients" ∷ codes "limit" ∷ codes "untyped"
     ∷ codes "call" ∷ []
+
+-- the keys of a format: a later one has names
+abbrev pub top_keys : ℕ → List (List ℕ)
+top_keys format = if format == FIRST_FORMAT then first_keys else codes "names" ∷ first_keys
 
 unfoldable pub sizes_of : Members → Result Sizes Fault
 sizes_of table = do
@@ -73,12 +78,12 @@ laid_out p plan = laid_out_unless (first_defect p plan) plan
 abbrev pub limit_of : ℕ → ℕ → ℕ
 limit_of given calls = if given == 0 then max 1 calls else given
 
--- the set-up of these sizes, with these tables of untyped regions and of calls; a limit of 0 is none that a table can give
-unfoldable pub setup_with : ProfileName → Sizes → ℕ → ℕ → List Members → List Members → Result SetupView Fault
-setup_with p sizes clients limit untyped call = do
+-- the set-up of these sizes and names, with these tables of untyped regions and of calls; a limit of 0 is none that a table can give
+unfoldable pub setup_with : ProfileName → Names → Sizes → ℕ → ℕ → List Members → List Members → Result SetupView Fault
+setup_with p names sizes clients limit untyped call = do
   untypeds ← each (untyped_at p) 1 untyped
   plan ← laid_out p (planned_with sizes untypeds)
-  calls ← each (call_at p [] clients) 1 call
+  calls ← each (call_at p names clients) 1 call
   Ok (record { profile = p; plan = plan; clients = clients; limit = limit_of limit (length calls); calls = calls })
 
 -- a table whose format, keys and profile are known
@@ -87,23 +92,38 @@ setup_at p table = do
   sizes ← sizes_of table
   clients ← optional places.Top table (codes "clients") 1 (number 1 MAX_CLIENTS)
   limit ← optional places.Top table (codes "limit") 0 (number 1 MAX_HISTORY_LIMIT)
+  names ← optional places.Top table (codes "names") [] (names p)
   untyped ← optional places.Top table (codes "untyped") [] (tables 0 MAX_BOOT_UNTYPEDS)
   call ← optional places.Top table (codes "call") [] (tables 0 MAX_CALLS)
-  setup_with p sizes clients limit untyped call
+  setup_with p names sizes clients limit untyped call
 
-unfoldable pub setup_of : Members → Result SetupView Fault
-setup_of table = do
-  format ← required places.Top table (codes "format") (number FORMAT FORMAT)
-  known ← known_only places.Top table top_keys
+-- a table in one of the formats up to the newest that is taken
+unfoldable pub setup_up_to : ℕ → Members → Result SetupView Fault
+setup_up_to newest table = do
+  format ← required places.Top table (codes "format") (number FIRST_FORMAT newest)
+  known ← known_only places.Top table (top_keys format)
   profile ← optional places.Top table (codes "profile") Wide profile
   setup_at profile table
 
+-- a table in any format that is read, and a table in the first format alone
+abbrev pub setup_of : Members → Result SetupView Fault
+setup_of table = setup_up_to NEWEST_FORMAT table
+
+abbrev pub first_format_setup_of : Members → Result SetupView Fault
+first_format_setup_of table = setup_up_to FIRST_FORMAT table
+
 -- ---- bytes
 
--- the set-up of the bytes' table, where they are a TOML document
-abbrev pub setup_in : Option Members → Result SetupView Fault
-setup_in None = Err text
-setup_in (Some table) = setup_of table
+-- the table of a TOML document
+abbrev pub document_in : Option Members → Result Members Fault
+document_in None = Err text
+document_in (Some table) = Ok table
+
+unfoldable pub document_of : List ℕ → Result Members Fault
+document_of bytes = document_in (if is_utf8 bytes then parse_document bytes else None)
 
 unfoldable pub setup_of_bytes : List ℕ → Result SetupView Fault
-setup_of_bytes bytes = setup_in (if is_utf8 bytes then parse_document bytes else None)
+setup_of_bytes bytes = document_of bytes >>= setup_of
+
+unfoldable pub first_format_setup_of_bytes : List ℕ → Result SetupView Fault
+first_format_setup_of_bytes bytes = document_of bytes >>= first_format_setup_of

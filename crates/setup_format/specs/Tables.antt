@@ -1,12 +1,11 @@
 -- What a key of a table is read as.
-use Rattle.std.specs.Prelude.{ℕ, List, [], ◌∷◌, Bool, false, ◌||◌, not, if◌then◌else◌, Option, Some, None, Result, Ok, Err}
+use Rattle.std.specs.Prelude.{ℕ, List, [], ◌∷◌, Bool, false, ◌||◌, not, Option, Some, None, Result, Ok, Err}
 use Rattle.std.specs.List.{filter}
 use Rattle.std.specs.Str.{bytes_eq}
-use Rattle.std.specs.Ordering.{nat_cmp, is_lt}
-use Rattle.std.specs.Cmp.Lexicographic.{slice_cmp}
-use Rattle.toml.specs.Data.{Data, Members, no_members, member, get_member}
+use Rattle.toml.specs.Data.{Data, Members, get_member}
 use Rattle.setup_values.specs.declared.values.Wrong.{Wrong}
 use Rattle.setup_values.specs.declared.values.Wrong.TheVariants.{Unknown, Missing}
+use Rattle.setup_values.specs.Keys.{keys_of, least}
 use Rattle.setup_format.specs.declared.fault.Place.{Place}
 use Rattle.setup_format.specs.Faults.{Fault, at}
 
@@ -33,25 +32,13 @@ optional place table key default kind = at_key place key (given_or default kind 
 
 -- ---- unknown keys
 
-abbrev pub keys_of : Members → List (List ℕ)
-keys_of no_members = []
-keys_of (member k d ms) = k ∷ keys_of ms
-
 abbrev pub is_one_of : List (List ℕ) → List ℕ → Bool
 is_one_of [] key = false
 is_one_of (k ∷ ks) key = bytes_eq k key || is_one_of ks key
 
--- the lesser of two keys by their bytes, and the least of some keys
-abbrev pub lesser : List ℕ → Option (List ℕ) → Option (List ℕ)
-lesser k None = Some k
-lesser k (Some l) = if is_lt (slice_cmp nat_cmp l k) then Some l else Some k
-
-abbrev pub least : List (List ℕ) → Option (List ℕ)
-least [] = None
-least (k ∷ ks) = lesser k (least ks)
-
+-- the least unknown key of a table
 abbrev pub least_unknown : List (List ℕ) → Members → Option (List ℕ)
-least_unknown known table = least (filter (λ key. not (is_one_of known key)) (keys_of table))
+least_unknown known table = least (λ key. key) (filter (λ key. not (is_one_of known key)) (keys_of table))
 
 abbrev pub no_unknown : Place → Option (List ℕ) → Result ℕ Fault
 no_unknown place None = Ok 0

@@ -2,8 +2,11 @@
 
 pub use setup_values::limits::MAX_EXPECT_BYTES;
 
-/// The format of set-ups that is read.
-pub const FORMAT: u32 = 1;
+/// The first format of set-ups. It has no names.
+pub const FIRST_FORMAT: u32 = 1;
+
+/// The newest format of set-ups that is read.
+pub const NEWEST_FORMAT: u32 = 2;
 
 /// The most calls of a set-up.
 pub const MAX_CALLS: usize = 65536;

@@ -12,12 +12,12 @@ ghost use Rattle.setup_format.specs.Views.{IsWithinBounds};
 ghost use Rattle.setup_format.specs.Setups as spec;
 
 use crate::fault::{Place, SetupFault};
-use crate::limits::{FORMAT, MAX_CALLS};
+use crate::limits::{FIRST_FORMAT, MAX_CALLS, NEWEST_FORMAT};
 use crate::operations::{call_keys, operation_at};
 use crate::setup::{Setup, SetupCall, SetupCalls, Sizes};
 use crate::tables::{
-    expect_or_none, known_only, number_at, number_or, op_at, profile_or_wide, tables_or_none,
-    word_at,
+    expect_or_none, known_only, names_or_none, number_at, number_or, op_at, profile_or_wide,
+    tables_or_none, word_at,
 };
 use abstract_kernel::Call;
 use boot_plan::BootPlan;
@@ -174,10 +174,11 @@ fn limit_of(given: u32, calls: usize) -> u32
     }
 }
 
-/// The set-up of these sizes, with these tables of untyped regions and of calls. A limit of 0 is none.
+/// The set-up of these sizes and names, with these tables of untyped regions and of calls. A limit of 0 is none.
 #[tactic(auto, unfolding(crate::specs::Setups::setup_with))]
 fn setup_with<P: Profile>(
     alloc: Global,
+    names: &[Name],
     sizes: Sizes,
     clients: u32,
     limit: u32,
@@ -190,13 +191,13 @@ fn setup_with<P: Profile>(
     requires limit { limit ≤ MAX_HISTORY_LIMIT }
     requires untyped { length untyped.now ≤ MAX_BOOT_UNTYPEDS }
     requires call { length call.now ≤ MAX_CALLS }
-    ensures setup { Gives (λ s. s) result (spec.setup_with P.the sizes clients limit (map (λ t. table_view t.now) untyped.now) (map (λ t. table_view t.now) call.now)) }
+    ensures setup { Gives (λ s. s) result (spec.setup_with P.the (names_view names.now) sizes clients limit (map (λ t. table_view t.now) untyped.now) (map (λ t. table_view t.now) call.now)) }
     ensures plan { IfOk result (λ s. IsPlan s.profile s.plan) }
     ensures bounds { IfOk result IsWithinBounds }
 {
     let untypeds = untypeds_of::<P>(alloc, untyped)?;
     let plan = plan_of::<P>(sizes, untypeds)?;
-    let calls = calls_of::<P>(alloc, &[], clients, call)?;
+    let calls = calls_of::<P>(alloc, names, clients, call)?;
     let limit = limit_of(limit, calls.len());
     Ok(Setup::new(P::name(), plan, clients, limit, calls))
 }
@@ -211,11 +212,13 @@ fn setup_at<P: Profile>(alloc: Global, table: &Table) -> Result<Setup, SetupFaul
     let sizes = sizes_of(table)?;
     let clients = number_or(table, Place::Top, "clients", 1, 1, MAX_CLIENTS)?;
     let limit = number_or(table, Place::Top, "limit", 0, 1, MAX_HISTORY_LIMIT)?;
+    let names = names_or_none::<P>(alloc, table, Place::Top, "names")?;
     let most = MAX_BOOT_UNTYPEDS as usize;
     let untyped = tables_or_none(alloc, table, Place::Top, "untyped", 0, most)?;
     let call = tables_or_none(alloc, table, Place::Top, "call", 0, MAX_CALLS)?;
     setup_with::<P>(
         alloc,
+        names.as_slice(),
         sizes,
         clients,
         limit,
@@ -224,19 +227,33 @@ fn setup_at<P: Profile>(alloc: Global, table: &Table) -> Result<Setup, SetupFaul
     )
 }
 
-/// What a table is read as, in the format that is read.
+/// The keys of the top table in a format.
 #[rattlefmt::skip]
-#[tactic(auto, unfolding(crate::specs::Setups::setup_of))]
-fn setup_of(alloc: Global, table: &Table) -> Result<Setup, SetupFault>
-    ensures setup { Gives (λ s. s) result (spec.setup_of (table_view table.now)) }
+fn top_keys(format: u32) -> &'static [&'static str]
+    ensures { map (λ k. k.now) result.now ≡ spec.top_keys format }
+{
+    if format == FIRST_FORMAT {
+        &[
+            "format", "profile", "memory_bits", "root_radix", "threads", "endpoints", "clients", "limit", "untyped",
+            "call",
+        ]
+    } else {
+        &[
+            "names", "format", "profile", "memory_bits", "root_radix", "threads", "endpoints", "clients", "limit",
+            "untyped", "call",
+        ]
+    }
+}
+
+/// What a table is read as, in one of the formats up to the newest that is taken.
+#[tactic(auto, unfolding(crate::specs::Setups::setup_up_to))]
+fn setup_up_to(newest: u32, alloc: Global, table: &Table) -> Result<Setup, SetupFault>
+    ensures setup { Gives (λ s. s) result (spec.setup_up_to newest (table_view table.now)) }
     ensures plan { IfOk result (λ s. IsPlan s.profile s.plan) }
     ensures bounds { IfOk result IsWithinBounds }
 {
-    let _format = number_at(table, Place::Top, "format", FORMAT, FORMAT)?;
-    known_only(table, Place::Top, &[
-        "format", "profile", "memory_bits", "root_radix", "threads", "endpoints", "clients", "limit", "untyped",
-        "call",
-    ])?;
+    let format = number_at(table, Place::Top, "format", FIRST_FORMAT, newest)?;
+    known_only(table, Place::Top, top_keys(format))?;
     match profile_or_wide(table, Place::Top, "profile")? {
         ProfileName::Wide => setup_at::<Wide>(alloc, table),
         ProfileName::Narrow => setup_at::<Narrow>(alloc, table),
@@ -248,9 +265,9 @@ fn setup_of(alloc: Global, table: &Table) -> Result<Setup, SetupFault>
 /// # Errors
 ///
 /// The first fault in this order, or `Memory` in place of any answer where memory was refused: the key `format`; an unknown key
-/// of the table, the least by its bytes; the key `profile`; its other keys; each table of `untyped`; the plan of the boot; each
-/// table of `call`.
-/// `Text` is never answered. The format is this project's profile.
+/// of the table, the least by its bytes; the key `profile`; its other keys, of which `names` comes after `limit`; each table of
+/// `untyped`; the plan of the boot; each table of `call`.
+/// `Text` is never answered. The formats are this project's profile.
 #[tactic(auto, using(crate::proofs::Promises::Messages::messages_read, crate::proofs::Promises::Messages::never_text))]
 pub fn read_table(alloc: Global, table: &Table) -> Result<Setup, SetupFault>
     ensures setup { Gives (λ s. s) result (spec.setup_of (table_view table.now)) }
@@ -259,26 +276,36 @@ pub fn read_table(alloc: Global, table: &Table) -> Result<Setup, SetupFault>
     ensures messages { IfOk result (λ s. All (HasMessage s.profile) s.calls) }
     ensures never_text { IfErr result (λ e. e ≢ SetupFault.Text) }
 {
-    setup_of(alloc, table)
+    setup_up_to(NEWEST_FORMAT, alloc, table)
 }
 
-/// The set-up that a text is read as, or its first fault.
+/// The set-up that a table is read as by the rules of the first format alone, or its first fault.
 ///
 /// # Errors
 ///
-/// `Text` where the bytes are no TOML document; else as `read_table` of the document's table.
-#[tactic(auto, using(crate::proofs::Grammar::Bytes::bytes_of_text, crate::proofs::Grammar::Bytes::bytes_of_no_text))]
-pub fn read_setup(alloc: Global, bytes: &[u8]) -> Result<Setup, SetupFault>
-    ensures setup { Gives (λ s. s) result (spec.setup_of_bytes bytes.now) }
+/// As `read_table`, where every later format is refused as one that does not exist.
+pub fn read_first_format(alloc: Global, table: &Table) -> Result<Setup, SetupFault>
+    ensures setup { Gives (λ s. s) result (spec.first_format_setup_of (table_view table.now)) }
     ensures plan { IfOk result (λ s. IsPlan s.profile s.plan) }
     ensures bounds { IfOk result IsWithinBounds }
-    ensures messages { IfOk result (λ s. All (HasMessage s.profile) s.calls) }
+{
+    setup_up_to(FIRST_FORMAT, alloc, table)
+}
+
+/// The table of a TOML document.
+///
+/// # Errors
+///
+/// `Text` where the bytes are no TOML document; `Memory` where memory was refused.
+#[tactic(auto, using(crate::proofs::Grammar::Bytes::document_of_text, crate::proofs::Grammar::Bytes::document_of_no_text))]
+pub fn read_document(alloc: Global, bytes: &[u8]) -> Result<Table, SetupFault>
+    ensures { Gives table_view result (spec.document_of bytes.now) }
 {
     let Ok(text) = std::str::from_utf8(bytes) else {
         return Err(SetupFault::Text);
     };
     match toml::table_from_str(alloc, text) {
-        Ok(table) => read_table(alloc, &table),
+        Ok(table) => Ok(table),
         Err(e) => {
             if e.is_memory() {
                 Err(SetupFault::Memory)
@@ -287,4 +314,20 @@ pub fn read_setup(alloc: Global, bytes: &[u8]) -> Result<Setup, SetupFault>
             }
         }
     }
+}
+
+/// The set-up that a text is read as, or its first fault.
+///
+/// # Errors
+///
+/// `Text` where the bytes are no TOML document; else as `read_table` of the document's table.
+#[tactic(auto, unfolding(crate::specs::Setups::setup_of_bytes))]
+pub fn read_setup(alloc: Global, bytes: &[u8]) -> Result<Setup, SetupFault>
+    ensures setup { Gives (λ s. s) result (spec.setup_of_bytes bytes.now) }
+    ensures plan { IfOk result (λ s. IsPlan s.profile s.plan) }
+    ensures bounds { IfOk result IsWithinBounds }
+    ensures messages { IfOk result (λ s. All (HasMessage s.profile) s.calls) }
+{
+    let table = read_document(alloc, bytes)?;
+    read_table(alloc, &table)
 }

@@ -8,6 +8,7 @@ ghost use Rattle.toml.specs.Data.{get_member, as_table};
 ghost use Rattle.cap_core.specs.declared.profile.ProfileName.TheVariants.{Wide};
 ghost use Rattle.cap_core.specs.Rights.{all_rights};
 ghost use Rattle.setup_values.specs.Private.Seen.{names_view};
+ghost use Rattle.setup_values.specs.Keys.{entries_of};
 ghost use Rattle.setup_values.specs.Kinds as kind;
 ghost use Rattle.setup_format.specs.Faults.{Gives};
 ghost use Rattle.setup_format.specs.Tables as spec;
@@ -15,7 +16,9 @@ ghost use Rattle.setup_format.specs.Tables as spec;
 use crate::fault::{Key, Place, SetupFault, Wrong};
 use cap_core::limits::MAX_MESSAGE_WORDS;
 use cap_core::{Profile, ProfileName, Rights};
-use setup_values::kinds::{array, expect, label, number, op, profile, rights, word, words};
+use setup_values::kinds::{
+    array, expect, label, named_word, number, op, profile, rights, table_in, word, words,
+};
 use setup_values::{Name, OpName, Words};
 use std::alloc::Global;
 use toml::{Table, Value};
@@ -272,6 +275,42 @@ pub fn tables_or_none<'t>(
         Some(value) => {
             let elements = at_key(place, key, array(value, low, high))?;
             tables_of(alloc, elements, place, key)
+        }
+    }
+}
+
+/// What the entries of a table name; the first entry at fault is the one with the least name, since they ascend.
+fn names_of<P: Profile>(
+    alloc: Global,
+    table: &Table,
+    place: Place,
+    key: &'static str,
+) -> Result<Vec<Name>, SetupFault>
+    ensures { Gives (λ v. names_view v.items) result (spec.at_key place key.now (kind.names_in P.the (entries_of (table_view table.now)))) }
+{
+    let mut names = Vec::new(alloc);
+    for (text, value) in table.iter() {
+        let word = at_key(place, key, named_word::<P>(text.as_str(), value))?;
+        let text = text.clone()?;
+        names.push(Name { text, word })?;
+    }
+    Ok(names)
+}
+
+/// Names; none where the key is not there.
+pub fn names_or_none<P: Profile>(
+    alloc: Global,
+    table: &Table,
+    place: Place,
+    key: &'static str,
+) -> Result<Vec<Name>, SetupFault>
+    ensures { Gives (λ v. names_view v.items) result (spec.optional place (table_view table.now) key.now [] (kind.names P.the)) }
+{
+    match find(table, key) {
+        None => Ok(Vec::new(alloc)),
+        Some(value) => {
+            let table = at_key(place, key, table_in(value))?;
+            names_of::<P>(alloc, table, place, key)
         }
     }
 }

@@ -1,7 +1,7 @@
 -- The kinds of value: what each accepts, and what is wrong with any other value.
-use Rattle.std.specs.Prelude.{codes, ℕ, ◌+◌, ◌-◌, ◌*◌, ◌^◌, ℤ, pos, negsuc, List, [], ◌∷◌, ◌++◌, length, take, drop, replicate, Bool, ◌&&◌, ◌==◌, nat_lt, nat_le, if◌then◌else◌, Option, Some, None, option_and_then, Result, Ok, Err}
+use Rattle.std.specs.Prelude.{codes, ℕ, ◌+◌, ◌-◌, ◌*◌, ◌^◌, ℤ, pos, negsuc, List, [], ◌∷◌, ◌++◌, length, take, drop, replicate, Bool, ◌&&◌, ◌||◌, ◌==◌, is_err, nat_lt, nat_le, if◌then◌else◌, Option, Some, None, option_and_then, Result, Ok, Err}
 use Rattle.std.specs.Str.{bytes_eq}
-use Rattle.std.specs.List.{list_all}
+use Rattle.std.specs.List.{list_all, filter}
 use Rattle.toml.specs.Data.{Data, as_integer, as_str, as_array, as_table, Items, no_items, item, Members}
 use Rattle.cap_core.specs.declared.profile.ProfileName.{ProfileName}
 use Rattle.cap_core.specs.declared.profile.ProfileName.TheVariants.{Wide, Narrow}
@@ -9,13 +9,14 @@ use Rattle.cap_core.specs.declared.limits.TheConstants.{MAX_MESSAGE_WORDS}
 use Rattle.cap_core.specs.declared.rights.Rights.{Rights}
 use Rattle.cap_core.specs.Numbers.{word_bits, label_bits}
 use Rattle.cap_core.specs.Rights.{all_rights}
-use Rattle.setup_values.specs.declared.limits.TheConstants.{MAX_EXPECT_BYTES}
+use Rattle.setup_values.specs.declared.limits.TheConstants.{MAX_EXPECT_BYTES, MAX_NAME_BYTES}
 use Rattle.setup_values.specs.declared.values.OpName.{OpName}
 use Rattle.setup_values.specs.declared.values.OpName.TheVariants.{Retype, CapCopy, CapMint, CapMove, CapMutate, CapDelete, CapRevoke, CancelBadged, Send, NbSend, Recv, NbRecv, SetSpace, Suspend, Resume}
 use Rattle.setup_values.specs.declared.values.Words.{Words}
 use Rattle.setup_values.specs.declared.values.Wrong.{Wrong}
 use Rattle.setup_values.specs.declared.values.Wrong.TheVariants.{Unknown, Missing, OtherType, OtherValue}
 use Rattle.setup_values.specs.Names.{Names, word_named}
+use Rattle.setup_values.specs.Keys.{entries_of, least}
 
 -- ---- the number of what is wrong with a value or at its key
 
@@ -129,6 +130,34 @@ table_in (Some ms) = Ok ms
 
 abbrev pub tables : ℕ → ℕ → Data → Result (List Members) Wrong
 tables low high d = array_in low high (as_array d) >>= each (λ _ e. table_in (as_table e)) 0
+
+-- names: a table from names to words; a word here takes no name
+-- 95 is `_`
+abbrev pub is_name_byte : ℕ → Bool
+is_name_byte c = between 97 122 c || (between 48 57 c || c == 95)
+
+-- a name: 1 to 40 lower-case letters, digits or `_`
+abbrev pub is_name : List ℕ → Bool
+is_name text = between 1 MAX_NAME_BYTES (length text) && list_all is_name_byte text
+
+-- an entry: its name is looked at first, then its value
+abbrev pub entry : ProfileName → List ℕ × Data → Result (List ℕ × ℕ) Wrong
+entry p e = if is_name e.0 then (word p [] e.1 >>= λ n. Ok (e.0, n)) else Err OtherValue
+
+-- the entry at fault whose name is the least
+abbrev pub entry_at_fault : ProfileName → List (List ℕ × Data) → Option (List ℕ × Data)
+entry_at_fault p entries = least (λ e. e.0) (filter (λ e. is_err (entry p e)) entries)
+
+-- where an entry is at fault, that one is told; otherwise all are read
+abbrev pub told : {A : Type 0} → Option A → List A → List A
+told None entries = entries
+told (Some e) entries = e ∷ []
+
+abbrev pub names_in : ProfileName → List (List ℕ × Data) → Result Names Wrong
+names_in p entries = each (λ _. entry p) 0 (told (entry_at_fault p entries) entries)
+
+abbrev pub names : ProfileName → Data → Result Names Wrong
+names p d = table_in (as_table d) >>= λ table. names_in p (entries_of table)
 
 -- expect: a text of 1 to 120 bytes, each from a space to `~`
 abbrev pub expect_in : Option (List ℕ) → Result (Option (List ℕ)) Wrong

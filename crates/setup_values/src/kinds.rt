@@ -1,18 +1,18 @@
 //! The kinds of value that a set-up's keys take.
 ghost use Rattle.std.specs.Prelude.{◌≡◌, ◌<◌, ◌≤◌, ◌^◌, length, drop, IfSome, IfOk, Some, map, nat_lt};
 ghost use Rattle.std.specs.List.{list_all};
-ghost use Rattle.toml.specs.View.{view};
-ghost use Rattle.toml.specs.Data.{as_array, as_integer, as_str};
+ghost use Rattle.toml.specs.View.{view, table_view};
+ghost use Rattle.toml.specs.Data.{as_array, as_integer, as_str, as_table};
 ghost use Rattle.cap_core.specs.Numbers.{word_bits, label_bits};
 ghost use Rattle.setup_values.specs.Private.Seen.{names_view, seen};
 ghost use Rattle.setup_values.specs.Kinds as kind;
 
 use crate::limits::MAX_EXPECT_BYTES;
-use crate::names::{Name, word_of};
+use crate::names::{Name, is_name, word_of};
 use crate::values::{OpName, Words, Wrong};
 use cap_core::limits::MAX_MESSAGE_WORDS;
 use cap_core::{Profile, ProfileName, Rights};
-use toml::Value;
+use toml::{Table, Value};
 
 /// An integer from `low` to `high`.
 pub fn number(value: &Value, low: u32, high: u32) -> Result<u32, Wrong>
@@ -164,6 +164,23 @@ pub fn words<P: Profile>(names: &[Name], value: &Value) -> Result<Words, Wrong>
         words,
         count: elements.len() as u32,
     })
+}
+
+/// A table.
+pub fn table_in(value: &Value) -> Result<&Table, Wrong>
+    ensures { seen (λ t. table_view t.now) result ≡ kind.table_in (as_table (view value.now)) }
+{
+    value.as_table().ok_or(Wrong::OtherType)
+}
+
+/// The word that an entry of a table of names gives to its name. It takes no name itself.
+pub fn named_word<P: Profile>(name: &str, value: &Value) -> Result<u64, Wrong>
+    ensures { seen (λ n. (name.now, n)) result ≡ kind.entry P.the (name.now, view value.now) }
+{
+    if !is_name(name.as_bytes()) {
+        return Err(Wrong::OtherValue);
+    }
+    word::<P>(&[], value)
 }
 
 fn is_shown(text: &[u8]) -> bool

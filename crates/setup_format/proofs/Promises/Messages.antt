@@ -19,17 +19,18 @@ use Rattle.setup_format.specs.declared.fault.Place.TheVariants as places
 use Rattle.setup_format.specs.declared.fault.SetupFault.{SetupFault}
 use Rattle.setup_format.specs.declared.fault.SetupFault.TheVariants as faults
 use Rattle.setup_values.specs.declared.values.OpName.{OpName}
-use Rattle.setup_values.specs.declared.values.OpName.TheVariants as names
+use Rattle.setup_values.specs.declared.values.OpName.TheVariants as op_names
 use Rattle.setup_format.specs.declared.setup.Sizes.{Sizes}
 use Rattle.setup_values.specs.declared.values.Words.{Words}
 use Rattle.setup_values.specs.Names.{Names}
+use Rattle.setup_format.specs.declared.limits.TheConstants.{NEWEST_FORMAT}
 use Rattle.setup_format.specs.Views.{SetupView}
 use Rattle.setup_format.specs.Faults.{Fault, text, at, layout, Gives}
 use Rattle.setup_values.specs.Kinds.{◌>>=◌, below, number, word, rights, label, each, array_in, item_list, words, filled}
 use Rattle.setup_format.specs.Tables.{at_key, needed, given_or, required, optional, known_only, least_unknown, no_unknown}
 use Rattle.setup_format.specs.Messages.{IsMessage, SendsMessage, HasMessage}
 use Rattle.setup_format.specs.Operations.{retype_at, slots_at, copy_at, mint_at, move_at, mutate_at, delete_at, revoke_at, cancel_badged_at, message_at, send_at, nb_send_at, recv_at, nb_recv_at, set_space_at, suspend_at, resume_at, operation_at}
-use Rattle.setup_format.specs.Setups.{top_keys, untyped_keys, untyped_at, call_at, sizes_of, planned_with, laid_out, laid_out_unless, setup_with, setup_at, setup_of}
+use Rattle.setup_format.specs.Setups.{top_keys, untyped_keys, untyped_at, call_at, sizes_of, planned_with, laid_out, laid_out_unless, setup_with, setup_at, setup_up_to, setup_of}
 
 -- a fact holds of what is read, and there is no fault of the text
 abbrev Reads : {A : Type 0} → (A → Type 0) → Result A Fault → Type 0
@@ -243,21 +244,21 @@ reads_resume p names place table =
     then_reads Anything (SendsMessage p) _ _ (reads_required place table (codes "cap") (word p names)) (λ cap _. tt)
 
 reads_operation : (p : ProfileName) (op : OpName) (names : Names) (place : Place) (table : Members) → Reads (SendsMessage p) (operation_at p op names place table)
-reads_operation p names.Retype names place table = reads_retype p names place table
-reads_operation p names.CapCopy names place table = reads_copy p names place table
-reads_operation p names.CapMint names place table = reads_mint p names place table
-reads_operation p names.CapMove names place table = reads_move p names place table
-reads_operation p names.CapMutate names place table = reads_mutate p names place table
-reads_operation p names.CapDelete names place table = reads_delete p names place table
-reads_operation p names.CapRevoke names place table = reads_revoke p names place table
-reads_operation p names.CancelBadged names place table = reads_cancel_badged p names place table
-reads_operation p names.Send names place table = reads_send p names place table
-reads_operation p names.NbSend names place table = reads_nb_send p names place table
-reads_operation p names.Recv names place table = reads_recv p names place table
-reads_operation p names.NbRecv names place table = reads_nb_recv p names place table
-reads_operation p names.SetSpace names place table = reads_set_space p names place table
-reads_operation p names.Suspend names place table = reads_suspend p names place table
-reads_operation p names.Resume names place table = reads_resume p names place table
+reads_operation p op_names.Retype names place table = reads_retype p names place table
+reads_operation p op_names.CapCopy names place table = reads_copy p names place table
+reads_operation p op_names.CapMint names place table = reads_mint p names place table
+reads_operation p op_names.CapMove names place table = reads_move p names place table
+reads_operation p op_names.CapMutate names place table = reads_mutate p names place table
+reads_operation p op_names.CapDelete names place table = reads_delete p names place table
+reads_operation p op_names.CapRevoke names place table = reads_revoke p names place table
+reads_operation p op_names.CancelBadged names place table = reads_cancel_badged p names place table
+reads_operation p op_names.Send names place table = reads_send p names place table
+reads_operation p op_names.NbSend names place table = reads_nb_send p names place table
+reads_operation p op_names.Recv names place table = reads_recv p names place table
+reads_operation p op_names.NbRecv names place table = reads_nb_recv p names place table
+reads_operation p op_names.SetSpace names place table = reads_set_space p names place table
+reads_operation p op_names.Suspend names place table = reads_suspend p names place table
+reads_operation p op_names.Resume names place table = reads_resume p names place table
 
 reads_call : (p : ProfileName) (names : Names) (clients n : ℕ) (table : Members) → Reads (HasMessage p) (call_at p names clients n table)
 unfolding call_at
@@ -314,12 +315,12 @@ reads_plan p plan = unless (first_defect p plan)
 abbrev HaveMessages : SetupView → Type 0
 HaveMessages s = AllByRecursion (HasMessage s.profile) s.calls
 
-reads_setup_with : (p : ProfileName) (sizes : Sizes) (clients limit : ℕ) (untyped call : List Members) → Reads HaveMessages (setup_with p sizes clients limit untyped call)
+reads_setup_with : (p : ProfileName) (names : Names) (sizes : Sizes) (clients limit : ℕ) (untyped call : List Members) → Reads HaveMessages (setup_with p names sizes clients limit untyped call)
 unfolding setup_with
-reads_setup_with p sizes clients limit untyped call =
+reads_setup_with p names sizes clients limit untyped call =
     then_reads Anything HaveMessages (each (untyped_at p) 1 untyped) _ (each_anything IsRegion _ (reads_each IsRegion (untyped_at p) (reads_untyped p) 1 untyped))
     (λ untypeds _. then_reads Anything HaveMessages (laid_out p (planned_with sizes untypeds)) _ (reads_plan p (planned_with sizes untypeds))
-    (λ plan _. then_reads (AllByRecursion (HasMessage p)) HaveMessages (each (call_at p [] clients) 1 call) _ (reads_each (HasMessage p) (call_at p [] clients) (reads_call p [] clients) 1 call)
+    (λ plan _. then_reads (AllByRecursion (HasMessage p)) HaveMessages (each (call_at p names clients) 1 call) _ (reads_each (HasMessage p) (call_at p names clients) (reads_call p names clients) 1 call)
     (λ calls all. all)))
 
 reads_setup_at : (p : ProfileName) (table : Members) → Reads HaveMessages (setup_at p table)
@@ -328,24 +329,25 @@ reads_setup_at p table =
     then_reads Anything HaveMessages _ _ (reads_sizes table)
     (λ sizes _. then_reads Anything HaveMessages _ _ (reads_any _ table (codes "clients") 1 _)
     (λ clients _. then_reads Anything HaveMessages _ _ (reads_any _ table (codes "limit") 0 _)
-    (λ limit _. then_reads Anything HaveMessages _ _ (reads_any _ table (codes "untyped") [] _)
+    (λ limit _. then_reads Anything HaveMessages _ _ (reads_any _ table (codes "names") [] _)
+    (λ names _. then_reads Anything HaveMessages _ _ (reads_any _ table (codes "untyped") [] _)
     (λ untyped _. then_reads Anything HaveMessages _ _ (reads_any _ table (codes "call") [] _)
-    (λ call _. reads_setup_with p sizes clients limit untyped call)))))
+    (λ call _. reads_setup_with p names sizes clients limit untyped call))))))
 
-reads_setup : (table : Members) → Reads HaveMessages (setup_of table)
-unfolding setup_of
-reads_setup table =
+reads_setup : (newest : ℕ) (table : Members) → Reads HaveMessages (setup_up_to newest table)
+unfolding setup_up_to
+reads_setup newest table =
     then_reads Anything HaveMessages _ _ (reads_required _ table (codes "format") _)
-    (λ format _. then_reads Anything HaveMessages (known_only places.Top table top_keys) _ (reads_known places.Top table top_keys)
+    (λ format _. then_reads Anything HaveMessages (known_only places.Top table (top_keys format)) _ (reads_known places.Top table (top_keys format))
     (λ known _. then_reads Anything HaveMessages _ _ (reads_any _ table (codes "profile") Wide _) (λ p _. reads_setup_at p table)))
 
 pub messages_read : (table : Members) (r : Result SetupView SetupFault) → Gives (λ s. s) r (setup_of table) → IfOk r (λ s. All (HasMessage s.profile) s.calls)
-messages_read table (Ok s) h = All-from_recursion (HasMessage s.profile) s.calls (subst (Reads HaveMessages) h (reads_setup table))
+messages_read table (Ok s) h = All-from_recursion (HasMessage s.profile) s.calls (subst (Reads HaveMessages) h (reads_setup NEWEST_FORMAT table))
 messages_read table (Err e) h = tt
 
 pub never_text : (table : Members) (r : Result SetupView SetupFault) → Gives (λ s. s) r (setup_of table) → IfErr r (λ e. e ≢ faults.Text)
 never_text table (Ok s) h = tt
-never_text table (Err faults.Text) h = absurd (subst (Reads HaveMessages) h (reads_setup table))
+never_text table (Err faults.Text) h = absurd (subst (Reads HaveMessages) h (reads_setup NEWEST_FORMAT table))
 never_text table (Err (faults.At wrong place key)) h = λ e. cc
 never_text table (Err (faults.Layout defect)) h = λ e. cc
 never_text table (Err faults.Memory) h = λ e. cc

@@ -1,0 +1,77 @@
+//! The engine that writes a set-up of format 1 as one of format 2.
+ghost use Rattle.std.specs.Prelude.{◌≡◌, ◌≢◌, false, IfOk, Some};
+ghost use Rattle.toml.specs.Parse.{parse_document};
+ghost use Rattle.toml.specs.View.{table_view};
+ghost use Rattle.engine.specs.Migrations.{IsMigration};
+ghost use Rattle.engine.specs.Runs.{IsRun};
+
+use crate::depth::table_is_within;
+use crate::engines::{Engine, run_engine};
+use crate::fault::{RunFault, Verdict};
+use crate::run::refusal;
+use crate::sink::Sink;
+use crate::source::Source;
+use setup_migrate::migrate;
+use setup_read::SetupFault;
+use std::alloc::{AllocError, Global};
+use toml::Table;
+
+/// How many levels of arrays and tables `toml` reads.
+const TOML_LEVELS: usize = 80;
+
+/// The text that `toml` prints of a table that a set-up is migrated to, and that it reads as that table.
+fn table_text(alloc: Global, table: &Table) -> Result<Vec<u8>, AllocError>
+    ensures { IfOk result (λ text. parse_document text.items ≡ Some (table_view table.now)) }
+{
+    // The tables of a set-up have four levels and no dates. So only memory can be lacking.
+    if !table_is_within(table, TOML_LEVELS) {
+        return Err(AllocError);
+    }
+    match toml::table_to_string(alloc, table) {
+        Ok(text) => Ok(text.into_bytes()),
+        Err(_) => Err(AllocError),
+    }
+}
+
+/// The text that is written for the bytes of a set-up of format 1, and the verdict.
+fn migration_of(alloc: Global, bytes: &[u8]) -> Result<(Vec<u8>, Verdict), AllocError>
+    ensures { IfOk result (λ made. IsMigration bytes.now made.0.items made.1) }
+{
+    match migrate(alloc, bytes) {
+        Ok(table) => Ok((table_text(alloc, &table)?, Verdict::AllMet)),
+        Err(SetupFault::Memory) => Err(AllocError),
+        Err(fault) => Ok((refusal(alloc, &fault)?, Verdict::Refused)),
+    }
+}
+
+/// Makes a set-up of format 2 of one of format 1.
+struct Migrator;
+
+impl Engine for Migrator {
+    ghost means = { λ migrator. IsMigration };
+
+    ghost starts_threads = { λ migrator. false };
+
+    fn make(&self, alloc: Global, input: &[u8]) -> Result<(Vec<u8>, Verdict), RunFault> {
+        migration_of(alloc, input).map_err(|_| RunFault::Memory)
+    }
+}
+
+/// Reads the source to its end, and writes to the sink the set-up of format 1 that it holds as one of format 2, or the line of a
+/// refusal. The verdict is `AllMet` or `Refused`.
+///
+/// # Errors
+/// `Reading` where a read failed in this call, or where `INPUT_LIMIT` bytes came without an end; nothing is written then.
+/// `Writing` where a write failed or took no byte; a front of the text was written then. `Memory`; nothing is written then.
+pub fn migrate_run<S: Source, K: Sink>(
+    alloc: Global,
+    source: &mut S,
+    sink: &mut K,
+) -> Result<Verdict, RunFault>
+    requires source { S.failed source.old ≡ false }
+    requires sink { K.failed sink.old ≡ false }
+    ensures run { IsRun IsMigration S.Source K.Sink source.old source.new sink.old sink.new result }
+    ensures never_thread { result ≢ Err RunFault.Thread }
+{
+    run_engine(alloc, &Migrator, source, sink)
+}

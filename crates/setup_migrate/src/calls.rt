@@ -1,0 +1,77 @@
+//! The threads of a set-up's calls, by their names.
+ghost use Rattle.std.specs.Prelude.{◌≡◌, codes, IfOk};
+ghost use Rattle.toml.specs.View.{view, items_view, table_view};
+ghost use Rattle.abstract_kernel.specs.Plan.{IsPlan};
+ghost use Rattle.setup_migrate.specs.Migration as spec;
+
+use boot_plan::BootPlan;
+use cap_core::Profile;
+use setup_values::kinds::word;
+use std::alloc::{AllocError, Global};
+use toml::{Table, Value};
+
+/// The number of the boot thread at an address.
+fn thread_at<P: Profile>(plan: &BootPlan, address: u64) -> Option<u32>
+    requires { IsPlan P.the plan.now }
+    ensures { result ≡ spec.thread_at P.the plan.now address }
+{
+    (0..plan.threads()).find(|i| plan.tcb_place::<P>(*i) == address)
+}
+
+/// The number of the boot thread whose address a value stands for.
+fn boot_thread<P: Profile>(plan: &BootPlan, thread: &Value) -> Option<u32>
+    requires { IsPlan P.the plan.now }
+    ensures { result ≡ spec.boot_thread P.the plan.now (view thread.now) }
+{
+    let address = word::<P>(&[], thread).ok()?;
+    thread_at::<P>(plan, address)
+}
+
+/// Replaces the thread of a call by its name, where it is a boot thread.
+fn name_thread<P: Profile>(
+    alloc: Global,
+    plan: &BootPlan,
+    call: &mut Table,
+) -> Result<(), AllocError>
+    requires { IsPlan P.the plan.now }
+    ensures { IfOk result (λ _. table_view call.new ≡ spec.with_changed (codes "thread") (spec.named_thread P.the plan.now) (table_view call.old)) }
+{
+    if let Some(thread) = call.get_mut("thread") {
+        if let Some(i) = boot_thread::<P>(plan, thread) {
+            *thread = Value::String(format!(in alloc; "@thread_{i}")?);
+        }
+    }
+    Ok(())
+}
+
+/// Replaces the thread of each call by its name, where it is a boot thread.
+fn name_each_thread<P: Profile>(
+    alloc: Global,
+    plan: &BootPlan,
+    calls: &mut [Value],
+) -> Result<(), AllocError>
+    requires { IsPlan P.the plan.now }
+    ensures { IfOk result (λ _. items_view calls.new ≡ spec.each_item (spec.named_call P.the plan.now) (items_view calls.old)) }
+{
+    for i in 0..calls.len() {
+        if let Value::Table(call) = &mut calls[i] {
+            name_thread::<P>(alloc, plan, call)?;
+        }
+    }
+    Ok(())
+}
+
+/// Replaces the threads of the calls of a set-up's table by their names.
+pub fn name_threads<P: Profile>(
+    alloc: Global,
+    plan: &BootPlan,
+    table: &mut Table,
+) -> Result<(), AllocError>
+    requires { IsPlan P.the plan.now }
+    ensures { IfOk result (λ _. table_view table.new ≡ spec.with_changed (codes "call") (spec.named_calls P.the plan.now) (table_view table.old)) }
+{
+    if let Some(Value::Array(calls)) = table.get_mut("call") {
+        name_each_thread::<P>(alloc, plan, calls)?;
+    }
+    Ok(())
+}

@@ -1,0 +1,8 @@
+//! Migration: the set-up of format 2 that stands for a set-up of format 1.
+#![tactic(auto)]
+
+mod calls;
+mod migration;
+mod names;
+
+pub use migration::migrate;
