@@ -8,6 +8,7 @@ ghost use Rattle.abstract_kernel.specs.Shown.{state_at, inbox_at, waiting_at, ha
 ghost use Rattle.abstract_kernel.specs.Decode.{decoded_call};
 ghost use Rattle.abstract_kernel.specs.Private.Effects.{send_effect, receive_effect, effect_of, performed_effect, rearranged, objects_shown, IsReady, IsLiveEndpoint};
 ghost use Rattle.abstract_kernel.specs.CNodes.{with_derived, with_moved};
+ghost use Rattle.abstract_kernel.specs.Waiting.{AreStatesAndLists, IsNextWaiting};
 ghost use Rattle.abstract_kernel.specs.Memory.{IsInMemory, IsAligned};
 ghost use Rattle.abstract_kernel.specs.Regions.{AreObjectsApart, IsForest};
 ghost use Rattle.abstract_kernel.specs.Private.Invocations.{IsInvocation, IsRetype, IsDerivation, IsMove};
@@ -325,14 +326,25 @@ impl<P: Profile, S: CapStore<P> + Drop, W: Waiters<P> + Drop> Kernel<P, S, W> {
     }
 
     /// The thread that waits at a place of an endpoint's waiting list, 0 the first; `None` past its end, and where no
-    /// live endpoint is at the address. It takes no memory.
+    /// live endpoint is at the address. Of each kernel, who waits on an endpoint is shown to do there what the list has it
+    /// do, once, a thread that is shown to wait is in the list, and all in one list send, or all receive. It takes no memory.
     pub fn waiting(&self, endpoint: u64, place: u64) -> Option<u64>
-        ensures { result ≡ option_map thread_of (slice_get (waiting_at self.now endpoint) place) }
+        ensures thread { result ≡ option_map thread_of (slice_get (waiting_at self.now endpoint) place) }
+        ensures agree { AreStatesAndLists self.now }
     {
         if is_endpoint_address::<P>(self.threads.memory_bits, endpoint) {
             self.threads.waiters.waiting(endpoint, place)
         } else {
             None
         }
+    }
+
+    /// The thread that waits behind another one, on the same endpoint: a waiting list is read from its first thread on,
+    /// each thread in turn. `None` where that thread is the last, or waits nowhere. It takes no memory.
+    pub fn next_waiting(&self, tcb: u64) -> Option<u64>
+        ensures { IsNextWaiting self.now tcb result }
+    {
+        row_at::<P>(self.threads.rows.as_slice(), tcb)?;
+        self.threads.waiters.next_waiting(tcb)
     }
 }
