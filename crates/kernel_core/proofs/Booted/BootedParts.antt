@@ -14,7 +14,7 @@ use Rattle.abstract_kernel.specs.Plan.{Plan, IsPlan, first_tcb}
 use Rattle.kernel_core.specs.Rows.{IsKernel, IsBetweenCalls}
 use Rattle.kernel_core.specs.Private.BootRows.{boot_row, boot_rows}
 use Rattle.abstract_kernel.specs.Boot.{boot_forest}
-use Rattle.kernel_core.proofs.Capabilities.PlacementSteps.{pow_fits}
+use Rattle.abstract_kernel.proofs.Capabilities.PlacementSteps.{pow_fits}
 use Rattle.abstract_kernel.proofs.Boot.SoundPlans.{objects_within}
 use Rattle.kernel_core.proofs.Booted.BootThreads.{places, live_at_boot}
 use Rattle.abstract_kernel.proofs.Boot.BootedStore.{store_at_boot}

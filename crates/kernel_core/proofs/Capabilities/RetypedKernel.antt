@@ -33,7 +33,7 @@ use Rattle.abstract_kernel.proofs.Lists.Searches.{table_agrees}
 use Rattle.abstract_kernel.proofs.Retype.LiveRetyped.{live-objects, untyped_full, tcb_base-freed, endpoint_base-freed}
 use Rattle.abstract_kernel.proofs.Retype.PutInOrder.{CanMake}
 use Rattle.abstract_kernel.proofs.Retype.RetypedForest.{lies, untyped_lawful, made, made_lawful, made_placed}
-use Rattle.kernel_core.proofs.Capabilities.PutObjects.{object_below, object_word}
+use Rattle.abstract_kernel.proofs.Capabilities.PutObjects.{object_below, object_word}
 use Rattle.abstract_kernel.proofs.Retype.NewlyLive.{threads_were_not}
 
 -- a map to which values were added one after another

@@ -1,6 +1,5 @@
 -- Who waits, by what a kernel shows: its waiting lists and what its threads do agree.
-use Rattle.std.proofs.Common.{◌≡◌, ◌≢◌, ℕ, zero, suc, ◌+◌, Bool, true, false, cond, List, [], ◌∷◌, map, Option, None, Some, IsSomeAnd, option_map, slice_get, refl, sym, ap, subst, ◌∙◌, inl, inr}
-use Rattle.std.proofs.lemmas.Bool.{false≢true, eqb-true}
+use Rattle.std.proofs.Common.{◌≡◌, ◌≢◌, ℕ, ◌+◌, Bool, true, false, cond, List, [], ◌∷◌, map, Option, None, Some, IsSomeAnd, option_map, slice_get, refl, sym, ap, subst, ◌∙◌}
 use Rattle.std.proofs.lemmas.List.Elements.{recursion_from_All}
 use Rattle.std.specs.List.{list_any, AllByRecursion as Each}
 use Rattle.std.specs.FinMap.{get}
@@ -16,10 +15,10 @@ use Rattle.ipc_core.specs.declared.waiter.Role.TheVariants as R
 use Rattle.ipc_core.specs.Waits.{Waits, thread_of, role_at, endpoint_of, IsNextBehind}
 use Rattle.ipc_core.specs.Cancelled.{is_thread}
 use Rattle.ipc_core.specs.Agreement.{DoTheSame, AreRolesAndQueues}
-use Rattle.clearing.proofs.Members.{either_true}
 use Rattle.abstract_kernel.specs.declared.call.ThreadState.TheVariants.{Ready, Inactive, Sending, Receiving}
 use Rattle.abstract_kernel.specs.Shown.{Shown, state_at, waiting_at}
 use Rattle.abstract_kernel.specs.Waiting.{state_in, thread_waiting, AreStatesAndLists, IsNextWaiting}
+use Rattle.abstract_kernel.proofs.Lists.Places.{place_of, at_place}
 use Rattle.kernel_core.specs.declared.rows.ThreadRow.{ThreadRow}
 use Rattle.kernel_core.specs.Rows.{rows_map, kernel_shown, IsActive, IsKernel, state_with}
 use Rattle.kernel_core.proofs.Messages.KernelParts.{waiting_is}
@@ -55,20 +54,6 @@ receives_so e (Some row) None is = by row.inactive is
     by false is = cc
 receives_so e (Some row) (Some (R.Sending q)) is = cc
 receives_so e (Some row) (Some (R.Receiving q)) is = let d : q ≡ e = cc in ap (λ n. Some (R.Receiving n)) d
-
--- a thread in a list stands at some place of it
-place_of : (t : ℕ) (l : List Waiter) → list_any (is_thread t) l ≡ true → (place : ℕ) × (option_map thread_of (slice_get l place) ≡ Some t)
-place_of t [] there = absurd (false≢true there)
-place_of t (x ∷ l) there = elim (either_true (is_thread t x) (list_any (is_thread t) l) there) [
-  | inl here ↦ (0, ap Some (eqb-true (thread_of x) t here))
-  | inr later ↦ let found = place_of t l later in (suc found.0, found.1)
-]
-
--- what holds of all threads of a list holds of the one at a place
-at_place : (P : ℕ → Type 0) (l : List Waiter) (place t : ℕ) → Each (λ x. P (thread_of x)) l → option_map thread_of (slice_get l place) ≡ Some t → P t
-at_place P [] place t all is = cc
-at_place P (x ∷ l) zero t all is = let d : thread_of x ≡ t = cc in subst P d all.0
-at_place P (x ∷ l) (suc place) t all is = at_place P l place t all.1 is
 
 module _ (p : ProfileName) (memory store waiters : ℕ) (f : Forest Entry) (rows : List (Option ThreadRow)) (w : Waits) (kernel : IsKernel p memory store waiters f rows w) (agree : AreRolesAndQueues w)
     (v : Shown) (view : kernel_shown p f rows w ≡ v) where
