@@ -9,3 +9,5 @@ pub mod LiveAfter
 pub mod SpacesSet
 pub mod Rearranged
 pub mod StaysInMemory
+pub mod PlacementSteps
+pub mod PutObjects

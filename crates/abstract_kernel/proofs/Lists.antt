@@ -4,3 +4,4 @@ pub mod Rising
 pub mod Numbered
 pub mod Tables
 pub mod Searches
+pub mod Places

@@ -17,4 +17,5 @@ pub mod Cancelling
 pub mod Laws
 pub mod Regions
 pub mod Memory
+pub mod Waiting
 pub mod Private

@@ -1,3 +1,4 @@
 pub mod Histories
+pub mod SendersOrReceivers
 pub mod RowForm
 pub mod QueueForm

@@ -1,9 +1,10 @@
 //! Waiting threads as queues inside tables.
 ghost use Rattle.std.specs.Prelude.{◌*◌, ◌^◌, ◌≤◌, length};
 ghost use Rattle.cap_core.specs.Numbers.{tcb_size, endpoint_size};
+ghost use Rattle.ipc_core.specs.Agreement.{AreAlike};
 ghost use Rattle.ipc_core.specs.Representation.Linked.{IsLinked, waits_in};
 ghost use Rattle.ipc_core.specs.Representation.TablesAgree.{tables_agree};
-ghost use Rattle.ipc_core.specs.Representation.Alike.{linked-prop};
+ghost use Rattle.ipc_core.specs.Representation.Alike.{linked-prop, alike-prop};
 
 use crate::tables::{EndpointRow, Tables, ThreadRow};
 use crate::waiter::{Received, Role, Sent};
@@ -22,6 +23,7 @@ pub struct LinkedWaiters<P: Profile> {
     memory_bits: u32,
     profile: PhantomData<P>,
     ghost linked: { IsLinked P.the tables } by { linked-prop P.the tables },
+    ghost alike: { AreAlike (waits_in P.the tables) } by { alike-prop (waits_in P.the tables) },
     ghost threads: { 2 ^ memory_bits ≤ length tables.threads.items * tcb_size P.the },
     ghost endpoints: { 2 ^ memory_bits ≤ length tables.endpoints.items * endpoint_size P.the },
 }
@@ -31,7 +33,7 @@ impl<P: Profile> Waiters<P> for LinkedWaiters<P> {
 
     ghost memory_bits = { λ w. w.memory_bits };
 
-    ghost agree = { λ w. tables_agree P.the w.tables w.linked };
+    ghost agree = { λ w. tables_agree P.the w.tables w.linked w.alike };
 
     #[inline]
     fn send(

@@ -1,8 +1,10 @@
 //! Waiting threads as rows.
 ghost use Rattle.std.specs.Prelude.{◌*◌, ◌^◌, ◌≤◌, vec_capacity};
 ghost use Rattle.cap_core.specs.Numbers.{tcb_size};
+ghost use Rattle.ipc_core.specs.Agreement.{AreAlike};
 ghost use Rattle.ipc_core.specs.Representation.Rows.{waits_of, AreDistinct, ArePlaced};
 ghost use Rattle.ipc_core.specs.Representation.RowsAgree.{rows_agree};
+ghost use Rattle.ipc_core.specs.Representation.Alike.{alike-prop};
 
 use crate::row::{
     WaitRow, first_receiver, first_sender, next_waiting, push_row, remove_first, waiter_at,
@@ -23,6 +25,7 @@ pub struct RowWaiters<P: Profile> {
     profile: PhantomData<P>,
     ghost distinct: { AreDistinct rows.items },
     ghost placed: { ArePlaced P.the memory_bits rows.items },
+    ghost alike: { AreAlike (waits_of rows.items) } by { alike-prop (waits_of rows.items) },
     ghost room: { 2 ^ memory_bits ≤ vec_capacity rows * tcb_size P.the },
 }
 
@@ -31,7 +34,7 @@ impl<P: Profile> Waiters<P> for RowWaiters<P> {
 
     ghost memory_bits = { λ w. w.memory_bits };
 
-    ghost agree = { λ w. rows_agree w.rows.items w.distinct };
+    ghost agree = { λ w. rows_agree w.rows.items w.distinct w.alike };
 
     fn send(
         &mut self,

@@ -14,7 +14,8 @@ use std::alloc::{AllocError, Global};
 /// The threads that wait on endpoints (seL4 Reference Manual, on endpoints), by the addresses of both.
 ///
 /// Contracts see who waits where, in what order, and the bits of the memory's size. No call takes memory. Whoever waits on an
-/// endpoint has the role of waiting there, once, and a thread with a role waits where the role says.
+/// endpoint has the role of waiting there, once, and a thread with a role waits where the role says. All that wait on one
+/// endpoint send, or all receive.
 /// An endpoint's address is a multiple of its size within the memory, and a thread's likewise.
 pub trait Waiters<P: Profile> {
     ghost waits: { Self → Waits };

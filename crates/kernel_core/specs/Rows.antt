@@ -10,6 +10,7 @@ use Rattle.cap_core.specs.Objects.{IsLawful}
 use Rattle.derivation.specs.Forest.{Forest}
 use Rattle.derivation.specs.Entries.{Entry, slots, caps}
 use Rattle.derivation.specs.Disjoint.{IsDisjoint}
+use Rattle.clearing.specs.Housed.{IsHoused}
 use Rattle.ipc_core.specs.declared.waiter.Waiter.{Waiter}
 use Rattle.ipc_core.specs.declared.waiter.Role.{Role}
 use Rattle.ipc_core.specs.Waits.{Waits, thread_of}
@@ -57,10 +58,10 @@ kernel_shown p f rows w =
 abbrev pub IsActive : ℕ → List (Option ThreadRow) → ℕ → Type 0
 IsActive size rows t = IsSomeAnd (get (rows_map size rows) t) (λ (row : ThreadRow). row.inactive ≡ false)
 
--- what holds of every kernel's parts: one memory, in which the slots stand apart and name lawful, disjoint objects, those
--- below a capability in its region; a place for the row of each thread control block, and a row for each live thread; each
--- waiting thread has a row and is active; and nobody waits on an
--- endpoint that is not live, nor in a thread that has no row
+-- what holds of every kernel's parts: one memory, in which the slots stand apart, in live objects, and name lawful, disjoint
+-- objects, those below a capability in its region; a place for the row of each thread control block, and a row for each live
+-- thread; each waiting thread has a row and is active; and nobody waits on an endpoint that is not live, nor in a thread that
+-- has no row
 pub record IsKernel (p : ProfileName) (memory store_memory waiters_memory : ℕ) (f : Forest Entry) (rows : List (Option ThreadRow)) (w : Waits) : Type 0 where
   pub store_memory_is : store_memory ≡ memory
   pub waiters_memory_is : waiters_memory ≡ memory
@@ -72,6 +73,7 @@ pub record IsKernel (p : ProfileName) (memory store_memory waiters_memory : ℕ)
   pub lawful : All (IsLawful p memory) (caps f)
   pub disjoint : IsDisjoint p f
   pub regions : AreRegions p f
+  pub housed : IsHoused p f
   pub live_rows : (t : ℕ) → is_some (get (rows_map (tcb_size p) rows) t) ≡ list_any (λ k. t == k) (threads_of f)
   pub waiting_active : (e : ℕ) → All (λ (x : Waiter). IsActive (tcb_size p) rows (thread_of x)) (w.queue e)
   pub dead_queue : (e : ℕ) → list_any (λ k. e == k) (endpoints_of f) ≡ false → w.queue e ≡ []

@@ -1,6 +1,7 @@
 //! Boot: a kernel from a plan.
 ghost use Rattle.std.specs.Prelude.{◌≡◌, ◌+◌, ◌-◌, ◌/◌, ◌^◌, ◌<◌, ◌++◌, IfOk, OnOk};
 ghost use Rattle.derivation.specs.Forest.{none};
+ghost use Rattle.clearing.specs.Housed.{IsHoused};
 ghost use Rattle.kernel_core.specs.Private.BootRows.{boot_rows};
 ghost use Rattle.abstract_kernel.specs.State.{shown};
 ghost use Rattle.abstract_kernel.specs.Memory.{IsInMemory};
@@ -21,8 +22,8 @@ use std::marker::PhantomData;
 
 impl<P: Profile, S: MakeStore<P>, W: MakeWaiters<P>> Kernel<P, S, W> {
     /// A kernel with the objects of a plan, each thread ready with the root CNode as its capability space. The layout is
-    /// this project's profile. What it shows is the abstract boot of the plan, and lies in the plan's memory. All memory of
-    /// the kernel is taken here.
+    /// this project's profile. What it shows is the abstract boot of the plan, and lies in the plan's memory, its full slots
+    /// in live objects. All memory of the kernel is taken here.
     ///
     /// # Errors
     ///
@@ -31,6 +32,7 @@ impl<P: Profile, S: MakeStore<P>, W: MakeWaiters<P>> Kernel<P, S, W> {
         requires { IsPlan P.the plan.now }
         ensures shows { IfOk result (λ kernel. kernel ≡ shown (booted P.the plan.now)) }
         ensures within { IfOk result (λ kernel. IsInMemory P.the plan.now.memory_bits kernel) }
+        ensures housed { IfOk result (λ kernel. IsHoused P.the kernel.derivations) }
     {
         let caps = root_capabilities::<P>(alloc, plan)?;
         let mut store = S::new(alloc, plan.memory_bits())?;

@@ -2,11 +2,13 @@
 ghost use Rattle.std.specs.Prelude.{◌≡◌, ◌⊎◌, ℕ, Some, None, IfOk, option_map, slice_get, All, vec_len, vec_capacity, length, drop, map, ◌≤◌, ◌<◌, ◌+◌, ◌++◌, ◌∷◌, []};
 ghost use Rattle.cap_core.specs.Numbers.{tcb_size};
 ghost use Rattle.derivation.specs.Entries.{slots, cap_at as cap_held};
+ghost use Rattle.clearing.specs.Housed.{IsHoused};
 ghost use Rattle.ipc_core.specs.Waits.{thread_of};
 ghost use Rattle.abstract_kernel.specs.Shown.{state_at, inbox_at, waiting_at, has_child};
 ghost use Rattle.abstract_kernel.specs.Decode.{decoded_call};
 ghost use Rattle.abstract_kernel.specs.Private.Effects.{send_effect, receive_effect, effect_of, performed_effect, rearranged, objects_shown, IsReady, IsLiveEndpoint};
 ghost use Rattle.abstract_kernel.specs.CNodes.{with_derived, with_moved};
+ghost use Rattle.abstract_kernel.specs.Waiting.{AreStatesAndLists, IsNextWaiting};
 ghost use Rattle.abstract_kernel.specs.Memory.{IsInMemory, IsAligned};
 ghost use Rattle.abstract_kernel.specs.Regions.{AreObjectsApart, IsForest};
 ghost use Rattle.abstract_kernel.specs.Private.Invocations.{IsInvocation, IsRetype, IsDerivation, IsMove};
@@ -106,7 +108,8 @@ impl<P: Profile, S: CapStore<P> + Drop, W: Waiters<P> + Drop> Kernel<P, S, W> {
     /// run. By these replies each endpoint, while it is live, delivers one message for each pair that it gains of an accepted
     /// send and the accepted receive at its place, in the order of the pairs, with the badge that the send kept; after boot
     /// there are no pairs. Whatever the calls, the live objects are disjoint, or one is an untyped region around the other, and
-    /// what is made in an untyped region ends within what is used of it. It takes no memory.
+    /// what is made in an untyped region ends within what is used of it; and each full slot is a slot of a live CNode, or the
+    /// root slot of a live thread. It takes no memory.
     #[tactic(auto, unfolding(abstract_kernel::specs::Step::replies_of, abstract_kernel::specs::Step::state_after))]
     pub fn run(&mut self, calls: &[Call], replies: &mut Vec<Reply>)
         requires room { vec_len replies.old + length calls.now ≤ vec_capacity replies.old }
@@ -114,18 +117,20 @@ impl<P: Profile, S: CapStore<P> + Drop, W: Waiters<P> + Drop> Kernel<P, S, W> {
         ensures stands { (A : State) → IsReached P.the A → self.old ≡ shown A → self.new ≡ shown (state_after P.the A calls.now) }
         ensures in_order { (A : State) → IsReached P.the A → self.old ≡ shown A → DeliversPairs P.the A calls.now (drop (length replies.old.items) replies.new.items) }
         ensures apart { AreObjectsApart P.the self.new.derivations }
+        ensures housed { IsHoused P.the self.new.derivations }
         ensures within { (memory : ℕ) → IsInMemory P.the memory self.old → IsInMemory P.the memory self.new }
     {
         for call in calls {
             let reply = self.step(*call);
             replies.push_reserved(reply);
         }
-        self.keeps_apart();
+        self.keeps_objects();
     }
 
-    /// Nothing is done: a caller learns what each kernel keeps of its objects.
-    fn keeps_apart(&self)
-        ensures { AreObjectsApart P.the self.now.derivations }
+    /// Nothing is done: a caller learns what each kernel keeps of its objects and its slots.
+    fn keeps_objects(&self)
+        ensures apart { AreObjectsApart P.the self.now.derivations }
+        ensures housed { IsHoused P.the self.now.derivations }
     {
         let _ = &self.store;
     }
@@ -321,14 +326,25 @@ impl<P: Profile, S: CapStore<P> + Drop, W: Waiters<P> + Drop> Kernel<P, S, W> {
     }
 
     /// The thread that waits at a place of an endpoint's waiting list, 0 the first; `None` past its end, and where no
-    /// live endpoint is at the address. It takes no memory.
+    /// live endpoint is at the address. Of each kernel, who waits on an endpoint is shown to do there what the list has it
+    /// do, once, a thread that is shown to wait is in the list, and all in one list send, or all receive. It takes no memory.
     pub fn waiting(&self, endpoint: u64, place: u64) -> Option<u64>
-        ensures { result ≡ option_map thread_of (slice_get (waiting_at self.now endpoint) place) }
+        ensures thread { result ≡ option_map thread_of (slice_get (waiting_at self.now endpoint) place) }
+        ensures agree { AreStatesAndLists self.now }
     {
         if is_endpoint_address::<P>(self.threads.memory_bits, endpoint) {
             self.threads.waiters.waiting(endpoint, place)
         } else {
             None
         }
+    }
+
+    /// The thread that waits behind another one, on the same endpoint: a waiting list is read from its first thread on,
+    /// each thread in turn. `None` where that thread is the last, or waits nowhere. It takes no memory.
+    pub fn next_waiting(&self, tcb: u64) -> Option<u64>
+        ensures { IsNextWaiting self.now tcb result }
+    {
+        row_at::<P>(self.threads.rows.as_slice(), tcb)?;
+        self.threads.waiters.next_waiting(tcb)
     }
 }

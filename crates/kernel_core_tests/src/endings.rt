@@ -1,6 +1,6 @@
 //! Delete, revoke, the cancelling of badged sends, spaces, suspend, resume, and copies of a kernel, over each pair of a
 //! capability store and a store of waiting threads.
-use crate::looks::{has_children, has_state, has_waiting, holds};
+use crate::looks::{has_children, has_next_waiting, has_state, has_waiting, holds};
 use cap_core::{Badge, Cap, Guard, Message, Rights, Wide};
 use ipc_core::{LinkedWaiters, MakeWaiters, RowWaiters};
 use kernel_core::{BootPlan, Call, Kernel, Op, Reply, ThreadState};
@@ -334,9 +334,17 @@ fn cancels<S: MakeStore<Wide>, W: MakeWaiters<Wide>>(
         (6144, send(9, 2), WAITS),
         (8192, send(8, 3), WAITS),
         (CALLER, cancel_badged(6), DONE),
-        (CALLER, cancel_badged(8), DONE),
     ];
     let mut kernel = stepped::<S, W>(rt, alloc, &steps)?;
+    let behind = [
+        (4096, Some(6144)),
+        (6144, Some(8192)),
+        (8192, None),
+        (CALLER, None),
+        (CALLER + 1, None),
+    ];
+    has_next_waiting(rt, &kernel, &behind);
+    go_on(rt, &mut kernel, &[(CALLER, cancel_badged(8), DONE)]);
     has_state(rt, &kernel, 4096, Some(ThreadState::Ready));
     has_state(rt, &kernel, 6144, Some(ThreadState::Sending(10240)));
     has_state(rt, &kernel, 8192, Some(ThreadState::Ready));

@@ -59,3 +59,15 @@ pub fn has_waiting<P: Profile, S: MakeStore<P>, W: MakeWaiters<P>>(
 ) {
     assert_eq!(rt; kernel.waiting(endpoint, place), wanted);
 }
+
+/// Behind each thread this one waits, or none, as is said beside its address.
+pub fn has_next_waiting<P: Profile, S: MakeStore<P>, W: MakeWaiters<P>>(
+    rt: &impl Abort,
+    kernel: &Kernel<P, S, W>,
+    wanted: &[(u64, Option<u64>)],
+) {
+    for look in wanted {
+        let (thread, next) = *look;
+        assert_eq!(rt; kernel.next_waiting(thread), next, "thread {thread}");
+    }
+}

@@ -10,11 +10,12 @@ use Rattle.cap_core.specs.declared.capability.Cap.{Cap}
 use Rattle.cap_core.specs.declared.capability.Cap.TheVariants.{Null, Untyped, Endpoint, CNode, Tcb}
 use Rattle.cap_core.specs.Objects.{is_null}
 use Rattle.derivation.specs.Entries.{slots, cap_at}
+use Rattle.ipc_core.specs.declared.waiter.Waiter.{Waiter}
 use Rattle.ipc_core.specs.Waits.{thread_of}
+use Rattle.ipc_core.specs.Agreement.{is_sender}
 use Rattle.abstract_kernel.specs.declared.call.Call.{Call}
 use Rattle.abstract_kernel.specs.declared.call.Reply.{Reply}
 use Rattle.abstract_kernel.specs.declared.call.ThreadState.{ThreadState}
-use Rattle.abstract_kernel.specs.declared.call.ThreadState.TheVariants.{Ready, Inactive, Sending, Receiving}
 use Rattle.abstract_kernel.specs.declared.call.Inbox.{Inbox}
 use Rattle.abstract_kernel.specs.Shown.{Shown, tcb_base, endpoint_base, state_at, inbox_at, waiting_at, has_child}
 use Rattle.setup_format.specs.Views.{CallView}
@@ -136,13 +137,6 @@ thread_lines p v = flat_map (thread_line v) (rising (bases_named p Naming.Thread
 
 -- ---- endpoints: a line for each live endpoint, by rising address
 
-abbrev pub is_sending : Option ThreadState → Bool
-is_sending None = false
-is_sending (Some Ready) = false
-is_sending (Some Inactive) = false
-is_sending (Some (Sending endpoint)) = true
-is_sending (Some (Receiving endpoint)) = false
-
 -- the threads that wait on an endpoint, and whether they send
 abbrev pub waiting_text : Bool → List ℕ → List ℕ
 waiting_text sending [] = codes " idle"
@@ -156,13 +150,13 @@ endpoint_text address sending threads = codes "endpoint " ++ (decimal address ++
 abbrev pub threads_at : Shown → ℕ → List ℕ
 threads_at v endpoint = map thread_of (waiting_at v endpoint)
 
--- whether the first of some threads is shown to send
-abbrev pub first_sends : Shown → List ℕ → Bool
-first_sends v [] = false
-first_sends v (thread ∷ threads) = is_sending (state_at v thread)
+-- whether those in a waiting list send: all do what the first does
+abbrev pub first_sends : List Waiter → Bool
+first_sends [] = false
+first_sends (first ∷ list) = is_sender first
 
 abbrev pub endpoint_line : Shown → ℕ → List ℕ
-endpoint_line v address = line (endpoint_text address (first_sends v (threads_at v address)) (threads_at v address))
+endpoint_line v address = line (endpoint_text address (first_sends (waiting_at v address)) (threads_at v address))
 
 abbrev pub endpoint_lines : ProfileName → Shown → List ℕ
 endpoint_lines p v = flat_map (endpoint_line v) (rising (bases_named p Naming.Endpoint v))

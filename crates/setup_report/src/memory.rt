@@ -3,7 +3,9 @@ ghost use Rattle.std.specs.Prelude.{◌≡◌, ◌++◌, ◌≤◌, ◌<◌, ◌
 ghost use Rattle.std.specs.BTreeSet.{difference};
 ghost use Rattle.std.specs.Ordering.{nat_cmp};
 ghost use Rattle.derivation.specs.Entries.{slots as slots_of};
+ghost use Rattle.abstract_kernel.specs.Shown.{waiting_at};
 ghost use Rattle.setup_report.specs.Report as spec;
+ghost use Rattle.setup_report.specs.Private.Roles.{is_sending};
 
 use crate::lines::{EndpointLine, SlotLine, ThreadLine};
 use crate::naming::{Naming, bases_named};
@@ -88,18 +90,27 @@ fn waiting_threads<P: Profile, K: Readable<P>>(
     ensures { IfOk result (λ v. v.items ≡ spec.threads_at (K.shown kernel.now) endpoint) }
 {
     let mut threads = Vec::new(alloc);
-    while let Some(thread) = kernel.waiting(endpoint, threads.len() as u64) {
+    let mut next = kernel.waiting(endpoint, 0);
+    while let Some(thread) = next {
         threads.push(thread)?;
+        next = kernel.next_waiting(thread);
     }
     Ok(threads)
 }
 
-fn first_sends<P: Profile, K: Readable<P>>(threads: &[u64], kernel: &K) -> bool
-    ensures { result ≡ spec.first_sends (K.shown kernel.now) threads.now }
+fn is_sending(state: Option<ThreadState>) -> bool
+    ensures { result ≡ is_sending state }
 {
-    match threads {
-        [] => false,
-        [first, ..] => matches!(kernel.thread_state(*first), Some(ThreadState::Sending(_))),
+    matches!(state, Some(ThreadState::Sending(_)))
+}
+
+/// Whether the thread that waits first on an endpoint sends, as all that wait there then do.
+fn first_sends<P: Profile, K: Readable<P>>(endpoint: u64, kernel: &K) -> bool
+    ensures { result ≡ spec.first_sends (waiting_at (K.shown kernel.now) endpoint) }
+{
+    match kernel.waiting(endpoint, 0) {
+        Some(first) => is_sending(kernel.thread_state(first)),
+        None => false,
     }
 }
 
@@ -114,7 +125,7 @@ fn add_endpoint<P: Profile, K: Readable<P>>(
     let threads = waiting_threads::<P, K>(alloc, address, kernel)?;
     let line = EndpointLine {
         address,
-        sending: first_sends::<P, K>(threads.as_slice(), kernel),
+        sending: first_sends::<P, K>(address, kernel),
         threads: threads.as_slice(),
     };
     writeln!(out, "{line}")

@@ -3,6 +3,7 @@ ghost use Rattle.std.specs.Prelude.{◌≡◌, All, option_map, slice_get};
 ghost use Rattle.derivation.specs.Entries.{cap_at, slots};
 ghost use Rattle.ipc_core.specs.Waits.{thread_of};
 ghost use Rattle.abstract_kernel.specs.Memory.{IsAligned};
+ghost use Rattle.abstract_kernel.specs.Waiting.{AreStatesAndLists, IsNextWaiting};
 ghost use Rattle.abstract_kernel.specs.Shown.{Shown, state_at, inbox_at, waiting_at, has_child};
 
 use cap_core::{Cap, Profile};
@@ -31,9 +32,14 @@ pub trait Readable<P: Profile> {
     fn has_children(&self, slot: u64) -> bool
         ensures { result ≡ has_child slot (shown self.now).derivations };
 
-    /// The thread at a place of an endpoint's waiting list, 0 the first.
+    /// The thread at a place of an endpoint's waiting list, 0 the first. What threads do and the waiting lists agree.
     fn waiting(&self, endpoint: u64, place: u64) -> Option<u64>
-        ensures { result ≡ option_map thread_of (slice_get (waiting_at (shown self.now) endpoint) place) };
+        ensures thread { result ≡ option_map thread_of (slice_get (waiting_at (shown self.now) endpoint) place) }
+        ensures agree { AreStatesAndLists (shown self.now) };
+
+    /// The thread that waits behind another one, on the same endpoint.
+    fn next_waiting(&self, tcb: u64) -> Option<u64>
+        ensures { IsNextWaiting (shown self.now) tcb result };
 }
 
 impl<P: Profile, S: CapStore<P> + Drop, W: Waiters<P> + Drop> Readable<P> for Kernel<P, S, W> {
@@ -57,5 +63,9 @@ impl<P: Profile, S: CapStore<P> + Drop, W: Waiters<P> + Drop> Readable<P> for Ke
 
     fn waiting(&self, endpoint: u64, place: u64) -> Option<u64> {
         Kernel::waiting(self, endpoint, place)
+    }
+
+    fn next_waiting(&self, tcb: u64) -> Option<u64> {
+        Kernel::next_waiting(self, tcb)
     }
 }

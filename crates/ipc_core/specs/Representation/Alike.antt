@@ -1,9 +1,13 @@
--- That tables are linked has one proof at most, so that a value can carry it.
+-- That tables are linked, and that all that wait on one endpoint do the same, has one proof at most, so that a value can
+-- carry it.
 use Rattle.std.specs.Prelude.{◌≡◌, ◌≢◌, ℕ, List, [], ◌∷◌, Option, Some}
 use Rattle.std.specs.List.{AllByRecursion-prop}
 use Rattle.std.specs.Coded.{×_prop, Unit-prop, le_prop, Coded-set, coded_ℕ, coded_bool, coded_option}
 use Rattle.cap_core.specs.declared.profile.ProfileName.{ProfileName}
+use Rattle.ipc_core.specs.declared.waiter.Waiter.{Waiter}
 use Rattle.ipc_core.specs.declared.tables.Tables.{Tables}
+use Rattle.ipc_core.specs.Waits.{Waits}
+use Rattle.ipc_core.specs.Agreement.{is_sender, DoTheSame, AreAlike}
 use Rattle.ipc_core.specs.Representation.Chains.{IsChain, Lacks, IsApart}
 use Rattle.ipc_core.specs.Representation.Linked.{IsLinked}
 
@@ -34,3 +38,10 @@ linked-prop p tables x y =
       found = λ t r is. Coded-set coded_bool _ _ (x.found t r is) (y.found t r is) i;
       placed = λ t r is. ×_prop (Coded-set coded_ℕ _ _) le_prop (x.placed t r is) (y.placed t r is) i;
     }
+
+same-prop : (l : List Waiter) → IsProp (DoTheSame l)
+same-prop [] = Unit-prop
+same-prop (x ∷ l) = AllByRecursion-prop (λ y. is_sender y ≡ is_sender x) (λ y. Coded-set coded_bool (is_sender y) (is_sender x)) l
+
+pub alike-prop : (w : Waits) → IsProp (AreAlike w)
+alike-prop w x y = λ i. record { queue = λ e. same-prop (w.queue e) (x.queue e) (y.queue e) i }

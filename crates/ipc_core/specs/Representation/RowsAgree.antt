@@ -10,7 +10,7 @@ use Rattle.ipc_core.specs.declared.waiter.Role.{Role}
 use Rattle.ipc_core.specs.declared.row.WaitRow.{WaitRow}
 use Rattle.ipc_core.specs.Waits.{thread_of, role_at, endpoint_of}
 use Rattle.ipc_core.specs.Cancelled.{is_thread}
-use Rattle.ipc_core.specs.Agreement.{AreRolesAndQueues}
+use Rattle.ipc_core.specs.Agreement.{AreAlike, AreRolesAndQueues}
 use Rattle.ipc_core.specs.Representation.Rows.{row_thread, row_role, is_at, is_of, waiting_at, waits_of, AreDistinct}
 
 each_at : (P : WaitRow → Type 0) (rows : List WaitRow) → ((k : ℕ) (d : WaitRow) → k < length rows → P (get_or rows k d)) → Each P rows
@@ -109,9 +109,10 @@ apart_at e (r ∷ rows) differ = either (r.endpoint == e) (lacks_at e (row_threa
     either true k h = (k, h)
     either false k h = h
 
-pub rows_agree : (rows : List WaitRow) → AreDistinct rows → AreRolesAndQueues (waits_of rows)
-rows_agree rows distinct = record {
+pub rows_agree : (rows : List WaitRow) → AreDistinct rows → AreAlike (waits_of rows) → AreRolesAndQueues (waits_of rows)
+rows_agree rows distinct alike = record {
   queued = λ e. queued_from rows e rows (found rows (differ rows distinct));
   waits = in_queue rows;
   once = λ e. apart_at e rows (differ rows distinct);
+  alike = alike;
 }

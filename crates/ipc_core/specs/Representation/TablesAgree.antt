@@ -12,7 +12,7 @@ use Rattle.ipc_core.specs.declared.tables.ThreadRow.{ThreadRow}
 use Rattle.ipc_core.specs.declared.tables.Tables.{Tables}
 use Rattle.ipc_core.specs.Waits.{thread_of, role_at, endpoint_of}
 use Rattle.ipc_core.specs.Cancelled.{is_thread}
-use Rattle.ipc_core.specs.Agreement.{AreRolesAndQueues}
+use Rattle.ipc_core.specs.Agreement.{AreAlike, AreRolesAndQueues}
 use Rattle.ipc_core.specs.Representation.Chains.{has}
 use Rattle.ipc_core.specs.Representation.Linked.{Links, waiter_in, waiter_of, waits_by, waits_in, AreLinked, IsLinked}
 
@@ -53,12 +53,13 @@ module _ (l : Links) where
   threads_same (t ∷ list) =
       ap (λ k. k ∷ map thread_of (waiting list)) (thread_of_waiter (l.thread t) t) ∙ ap (λ rest. t ∷ rest) (threads_same list)
 
-  linked_agree : (size n : ℕ) (orders : ℕ → List ℕ) → AreLinked size n l orders → AreRolesAndQueues (waits_by l orders)
-  linked_agree size n orders linked = record {
+  linked_agree : (size n : ℕ) (orders : ℕ → List ℕ) → AreLinked size n l orders → AreAlike (waits_by l orders) → AreRolesAndQueues (waits_by l orders)
+  linked_agree size n orders linked alike = record {
     queued = λ e. queued_from e (orders e) (linked.members e);
     waits = λ t r is. any_same t (orders (endpoint_of r)) ∙ linked.found t r is;
     once = λ e. subst IsApart (sym (threads_same (orders e))) (linked.apart e);
+    alike = alike;
   }
 
-pub tables_agree : (p : ProfileName) (tables : Tables) → IsLinked p tables → AreRolesAndQueues (waits_in p tables)
-tables_agree p tables linked = linked_agree _ _ _ _ linked
+pub tables_agree : (p : ProfileName) (tables : Tables) → IsLinked p tables → AreAlike (waits_in p tables) → AreRolesAndQueues (waits_in p tables)
+tables_agree p tables linked alike = linked_agree _ _ _ _ linked alike

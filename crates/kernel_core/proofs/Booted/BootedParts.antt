@@ -14,10 +14,11 @@ use Rattle.abstract_kernel.specs.Plan.{Plan, IsPlan, first_tcb}
 use Rattle.kernel_core.specs.Rows.{IsKernel, IsBetweenCalls}
 use Rattle.kernel_core.specs.Private.BootRows.{boot_row, boot_rows}
 use Rattle.abstract_kernel.specs.Boot.{boot_forest}
-use Rattle.kernel_core.proofs.Capabilities.PlacementSteps.{pow_fits}
+use Rattle.abstract_kernel.proofs.Capabilities.PlacementSteps.{pow_fits}
 use Rattle.abstract_kernel.proofs.Boot.SoundPlans.{objects_within}
 use Rattle.kernel_core.proofs.Booted.BootThreads.{places, live_at_boot}
 use Rattle.abstract_kernel.proofs.Boot.BootedStore.{store_at_boot}
+use Rattle.abstract_kernel.proofs.Housed.Boot.{housed_at_boot}
 use Rattle.abstract_kernel.specs.Private.Stores.{IsKernelStore}
 
 -- the rows of the threads
@@ -49,6 +50,7 @@ kernel_at_boot p plan h =
       lawful = store.lawful;
       disjoint = store.disjoint;
       regions = store.regions;
+      housed = housed_at_boot p plan h;
       live_rows = live_at_boot p plan (2 ^ (plan.memory_bits - tcb_bits p)) (threads_fit p plan h);
       waiting_active = λ e k d b. absurd (omega arith);
       dead_queue = λ e d. refl;

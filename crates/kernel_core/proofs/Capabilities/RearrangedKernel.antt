@@ -6,6 +6,7 @@ use Rattle.cap_core.specs.Numbers.{tcb_size}
 use Rattle.derivation.specs.Forest.{Forest}
 use Rattle.derivation.specs.Entries.{Entry}
 use Rattle.ipc_core.specs.Waits.{Waits}
+use Rattle.clearing.specs.Housed.{IsHoused}
 use Rattle.kernel_core.specs.declared.rows.ThreadRow.{ThreadRow}
 use Rattle.abstract_kernel.specs.declared.invocation.CapPlacement.{CapPlacement}
 use Rattle.abstract_kernel.specs.Shown.{Shown, threads_of, endpoints_of, table, tcb_base, endpoint_base}
@@ -17,6 +18,7 @@ use Rattle.abstract_kernel.specs.Private.Effects.{rearranged}
 use Rattle.kernel_core.proofs.Messages.KernelParts.{waiting_is}
 use Rattle.abstract_kernel.proofs.Capabilities.LiveAfter.{tcb_is_base, endpoint_is_base, live-derived, live-moved}
 use Rattle.abstract_kernel.proofs.Capabilities.StoresKept.{store-derived, store-moved}
+use Rattle.abstract_kernel.proofs.Housed.Edits.{housed-with_derived, housed-with_moved}
 
 module _ (p : ProfileName) (memory store waiters : ℕ) (f : Forest Entry) (rows : List (Option ThreadRow)) (w : Waits) (kernel : IsKernel p memory store waiters f rows w) where
   in_memory : IsKernelStore p memory f
@@ -34,10 +36,10 @@ module _ (p : ProfileName) (memory store waiters : ℕ) (f : Forest Entry) (rows
   kernel_store = subst (λ (n : ℕ). IsKernelStore p n f) (sym kernel.store_memory_is) in_memory
 
   -- where the same threads and endpoints are live
-  rearranged_kernel : (store' : ℕ) (g : Forest Entry) → store' ≡ store → IsKernelStore p memory g
+  rearranged_kernel : (store' : ℕ) (g : Forest Entry) → store' ≡ store → IsKernelStore p memory g → IsHoused p g
       → ((t : ℕ) → list_any (λ k. t == k) (threads_of g) ≡ list_any (λ k. t == k) (threads_of f))
       → ((e : ℕ) → list_any (λ k. e == k) (endpoints_of g) ≡ list_any (λ k. e == k) (endpoints_of f)) → IsKernel p memory store' waiters g rows w
-  rearranged_kernel store' g same kept threads endpoints = record {
+  rearranged_kernel store' g same kept housed threads endpoints = record {
     store_memory_is = same ∙ kernel.store_memory_is;
     waiters_memory_is = kernel.waiters_memory_is;
     memory_least = kernel.memory_least;
@@ -48,6 +50,7 @@ module _ (p : ProfileName) (memory store waiters : ℕ) (f : Forest Entry) (rows
     lawful = kept.lawful;
     disjoint = kept.disjoint;
     regions = kept.regions;
+    housed = housed;
     live_rows = λ t. kernel.live_rows t ∙ sym (threads t);
     waiting_active = kernel.waiting_active;
     dead_queue = λ e dead. kernel.dead_queue e (sym (endpoints e) ∙ dead);
@@ -67,6 +70,7 @@ module _ (p : ProfileName) (memory store waiters : ℕ) (f : Forest Entry) (rows
   derived_kernel placement v view invocation store' g same is =
       subst (λ (h : Forest Entry). IsKernel p memory store' waiters h rows w) (sym is)
       (rearranged_kernel store' (with_derived p placement f) same (store-derived p memory f in_memory placement here)
+      (housed-with_derived p f placement here.ends kernel.housed)
       (live-derived tcb_base tcb_is_base p placement f here.ends.full here.ends.same)
       (live-derived endpoint_base endpoint_is_base p placement f here.ends.full here.ends.same))
     where
@@ -84,6 +88,7 @@ module _ (p : ProfileName) (memory store waiters : ℕ) (f : Forest Entry) (rows
   moved_kernel placement v view invocation store' g same is =
       subst (λ (h : Forest Entry). IsKernel p memory store' waiters h rows w) (sym is)
       (rearranged_kernel store' (with_moved placement f) same (store-moved p memory f in_memory placement here)
+      (housed-with_moved p f placement kernel.slots_distinct here.ends kernel.housed)
       (live-moved tcb_base tcb_is_base placement f kernel.slots_distinct here.ends.same)
       (live-moved endpoint_base endpoint_is_base placement f kernel.slots_distinct here.ends.same))
     where

@@ -25,6 +25,7 @@ use Rattle.kernel_core.specs.Private.NewRows.{new_row, with_rows}
 use Rattle.abstract_kernel.specs.Retyping.{with_objects, new_bases}
 use Rattle.abstract_kernel.specs.Private.Effects.{objects_shown, new_thread, with_threads}
 use Rattle.abstract_kernel.specs.Private.Invocations.{IsRetype}
+use Rattle.abstract_kernel.proofs.Housed.Edits.{housed-with_objects}
 use Rattle.abstract_kernel.proofs.Lists.Tables.{get_after, same_nat_map}
 use Rattle.kernel_core.proofs.Threads.RowViews.{get_thread}
 use Rattle.kernel_core.proofs.Messages.KernelParts.{waiting_is}
@@ -32,7 +33,7 @@ use Rattle.abstract_kernel.proofs.Lists.Searches.{table_agrees}
 use Rattle.abstract_kernel.proofs.Retype.LiveRetyped.{live-objects, untyped_full, tcb_base-freed, endpoint_base-freed}
 use Rattle.abstract_kernel.proofs.Retype.PutInOrder.{CanMake}
 use Rattle.abstract_kernel.proofs.Retype.RetypedForest.{lies, untyped_lawful, made, made_lawful, made_placed}
-use Rattle.kernel_core.proofs.Capabilities.PutObjects.{object_below, object_word}
+use Rattle.abstract_kernel.proofs.Capabilities.PutObjects.{object_below, object_word}
 use Rattle.abstract_kernel.proofs.Retype.NewlyLive.{threads_were_not}
 
 -- a map to which values were added one after another
@@ -162,6 +163,7 @@ module _ (p : ProfileName) (memory store waiters : ℕ) (f : Forest Entry) (rows
           lawful = made_lawful p f new is memory kernel.regions kernel.disjoint kernel.slots_distinct kernel.lawful;
           disjoint = after.disjoint;
           regions = after.regions;
+          housed = housed-with_objects p f new is kernel.housed;
           live_rows = λ t.
               ap (λ (o : Option ThreadRow). is_some o) (row_after t)
               ∙ some_or (list_any (λ k. t == k) (new_bases tcb_base p new)) new_row (get (rows_map (tcb_size p) rows) t)

@@ -13,6 +13,7 @@ use Rattle.clearing.specs.Revoke.{revoke}
 use Rattle.clearing.specs.Work.{IsClearable}
 use Rattle.clearing.proofs.Clearable.{clearable_from, each_mapped}
 use Rattle.clearing.proofs.Members.{any_of, each_in}
+use Rattle.clearing.proofs.Kept.{housed-clear, housed-revoke}
 use Rattle.std.proofs.lemmas.Bool.{eqb-true}
 use Rattle.abstract_kernel.specs.declared.invocation.NewSpace.{NewSpace}
 use Rattle.abstract_kernel.specs.Shown.{Shown, tcb_base, endpoint_base}
@@ -21,6 +22,7 @@ use Rattle.abstract_kernel.specs.Threads.{with_space}
 use Rattle.abstract_kernel.specs.Private.Endings.{after_ending}
 use Rattle.abstract_kernel.specs.Private.Invocations.{IsSpace, IsDerivation}
 use Rattle.abstract_kernel.specs.Private.Stores.{IsKernelStore}
+use Rattle.abstract_kernel.proofs.Housed.Edits.{housed-with_space}
 use Rattle.abstract_kernel.proofs.Capabilities.LiveAfter.{IsBase, tcb_is_base, endpoint_is_base, live-derived}
 use Rattle.abstract_kernel.proofs.Capabilities.StoresCleared.{store-clear, store-revoke, live-clear, live-revoke}
 use Rattle.abstract_kernel.proofs.Capabilities.SpacesSet.{space_derives, space_kept, space_put, store-space}
@@ -73,7 +75,7 @@ module _ (p : ProfileName) (memory store waiters : ℕ) (f : Forest Entry) (rows
     deleted_kernel is after store' waiters' same same' fill chain chain' kept chain_is =
         between p memory memory' store' waiters' f' rows' w' chain chain'
         (cleared_kernel p memory store waiters f rows w kernel agree (clear p slot f) (clear p slot f) f' memory' rows' w' after (λ t. live-clear tcb_base t p slot f) (λ e. live-clear endpoint_base e p slot f) (λ t. refl) (λ e. refl) is
-        store' waiters' same same' fill (store-clear p memory slot f own_store))
+        store' waiters' same same' fill (store-clear p memory slot f own_store) (housed-clear p slot f kernel.housed))
         (memory_kept p memory store waiters f rows w kernel agree (clear p slot f) (clear p slot f) f' memory' rows' w' after (λ t. live-clear tcb_base t p slot f) (λ e. live-clear endpoint_base e p slot f) (λ t. refl) (λ e. refl) is)
         kept chain_is
 
@@ -87,7 +89,7 @@ module _ (p : ProfileName) (memory store waiters : ℕ) (f : Forest Entry) (rows
     revoked_kernel is after store' waiters' same same' fill chain chain' kept chain_is =
         between p memory memory' store' waiters' f' rows' w' chain chain'
         (cleared_kernel p memory store waiters f rows w kernel agree (revoke p slot f) (revoke p slot f) f' memory' rows' w' after (λ t. live-revoke tcb_base t p slot f) (λ e. live-revoke endpoint_base e p slot f) (λ t. refl) (λ e. refl) is
-        store' waiters' same same' fill (store-revoke p memory slot f own_store))
+        store' waiters' same same' fill (store-revoke p memory slot f own_store) (housed-revoke p slot f kernel.housed))
         (memory_kept p memory store waiters f rows w kernel agree (revoke p slot f) (revoke p slot f) f' memory' rows' w' after (λ t. live-revoke tcb_base t p slot f) (λ e. live-revoke endpoint_base e p slot f) (λ t. refl) (λ e. refl) is)
         kept chain_is
 
@@ -130,7 +132,8 @@ module _ (p : ProfileName) (memory store waiters : ℕ) (f : Forest Entry) (rows
       space_kernel store' waiters' same same' fill chain chain' kept chain_is =
           between p memory memory' store' waiters' f' rows' w' chain chain'
           (cleared_kernel p memory store waiters f rows w kernel agree (clear p new.tcb f) (with_space p new f) f' memory' rows' w' after (λ t. live-clear tcb_base t p new.tcb f) (λ e. live-clear endpoint_base e p new.tcb f)
-          (same_live tcb_base tcb_is_base) (same_live endpoint_base endpoint_is_base) is store' waiters' same same' fill (store-space p memory f new space own_store))
+          (same_live tcb_base tcb_is_base) (same_live endpoint_base endpoint_is_base) is store' waiters' same same' fill (store-space p memory f new space own_store)
+          (housed-with_space p f new kernel.slots_distinct space kernel.housed))
           (memory_kept p memory store waiters f rows w kernel agree (clear p new.tcb f) (with_space p new f) f' memory' rows' w' after (λ t. live-clear tcb_base t p new.tcb f) (λ e. live-clear endpoint_base e p new.tcb f)
           (same_live tcb_base tcb_is_base) (same_live endpoint_base endpoint_is_base) is)
           kept chain_is

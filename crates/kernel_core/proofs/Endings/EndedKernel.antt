@@ -22,6 +22,7 @@ use Rattle.ipc_core.specs.Waits.{Waits, thread_of, endpoint_of}
 use Rattle.ipc_core.specs.Cancelled.{is_thread, others}
 use Rattle.ipc_core.specs.Agreement.{AreRolesAndQueues}
 use Rattle.clearing.specs.Clear.{ended}
+use Rattle.clearing.specs.Housed.{IsHoused}
 use Rattle.clearing.proofs.Members.{both_true, either_true}
 use Rattle.abstract_kernel.specs.declared.call.ThreadState.TheVariants.{Ready, Sending, Receiving}
 use Rattle.abstract_kernel.specs.Shown.{threads_of, endpoints_of, tcb_base, endpoint_base, table, waiting_at}
@@ -201,8 +202,8 @@ module _ (p : ProfileName) (memory store waiters : ℕ) (f : Forest Entry) (rows
         by true r absent waits = refl
         by false r absent waits = ap (role_left gone) (waits absent)
 
-    pub ended_kernel : (store' waiters' : ℕ) → store' ≡ store → waiters' ≡ memory' → length rows' * tcb_size p ≡ 2 ^ memory' → IsKernelStore p memory h → IsKernel p memory' store' waiters' h rows' w'
-    ended_kernel store' waiters' same same' fill kept = subst (λ (m : ℕ). waiters' ≡ m → length rows' * tcb_size p ≡ 2 ^ m → IsKernel p m store' waiters' h rows' w') (sym left.memory_is) (λ is fills. record {
+    pub ended_kernel : (store' waiters' : ℕ) → store' ≡ store → waiters' ≡ memory' → length rows' * tcb_size p ≡ 2 ^ memory' → IsKernelStore p memory h → IsHoused p h → IsKernel p memory' store' waiters' h rows' w'
+    ended_kernel store' waiters' same same' fill kept housed = subst (λ (m : ℕ). waiters' ≡ m → length rows' * tcb_size p ≡ 2 ^ m → IsKernel p m store' waiters' h rows' w') (sym left.memory_is) (λ is fills. record {
       store_memory_is = same ∙ kernel.store_memory_is;
       waiters_memory_is = is;
       memory_least = kernel.memory_least;
@@ -213,6 +214,7 @@ module _ (p : ProfileName) (memory store waiters : ℕ) (f : Forest Entry) (rows
       lawful = kept.lawful;
       disjoint = kept.disjoint;
       regions = kept.regions;
+      housed = housed;
       live_rows = rows_live;
       waiting_active = λ e. All-from_recursion (λ (x : Waiter). IsActive (tcb_size p) rows' (thread_of x)) (w'.queue e) (waiting_kept e);
       dead_queue = dead_kept;
@@ -289,11 +291,11 @@ module _ (p : ProfileName) (memory store waiters : ℕ) (f : Forest Entry) (rows
   gone_endpoint : (e : ℕ) → ends_endpoint (ended f g) e ≡ (list_any (λ k. e == k) (endpoints_of f) && not (list_any (λ k. e == k) (endpoints_of h)))
   gone_endpoint e = λ i. named_endpoint e (record { 0 = 0 }) all_rights f i && not ((named_endpoint e (record { 0 = 0 }) all_rights g ∙ sym (same_endpoints e)) i)
 
-  pub cleared_kernel : (store' waiters' : ℕ) → store' ≡ store → waiters' ≡ memory' → length rows' * tcb_size p ≡ 2 ^ memory' → IsKernelStore p memory h → IsKernel p memory' store' waiters' f' rows' w'
-  cleared_kernel store' waiters' same same' fill kept =
+  pub cleared_kernel : (store' waiters' : ℕ) → store' ≡ store → waiters' ≡ memory' → length rows' * tcb_size p ≡ 2 ^ memory' → IsKernelStore p memory h → IsHoused p h → IsKernel p memory' store' waiters' f' rows' w'
+  cleared_kernel store' waiters' same same' fill kept housed =
       subst (λ (x : Forest Entry). IsKernel p memory' store' waiters' x rows' w') (sym is)
       (ended_kernel p memory store waiters f rows w kernel agree h (ended f g) memory' rows' w' left gone_thread gone_endpoint
-      (λ t live. threads t (sym (same_threads t) ∙ live)) (λ e live. endpoints e (sym (same_endpoints e) ∙ live)) store' waiters' same same' fill kept)
+      (λ t live. threads t (sym (same_threads t) ∙ live)) (λ e live. endpoints e (sym (same_endpoints e) ∙ live)) store' waiters' same same' fill kept housed)
 
   pub cleared_shown : kernel_shown p f' rows' w' ≡ after_ending (kernel_shown p f rows w) h
   cleared_shown =

@@ -95,6 +95,7 @@ module _ (p : ProfileName) (memory store waiters : ℕ) (f : Forest Entry) (rows
           lawful = kernel.lawful;
           disjoint = kernel.disjoint;
           regions = kernel.regions;
+          housed = kernel.housed;
           live_rows = rows_live;
           waiting_active = λ e. All-from_recursion (λ (x : Waiter). IsActive (tcb_size p) rows' (thread_of x)) (others (is_thread t) (w.queue e)) (others_active (w.queue e) (active e));
           dead_queue = λ e dead. ap (others (is_thread t)) (kernel.dead_queue e dead);
@@ -147,6 +148,7 @@ module _ (p : ProfileName) (memory store waiters : ℕ) (f : Forest Entry) (rows
         lawful = kernel.lawful;
         disjoint = kernel.disjoint;
         regions = kernel.regions;
+        housed = kernel.housed;
         live_rows = kernel.live_rows;
         waiting_active = λ q. All-from_recursion (λ (x : Waiter). IsActive (tcb_size p) rows (thread_of x)) ((after_badge e badge w).queue q) (kept q (q == e));
         dead_queue = λ q dead. elim (eqb_tells q e) [

@@ -54,6 +54,7 @@ module _ (p : ProfileName) (memory store waiters : ℕ) (f : Forest Entry) (rows
     lawful = kernel.lawful;
     disjoint = kernel.disjoint;
     regions = kernel.regions;
+    housed = kernel.housed;
     live_rows = λ q. same_row q ∙ kernel.live_rows q;
     waiting_active = λ x. kept x (w.queue x) (x == e) (λ i d lt. still (get_or (w.queue x) i d) (kernel.waiting_active x i d lt)) (λ i d lt. still (get_or (w.queue e) i d) (kernel.waiting_active e i d lt));
     dead_queue = λ x dead. elim (eqb_tells x e) [
@@ -97,6 +98,7 @@ module _ (p : ProfileName) (memory store waiters : ℕ) (f : Forest Entry) (rows
     lawful = kernel.lawful;
     disjoint = kernel.disjoint;
     regions = kernel.regions;
+    housed = kernel.housed;
     live_rows = kernel.live_rows;
     waiting_active = λ x. kept (w.queue x) (x == e) (kernel.waiting_active x);
     dead_queue = λ x dead. elim (eqb_tells x e) [

@@ -1,11 +1,18 @@
 -- A list of the threads that wait is read from its front.
-use Rattle.std.proofs.Common.{◌≡◌, ℕ, suc, ◌<◌, ◌≤◌, List, [], ◌∷◌, ◌++◌, length, drop, map, slice_get, None, Some, option_map, sym, ap, ◌∙◌, append-nil, append_assoc, arith}
+use Rattle.std.proofs.Common.{◌≡◌, ℕ, suc, ◌<◌, ◌≤◌, false, List, [], ◌∷◌, ◌++◌, length, drop, map, slice_get, None, Some, option_map, refl, sym, ap, ◌∙◌, append-nil, append_assoc, arith}
 use Rattle.std.proofs.Math.Seq.{drop-cons}
 use Rattle.std.proofs.Math.Logic.{⊎_elim}
 use Rattle.std.proofs.lemmas.List.{length-append, drop_all}
 use Rattle.std.proofs.lemmas.Option.{slice_get-map, slice_get_within, slice_get_cases, get_or_from_slice_get}
+use Rattle.std.specs.List.{AllByRecursion as Each}
 use Rattle.ipc_core.specs.declared.waiter.Waiter.{Waiter}
+use Rattle.ipc_core.specs.declared.waiter.Waiter.TheVariants.{Sender, Receiver}
 use Rattle.ipc_core.specs.Waits.{thread_of}
+use Rattle.ipc_core.specs.Agreement.{is_sender}
+use Rattle.abstract_kernel.specs.Shown.{Shown, state_at}
+use Rattle.abstract_kernel.specs.Waiting.{state_in}
+use Rattle.setup_report.specs.Report.{first_sends}
+use Rattle.setup_report.specs.Private.Roles.{is_sending}
 
 more : (L xs : List ℕ) (t : ℕ) → L ≡ xs ++ drop (length xs) L → slice_get L (length xs) ≡ Some t → L ≡ (xs ++ t ∷ []) ++ drop (length (xs ++ t ∷ [])) L
 more L xs t e s =
@@ -29,3 +36,18 @@ front_all l xs n e s is =
     let ends : length (map thread_of l) ≤ n = past (map thread_of l) n (slice_get-map thread_of l n ∙ s) in
     let none : drop (length xs) (map thread_of l) ≡ [] = drop_all (length xs) (map thread_of l) (omega arith) in
     sym (e ∙ ap (λ r. xs ++ r) none ∙ append-nil xs)
+
+-- what the first thread of a waiting list is shown to do
+pub sends_first : (v : Shown) (e : ℕ) (l : List Waiter) (t : ℕ) → Each (λ (x : Waiter). state_at v (thread_of x) ≡ Some (state_in e x)) l → option_map thread_of (slice_get l 0) ≡ Some t → is_sending (state_at v t) ≡ first_sends l
+sends_first v e [] t told s = cc
+sends_first v e (x ∷ l) t told s =
+    let d : thread_of x ≡ t = cc in
+    ap (λ n. is_sending (state_at v n)) (sym d) ∙ ap is_sending told.0 ∙ by x
+  where
+    by : (y : Waiter) → is_sending (Some (state_in e y)) ≡ is_sender y
+    by (Sender thread badge message) = refl
+    by (Receiver thread) = refl
+
+pub nobody_sends : (l : List Waiter) → option_map thread_of (slice_get l 0) ≡ None → first_sends l ≡ false
+nobody_sends [] s = refl
+nobody_sends (x ∷ l) s = cc

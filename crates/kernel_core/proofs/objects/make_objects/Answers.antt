@@ -9,7 +9,7 @@ use Rattle.derivation.specs.Derivation.{freed, with_free}
 use Rattle.abstract_kernel.specs.Retyping.{with_new}
 use Rattle.abstract_kernel.proofs.Retype.PutInOrder.{CanMake}
 use Rattle.abstract_kernel.proofs.Retype.RetypedForest.{freed_lawful, can_make}
-use Rattle.kernel_core.proofs.Capabilities.PutObjects.{untyped_placed, untyped_end, first_aligned, slot_within_word, object_word, first_slot_at, puts_from, puts_start, put_new_next}
+use Rattle.abstract_kernel.proofs.Capabilities.PutObjects.{untyped_placed, untyped_end, first_aligned, slot_within_word, object_word, first_slot_at, puts_from, puts_start, put_new_next}
 use Rattle.kernel_core.proofs.objects.make_objects.Goals as goal
 
 pub of_node-untyped-requires-clause-aligned : goal.of_node-untyped-requires-clause-aligned

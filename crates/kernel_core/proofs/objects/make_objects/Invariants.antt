@@ -3,7 +3,7 @@ use Rattle.std.proofs.Common.{◌≡◌, ◌*◌}
 use Rattle.cap_core.specs.Numbers.{slot_size}
 use Rattle.abstract_kernel.specs.Retyping.{with_new, with_objects}
 use Rattle.abstract_kernel.proofs.Retype.PutInOrder.{CanMake}
-use Rattle.kernel_core.proofs.Capabilities.PutObjects.{puts_from}
+use Rattle.abstract_kernel.proofs.Capabilities.PutObjects.{puts_from}
 use Rattle.kernel_core.proofs.objects.make_objects.Given as goal
 
 -- the capabilities from object i on are still to be put, which gives what the retype gives

@@ -1,7 +1,7 @@
 -- The proof of `move_in`: the goals that a search leaves open.
 use Rattle.std.proofs.Common.{◌*◌}
 use Rattle.cap_core.specs.Numbers.{slot_size}
-use Rattle.kernel_core.proofs.Capabilities.PlacementSteps.{source_aligned, source_end, slot_aligned, slot_end, move_disjoint}
+use Rattle.abstract_kernel.proofs.Capabilities.PlacementSteps.{source_aligned, source_end, slot_aligned, slot_end, move_disjoint}
 use Rattle.kernel_core.proofs.placements.move_in.Goals as goal
 
 pub of_node-source-requires-clause-aligned : goal.of_node-source-requires-clause-aligned

@@ -1,8 +1,10 @@
-use Rattle.std.proofs.Common.{◌≡◌, ◌-◌, ◌≤◌, length, replicate, vec_len, ap, ◌∙◌, arith, rules}
+use Rattle.std.proofs.Common.{◌≡◌, ◌-◌, ◌≤◌, length, replicate, vec_len, ap, ◌∙◌, arith, rules, sym, subst}
 use Rattle.std.proofs.lemmas.Nat.{one_shl}
 use Rattle.cap_core.specs.Numbers.{tcb_bits, endpoint_bits}
 use Rattle.ipc_core.proofs.QueueForm.FirstOut.{nobody_in}
 use Rattle.ipc_core.proofs.RowForm.Room.{tcb_bits-most, endpoint_bits-most, enough_room}
+use Rattle.ipc_core.specs.Agreement.{AreAlike}
+use Rattle.ipc_core.proofs.SendersOrReceivers.{alike_nobody}
 use Rattle.ipc_core.proofs.linked.LinkedWaitersMakeWaiters.new.Goals as goal
 
 pub invariant_of-result-clause-linked : goal.invariant_of-result-clause-linked
@@ -34,3 +36,9 @@ returns-clause-nobody g c =
     let threads = c.in_ok-vec.ensures.items_if_clones_equal (λ y same. search rules) ∙ ap (replicate _) c.free.ensures in
     let endpoints = c.in_ok-vec-2.ensures.items_if_clones_equal (λ y same. search rules) in
     (nobody_in g.P.Profile.the (record { threads = c.in_ok-vec.field-0; endpoints = c.in_ok-vec-2.field-0 }) _ _ threads endpoints).0
+
+pub invariant_of-result-clause-alike : goal.invariant_of-result-clause-alike
+invariant_of-result-clause-alike g c =
+    let threads = c.in_ok-vec.ensures.items_if_clones_equal (λ y same. search rules) ∙ ap (replicate _) c.free.ensures in
+    let endpoints = c.in_ok-vec-2.ensures.items_if_clones_equal (λ y same. search rules) in
+    subst AreAlike (sym (nobody_in g.P.Profile.the (record { threads = c.in_ok-vec.field-0; endpoints = c.in_ok-vec-2.field-0 }) _ _ threads endpoints).0) alike_nobody

@@ -1,4 +1,4 @@
-use Rattle.std.proofs.Common.{sym, ap, ◌∙◌, cond}
+use Rattle.std.proofs.Common.{sym, ap, ◌∙◌, cond, subst}
 use Rattle.ipc_core.specs.declared.tables.ThreadRow.{ThreadRow}
 use Rattle.ipc_core.specs.declared.waiter.Role.TheVariants.{Receiving}
 use Rattle.ipc_core.specs.declared.waiter.Received.TheVariants.{Waiting, Empty}
@@ -7,6 +7,8 @@ use Rattle.ipc_core.specs.Waits.{first_sender, queued, received_from}
 use Rattle.ipc_core.proofs.RowForm.First.{receive_serves, receive_queues, receive_leaves}
 use Rattle.ipc_core.proofs.QueueForm.FirstOut.{first_served, sender_row, sender_thread}
 use Rattle.ipc_core.proofs.Histories.Pairs.{receive_by_histories}
+use Rattle.ipc_core.specs.Agreement.{AreAlike}
+use Rattle.ipc_core.proofs.SendersOrReceivers.{alike_receive, alike_cancel_thread}
 use Rattle.ipc_core.proofs.linked.LinkedWaitersWaiters.recv.Goals as goal
 
 pub take_out-requires-clause-row : goal.take_out-requires-clause-row
@@ -53,3 +55,19 @@ returns-in-None-2-clause-histories g c =
     receive_by_histories c.args.block c.args.endpoint c.args.thread (waits_in p own.tables) (waits_in p own.tables) _
     (sym (ap (λ o. received_from o c.args.block) first ∙ ap (λ b. cond b Waiting Empty) c.if-block.false))
     (receive_leaves c.args.block c.args.endpoint c.args.thread (waits_in p own.tables) first c.if-block.false)
+
+pub invariant_of-self-clause-alike : goal.invariant_of-self-clause-alike
+invariant_of-self-clause-alike g c =
+    let p = g.P.Profile.the in
+    let own = c.args.self.now in
+    subst AreAlike (sym c.take_out.ensures.waits) (alike_cancel_thread (waits_in p own.tables) own.alike c.in-Some.offer.thread)
+
+pub invariant_of-self-in-None-clause-alike : goal.invariant_of-self-in-None-clause-alike
+invariant_of-self-in-None-clause-alike g c =
+    let p = g.P.Profile.the in
+    let own = c.args.self.now in
+    let first = sym c.first_sender.ensures ∙ c.in-None.is in
+    let put = c.wait_last.ensures.waits (Receiving c.args.endpoint) (ap (λ (row : ThreadRow). row.role) c.receiving-row.ensures)
+    ∙ ap (λ row. queued c.args.endpoint c.args.thread (Receiving c.args.endpoint) (waiter_of row c.args.thread) (waits_in p own.tables)) c.receiving-row.ensures in
+    subst AreAlike (sym (receive_queues c.args.block c.args.endpoint c.args.thread (waits_in p own.tables) (waits_in p c.wait_last.new.self) first c.if-block.true put))
+    (alike_receive (waits_in p own.tables) own.alike c.args.block c.args.endpoint c.args.thread)

@@ -1,4 +1,4 @@
-use Rattle.std.proofs.Common.{sym, ap, ◌∙◌, cond}
+use Rattle.std.proofs.Common.{sym, ap, ◌∙◌, cond, subst}
 use Rattle.ipc_core.specs.declared.tables.ThreadRow.{ThreadRow}
 use Rattle.ipc_core.specs.declared.waiter.Role.TheVariants.{Sending}
 use Rattle.ipc_core.specs.declared.waiter.Sent.TheVariants.{Waiting, Dropped}
@@ -7,6 +7,8 @@ use Rattle.ipc_core.specs.Waits.{first_receiver, queued, sent_to}
 use Rattle.ipc_core.proofs.RowForm.First.{send_serves, send_queues, send_leaves}
 use Rattle.ipc_core.proofs.QueueForm.FirstOut.{first_served, receiver_row, receiver_thread}
 use Rattle.ipc_core.proofs.Histories.Pairs.{send_by_histories}
+use Rattle.ipc_core.specs.Agreement.{AreAlike}
+use Rattle.ipc_core.proofs.SendersOrReceivers.{alike_send, alike_cancel_thread}
 use Rattle.ipc_core.proofs.linked.LinkedWaitersWaiters.send.Goals as goal
 
 pub take_out-requires-clause-row : goal.take_out-requires-clause-row
@@ -53,3 +55,19 @@ returns-in-None-2-clause-histories g c =
     send_by_histories c.args.block c.args.endpoint c.args.thread c.args.badge c.args.message (waits_in p own.tables) (waits_in p own.tables) _
     (sym (ap (λ o. sent_to o c.args.block) first ∙ ap (λ b. cond b Waiting Dropped) c.if-block.false))
     (send_leaves c.args.block c.args.endpoint c.args.thread c.args.badge c.args.message (waits_in p own.tables) first c.if-block.false)
+
+pub invariant_of-self-clause-alike : goal.invariant_of-self-clause-alike
+invariant_of-self-clause-alike g c =
+    let p = g.P.Profile.the in
+    let own = c.args.self.now in
+    subst AreAlike (sym c.take_out.ensures.waits) (alike_cancel_thread (waits_in p own.tables) own.alike c.in-Some.to)
+
+pub invariant_of-self-in-None-clause-alike : goal.invariant_of-self-in-None-clause-alike
+invariant_of-self-in-None-clause-alike g c =
+    let p = g.P.Profile.the in
+    let own = c.args.self.now in
+    let first = sym c.first_receiver.ensures ∙ c.in-None.is in
+    let put = c.wait_last.ensures.waits (Sending c.args.endpoint) (ap (λ (row : ThreadRow). row.role) c.sending-row.ensures)
+    ∙ ap (λ row. queued c.args.endpoint c.args.thread (Sending c.args.endpoint) (waiter_of row c.args.thread) (waits_in p own.tables)) c.sending-row.ensures in
+    subst AreAlike (sym (send_queues c.args.block c.args.endpoint c.args.thread c.args.badge c.args.message (waits_in p own.tables) (waits_in p c.wait_last.new.self) first c.if-block.true put))
+    (alike_send (waits_in p own.tables) own.alike c.args.block c.args.endpoint c.args.thread c.args.badge c.args.message)

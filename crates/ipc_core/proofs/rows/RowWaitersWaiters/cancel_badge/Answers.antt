@@ -10,6 +10,8 @@ use Rattle.ipc_core.specs.Cancelled.{is_sender_with}
 use Rattle.ipc_core.specs.declared.row.WaitRow.{WaitRow}
 use Rattle.ipc_core.proofs.Histories.Cancelling.{badge_by_histories}
 use Rattle.ipc_core.proofs.RowForm.Kept.{rows_cancelled, badge_tests}
+use Rattle.ipc_core.specs.Agreement.{AreAlike}
+use Rattle.ipc_core.proofs.SendersOrReceivers.{alike_cancel_badge}
 use Rattle.ipc_core.proofs.rows.RowWaitersWaiters.cancel_badge.Goals as goal
 
 abbrev keeps : ℕ → Badge → WaitRow → Bool
@@ -42,3 +44,10 @@ returns-clause-histories g c =
     let own = c.args.self.now in
     let left = filter_same _ (keeps c.args.endpoint c.args.badge) _ (λ x b f' k. search rules) own.rows.items _ c.retain.ensures.filtered in
     badge_by_histories c.args.endpoint c.args.badge (waits_of own.rows.items) (waits_of c.retain.new.self.items) (ap waits_of left ∙ badge_tests c.args.endpoint c.args.badge own.rows.items ∙ rows_cancelled own.rows.items c.args.endpoint (is_sender_with c.args.badge) own.distinct)
+
+pub invariant_of-self-clause-alike : goal.invariant_of-self-clause-alike
+invariant_of-self-clause-alike g c =
+    let own = c.args.self.now in
+    let left = filter_same _ (keeps c.args.endpoint c.args.badge) _ (λ x b f' k. search rules) own.rows.items _ c.retain.ensures.filtered in
+    subst AreAlike (sym (ap waits_of left ∙ badge_tests c.args.endpoint c.args.badge own.rows.items ∙ rows_cancelled own.rows.items c.args.endpoint (is_sender_with c.args.badge) own.distinct))
+    (alike_cancel_badge (waits_of own.rows.items) own.alike c.args.endpoint c.args.badge)

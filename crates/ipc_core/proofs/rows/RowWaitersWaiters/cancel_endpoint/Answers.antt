@@ -8,6 +8,8 @@ use Rattle.ipc_core.specs.Waits.{IsThreadAddress}
 use Rattle.ipc_core.specs.declared.row.WaitRow.{WaitRow}
 use Rattle.ipc_core.proofs.Histories.Cancelling.{endpoint_by_histories}
 use Rattle.ipc_core.proofs.RowForm.Kept.{rows_cancelled, all_leave, endpoint_tests}
+use Rattle.ipc_core.specs.Agreement.{AreAlike}
+use Rattle.ipc_core.proofs.SendersOrReceivers.{alike_cancel_endpoint}
 use Rattle.ipc_core.proofs.rows.RowWaitersWaiters.cancel_endpoint.Goals as goal
 
 abbrev keeps : ℕ → WaitRow → Bool
@@ -40,3 +42,10 @@ returns-clause-histories g c =
     let own = c.args.self.now in
     let left = filter_same _ (keeps c.args.endpoint) _ (λ x b f' k. search rules) own.rows.items _ c.retain.ensures.filtered in
     endpoint_by_histories c.args.endpoint (waits_of own.rows.items) (waits_of c.retain.new.self.items) (ap waits_of left ∙ endpoint_tests c.args.endpoint own.rows.items ∙ rows_cancelled own.rows.items c.args.endpoint (λ _. true) own.distinct ∙ all_leave c.args.endpoint (waits_of own.rows.items))
+
+pub invariant_of-self-clause-alike : goal.invariant_of-self-clause-alike
+invariant_of-self-clause-alike g c =
+    let own = c.args.self.now in
+    let left = filter_same _ (keeps c.args.endpoint) _ (λ x b f' k. search rules) own.rows.items _ c.retain.ensures.filtered in
+    subst AreAlike (sym (ap waits_of left ∙ endpoint_tests c.args.endpoint own.rows.items ∙ rows_cancelled own.rows.items c.args.endpoint (λ _. true) own.distinct ∙ all_leave c.args.endpoint (waits_of own.rows.items)))
+    (alike_cancel_endpoint (waits_of own.rows.items) own.alike c.args.endpoint)

@@ -8,6 +8,8 @@ use Rattle.ipc_core.specs.Waits.{IsThreadAddress}
 use Rattle.ipc_core.specs.declared.row.WaitRow.{WaitRow}
 use Rattle.ipc_core.proofs.Histories.Cancelling.{thread_by_histories}
 use Rattle.ipc_core.proofs.RowForm.Kept.{row_cancelled}
+use Rattle.ipc_core.specs.Agreement.{AreAlike}
+use Rattle.ipc_core.proofs.SendersOrReceivers.{alike_cancel_thread}
 use Rattle.ipc_core.proofs.rows.RowWaitersWaiters.cancel_thread.Goals as goal
 
 abbrev keeps : ℕ → WaitRow → Bool
@@ -40,3 +42,9 @@ returns-clause-histories g c =
     let own = c.args.self.now in
     let left = filter_same _ (keeps c.args.thread) _ (λ x b f' k. search rules) own.rows.items _ c.retain.ensures.filtered in
     thread_by_histories c.args.thread (waits_of own.rows.items) (waits_of c.retain.new.self.items) (ap waits_of left ∙ row_cancelled own.rows.items c.args.thread)
+
+pub invariant_of-self-clause-alike : goal.invariant_of-self-clause-alike
+invariant_of-self-clause-alike g c =
+    let own = c.args.self.now in
+    let left = filter_same _ (keeps c.args.thread) _ (λ x b f' k. search rules) own.rows.items _ c.retain.ensures.filtered in
+    subst AreAlike (sym (ap waits_of left ∙ row_cancelled own.rows.items c.args.thread)) (alike_cancel_thread (waits_of own.rows.items) own.alike c.args.thread)

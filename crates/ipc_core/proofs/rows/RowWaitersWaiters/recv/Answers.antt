@@ -1,12 +1,15 @@
 use Rattle.std.proofs.Common.{◌≡◌, ◌≤◌, ◌*◌, ◌^◌, ℕ, Some, None, arith, vec_capacity, sym, ap, subst, ◌∙◌, cond}
+use Rattle.std.proofs.lemmas.List.Elements.{All-push}
 use Rattle.cap_core.specs.Numbers.{tcb_size}
 use Rattle.ipc_core.specs.declared.waiter.Waiter.TheVariants.{Receiver}
 use Rattle.ipc_core.specs.declared.waiter.Received.TheVariants.{Waiting, Empty}
-use Rattle.ipc_core.specs.Representation.Rows.{waiting_at, waits_of}
-use Rattle.ipc_core.specs.Waits.{first_sender, received_from}
+use Rattle.ipc_core.specs.Representation.Rows.{row_thread, waiting_at, waits_of, ArePlaced}
+use Rattle.ipc_core.specs.Waits.{IsThreadAddress, first_sender, received_from}
 use Rattle.ipc_core.proofs.RowForm.First.{receive_serves, receive_queues, receive_leaves}
 use Rattle.ipc_core.proofs.Histories.Pairs.{receive_by_histories}
 use Rattle.ipc_core.proofs.RowForm.Room.{room_left}
+use Rattle.ipc_core.specs.Agreement.{AreAlike}
+use Rattle.ipc_core.proofs.SendersOrReceivers.{alike_receive}
 use Rattle.ipc_core.proofs.rows.RowWaitersWaiters.recv.Goals as goal
 
 pub push_row-requires-clause-room : goal.push_row-requires-clause-room
@@ -42,3 +45,23 @@ returns-in-None-2-clause-histories g c =
     receive_by_histories c.args.block c.args.endpoint c.args.thread (waits_of c.args.self.now.rows.items) (waits_of c.args.self.now.rows.items) _
     (sym (ap (λ o. received_from o c.args.block) first ∙ ap (λ b. cond b Waiting Empty) c.if-block.false))
     (receive_leaves c.args.block c.args.endpoint c.args.thread (waits_of c.args.self.now.rows.items) first c.if-block.false)
+
+pub invariant_of-self-clause-alike : goal.invariant_of-self-clause-alike
+invariant_of-self-clause-alike g c =
+    let own = c.args.self.now in
+    let first : first_sender (waiting_at own.rows.items c.args.endpoint) ≡ Some c.in-Some.offer = cc in
+    subst AreAlike (sym (receive_serves c.args.block c.args.endpoint c.args.thread (waits_of own.rows.items) _ c.in-Some.offer first c.remove_first.ensures.waits))
+    (alike_receive (waits_of own.rows.items) own.alike c.args.block c.args.endpoint c.args.thread)
+
+pub invariant_of-self-in-None-clause-alike : goal.invariant_of-self-in-None-clause-alike
+invariant_of-self-in-None-clause-alike g c =
+    let own = c.args.self.now in
+    let first : first_sender (waiting_at own.rows.items c.args.endpoint) ≡ None = cc in
+    subst AreAlike (sym (receive_queues c.args.block c.args.endpoint c.args.thread (waits_of own.rows.items) _ first c.if-block.true c.push_row.ensures.waits))
+    (alike_receive (waits_of own.rows.items) own.alike c.args.block c.args.endpoint c.args.thread)
+
+pub invariant_of-self-in-None-clause-placed : goal.invariant_of-self-in-None-clause-placed
+invariant_of-self-in-None-clause-placed g c =
+    let own = c.args.self.now in
+    subst (ArePlaced g.P.Profile.the own.memory_bits) (sym c.push_row.ensures.rows)
+    (All-push (λ row. IsThreadAddress g.P.Profile.the own.memory_bits (row_thread row)) own.rows.items (record { endpoint = c.args.endpoint; waiter = Receiver c.args.thread }) own.placed c.requires.thread)

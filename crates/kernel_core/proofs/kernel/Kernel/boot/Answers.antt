@@ -3,6 +3,7 @@ use Rattle.std.proofs.Common.{ℕ, ap, ◌^◌, ◌-◌, ◌≤◌, sym, subst, 
 use Rattle.cap_core.specs.declared.limits.TheConstants.{MIN_MEMORY_BITS, MAX_MEMORY_BITS}
 use Rattle.cap_core.specs.Numbers.{tcb_bits}
 use Rattle.abstract_kernel.proofs.Boot.BootedStore.{store_at_boot}
+use Rattle.abstract_kernel.proofs.Housed.Boot.{housed_at_boot}
 use Rattle.kernel_core.proofs.Booted.BootThreads.{shows_boot}
 use Rattle.kernel_core.proofs.Booted.BootedParts.{is_kernel, threads_fit, rows_at_boot, empty_links, links_made}
 use Rattle.kernel_core.proofs.kernel.Kernel.boot.Goals as goal
@@ -36,3 +37,6 @@ pub returns-clause-within : goal.returns-clause-within
 returns-clause-within g c =
     let store = store_at_boot g.P.Profile.the c.args.plan.now c.requires in
     record { slots_placed = rw c.derive_spaces.ensures.forest store.slots_placed; lawful = rw c.derive_spaces.ensures.forest store.lawful }
+
+pub returns-clause-housed : goal.returns-clause-housed
+returns-clause-housed g c = rw c.derive_spaces.ensures.forest (housed_at_boot g.P.Profile.the c.args.plan.now c.requires)
