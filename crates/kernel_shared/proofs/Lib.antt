@@ -1,0 +1,2 @@
+-- Lemmas on histories and on what clients see of them.
+pub mod Grows

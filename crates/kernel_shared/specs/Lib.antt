@@ -1,0 +1,2 @@
+-- What contracts cite of a shared kernel.
+pub mod Laws
