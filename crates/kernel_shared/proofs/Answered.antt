@@ -1,5 +1,5 @@
 -- What a call leaves the client with.
-use Rattle.std.proofs.Common.{◌≡◌, ℕ, ◌+◌, ◌≤◌, ◌<◌, Bool, true, List, [], ◌∷◌, ◌++◌, length, take, Option, Some, None, slice_get, filter, count_by, map, refl, ap, sym, ◌∙◌, subst, arith, append_assoc}
+use Rattle.std.proofs.Common.{◌≡◌, ℕ, ◌+◌, ◌≤◌, Bool, true, List, [], ◌∷◌, ◌++◌, length, Some, None, slice_get, filter, refl, ap, sym, ◌∙◌, subst, arith}
 use Rattle.std.proofs.lemmas.List.{append-nil, map-append}
 use Rattle.std.proofs.Props.{props}
 use mathlib.Core.Logic.{∥∥₁_elim}
@@ -11,7 +11,7 @@ use Rattle.kernel_shared.specs.declared.entry.Entry.{Entry}
 use Rattle.kernel_shared.specs.Laws.{Lawful, entry, calls_of, count_of, is_numbered}
 use Rattle.kernel_shared.proofs.Grows.{count_append}
 use Rattle.kernel_shared.specs.Fronts.{StartsWith}
-use Rattle.kernel_shared.specs.Tokens.{Token, Lost, token, lost, lost_calls, calls_made, is_below, is_numbered_as, holds_not, IsAnswered}
+use Rattle.kernel_shared.specs.Tokens.{Token, token, lost_calls, calls_made, is_below, holds_not, IsAnswered}
 use Rattle.kernel_shared.proofs.Keeping.{starts_snoc, starts_trans, longer}
 use Rattle.kernel_shared.proofs.Numbered.{numbered_parts, below_kept, below_next, none_held, once}
 use Rattle.kernel_shared.proofs.Clients.{count_one}

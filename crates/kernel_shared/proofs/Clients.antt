@@ -1,24 +1,21 @@
 -- What a client's parts are after each step.
-use Rattle.std.proofs.Common.{◌≡◌, ℕ, zero, suc, ◌+◌, ◌≤◌, ◌<◌, ◌^◌, ◌==◌, nat_lt, Bool, true, false, get_or, List, [], ◌∷◌, ◌++◌, length, take, Option, Some, None, slice_get, refl, ap, sym, ◌∙◌, subst, arith, length-append, filter, count_by, map}
-use Rattle.std.proofs.lemmas.List.{take-append-le, take-append-drop, append-nil, map-append, length-take-le}
+use Rattle.std.proofs.Common.{◌≡◌, ℕ, zero, suc, ◌+◌, ◌≤◌, ◌<◌, ◌^◌, ◌==◌, nat_lt, Bool, true, false, get_or, List, [], ◌∷◌, ◌++◌, length, take, Option, Some, None, slice_get, refl, ap, sym, ◌∙◌, subst, arith}
+use Rattle.std.proofs.lemmas.List.{take-append-drop}
 use Rattle.std.proofs.Math.Seq.{take-length}
-use Rattle.std.proofs.Math.Logic.{∥∥₁_map}
-use mathlib.Core.Logic.{∥∥₁_elim}
-use Rattle.std.proofs.Props.{props}
 use Rattle.cap_core.specs.declared.profile.ProfileName.{ProfileName}
 use Rattle.abstract_kernel.specs.declared.call.Call.{Call}
 use Rattle.abstract_kernel.specs.declared.call.Reply.{Reply}
 use Rattle.abstract_kernel.specs.Shown.{Shown}
 use Rattle.kernel_shared.specs.declared.entry.Entry.{Entry}
-use Rattle.kernel_shared.specs.Laws.{Lawful, entry, calls_of, count_of, is_numbered}
+use Rattle.kernel_shared.specs.Laws.{Lawful, entry, count_of}
 use Rattle.kernel_shared.proofs.Grows.{lawful_open, count_append}
 use Rattle.std.proofs.lemmas.Option.{slice_get_within, get_or_from_slice_get}
 use Rattle.std.proofs.lemmas.Bool.Decides.{nat_tests}
 use Rattle.kernel_shared.specs.declared.stray.Stray.{Stray}
 use Rattle.kernel_shared.specs.Fronts.{StartsWith}
 use Rattle.kernel_shared.specs.Tokens.{IsClient, Token, Lost, token, lost, lost_of, stray_fits, strays}
-use Rattle.kernel_shared.proofs.Keeping.{starts_refl, starts_same, starts_snoc, starts_trans, starts_take, take_same, longer, count_later}
-use Rattle.kernel_shared.proofs.Lawfully.{lawful_take, take_one}
+use Rattle.kernel_shared.proofs.Keeping.{starts_trans, take_same, longer, count_later}
+use Rattle.kernel_shared.proofs.Lawfully.{take_one}
 
 pub new_client : (p : ProfileName) (o : Shown) (id parts amount : ℕ) (log : List Entry) → log ≡ [] → parts ≡ 1 → amount ≡ 0 → IsClient p o id 0 parts amount 0 None log
 new_client p o id parts amount log e one none = record {

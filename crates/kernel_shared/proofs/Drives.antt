@@ -1,5 +1,5 @@
 -- A drive of one client, up to a call.
-use Rattle.std.proofs.Common.{◌≡◌, ◌≢◌, ◌⊎◌, ⊎_elim, ℕ, zero, suc, ◌+◌, ◌<◌, ◌≤◌, slice_get, List, [], ◌∷◌, ◌++◌, length, take, get_or, Option, None, Some, Result, Ok, Err, IfOk, refl, ap, sym, ◌∙◌, subst, arith, append_assoc}
+use Rattle.std.proofs.Common.{◌≡◌, ◌≢◌, ◌⊎◌, ⊎_elim, ℕ, zero, suc, ◌+◌, ◌<◌, slice_get, List, [], ◌∷◌, ◌++◌, length, take, get_or, Option, None, Some, Result, Ok, Err, IfOk, refl, ap, sym, ◌∙◌, subst, arith, append_assoc}
 use Rattle.std.proofs.lemmas.List.{append-nil, take_more}
 use Rattle.std.proofs.lemmas.Option.{slice_get_within}
 use Rattle.kernel_shared.specs.Driving.{EachThree}
@@ -9,7 +9,7 @@ use Rattle.kernel_shared.specs.declared.end.End.{End}
 use Rattle.kernel_shared.specs.declared.end.End.TheVariants as E
 use Rattle.kernel_shared.specs.Fronts.{StartsWith}
 use Rattle.kernel_shared.specs.Tokens.{Token, Lost, lost, calls_made, lost_calls, newly_lost}
-use Rattle.kernel_shared.specs.Driving.{IsRun, IsRan, IsDriven, IsFinish, Ended, Stopped}
+use Rattle.kernel_shared.specs.Driving.{IsRun, IsRan, IsDriven, IsFinish, Ended}
 use Rattle.kernel_shared.proofs.Keeping.{starts_trans}
 
 -- what was made before a call of the list

@@ -1,5 +1,5 @@
 -- A book's law at the opening, and after one more call.
-use Rattle.std.proofs.Common.{◌≡◌, ℕ, ◌+◌, ◌<◌, ◌==◌, ◌&&◌, Bool, true, false, List, [], ◌∷◌, ◌++◌, map, refl, ap, sym, ◌∙◌, subst, append_assoc, eq-eqb, ne_eqb, ◌≢◌, arith, slice_index, cond, length, filter, length-append}
+use Rattle.std.proofs.Common.{◌≡◌, ℕ, ◌+◌, ◌<◌, ◌==◌, ◌&&◌, Bool, true, false, List, [], ◌∷◌, ◌++◌, refl, ap, sym, ◌∙◌, subst, append_assoc, eq-eqb, arith, slice_index, cond, length, filter, length-append}
 use Rattle.std.proofs.lemmas.List.{map-append, append-nil}
 use Rattle.std.proofs.lemmas.Bool.Decides.{nat_tests}
 use Rattle.std.proofs.lemmas.List.Sums.{length-filter}
@@ -11,11 +11,11 @@ use Rattle.abstract_kernel.specs.declared.call.Call.{Call}
 use Rattle.abstract_kernel.specs.declared.call.Reply.{Reply}
 use Rattle.abstract_kernel.specs.State.{State, shown}
 use Rattle.abstract_kernel.specs.Shown.{Shown}
-use Rattle.abstract_kernel.specs.Step.{step, state_after, replies_of}
+use Rattle.abstract_kernel.specs.Step.{state_after, replies_of}
 use Rattle.abstract_kernel.specs.Reached.{IsReached, StepsTo}
 use Rattle.abstract_kernel.proofs.Reached.Runs.{state_after-nil, state_after-snoc, replies_of-nil, replies_of-snoc, reached_after}
 use Rattle.kernel_shared.specs.declared.entry.Entry.{Entry}
-use Rattle.kernel_shared.specs.Laws.{entry, calls_of, replies_in, count_of, is_numbered, Lawful, StandsAfter, AreCounts}
+use Rattle.kernel_shared.specs.Laws.{entry, calls_of, count_of, is_numbered, Lawful, StandsAfter, AreCounts}
 
 pub lawful_open : (p : ProfileName) (o : Shown) → Lawful p o []
 unfolding is_numbered

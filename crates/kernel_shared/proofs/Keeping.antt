@@ -1,5 +1,5 @@
 -- Steps that keep the rule: each view stays a beginning of the log.
-use Rattle.std.proofs.Common.{◌≡◌, ◌≢◌, ◌⊎◌, ℕ, List, [], ◌∷◌, ◌++◌, set, refl, ap, sym, ◌∙◌, subst, ⊎_elim, append_assoc, length, take, ◌≤◌, arith, count_by, length-append, ◌+◌}
+use Rattle.std.proofs.Common.{◌≡◌, ◌≢◌, ℕ, List, [], ◌∷◌, ◌++◌, set, refl, ap, sym, ◌∙◌, subst, ⊎_elim, append_assoc, length, take, ◌≤◌, arith, length-append}
 use Rattle.std.proofs.lemmas.List.{append-nil, take-append-le}
 use mathlib.Core.Option.{some}
 use lib.ListN.{get_elem?}

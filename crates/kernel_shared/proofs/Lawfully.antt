@@ -1,13 +1,12 @@
 -- A beginning of a lawful history is lawful.
-use Rattle.std.proofs.Common.{◌≡◌, ℕ, ◌+◌, ◌≤◌, List, [], ◌∷◌, ◌++◌, length, take, map, Option, Some, slice_get, refl, ap, sym, ◌∙◌, subst, arith, get_or}
-use Rattle.std.proofs.lemmas.List.{map-append, take_more, take-append-le, take-append-drop, length-map}
+use Rattle.std.proofs.Common.{◌≡◌, ℕ, ◌+◌, List, [], ◌∷◌, ◌++◌, length, take, Some, slice_get, ap, sym, ◌∙◌, subst, arith}
+use Rattle.std.proofs.lemmas.List.{map-append, take_more, take-append-drop, length-map}
 use Rattle.std.proofs.Math.Seq.{take-append_seam}
 use Rattle.std.proofs.Math.Logic.{∥∥₁_map}
 use Rattle.std.proofs.lemmas.Option.{slice_get_within, get_or_from_slice_get}
 use Rattle.cap_core.specs.declared.profile.ProfileName.{ProfileName}
 use Rattle.abstract_kernel.specs.declared.call.Call.{Call}
-use Rattle.abstract_kernel.specs.declared.call.Reply.{Reply}
-use Rattle.abstract_kernel.specs.State.{State, shown}
+use Rattle.abstract_kernel.specs.State.{State}
 use Rattle.abstract_kernel.specs.Shown.{Shown}
 use Rattle.abstract_kernel.specs.Step.{step, state_after, replies_of}
 use Rattle.abstract_kernel.proofs.Reached.Runs.{replies_of-nil, replies_of-cons, replies_of-append}

@@ -11,3 +11,4 @@ pub mod Answered
 pub mod Places
 pub mod Threes
 pub mod Drives
+pub mod Equal

@@ -1,5 +1,5 @@
 -- What one published operation does to the history.
-use Rattle.std.proofs.Common.{◌≡◌, ◌≢◌, ℕ, ◌+◌, ◌==◌, Bool, true, false, cond, List, [], ◌∷◌, ◌++◌, length, fold, Result, Ok, Err, MatchResult, refl, ap, sym, ◌∙◌, subst, eq-eqb, ne_eqb, length-append, arith}
+use Rattle.std.proofs.Common.{◌≡◌, ◌≢◌, ℕ, ◌+◌, ◌==◌, Bool, true, false, List, [], ◌∷◌, ◌++◌, length, fold, Result, Ok, Err, MatchResult, refl, ap, sym, ◌∙◌, subst, eq-eqb, ne_eqb, length-append, arith}
 use Rattle.std.specs.Result.{is_err}
 use Rattle.abstract_kernel.specs.State.{State}
 use Rattle.cap_core.specs.declared.profile.ProfileName.{ProfileName}

@@ -1,5 +1,5 @@
 -- What a fault tells of the client.
-use Rattle.std.specs.Prelude.{◌≡◌, ℕ, ◌<◌, List, length, Option, Some}
+use Rattle.std.specs.Prelude.{◌≡◌, ℕ, ◌<◌, length, Some}
 use Rattle.abstract_kernel.specs.declared.call.Call.{Call}
 use Rattle.kernel_shared.specs.Laws.{count_of}
 use Rattle.kernel_shared.specs.declared.fault.SharedFault.{SharedFault}

@@ -307,8 +307,17 @@ fn found<N: Naming, T: Volume<N>>(book: &T, place: u32, request: Request) -> Opt
         return None;
     }
     let entry = book.entry(place)?;
-    let same = entry.client == request.client && entry.number == request.number && entry.call == request.call;
-    if same { Some(entry.reply) } else { None }
+    let wanted = Entry {
+        client: request.client,
+        number: request.number,
+        call: request.call,
+        reply: entry.reply,
+    };
+    if is_same(entry, wanted) {
+        Some(entry.reply)
+    } else {
+        None
+    }
 }
 
 /// Whether two copies have the same first entries, so many as were seen.
@@ -324,12 +333,18 @@ fn alike<N: Naming, T: Volume<N>>(one: &T, other: &T, seen: u32) -> bool
     true
 }
 
-/// Whether both are one entry.
+/// Whether both are there and are the same.
 fn same_entry(one: Option<Entry>, other: Option<Entry>) -> bool
     ensures { IsTrue result → one ≡ other }
 {
     match (one, other) {
-        (Some(a), Some(b)) => a == b,
+        (Some(a), Some(b)) => is_same(a, b),
         _ => false,
     }
+}
+
+fn is_same(one: Entry, other: Entry) -> bool
+    ensures { IsTrue result → one ≡ other }
+{
+    one == other
 }

@@ -1,4 +1,4 @@
-use Rattle.std.proofs.Common.{ℕ, ◌≡◌, take}
+use Rattle.std.proofs.Common.{◌≡◌, take}
 use Rattle.kernel_shared.proofs.client.alike.Given as goal
 
 abbrev pub invariant-loop-place : goal.invariant-loop-place

@@ -1,4 +1,4 @@
-use Rattle.std.proofs.Common.{rules, ◌≡◌, Vec, Global, length, vec_len}
+use Rattle.std.proofs.Common.{rules, ◌≡◌, Vec, Global, length}
 use Rattle.abstract_kernel.specs.declared.call.Call.{Call}
 use Rattle.kernel_shared.specs.Tokens.{Token}
 use Rattle.kernel_shared.specs.Driving.{IsDriven, IsRan, IsFinish}

@@ -1,9 +1,8 @@
-use Rattle.std.proofs.Common.{rules, ℕ, ◌≡◌, Vec, Global, List, vec_len, length, subst, sym, ap, ◌∙◌}
+use Rattle.std.proofs.Common.{rules, ◌≡◌, Vec, Global, subst}
 use Rattle.abstract_kernel.specs.declared.call.Call.{Call}
 use Rattle.kernel_shared.specs.Tokens.{Token}
 use Rattle.kernel_shared.specs.Driving.{IsRan}
 use Rattle.kernel_shared.specs.declared.driving.Owes.{Owes}
-use Rattle.kernel_shared.specs.declared.driving.Ran.{Ran}
 use Rattle.kernel_shared.proofs.Threes.{kept_three}
 use Rattle.kernel_shared.proofs.driving.drive_in.Goals as goal
 

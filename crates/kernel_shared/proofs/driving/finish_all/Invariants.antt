@@ -1,6 +1,4 @@
 use Rattle.std.proofs.Common.{ℕ, ◌≡◌, Some, length, slice_get, vec_len, vec_capacity}
-use Rattle.kernel_shared.specs.declared.driving.Ran.{Ran}
-use Rattle.kernel_shared.specs.declared.driving.Driven.{Driven}
 use Rattle.kernel_shared.specs.Driving.{IsFinish}
 use Rattle.kernel_shared.proofs.driving.finish_all.Given as goal
 

@@ -1,4 +1,4 @@
-use Rattle.std.proofs.Common.{ℕ, ◌≡◌, length, vec_len, vec_capacity}
+use Rattle.std.proofs.Common.{◌≡◌, length, vec_len, vec_capacity}
 use Rattle.kernel_shared.specs.Driving.{EachThree}
 use Rattle.kernel_shared.proofs.driving.start_all.Given as goal
 

@@ -1,6 +1,4 @@
-use Rattle.std.proofs.Common.{rules, ◌≡◌, ℕ, ◌<◌, List, length, get_or, Option, Some, refl, ap, sym, ◌∙◌, subst}
-use Rattle.abstract_kernel.specs.declared.call.Call.{Call}
-use Rattle.kernel_shared.specs.Tokens.{Token}
+use Rattle.std.proofs.Common.{rules, ◌≡◌}
 use Rattle.kernel_shared.proofs.Drives.{IsMade, made_more, ran_to, ran_by}
 use Rattle.kernel_shared.proofs.driving.work.Goals as goal
 

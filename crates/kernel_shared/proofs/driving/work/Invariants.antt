@@ -1,4 +1,4 @@
-use Rattle.std.proofs.Common.{ℕ, ◌≡◌, ◌+◌, ◌++◌, take}
+use Rattle.std.proofs.Common.{◌≡◌, ◌+◌, ◌++◌, take}
 use Rattle.kernel_shared.specs.Fronts.{StartsWith}
 use Rattle.kernel_shared.specs.Tokens.{calls_made}
 use Rattle.kernel_shared.proofs.driving.work.Given as goal

@@ -1,4 +1,4 @@
-use Rattle.std.proofs.Common.{ℕ, ◌≡◌, ◌+◌, ◌<◌, ◌≤◌, length, sum_by, vec_len}
+use Rattle.std.proofs.Common.{◌≡◌, ◌≤◌, length, sum_by}
 use Rattle.kernel_shared.specs.Tokens.{made}
 use Rattle.kernel_shared.proofs.settling.counted.Given as goal
 

@@ -1,8 +1,8 @@
-use Rattle.std.proofs.Common.{rules, ℕ, ◌≡◌, ◌+◌, [], None, Some, slice_get, length, ap, sym, refl, arith, vec_len}
+use Rattle.std.proofs.Common.{rules, ℕ, ◌≡◌, [], None, arith}
 use Rattle.std.proofs.lemmas.Grind.{common_steps}
 use Rattle.kernel_shared.proofs.Places.{each_pushed}
 use Rattle.kernel_shared.specs.Tokens.{Token, token}
-use Rattle.kernel_shared.proofs.Keeping.{keeps_snoc, keeps_first, starts_nil}
+use Rattle.kernel_shared.proofs.Keeping.{keeps_snoc, starts_nil}
 use Rattle.kernel_shared.proofs.start.share.Goals as goal
 
 pub reader-requires : goal.reader-requires

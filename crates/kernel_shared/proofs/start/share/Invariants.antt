@@ -1,4 +1,4 @@
-use Rattle.std.proofs.Common.{ℕ, ◌≡◌, ◌+◌, [], None, Some, slice_get, length, vec_len, vec_capacity}
+use Rattle.std.proofs.Common.{ℕ, ◌≡◌, ◌+◌, [], None, Some, slice_get, length, vec_capacity}
 use Rattle.kernel_shared.specs.Tokens.{Token, token}
 use Rattle.kernel_shared.proofs.start.share.Given as goal
 

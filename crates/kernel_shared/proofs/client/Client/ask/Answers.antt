@@ -1,4 +1,4 @@
-use Rattle.std.proofs.Common.{rules, ◌≡◌, Option, Some, refl, ap, sym, ◌∙◌, subst}
+use Rattle.std.proofs.Common.{rules, ◌≡◌, Some, refl, sym, subst}
 use Rattle.kernel_shared.specs.Laws.{count_of}
 use Rattle.kernel_shared.specs.Tokens.{Token, lost}
 use Rattle.kernel_shared.proofs.client.Client.ask.Goals as goal

@@ -1,4 +1,4 @@
-use Rattle.std.proofs.Common.{rules, ◌≡◌, List, ◌∙◌, subst, ap, sym}
+use Rattle.std.proofs.Common.{rules, ◌≡◌, ◌∙◌, ap, sym}
 use Rattle.left_right.specs.Sides.{view}
 use Rattle.kernel_shared.specs.Laws.{Lawful}
 use Rattle.kernel_shared.specs.Readers.{seen_of}

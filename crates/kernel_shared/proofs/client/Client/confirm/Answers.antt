@@ -1,8 +1,6 @@
-use Rattle.std.proofs.Common.{rules, ◌≡◌, List, Option, Some, length, slice_get, ◌∙◌, subst, ap, sym}
+use Rattle.std.proofs.Common.{rules, ◌≡◌, Some, slice_get, ◌∙◌, ap, sym}
 use Rattle.left_right.specs.Sides.{view}
-use Rattle.kernel_shared.specs.declared.entry.Entry.{Entry}
 use Rattle.kernel_shared.specs.Laws.{Lawful, entry}
-use Rattle.kernel_shared.specs.Fronts.{StartsWith}
 use Rattle.kernel_shared.specs.Readers.{seen_of}
 use Rattle.kernel_shared.specs.Tokens.{Token}
 use Rattle.kernel_shared.proofs.Keeping.{turns, starts_refl, starts_by}

@@ -5,7 +5,7 @@ use Rattle.kernel_shared.specs.Fronts.{StartsWith}
 use Rattle.kernel_shared.specs.Readers.{seen_of}
 use Rattle.kernel_shared.specs.Tokens.{Token}
 use Rattle.kernel_shared.proofs.Keeping.{turns, starts_refl, starts_by}
-use Rattle.kernel_shared.proofs.Clients.{looks_later, lost_same}
+use Rattle.kernel_shared.proofs.Clients.{looks_later}
 use Rattle.kernel_shared.proofs.client.Client.look.Goals as goal
 
 pub enter_as-requires : goal.enter_as-requires

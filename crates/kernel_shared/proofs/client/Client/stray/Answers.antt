@@ -1,4 +1,4 @@
-use Rattle.std.proofs.Common.{◌≡◌, List, Option, Some, sym, ◌∙◌, ap, subst}
+use Rattle.std.proofs.Common.{List, Some, sym, ◌∙◌, ap, subst}
 use Rattle.kernel_shared.specs.Tokens.{Token, lost, lost_of}
 use Rattle.kernel_shared.specs.declared.entry.Entry.{Entry}
 use Rattle.kernel_shared.specs.Laws.{Lawful}

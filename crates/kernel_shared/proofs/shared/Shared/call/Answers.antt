@@ -1,6 +1,5 @@
-use Rattle.std.proofs.Common.{rules, ◌≡◌, ◌++◌, ℕ, List, Option, Some, None, ap, sym, ◌∙◌, subst}
+use Rattle.std.proofs.Common.{rules, ◌≡◌, ◌++◌, List, Some, None, ap, sym, ◌∙◌, subst}
 use Rattle.kernel_shared.specs.declared.entry.Entry.{Entry}
-use Rattle.kernel_shared.specs.Laws.{Lawful, count_of}
 use Rattle.kernel_shared.specs.Tokens.{Token, lost, holds_not, calls_made, lost_calls}
 use Rattle.kernel_shared.proofs.Answered.{not_held, unmade, finished}
 use Rattle.kernel_shared.proofs.shared.Shared.call.Goals as goal
