@@ -1,0 +1,14 @@
+-- Lemmas on histories, on what clients see of them, and on drives.
+pub mod Grows
+pub mod Numbered
+pub mod Lawfully
+pub mod Shows
+pub mod Taken
+pub mod Keeping
+pub mod Publishing
+pub mod Clients
+pub mod Answered
+pub mod Places
+pub mod Threes
+pub mod Drives
+pub mod Equal

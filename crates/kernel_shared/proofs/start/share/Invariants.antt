@@ -1,0 +1,12 @@
+use Rattle.std.proofs.Common.{ℕ, ◌≡◌, ◌+◌, [], None, Some, slice_get, length, vec_capacity}
+use Rattle.kernel_shared.specs.Tokens.{Token, token}
+use Rattle.kernel_shared.proofs.start.share.Given as goal
+
+abbrev pub invariant-loop-id : goal.invariant-loop-id
+invariant-loop-id g l = record {
+  parts : l.rest.parts + l.id ≡ l.clients;
+  amount : l.rest.amount ≡ 0;
+  len : length l.all.items ≡ l.id;
+  room : vec_capacity l.all ≡ l.clients;
+  each : (i : ℕ) (c : Token) → slice_get l.all.items i ≡ Some c → c ≡ token i 0 [] None;
+}

@@ -1,0 +1,17 @@
+-- What a fault tells of the client.
+use Rattle.std.specs.Prelude.{◌≡◌, ℕ, ◌<◌, length, Some}
+use Rattle.abstract_kernel.specs.declared.call.Call.{Call}
+use Rattle.kernel_shared.specs.Laws.{count_of}
+use Rattle.kernel_shared.specs.declared.fault.SharedFault.{SharedFault}
+use Rattle.kernel_shared.specs.declared.fault.SharedFault.TheVariants.{Full, Stray, NameTaken, Memory, NoEntry}
+use Rattle.kernel_shared.specs.Tokens.{Token, lost, holds_not}
+
+module _ {N T : Type 0} where
+  -- Full: a front with as many entries as may be was seen. NameTaken: the front that it carries has more of the client's
+  -- entries than it made. Stray: the client keeps the call with the front that it carries, which does not hold the call.
+  abbrev pub Told : ℕ → Token → SharedFault N T → Type 0
+  Told limit t Full = length t.front ≡ limit
+  Told limit t (NameTaken front) = (front ≡ t.front) × (t.done < count_of t.id front)
+  Told limit t (Stray front) = (call : Call) × (t.stray ≡ Some (lost call front)) × holds_not t.id t.done front
+  Told limit t Memory = Unit {0}
+  Told limit t NoEntry = Unit {0}

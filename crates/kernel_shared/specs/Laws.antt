@@ -1,0 +1,46 @@
+-- When a history is lawful, and what a kernel stands for after it.
+use Rattle.std.specs.Prelude.{◌≡◌, ℕ, ◌<◌, ◌==◌, ◌&&◌, Bool, true, List, [], ◌∷◌, ◌++◌, map, count_by, slice_index}
+use Rattle.cap_core.specs.declared.profile.ProfileName.{ProfileName}
+use Rattle.abstract_kernel.specs.declared.call.Call.{Call}
+use Rattle.abstract_kernel.specs.declared.call.Reply.{Reply}
+use Rattle.abstract_kernel.specs.State.{State, shown}
+use Rattle.abstract_kernel.specs.Shown.{Shown}
+use Rattle.abstract_kernel.specs.Step.{state_after, replies_of}
+use Rattle.abstract_kernel.specs.Reached.{IsReached}
+use Rattle.kernel_shared.specs.declared.entry.Entry.{Entry}
+
+abbrev pub entry : ℕ → ℕ → Call → Reply → Entry
+entry client number call reply = record { client = client; number = number; call = call; reply = reply }
+
+abbrev pub calls_of : List Entry → List Call
+calls_of h = map (λ (e : Entry). e.call) h
+
+abbrev pub replies_in : List Entry → List Reply
+replies_in h = map (λ (e : Entry). e.reply) h
+
+-- how many entries a client has
+abbrev pub count_of : ℕ → List Entry → ℕ
+count_of client h = count_by (λ (e : Entry). e.client == client) h
+
+-- past these entries, each entry's number is how many its client had before
+unfoldable pub is_numbered : List Entry → List Entry → Bool
+is_numbered past [] = true
+is_numbered past (e ∷ es) = (e.number == count_of e.client past) && is_numbered (past ++ e ∷ []) es
+
+-- The replies are those of a run from any state that the opening stands for, and each client's entries are numbered in order.
+pub record Lawful (p : ProfileName) (opening : Shown) (h : List Entry) : Type 0 where
+  pub answered : (A : State) → IsReached p A → opening ≡ shown A → replies_in h ≡ replies_of p A (calls_of h)
+  pub numbered : is_numbered [] h ≡ true
+
+-- the kernel stands for the state after the history
+pub record StandsAfter (p : ProfileName) (opening : Shown) (h : List Entry) (k : Shown) : Type 0 where
+  pub stands : (A : State) → IsReached p A → opening ≡ shown A → k ≡ shown (state_after p A (calls_of h))
+
+-- the state that the opening stands for
+pub record Begins (p : ProfileName) (start : State) (opening : Shown) : Type 0 where
+  pub reached : IsReached p start
+  pub shows : opening ≡ shown start
+
+-- a table of the counts of the first clients
+abbrev pub AreCounts : List ℕ → List Entry → Type 0
+AreCounts counts h = (client : ℕ) → client < 8 → slice_index counts client ≡ count_of client h

@@ -1,0 +1,159 @@
+//! A kernel, and the history of the calls that led to it.
+ghost use Rattle.std.specs.Prelude.{◌≡◌, ◌≢◌, ◌<◌, ◌≤◌, ◌↔◌, ◌++◌, ◌∷◌, [], Ok, Err, IsTrue, IfOk, OnErr, length, slice_get, slice_index, cond, ℕ, ◌==◌, vec_len, vec_capacity};
+ghost use Rattle.abstract_kernel.specs.State.{State, shown};
+ghost use Rattle.abstract_kernel.specs.Step.{step};
+ghost use Rattle.abstract_kernel.specs.Reached.{IsReached};
+ghost use Rattle.kernel_shared.specs.Laws.{Lawful, StandsAfter, AreCounts, entry, count_of};
+
+use crate::entry::Entry;
+use crate::naming::Naming;
+use abstract_kernel::{Call, Reply};
+use cap_core::Profile;
+use ipc_core::Waiters;
+use kernel_core::Kernel;
+use slot_core::CapStore;
+use std::alloc::{AllocError, Global};
+use std::marker::PhantomData;
+
+/// Why a book does not take a call.
+#[derive(Debug, Clone, Copy, PartialEq, Eq, Drop)]
+pub enum BookFault {
+    /// The history has as many entries as it may.
+    Full,
+    /// The call's number is not how many entries its client has.
+    NameTaken,
+}
+
+/// A kernel, and the history of the calls that led to it from its opening. At every moment the history is lawful, and the
+/// kernel stands for the state after it.
+#[derive(Drop)]
+pub struct Book<N: Naming, P: Profile, S: CapStore<P> + Drop, W: Waiters<P> + Drop> {
+    pub kernel: Kernel<P, S, W>,
+    pub history: Vec<Entry>,
+    /// How many entries each of the first eight clients has.
+    counts: [u32; 8],
+    limit: u32,
+    of: PhantomData<N>,
+    pub ghost lawful: { ∥ Lawful P.the N.opening history.items ∥₁ },
+    pub ghost stands: { ∥ StandsAfter P.the N.opening history.items kernel ∥₁ },
+    pub ghost limited: { limit ≡ N.limit },
+    pub ghost short: { vec_len history ≤ limit },
+    ghost room: { limit ≤ vec_capacity history },
+    ghost counted: { AreCounts counts history.items },
+}
+
+impl<N: Naming, P: Profile, S: CapStore<P> + Drop, W: Waiters<P> + Drop> Book<N, P, S, W> {
+    /// A kernel at its opening, with no history yet and room for `limit` entries.
+    ///
+    /// # Errors
+    ///
+    /// `AllocError` where memory was wanted and not there.
+    pub fn open(
+        alloc: Global,
+        kernel: Kernel<P, S, W>,
+        limit: u32,
+    ) -> Result<Book<N, P, S, W>, AllocError>
+        requires opening { kernel ≡ N.opening }
+        requires limit { limit ≡ N.limit }
+        ensures { IfOk result (λ b. b.history.items ≡ []) }
+    {
+        let history = Vec::with_capacity(alloc, limit as usize)?;
+        Ok(Book {
+            kernel,
+            history,
+            counts: [0; 8],
+            limit,
+            of: PhantomData,
+        })
+    }
+
+    /// How many entries the history has. It takes no memory.
+    pub fn length(&self) -> u32
+        ensures { result ≡ vec_len self.now.history }
+    {
+        let _limit = self.limit;
+        self.history.len() as u32
+    }
+
+    /// The entry at a place of the history, 0 the first; `None` past its end. It takes no memory.
+    pub fn entry(&self, place: u32) -> Option<Entry>
+        ensures { result ≡ slice_get self.now.history.items place }
+    {
+        self.history.get(place as usize).copied()
+    }
+
+    /// The kernel. It takes no memory.
+    pub fn kernel(&self) -> &Kernel<P, S, W>
+        ensures { result.now ≡ self.now.kernel }
+    {
+        &self.kernel
+    }
+
+    /// Whether the history has as many entries as it may. It takes no memory.
+    pub fn is_full(&self) -> bool
+        ensures { IsTrue result ↔ (length self.now.history.items ≡ N.limit) }
+    {
+        self.history.len() == self.limit as usize
+    }
+
+    /// How many entries a client has. It takes no longer in a longer history, for the first eight clients. It takes no
+    /// memory.
+    pub fn made_by(&self, client: u32) -> usize
+        ensures { result ≡ count_of client self.now.history.items }
+    {
+        if client < 8 {
+            self.counts[client as usize] as usize
+        } else {
+            self.history.iter().filter(|e| e.client == client).count()
+        }
+    }
+
+    /// Takes a call of a client, under the client's number for it: the kernel makes the step, and the history has one more
+    /// entry with the reply. It takes no memory.
+    ///
+    /// # Errors
+    ///
+    /// - `Full` where the history has `limit` entries;
+    /// - else `NameTaken` where the number is not how many entries the client has.
+    ///
+    /// Neither changes anything.
+    pub fn take(&mut self, client: u32, number: u32, call: Call) -> Result<Reply, BookFault>
+        ensures full { (result ≡ Err BookFault.Full) ↔ (length self.old.history.items ≡ N.limit) }
+        ensures name_taken { (result ≡ Err BookFault.NameTaken) ↔ ((length self.old.history.items ≢ N.limit) × (number ≢ count_of client self.old.history.items)) }
+        ensures ok { IfOk result (λ r. self.new.history.items ≡ self.old.history.items ++ entry client number call r ∷ []) }
+        ensures reply { IfOk result (λ r. (A : State) → IsReached P.the A → self.old.kernel ≡ shown A → r ≡ (step P.the A call).reply) }
+        ensures err { OnErr result ((self.new.history.items ≡ self.old.history.items) × (self.new.kernel ≡ self.old.kernel)) }
+    {
+        if self.history.len() == self.limit as usize {
+            return Err(BookFault::Full);
+        }
+        let made = self.made_by(client);
+        if made != number as usize {
+            return Err(BookFault::NameTaken);
+        }
+        let Book {
+            kernel,
+            history,
+            counts,
+            ..
+        } = self;
+        let reply = kernel.step(call);
+        history.push_reserved(Entry {
+            client,
+            number,
+            call,
+            reply,
+        });
+        set_count(counts, client, number + 1);
+        Ok(reply)
+    }
+}
+
+/// Keeps how many entries a client has, where it is one of the first eight.
+fn set_count(counts: &mut [u32; 8], client: u32, made: u32)
+    ensures { (i : ℕ) → i < 8 → slice_index counts.new i ≡ cond (i == client) made (slice_index counts.old i) }
+{
+    if client < 8 {
+        counts[client as usize] = made;
+    }
+}

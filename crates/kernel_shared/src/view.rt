@@ -1,0 +1,6 @@
+//! What a thread knows of the history.
+use crate::entry::Entry;
+use std::collections::LinkedList;
+
+/// The entries that were seen. No value of it is ever made: contracts alone speak of it, as a list of entries.
+pub type View = LinkedList<Entry>;
