@@ -61,6 +61,21 @@ fn name_each_thread<P: Profile>(
     Ok(())
 }
 
+/// Replaces the thread of each call by its name, in the value that holds the calls.
+fn name_calls<P: Profile>(
+    alloc: Global,
+    plan: &BootPlan,
+    calls: &mut Value,
+) -> Result<(), AllocError>
+    requires { IsPlan P.the plan.now }
+    ensures { IfOk result (λ _. view calls.new ≡ spec.named_calls P.the plan.now (view calls.old)) }
+{
+    if let Value::Array(calls) = calls {
+        name_each_thread::<P>(alloc, plan, calls)?;
+    }
+    Ok(())
+}
+
 /// Replaces the threads of the calls of a set-up's table by their names.
 pub fn name_threads<P: Profile>(
     alloc: Global,
@@ -70,8 +85,8 @@ pub fn name_threads<P: Profile>(
     requires { IsPlan P.the plan.now }
     ensures { IfOk result (λ _. table_view table.new ≡ spec.with_changed (codes "call") (spec.named_calls P.the plan.now) (table_view table.old)) }
 {
-    if let Some(Value::Array(calls)) = table.get_mut("call") {
-        name_each_thread::<P>(alloc, plan, calls)?;
+    if let Some(calls) = table.get_mut("call") {
+        name_calls::<P>(alloc, plan, calls)?;
     }
     Ok(())
 }

@@ -178,3 +178,15 @@ all_named-numbered p prefix word a (suc n) some few bytes small fits = (
   (is_name-numbered prefix a some few bytes (omega arith), fits a (omega arith)),
   all_named-numbered p prefix word (a + 1) n some few bytes (omega arith) (λ i lt. fits i (omega arith)),
 )
+
+-- ---- the names of several kinds, one after another
+
+numbered_same : (prefix : List ℕ) (f g : ℕ → ℕ) (a n : ℕ) → ((i : ℕ) → f i ≡ g i) → map (λ i. (prefix ++ decimal i, f i)) (range_with_len a n) ≡ map (λ i. (prefix ++ decimal i, g i)) (range_with_len a n)
+numbered_same prefix f g a zero h = refl
+numbered_same prefix f g a (suc n) h = rw (h a) (ap (λ ns. (prefix ++ decimal a, g a) ∷ ns) (numbered_same prefix f g (a + 1) n h))
+
+-- names whose words are a step apart, after others
+pub added : (prefix : List ℕ) (f : ℕ → ℕ) (first step count wanted : ℕ) (t before u : Members) → u ≡ with_words (numbered prefix (λ i. first + step * i) count) t → t ≡ before → count ≡ wanted
+    → ((i : ℕ) → first + step * i ≡ f i) → u ≡ with_words (numbered prefix f wanted) before
+added prefix f first step count wanted t before u e same counted words =
+    e ∙ (ap (λ ns. with_words ns t) (numbered_same prefix (λ i. first + step * i) f 0 count words) ∙ (ap (λ n. with_words (numbered prefix f n) t) counted ∙ ap (with_words (numbered prefix f wanted)) same))
