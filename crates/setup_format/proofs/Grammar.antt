@@ -3,3 +3,4 @@ pub mod Bytes
 pub mod Keys
 pub mod Ends
 pub mod Beside
+pub mod Entries

@@ -289,7 +289,7 @@ fn names_of<P: Profile>(
     ensures { Gives (λ v. names_view v.items) result (spec.at_key place key.now (kind.names_in P.the (entries_of (table_view table.now)))) }
 {
     let mut names = Vec::new(alloc);
-    for (text, value) in table {
+    for (text, value) in table.iter() {
         let word = at_key(place, key, named_word::<P>(text.as_str(), value))?;
         let text = text.clone()?;
         names.push(Name { text, word })?;

@@ -62,7 +62,7 @@ fn which_profile_a_set_up_names(rt: HostRuntime) -> Result<(), Fail> {
     }
     let got = answer(rt.alloc(), "format = 1\nprofile = \"thin\"\n")?;
     assert_eq!(rt; got.as_str(), "set-up refused 204 at top key profile");
-    let got = answer(rt.alloc(), "format = 2\nprofile = 32\n")?;
+    let got = answer(rt.alloc(), "format = 3\nprofile = 32\n")?;
     assert_eq!(rt; got.as_str(), "set-up refused 204 at top key format");
     Ok(())
 }

@@ -29,7 +29,11 @@ fn first_fault_of_the_top_table(rt: HostRuntime) -> Result<(), Fail> {
             "format = 1\nmemory_bits = 16\nroot_rad\n",
             "200: set-up refused 200 at text",
         ),
-        ("format = 2\n", "204: set-up refused 204 at top key format"),
+        ("format = 0\n", "204: set-up refused 204 at top key format"),
+        (
+            "format = 2\n",
+            "202: set-up refused 202 at top key memory_bits",
+        ),
         (
             "format = 3\nx = 1\n",
             "204: set-up refused 204 at top key format",
