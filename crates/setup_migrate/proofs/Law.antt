@@ -5,3 +5,4 @@ pub mod Names
 pub mod Calls
 pub mod Plans
 pub mod Setups
+pub mod Bytes

@@ -1,7 +1,9 @@
 -- Members of a table: with a value at a key, and with the value at a key changed.
-use Rattle.std.proofs.Common.{◌≡◌, ℕ, Bool, true, false, cond, List, [], ◌∷◌, ◌++◌, map, Option, Some, None, option_map, String, Global, Ordering, Less, Equal, Greater, string_bytes, nat_cmp, is_eq, refl, sym, ap, ◌∙◌, inl, inr, ◌⊎◌}
+use Rattle.std.proofs.Common.{◌≡◌, ℕ, Bool, true, false, cond, List, [], ◌∷◌, ◌++◌, map, Option, Some, None, option_map, String, Global, Ordering, Less, Equal, Greater, string_bytes, nat_cmp, is_eq, refl, sym, ap, ◌∙◌, inl, inr, ◌⊎◌, ◌+◌, ◌<◌, ◌≤◌, length, take, drop, set, get_or, arith}
 use Rattle.std.proofs.lemmas.Bool.{cases_Bool, false≢true}
 use Rattle.std.proofs.lemmas.Cmp.{nat_list_cmp_total}
+use Rattle.std.proofs.lemmas.Grind.{drop_more_same}
+use Rattle.std.proofs.lemmas.List.{drop-set-lt, get_or-drop, map_push, take_all, take_more, take_more_set}
 use Rattle.std.proofs.lemmas.Option.{none-some, same_Some}
 use Rattle.std.proofs.lemmas.Map.Lookups.{exact_bytes}
 use Rattle.std.specs.BTreeMap.{insert_entry, is_at}
@@ -11,10 +13,10 @@ use Rattle.std.specs.List.{filter}
 use Rattle.std.specs.Map.{lookup, set_value}
 use Rattle.std.specs.Ordering.{match_ordering}
 use Rattle.std.specs.String.{string_cmp}
-use Rattle.toml.specs.Data.{Data, integer, Members, no_members, member, get_member, same_key}
-use Rattle.toml.specs.View.{view, members_view}
+use Rattle.toml.specs.Data.{Data, integer, item, Members, no_members, member, get_member, same_key}
+use Rattle.toml.specs.View.{view, items_of, items_view, members_view}
 use Rattle.toml.specs.declared.value.Value.{Value}
-use Rattle.setup_migrate.specs.Migration.{with_member, with_changed}
+use Rattle.setup_migrate.specs.Migration.{with_member, with_changed, each_item}
 use Rattle.setup_values.specs.Keys.{keys_of}
 
 abbrev pub Entry : Type 0
@@ -144,3 +146,35 @@ keys_with test k d (member l e ms) out =
         | inr more ↦ simp more (ap (λ ks. cond (test l) (l ∷ ks) ks) (keys_with test k d ms out))
       ]
     ]
+
+-- ---- items, each changed
+
+each_items : (f : Data → Data) (vs : List Value) → items_of (map (λ v. f (view v)) vs) ≡ each_item f (items_view vs)
+each_items f [] = refl
+each_items f (v ∷ vs) = ap (item (f (view v))) (each_items f vs)
+
+add_none : (i : ℕ) → i + 0 ≡ i
+add_none i = omega arith
+
+-- a loop that changes each item in turn: one more, and at its end all
+pub changed_so_far : (f : Data → Data) (xs ys zs : List Value) (i : ℕ) (d w : Value) → i < length xs → length xs ≡ length ys → map view (take i xs) ≡ map (λ v. f (view v)) (take i ys)
+    → drop i xs ≡ drop i ys → zs ≡ set xs i w → view w ≡ f (view (get_or xs i d)) → map view (take (i + 1) zs) ≡ map (λ v. f (view v)) (take (i + 1) ys)
+changed_so_far f xs ys zs i d w lt same so_far rest written seen =
+    let here : get_or xs i d ≡ get_or ys i d = sym (get_or-drop i xs 0 d ∙ ap (λ k. get_or xs k d) (add_none i)) ∙ (ap (λ l. get_or l 0 d) rest ∙ get_or-drop i ys 0 d ∙ ap (λ k. get_or ys k d) (add_none i)) in
+    let value : view w ≡ f (view (get_or ys i d)) = seen ∙ ap (λ v. f (view v)) here in
+    let made : map view (take (i + 1) zs) ≡ map view (take i xs) ++ view w ∷ [] =
+    ap (λ l. map view (take (i + 1) l)) written ∙ (ap (map view) (take_more_set xs i w lt) ∙ map_push view (take i xs) w) in
+    let wanted : map (λ v. f (view v)) (take (i + 1) ys) ≡ map (λ v. f (view v)) (take i ys) ++ f (view (get_or ys i d)) ∷ [] =
+    ap (map (λ v. f (view v))) (take_more ys i d (omega arith)) ∙ map_push (λ v. f (view v)) (take i ys) (get_or ys i d) in
+    made ∙ (ap (λ l. l ++ view w ∷ []) so_far ∙ (ap (λ e. map (λ v. f (view v)) (take i ys) ++ e ∷ []) value ∙ sym wanted))
+
+pub changed_rest : (xs ys zs : List Value) (i : ℕ) (w : Value) → drop i xs ≡ drop i ys → zs ≡ set xs i w → drop (i + 1) zs ≡ drop (i + 1) ys
+changed_rest xs ys zs i w rest written = ap (drop (i + 1)) written ∙ (drop-set-lt (i + 1) xs i w (omega arith) ∙ drop_more_same xs ys i rest)
+
+pub changed_all : (f : Data → Data) (xs ys : List Value) (i : ℕ) → length xs ≤ i → length xs ≡ length ys → map view (take i xs) ≡ map (λ v. f (view v)) (take i ys)
+    → items_view xs ≡ each_item f (items_view ys)
+changed_all f xs ys i all same so_far =
+    let first : take i xs ≡ xs = take_all i xs all in
+    let second : take i ys ≡ ys = take_all i ys (omega arith) in
+    let whole : map view xs ≡ map (λ v. f (view v)) ys = ap (map view) (sym first) ∙ (so_far ∙ ap (map (λ v. f (view v))) second) in
+    ap items_of whole ∙ each_items f ys

@@ -44,8 +44,19 @@ fn name_thread<P: Profile>(
     Ok(())
 }
 
-/// Replaces the thread of each call by its name, where it is a boot thread.
-fn name_each_thread<P: Profile>(
+/// Replaces the thread of a call by its name, in the value that holds the call.
+fn name_call<P: Profile>(alloc: Global, plan: &BootPlan, call: &mut Value) -> Result<(), AllocError>
+    requires { IsPlan P.the plan.now }
+    ensures { IfOk result (λ _. view call.new ≡ spec.named_call P.the plan.now (view call.old)) }
+{
+    if let Some(call) = call.as_table_mut() {
+        name_thread::<P>(alloc, plan, call)?;
+    }
+    Ok(())
+}
+
+/// Replaces the thread of each call by its name.
+fn name_each_call<P: Profile>(
     alloc: Global,
     plan: &BootPlan,
     calls: &mut [Value],
@@ -54,9 +65,22 @@ fn name_each_thread<P: Profile>(
     ensures { IfOk result (λ _. items_view calls.new ≡ spec.each_item (spec.named_call P.the plan.now) (items_view calls.old)) }
 {
     for i in 0..calls.len() {
-        if let Value::Table(call) = &mut calls[i] {
-            name_thread::<P>(alloc, plan, call)?;
-        }
+        name_call::<P>(alloc, plan, &mut calls[i])?;
+    }
+    Ok(())
+}
+
+/// Replaces the thread of each call by its name, in the value that holds the calls.
+fn name_calls<P: Profile>(
+    alloc: Global,
+    plan: &BootPlan,
+    calls: &mut Value,
+) -> Result<(), AllocError>
+    requires { IsPlan P.the plan.now }
+    ensures { IfOk result (λ _. view calls.new ≡ spec.named_calls P.the plan.now (view calls.old)) }
+{
+    if let Value::Array(calls) = calls {
+        name_each_call::<P>(alloc, plan, calls)?;
     }
     Ok(())
 }
@@ -70,8 +94,8 @@ pub fn name_threads<P: Profile>(
     requires { IsPlan P.the plan.now }
     ensures { IfOk result (λ _. table_view table.new ≡ spec.with_changed (codes "call") (spec.named_calls P.the plan.now) (table_view table.old)) }
 {
-    if let Some(Value::Array(calls)) = table.get_mut("call") {
-        name_each_thread::<P>(alloc, plan, calls)?;
+    if let Some(calls) = table.get_mut("call") {
+        name_calls::<P>(alloc, plan, calls)?;
     }
     Ok(())
 }

@@ -4,5 +4,6 @@
 mod calls;
 mod migration;
 mod names;
+mod tables;
 
 pub use migration::migrate;

@@ -1,6 +1,6 @@
 //! A set-up of format 1 in format 2.
 ghost use Rattle.std.specs.Prelude.{◌≡◌, IfOk, IfErr};
-ghost use Rattle.toml.specs.View.{view, table_view};
+ghost use Rattle.toml.specs.View.{table_view};
 ghost use Rattle.abstract_kernel.specs.Plan.{IsPlan};
 ghost use Rattle.setup_format.specs.Faults.{Fails, Gives};
 ghost use Rattle.setup_format.specs.Setups.{setup_of, first_format_setup_of_bytes};
@@ -8,6 +8,7 @@ ghost use Rattle.setup_migrate.specs.Migration as spec;
 
 use crate::calls::name_threads;
 use crate::names::boot_names;
+use crate::tables::put;
 use boot_plan::BootPlan;
 use cap_core::{Narrow, Profile, ProfileName, Wide};
 use setup_format::limits::NEWEST_FORMAT;
@@ -15,22 +16,14 @@ use setup_format::{SetupFault, read_document, read_first_format};
 use std::alloc::{AllocError, Global};
 use toml::{Table, Value};
 
-/// Puts a value at a key of a table, in place of the one that the key had.
-fn put(alloc: Global, table: &mut Table, key: &str, value: Value) -> Result<(), AllocError>
-    ensures { IfOk result (λ _. table_view table.new ≡ spec.with_member key.now (view value) (table_view table.old)) }
-{
-    table.insert(String::from_str(alloc, key)?, value)?;
-    Ok(())
-}
-
 /// Rewrites the table of a set-up of format 1 with this plan in format 2.
 fn rewrite<P: Profile>(alloc: Global, plan: &BootPlan, table: &mut Table) -> Result<(), AllocError>
     requires { IsPlan P.the plan.now }
     ensures { IfOk result (λ _. table_view table.new ≡ spec.migrated P.the plan.now (table_view table.old)) }
 {
-    put(alloc, table, "format", Value::from(NEWEST_FORMAT))?;
+    put(table, String::from_str(alloc, "format")?, Value::from(NEWEST_FORMAT))?;
     let names = boot_names::<P>(alloc, plan)?;
-    put(alloc, table, "names", Value::Table(names))?;
+    put(table, String::from_str(alloc, "names")?, Value::from(names))?;
     name_threads::<P>(alloc, plan, table)
 }
 

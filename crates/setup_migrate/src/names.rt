@@ -2,9 +2,11 @@
 ghost use Rattle.std.specs.Prelude.{◌≡◌, ◌+◌, ◌*◌, ◌<◌, ◌^◌, IfOk};
 ghost use Rattle.toml.specs.Data.{no_members};
 ghost use Rattle.toml.specs.View.{table_view};
+ghost use Rattle.cap_core.specs.Numbers.{tcb_size};
 ghost use Rattle.abstract_kernel.specs.Plan.{IsPlan};
 ghost use Rattle.setup_migrate.specs.Migration as spec;
 
+use crate::tables::put;
 use boot_plan::BootPlan;
 use cap_core::Profile;
 use std::alloc::{AllocError, Global};
@@ -29,9 +31,16 @@ fn add_names(
     for i in 0..count {
         let word = first + step * u64::from(i);
         let name = format!(in alloc; "{prefix}{i}")?;
-        names.insert(name, Value::Integer(word as i64))?;
+        put(names, name, Value::from(word as i64))?;
     }
     Ok(())
+}
+
+/// The bytes of a thread control block.
+fn tcb_size<P: Profile>() -> u64
+    ensures { result ≡ tcb_size P.the }
+{
+    1 << P::TCB_BITS
 }
 
 /// A table of names: one for the slot of each untyped region, endpoint and thread of a boot, and one for each thread's address.
@@ -49,6 +58,6 @@ pub fn boot_names<P: Profile>(alloc: Global, plan: &BootPlan) -> Result<Table, A
     add_names(alloc, &mut names, "ep_", endpoints, first_endpoint, 1)?;
     add_names(alloc, &mut names, "tcb_", threads, FIRST_SLOT, 1)?;
     let first_thread = plan.first_tcb::<P>();
-    add_names(alloc, &mut names, "thread_", threads, first_thread, 1 << P::TCB_BITS)?;
+    add_names(alloc, &mut names, "thread_", threads, first_thread, tcb_size::<P>())?;
     Ok(names)
 }

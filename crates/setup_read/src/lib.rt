@@ -1,7 +1,9 @@
-//! Set-ups and the report of a run: what `setup_format` reads and what `setup_report` writes, under one name.
+//! Set-ups, their migration and the report of a run: what `setup_format` reads, `setup_migrate` makes of it and
+//! `setup_report` writes, under one name.
 #![tactic(auto)]
 
 pub use setup_format::{
     Key, Place, Setup, SetupFault, Wrong, fault, limits, read_setup, read_table, setup,
 };
+pub use setup_migrate::migrate;
 pub use setup_report::{ExpectationCount, counted_report, expectations, report};

@@ -4,6 +4,8 @@
 #[cfg(test)]
 mod names;
 #[cfg(test)]
+mod migration;
+#[cfg(test)]
 mod operations;
 #[cfg(test)]
 mod profiles;

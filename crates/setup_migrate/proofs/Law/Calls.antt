@@ -2,6 +2,7 @@
 use Rattle.std.proofs.Common.{◌≡◌, ℕ, ◌+◌, ◌-◌, ◌^◌, ◌++◌, codes, List, [], ◌∷◌, length, map, not, nat_lt, Bool, Option, Some, None, option_map, option_and_then, Result, Ok, Err, refl, sym, ap, ◌∙◌, inl, inr}
 use Rattle.std.proofs.lemmas.Bool.{cases_Bool}
 use Rattle.std.proofs.lemmas.List.{length-map}
+use Rattle.std.proofs.lemmas.Option.{none-some, same_Some}
 use Rattle.std.specs.Fmt.{decimal}
 use Rattle.std.specs.List.{filter}
 use Rattle.std.specs.Result.{result_ok}
@@ -110,6 +111,15 @@ table_named p plan (table t) ms e =
     let here : t ≡ ms = cc in
     ap (λ u. Ok (renamed p plan u)) here
 table_named p plan d ms e = no_answer _ ms e
+
+-- what becomes of a call that is a table, and of a value that is none
+pub call_of_table : (p : ProfileName) (plan : Plan) (d : Data) (ms : Members) → Some ms ≡ as_table d → named_call p plan d ≡ table (renamed p plan ms)
+call_of_table p plan (table t) ms e = ap (λ u. table (renamed p plan u)) (sym (same_Some ms t e))
+call_of_table p plan d ms e = absurd (none-some ms (sym e))
+
+pub call_of_none : (p : ProfileName) (plan : Plan) (d : Data) → None ≡ as_table d → named_call p plan d ≡ d
+call_of_none p plan (table t) e = absurd (none-some t e)
+call_of_none p plan d e = refl
 
 each_table_named : (p : ProfileName) (plan : Plan) (n : ℕ) (ds : List Data) (ts : List Members) → each (λ _ d. table_in (as_table d)) n ds ≡ Ok ts
     → each (λ _ d. table_in (as_table d)) n (map (named_call p plan) ds) ≡ Ok (map (renamed p plan) ts)

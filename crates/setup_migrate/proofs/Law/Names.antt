@@ -178,3 +178,20 @@ all_named-numbered p prefix word a (suc n) some few bytes small fits = (
   (is_name-numbered prefix a some few bytes (omega arith), fits a (omega arith)),
   all_named-numbered p prefix word (a + 1) n some few bytes (omega arith) (λ i lt. fits i (omega arith)),
 )
+
+-- ---- the names of several kinds, one after another
+
+abbrev numbered_from : List ℕ → (ℕ → ℕ) → ℕ → ℕ → Names
+numbered_from prefix f a n = map (λ i. (prefix ++ decimal i, f i)) (range_with_len a n)
+
+numbered_same : (prefix : List ℕ) (f g : ℕ → ℕ) (a n : ℕ) → ((i : ℕ) → f i ≡ g i) → numbered_from prefix f a n ≡ numbered_from prefix g a n
+numbered_same prefix f g a zero h = refl
+numbered_same prefix f g a (suc n) h =
+    let rest = numbered_same prefix f g (a + 1) n h in
+    ap (λ w. (prefix ++ decimal a, w) ∷ numbered_from prefix f (a + 1) n) (h a) ∙ ap (λ (ns : Names). (prefix ++ decimal a, g a) ∷ ns) rest
+
+-- names after others, where their number and each word is another's
+pub added : (prefix : List ℕ) (f g : ℕ → ℕ) (count wanted : ℕ) (t before u : Members) → u ≡ with_words (numbered prefix g count) t → t ≡ before → count ≡ wanted
+    → ((i : ℕ) → g i ≡ f i) → u ≡ with_words (numbered prefix f wanted) before
+added prefix f g count wanted t before u e same counted words =
+    e ∙ (ap (λ ns. with_words ns t) (numbered_same prefix g f 0 count words) ∙ (ap (λ n. with_words (numbered prefix f n) t) counted ∙ ap (with_words (numbered prefix f wanted)) same))

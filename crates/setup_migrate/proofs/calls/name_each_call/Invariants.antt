@@ -1,7 +1,7 @@
 use Rattle.std.proofs.Common.{◌≡◌, ◌≤◌, length, take, drop, map}
 use Rattle.toml.specs.View.{view}
 use Rattle.setup_migrate.specs.Migration.{named_call}
-use Rattle.setup_migrate.proofs.calls.name_each_thread.Given as goal
+use Rattle.setup_migrate.proofs.calls.name_each_call.Given as goal
 
 -- the calls so far, and those that are left
 abbrev pub invariant-loop-i : goal.invariant-loop-i

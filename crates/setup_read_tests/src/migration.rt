@@ -1,0 +1,147 @@
+//! What set-ups of the first format are migrated to.
+use setup_read::migrate;
+use std::alloc::Global;
+use std::test::Fail;
+use toml::{Table, Value};
+
+/// A set-up with one untyped region.
+const SIZES: &str = "format = 1\nmemory_bits = 16\nroot_radix = 4\nthreads = 2\nendpoints = 1\n\
+    [[untyped]]\nbase = 16384\nbits = 12\n";
+
+/// A send by the first boot thread, and a receive by the second.
+const MESSAGE: &str = "[[call]]\nthread = 2048\nop = \"send\"\ncap = 4\nlabel = 7\nwords = [1, 2]\n\
+    [[call]]\nthread = 4096\nop = \"recv\"\ncap = 4\nexpect = \"delivered 6144 from 2048\"\n";
+
+/// The same sizes in the narrow profile, and calls by both boot threads and by none.
+const NARROW: &str = "format = 1\nprofile = \"narrow\"\nmemory_bits = 16\nroot_radix = 4\nthreads = 2\nendpoints = 1\n\
+    [[call]]\nthread = 1024\nop = \"nbsend\"\ncap = 4\n\
+    [[call]]\nthread = \"0x0800\"\nop = \"nbsend\"\ncap = 4\n\
+    [[call]]\nthread = 4096\nop = \"nbsend\"\ncap = 4\n";
+
+/// Calls by the first boot thread in two spellings, and by addresses at which a boot puts no thread.
+const SPELT: &str = "[[call]]\nthread = \"0x800\"\nop = \"nbsend\"\ncap = \"0x4\"\n\
+    [[call]]\nthread = \"0x0000000000000800\"\nop = \"nbsend\"\ncap = 4\n\
+    [[call]]\nthread = 6144\nop = \"nbsend\"\ncap = 4\n\
+    [[call]]\nthread = \"0x1001\"\nop = \"nbsend\"\ncap = 4\n";
+
+/// The table that a set-up is migrated to.
+fn migrated(alloc: Global, text: &str) -> Result<Table, Fail> {
+    match migrate(alloc, text.as_bytes()) {
+        Ok(table) => Ok(table),
+        Err(_) => Err("a table was wanted")?,
+    }
+}
+
+/// The code of the fault by which a migration is refused, and its line.
+fn refused(alloc: Global, text: &[u8]) -> Result<String, Fail> {
+    let Err(fault) = migrate(alloc, text) else {
+        return Ok(String::from_str(alloc, "migrated")?);
+    };
+    let code = fault.code();
+    Ok(format!(in alloc; "{code}: {fault}")?)
+}
+
+/// The number at a key, or -1 where there is none.
+fn number(table: &Table, key: &str) -> i64 {
+    match table.get(key) {
+        Some(Value::Integer(n)) => *n,
+        _ => -1,
+    }
+}
+
+/// How many names a table gives, and the word of one; -1 where it gives no such name.
+fn named(table: &Table, name: &str) -> (usize, i64) {
+    match table.get("names") {
+        Some(Value::Table(names)) => (names.len(), number(names, name)),
+        _ => (0, -1),
+    }
+}
+
+/// What stands at a key of the call at a place: a text, a number, or nothing.
+fn at_call(alloc: Global, table: &Table, place: usize, key: &str) -> Result<String, Fail> {
+    let value = table.get("call").and_then(|calls| calls.get(place));
+    match value.and_then(|call| call.get(key)) {
+        Some(Value::String(text)) => Ok(format!(in alloc; "{text}")?),
+        Some(Value::Integer(n)) => Ok(format!(in alloc; "{n}")?),
+        _ => Ok(String::from_str(alloc, "-")?),
+    }
+}
+
+#[test]
+fn boot_objects_have_names(rt: HostRuntime) -> Result<(), Fail> {
+    let text = format!(in rt.alloc(); "{SIZES}{MESSAGE}")?;
+    let table = migrated(rt.alloc(), text.as_str())?;
+    for (name, word) in [
+        ("ep_0", 4),
+        ("tcb_0", 2),
+        ("tcb_1", 3),
+        ("thread_0", 2048),
+        ("thread_1", 4096),
+        ("untyped_0", 5),
+    ] {
+        assert!(rt; named(&table, name) == (6, word));
+    }
+    assert!(rt; number(&table, "format") == 2 && number(&table, "memory_bits") == 16);
+    Ok(())
+}
+
+#[test]
+fn boot_objects_of_a_narrow_set_up_have_names(rt: HostRuntime) -> Result<(), Fail> {
+    let table = migrated(rt.alloc(), NARROW)?;
+    for (name, word) in [
+        ("ep_0", 4),
+        ("tcb_1", 3),
+        ("thread_0", 1024),
+        ("thread_1", 2048),
+    ] {
+        assert!(rt; named(&table, name) == (5, word));
+    }
+    Ok(())
+}
+
+#[test]
+fn boot_threads_of_calls_stand_by_their_names(rt: HostRuntime) -> Result<(), Fail> {
+    let message = format!(in rt.alloc(); "{SIZES}{MESSAGE}")?;
+    let spelt = format!(in rt.alloc(); "{SIZES}{SPELT}")?;
+    for (text, place, key, want) in [
+        (message.as_str(), 0, "thread", "@thread_0"),
+        (message.as_str(), 1, "thread", "@thread_1"),
+        (message.as_str(), 0, "label", "7"),
+        (NARROW, 0, "thread", "@thread_0"),
+        (NARROW, 1, "thread", "@thread_1"),
+        (NARROW, 2, "thread", "4096"),
+        (spelt.as_str(), 0, "thread", "@thread_0"),
+        (spelt.as_str(), 0, "cap", "0x4"),
+        (spelt.as_str(), 1, "thread", "@thread_0"),
+        (spelt.as_str(), 2, "thread", "6144"),
+        (spelt.as_str(), 3, "thread", "0x1001"),
+    ] {
+        let table = migrated(rt.alloc(), text)?;
+        let found = at_call(rt.alloc(), &table, place, key)?;
+        assert!(rt; found.as_str() == want);
+    }
+    Ok(())
+}
+
+#[test]
+fn set_ups_that_the_first_format_refuses(rt: HostRuntime) -> Result<(), Fail> {
+    for (text, want) in [
+        ("format = 1\nthreads", "200: set-up refused 200 at text"),
+        (
+            "format = 2\nnames = {}\n",
+            "204: set-up refused 204 at top key format",
+        ),
+        (
+            "format = 1\nnames = {}\n",
+            "201: set-up refused 201 at top key names",
+        ),
+        (
+            "format = 1\nmemory_bits = 12\nroot_radix = 12\nthreads = 1\nendpoints = 0\n",
+            "205: set-up refused 205 at layout outside",
+        ),
+    ] {
+        let found = refused(rt.alloc(), text.as_bytes())?;
+        assert!(rt; found.as_str() == want);
+    }
+    Ok(())
+}
