@@ -1,11 +1,12 @@
 # make run: the proved program on the stored set-up; make test: the gate; make try: the stored set-up before any proof;
-# make rows: each worked set-up through the built program, an address used again a thousand times, and each request for
-# memory of one run refused in turn;
+# make rows: the built program: each worked set-up, an address used again a thousand times, each request for memory refused
+# in turn, inputs and outputs that fail, and texts that are broken, deep or long;
 # make bench: the linked forms and the kernel beside plain Rust, and the time of long set-ups.
 .PHONY: run test try rows bench
 
 program = crates/sel4sim/out/sel4sim
 setups = crates/worked_setups/data
+stored = $(setups)/examples/send_then_receive.toml
 
 run:
 	cd crates/sel4sim && rt run < stdin
@@ -19,7 +20,9 @@ try:
 rows: run
 	python3 rows/run.py $(program) $(setups)
 	python3 rows/use_address_again.py $(program) 1000
-	python3 rows/refuse_memory.py $(program) $(setups)/examples/send_then_receive.toml
+	python3 rows/refuse_memory.py $(program) $(stored)
+	python3 rows/devices.py $(program) $(stored)
+	python3 rows/hostile_texts.py $(program) $(setups) $(stored)
 
 bench: run
 	bench/run.sh store_cycle
