@@ -1,11 +1,13 @@
 # make run: the proved program on the stored set-up; make test: the gate; make try: the stored set-up before any proof;
-# make rows: each worked set-up through the built program, as it is and migrated, an address used again a thousand times,
-# each request for memory of one run refused in turn, and what the documents print;
+# make rows: the built program: each worked set-up, as it is and migrated, an address used again a thousand times, each
+# request for memory refused in turn, inputs and outputs that fail, texts that are broken, deep or long, and what the
+# documents print;
 # make bench: the linked forms and the kernel beside plain Rust, and the time of long set-ups.
 .PHONY: run test try rows bench
 
 program = crates/sel4sim/out/sel4sim
 setups = crates/worked_setups/data
+stored = $(setups)/examples/send_then_receive.toml
 
 run:
 	cd crates/sel4sim && rt run < stdin
@@ -20,7 +22,9 @@ rows: run
 	python3 rows/run.py $(program) $(setups)
 	python3 rows/migrate.py $(program) $(setups)
 	python3 rows/use_address_again.py $(program) 1000
-	python3 rows/refuse_memory.py $(program) $(setups)/examples/send_then_receive.toml
+	python3 rows/refuse_memory.py $(program) $(stored)
+	python3 rows/devices.py $(program) $(stored)
+	python3 rows/hostile_texts.py $(program) $(setups) $(stored)
 	python3 rows/documents.py $(dir $(program)) README.md docs/*.md
 
 bench: run
