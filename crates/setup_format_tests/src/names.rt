@@ -1,5 +1,5 @@
 //! Names of the second format: which are taken, and where they may stand.
-use setup_read::read_setup;
+use setup_format::read_setup;
 use std::alloc::Global;
 use std::test::Fail;
 

@@ -1,5 +1,5 @@
 //! What is accepted, and the line by which each other set-up is refused.
-use setup_read::read_setup;
+use setup_format::read_setup;
 use std::alloc::Global;
 use std::test::Fail;
 
