@@ -1,6 +1,6 @@
 # make run: the proved program on the stored set-up; make test: the gate; make try: the stored set-up before any proof;
-# make rows: each worked set-up through the built program, as it is and migrated, an address used again a thousand times, and
-# each request for memory of one run refused in turn;
+# make rows: each worked set-up through the built program, as it is and migrated, what it says of wrong command lines, files and
+# set-ups, an address used again a thousand times, and each request for memory of one run refused in turn;
 # make bench: the linked forms and the kernel beside plain Rust, and the time of long set-ups.
 .PHONY: run test try rows bench
 
@@ -19,6 +19,7 @@ try:
 rows: run
 	python3 rows/run.py $(program) $(setups)
 	python3 rows/migrate.py $(program) $(setups)
+	python3 rows/messages.py $(program)
 	python3 rows/use_address_again.py $(program) 1000
 	python3 rows/refuse_memory.py $(program) $(setups)/examples/send_then_receive.toml
 

@@ -1,0 +1,42 @@
+//! What is said on standard error. Nothing else can be told where that fails too.
+use crate::kept::KeptReader;
+use engine::Verdict;
+use setup_messages::{refusal_words, unmet_warnings};
+use std::fmt::Display;
+use std::io::Eprint;
+
+/// Says what went wrong.
+pub fn complain(rt: &impl Eprint, fault: impl Display + Drop) {
+    let _ = eprintln!(rt; "sel4sim: {fault}");
+}
+
+/// Says something that helps to understand an answer, each line of a text in a line of its own.
+pub fn note(rt: &impl Eprint, text: &str) {
+    for line in text.lines() {
+        complain(rt, line);
+    }
+}
+
+/// Says why a set-up is refused, or which of its expectations no reply can meet.
+pub fn note_on_verdict<R: Eprint + AllocGlobal, T>(
+    rt: &R,
+    verdict: Verdict,
+    reader: &KeptReader<T>,
+) {
+    let Some(bytes) = reader.bytes() else {
+        return;
+    };
+    match verdict {
+        Verdict::AllMet => {}
+        Verdict::NotMet => {
+            if let Ok(warnings) = unmet_warnings(rt.alloc(), bytes) {
+                note(rt, warnings.as_str());
+            }
+        }
+        Verdict::Refused => {
+            if let Ok(Some(words)) = refusal_words(rt.alloc(), bytes) {
+                note(rt, words.as_str());
+            }
+        }
+    }
+}
