@@ -45,7 +45,7 @@ fn run_reader<R: Print + Eprint + AllocGlobal, T: Read + Drop>(
     let mut reader = KeptReader::new(rt.alloc(), reader);
     let answer = run_job(rt, job, &mut reader);
     match &answer {
-        Ok(verdict) => note_on_verdict(rt, *verdict, &reader),
+        Ok(verdict) => note_on_verdict(rt, job, *verdict, &reader),
         Err(fault) => {
             complain(rt, fault);
             if let Some(error) = reader.failure() {

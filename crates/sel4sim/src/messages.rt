@@ -1,6 +1,6 @@
 //! What is said on standard error. Nothing else can be told where that fails too.
 use crate::kept::KeptReader;
-use engine::Verdict;
+use engine::{Job, Verdict};
 use setup_messages::{refusal_words, unmet_warnings};
 use std::fmt::Display;
 use std::io::Eprint;
@@ -17,26 +17,27 @@ pub fn note(rt: &impl Eprint, text: &str) {
     }
 }
 
-/// Says why a set-up is refused, or which of its expectations no reply can meet.
+/// Says why a set-up is refused, or which of its expectations no reply can meet where it was checked.
 pub fn note_on_verdict<R: Eprint + AllocGlobal, T>(
     rt: &R,
+    job: Job,
     verdict: Verdict,
     reader: &KeptReader<T>,
 ) {
     let Some(bytes) = reader.bytes() else {
         return;
     };
-    match verdict {
-        Verdict::AllMet => {}
-        Verdict::NotMet => {
+    match (job, verdict) {
+        (Job::Check, Verdict::NotMet) => {
             if let Ok(warnings) = unmet_warnings(rt.alloc(), bytes) {
                 note(rt, warnings.as_str());
             }
         }
-        Verdict::Refused => {
-            if let Ok(Some(words)) = refusal_words(rt.alloc(), bytes) {
-                note(rt, words.as_str());
-            }
-        }
+        (_, Verdict::Refused) => match refusal_words(rt.alloc(), bytes) {
+            Ok(Some(words)) => note(rt, words.as_str()),
+            Ok(None) => complain(rt, "only a set-up of format 1 is migrated"),
+            Err(_) => {}
+        },
+        _ => {}
     }
 }
