@@ -1,7 +1,7 @@
 # make run: the proved program on the stored set-up; make test: the gate; make try: the stored set-up before any proof;
-# make rows: the built program: each worked set-up, as it is and migrated, an address used again a thousand times, each
-# request for memory refused in turn, inputs and outputs that fail, texts that are broken, deep or long, and what the
-# documents print;
+# make rows: the built program: each worked set-up, as it is and migrated, what it says of wrong command lines, files and
+# set-ups, an address used again a thousand times, each request for memory refused in turn, inputs and outputs that fail,
+# texts that are broken, deep or long, and what the documents print;
 # make bench: the linked forms and the kernel beside plain Rust, and the time of long set-ups.
 .PHONY: run test try rows bench
 
@@ -21,6 +21,7 @@ try:
 rows: run
 	python3 rows/run.py $(program) $(setups)
 	python3 rows/migrate.py $(program) $(setups)
+	python3 rows/messages.py $(program)
 	python3 rows/use_address_again.py $(program) 1000
 	python3 rows/refuse_memory.py $(program) $(stored)
 	python3 rows/devices.py $(program) $(stored)

@@ -82,6 +82,13 @@ fn fault_for(alloc: Global, error: &Error) -> LineFault
     }
 }
 
+/// What clap says of words that the command does not take: why, what looks like them, and the usage. Nothing where it takes
+/// them, or where memory was refused.
+pub fn refused_line_words(alloc: Global, words: &[&str]) -> Option<String> {
+    let error = command(alloc).ok()?.try_get_matches_from(words).err()?;
+    format!(in alloc; "{error}").ok()
+}
+
 /// Reads the words of a command line, of which the first is the program's name.
 ///
 /// # Errors

@@ -18,7 +18,7 @@ mod streams;
 
 pub use arguments::{Job, Line, LineFault};
 pub use checking::check;
-pub use command_line::line;
+pub use command_line::{line, refused_line_words};
 pub use device::DeviceFault;
 pub use engines::{Engine, run_engine};
 pub use fault::{RunFault, Verdict, status_of};

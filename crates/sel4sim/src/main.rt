@@ -3,24 +3,28 @@
 //!
 //! The exit status is 0 where all expectations are met or the set-up is migrated, 1 where an expectation is not met, 2 where the
 //! set-up is refused, 3 where the program could not read, write or get memory, and 4 where the command line is refused; for 3
-//! and 4 the first line of standard error says what went wrong.
+//! and 4 the first line of standard error says what went wrong, and more lines may follow it.
 #![tactic(auto)]
 
+mod kept;
+mod messages;
+
+use crate::kept::KeptReader;
+use crate::messages::{complain, note_on_verdict};
 use engine::{
     Job, Line, LineFault, ReaderSource, RunFault, Verdict, WriterSink, check, line, migrate_run,
-    status_of, write_all,
+    refused_line_words, status_of, write_all,
 };
 use std::env::{self, Env};
-use std::fmt::Display;
 use std::fs::{self, Files};
 use std::io::{self, Eprint, ErrorKind, Input, Read};
 use std::process::ExitCode;
 
-/// Does the job with the set-up that a reader of which nothing was read gives, and writes to standard output.
-fn run_job<R: Print + AllocGlobal, T: Read + Drop>(
+/// Does the job with the set-up that a reader gives, and writes to standard output.
+fn run_job<R: Print + AllocGlobal, T: Read>(
     rt: &R,
     job: Job,
-    reader: T,
+    reader: &mut KeptReader<T>,
 ) -> Result<Verdict, RunFault> {
     let mut source = ReaderSource::new(reader);
     let mut sink = WriterSink::new(io::writer(rt));
@@ -31,36 +35,41 @@ fn run_job<R: Print + AllocGlobal, T: Read + Drop>(
     }
 }
 
-/// Does the job with the set-up of the file, or of standard input where no file is named. A file that cannot be opened is a
-/// failed read.
-fn run_file<R: Files + Input + Print + AllocGlobal>(
+/// Does the job with the set-up that a reader gives, says on standard error what there is to say, and answers the exit status.
+fn run_reader<R: Print + Eprint + AllocGlobal, T: Read + Drop>(
     rt: &R,
-    line: Line<'_>,
-) -> Result<Verdict, RunFault> {
-    match line.file {
-        None => run_job(rt, line.job, rt.reader()),
-        Some(path) => {
-            let reader = fs::open(rt, path).map_err(|_| RunFault::Reading)?;
-            run_job(rt, line.job, reader)
+    job: Job,
+    name: &str,
+    reader: T,
+) -> u8 {
+    let mut reader = KeptReader::new(rt.alloc(), reader);
+    let answer = run_job(rt, job, &mut reader);
+    match &answer {
+        Ok(verdict) => note_on_verdict(rt, job, *verdict, &reader),
+        Err(fault) => {
+            complain(rt, fault);
+            if let Some(error) = reader.failure() {
+                complain(rt, format_args!("{name}: {error}"));
+            }
         }
     }
-}
-
-/// Says what went wrong, on standard error. Nothing else can be told where that fails too.
-fn complain(rt: &impl Eprint, fault: impl Display + Drop) {
-    let _ = eprintln!(rt; "sel4sim: {fault}");
-}
-
-/// Does what the line asks for, and answers the exit status.
-fn run_line<R: Files + Input + Print + Eprint + AllocGlobal>(rt: &R, line: Line<'_>) -> u8 {
-    if let Job::Threads = line.job {
-        return refuse_line(rt, &LineFault::Refused);
-    }
-    let answer = run_file(rt, line);
-    if let Err(fault) = &answer {
-        complain(rt, fault);
-    }
     status_of(&answer)
+}
+
+/// Does what the line asks for, with the file that it names or with standard input, and answers the exit status. A file that
+/// cannot be opened is a failed read.
+fn run_line<R: Files + Input + Print + Eprint + AllocGlobal>(rt: &R, line: Line<'_>) -> u8 {
+    let Some(path) = line.file else {
+        return run_reader(rt, line.job, "standard input", rt.reader());
+    };
+    match fs::open(rt, path) {
+        Ok(file) => run_reader(rt, line.job, path, file),
+        Err(error) => {
+            complain(rt, RunFault::Reading);
+            complain(rt, format_args!("{path}: {error}"));
+            status_of(&Err(RunFault::Reading))
+        }
+    }
 }
 
 /// Writes the help text to standard output, and answers the exit status.
@@ -75,12 +84,17 @@ fn write_help<R: Print + Eprint>(rt: &R, text: &str) -> u8 {
     }
 }
 
-/// Says why the command line is not taken, and answers the exit status.
-fn refuse_line<R: Print + Eprint>(rt: &R, fault: &LineFault) -> u8 {
+/// Says why the command line is not taken, with what clap says of its words, and answers the exit status.
+fn refuse_line<R: Print + Eprint + AllocGlobal>(rt: &R, words: &[&str], fault: &LineFault) -> u8 {
     if let LineFault::Help(text) = fault {
         return write_help(rt, text.as_str());
     }
     complain(rt, fault);
+    if let LineFault::Refused = fault
+        && let Some(text) = refused_line_words(rt.alloc(), words)
+    {
+        let _ = eprint!(rt; "{text}");
+    }
     fault.status()
 }
 
@@ -100,18 +114,18 @@ fn words_of<R: Env + AllocGlobal>(rt: &R) -> Result<Vec<String>, LineFault> {
 fn run<R: Env + Files + Input + Print + Eprint + AllocGlobal>(rt: &R) -> u8 {
     let words = match words_of(rt) {
         Ok(words) => words,
-        Err(fault) => return refuse_line(rt, &fault),
+        Err(fault) => return refuse_line(rt, &[], &fault),
     };
     let Ok(texts) = words
         .iter()
         .map(|word| word.as_str())
         .collect::<Vec<&str>>(rt.alloc())
     else {
-        return refuse_line(rt, &LineFault::Memory);
+        return refuse_line(rt, &[], &LineFault::Memory);
     };
     match line(rt.alloc(), texts.as_slice()) {
         Ok(line) => run_line(rt, line),
-        Err(fault) => refuse_line(rt, &fault),
+        Err(fault) => refuse_line(rt, texts.as_slice(), &fault),
     }
 }
 

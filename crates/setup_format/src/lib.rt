@@ -10,5 +10,6 @@ pub mod setup;
 mod tables;
 
 pub use fault::{Key, Place, SetupFault, Wrong};
+pub use operations::call_keys;
 pub use read::{read_document, read_first_format, read_setup, read_table};
 pub use setup::Setup;

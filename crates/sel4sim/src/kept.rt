@@ -1,0 +1,56 @@
+//! A reader that keeps what it gave.
+use std::alloc::Global;
+use std::io::{self, Read};
+
+/// A reader, the bytes that it gave, and why a read of it failed.
+#[derive(Drop)]
+pub struct KeptReader<T> {
+    reader: T,
+    bytes: Vec<u8>,
+    is_whole: bool,
+    failure: Option<io::Error>,
+}
+
+impl<T> KeptReader<T> {
+    /// The reader, of which nothing was read yet.
+    pub fn new(alloc: Global, reader: T) -> KeptReader<T> {
+        KeptReader {
+            reader,
+            bytes: Vec::new(alloc),
+            is_whole: true,
+            failure: None,
+        }
+    }
+
+    /// What the reader gave; nothing where memory for it was refused.
+    pub fn bytes(&self) -> Option<&[u8]> {
+        if self.is_whole {
+            Some(self.bytes.as_slice())
+        } else {
+            None
+        }
+    }
+
+    /// Why a read failed, where one did.
+    pub fn failure(&self) -> Option<&io::Error> {
+        self.failure.as_ref()
+    }
+}
+
+impl<T: Read> Read for KeptReader<T> {
+    fn read(&mut self, buffer: &mut [u8]) -> io::Result<usize> {
+        match self.reader.read(buffer) {
+            Ok(n) => {
+                if self.bytes.extend_from_slice(&buffer[..n]).is_err() {
+                    self.is_whole = false;
+                }
+                Ok(n)
+            }
+            Err(error) => {
+                let kind = error.kind();
+                self.failure = Some(error);
+                Err(io::Error::from(kind))
+            }
+        }
+    }
+}
