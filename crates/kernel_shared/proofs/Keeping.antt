@@ -4,9 +4,9 @@ use Rattle.std.proofs.lemmas.List.{append-nil, take-append-le}
 use mathlib.Core.Option.{some}
 use lib.ListN.{get_elem?}
 use Rattle.atomic_table.proofs.Lists.{at_set, at_snoc}
-use Rattle.kernel_shared.specs.declared.entry.Entry.{Entry}
-use Rattle.kernel_shared.specs.Laws.{count_of}
-use Rattle.kernel_shared.proofs.Grows.{count_append}
+use Rattle.kernel_book.specs.declared.entry.Entry.{Entry}
+use Rattle.kernel_book.specs.Laws.{count_of}
+use Rattle.kernel_book.proofs.Grows.{count_append}
 use Rattle.kernel_shared.specs.Fronts.{StartsWith, Keeps, Sees}
 
 pub starts_refl : (log : List Entry) → StartsWith log log

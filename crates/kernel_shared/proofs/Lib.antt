@@ -1,5 +1,4 @@
 -- Lemmas on histories, on what clients see of them, and on drives.
-pub mod Grows
 pub mod Numbered
 pub mod Lawfully
 pub mod Shows

@@ -7,8 +7,8 @@ use Rattle.abstract_kernel.specs.State.{State, shown}
 use Rattle.abstract_kernel.specs.Shown.{Shown, state_at, inbox_at, waiting_at}
 use Rattle.abstract_kernel.specs.Step.{state_after}
 use Rattle.abstract_kernel.specs.Reached.{IsReached}
-use Rattle.kernel_shared.specs.declared.entry.Entry.{Entry}
-use Rattle.kernel_shared.specs.Laws.{calls_of}
+use Rattle.kernel_book.specs.declared.entry.Entry.{Entry}
+use Rattle.kernel_book.specs.Laws.{calls_of}
 use Rattle.kernel_shared.specs.declared.query.Query.{Query}
 use Rattle.kernel_shared.specs.declared.query.Query.TheVariants as q
 use Rattle.kernel_shared.specs.declared.query.Answer.{Answer}

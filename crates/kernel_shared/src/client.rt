@@ -1,6 +1,6 @@
 //! A client: its calls are numbered, and it looks without waiting.
 ghost use Rattle.std.specs.Prelude.{◌≡◌, ◌+◌, ◌≤◌, ◌<◌, ◌↔◌, ◌++◌, ◌∷◌, [], length, Some, None, slice_get, IfSome, IfNone, OnOk, IfErr, OnErr, IsTrue, ◌^◌, take};
-ghost use Rattle.kernel_shared.specs.Laws.{Lawful, count_of, entry};
+ghost use Rattle.kernel_book.specs.Laws.{Lawful, count_of, entry};
 ghost use Rattle.kernel_shared.specs.Fronts.{StartsWith};
 ghost use Rattle.kernel_shared.specs.Answers.{IsAnswer};
 ghost use Rattle.kernel_shared.specs.Tokens.{lost, made, token};
@@ -9,10 +9,8 @@ ghost use Rattle.left_right.specs.Sides.{view};
 ghost use Rattle.abstract_kernel.specs.declared.call.Call.{Call};
 
 use crate::desk::{Desk, Unmade};
-use crate::entry::Entry;
 use crate::fault::SharedFault;
 use crate::front::Front;
-use crate::naming::Naming;
 use crate::query::{Answer, Query};
 use crate::request::Request;
 use crate::rule::{Published, SeesBook};
@@ -20,6 +18,7 @@ use crate::stray::Stray;
 use crate::view::View;
 use crate::volume::Volume;
 use abstract_kernel::{Call, Reply};
+use kernel_book::{Entry, Naming};
 use left_right::reader::Reader;
 use std::marker::Model;
 use std::sync::Wait;

@@ -1,11 +1,11 @@
 //! What lies under the lock: the writer of both copies, and how many calls were made.
 ghost use Rattle.std.specs.Prelude.{◌≡◌, ◌+◌, ◌<◌, ◌^◌, [], drop, length, OnOk, OnErr};
 
-use crate::naming::Naming;
 use crate::request::Request;
 use crate::rule::{Published, SeesBook};
 use crate::view::View;
 use crate::volume::Volume;
+use kernel_book::Naming;
 use left_right::writer::Writer;
 use std::sync::ledger::Share;
 use std::sync::{Wait, ledger};

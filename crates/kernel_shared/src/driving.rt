@@ -8,10 +8,10 @@ ghost use Rattle.kernel_shared.specs.Driving.{EachThree, IsDriven, IsRan, IsFini
 use crate::client::Client;
 use crate::end::End;
 use crate::fault::SharedFault;
-use crate::naming::Naming;
 use crate::shared::Shared;
 use crate::volume::Volume;
 use abstract_kernel::Call;
+use kernel_book::Naming;
 use std::alloc::Global;
 use std::snapshot::Snapshot;
 use std::sync::Wait;

@@ -1,7 +1,7 @@
 //! Why a call was not answered.
 use crate::front::Front;
-use crate::naming::Naming;
 use crate::volume::Volume;
+use kernel_book::Naming;
 
 /// Why a call was not answered. All but `Stray` take no step.
 #[derive(Drop)]

@@ -1,12 +1,12 @@
 //! A beginning of the history.
 ghost use Rattle.std.specs.Prelude.{◌≡◌, ◌≤◌, length, take};
-ghost use Rattle.kernel_shared.specs.Laws.{Lawful};
+ghost use Rattle.kernel_book.specs.Laws.{Lawful};
 ghost use Rattle.kernel_shared.specs.Readers.{seen_of};
 
-use crate::naming::Naming;
 use crate::rule::Published;
 use crate::view::View;
 use crate::volume::Volume;
+use kernel_book::Naming;
 use left_right::reader::Reader;
 use std::marker::{Model, PhantomData};
 use std::snapshot::Snapshot;
@@ -21,8 +21,8 @@ pub struct Front<N: Naming, T: Volume<N>> {
 
 impl<N: Naming, T: Volume<N>> Model for Front<N, T> {
     ghost use Rattle.std.specs.Prelude.{List, take, length, ◌≤◌};
-    ghost use Rattle.kernel_shared.specs.declared.entry.Entry.{Entry};
-    ghost use Rattle.kernel_shared.specs.Laws.{Lawful};
+    ghost use Rattle.kernel_book.specs.declared.entry.Entry.{Entry};
+    ghost use Rattle.kernel_book.specs.Laws.{Lawful};
     ghost use Rattle.kernel_shared.specs.Readers.{seen_of};
 
     ghost Value = { List Entry };

@@ -3,15 +3,12 @@
 //! copy that is not being written, and waits for nobody.
 #![tactic(auto)]
 
-pub mod book;
 pub mod client;
 pub mod desk;
 pub mod driving;
 pub mod end;
-pub mod entry;
 pub mod fault;
 pub mod front;
-pub mod naming;
 pub mod query;
 pub mod request;
 pub mod rule;
@@ -24,10 +21,8 @@ pub mod tie;
 pub mod view;
 pub mod volume;
 
-pub use book::{Book, BookFault};
 pub use driving::{DriveFault, Gate, drive};
-pub use entry::Entry;
-pub use naming::Naming;
+pub use kernel_book::{Book, BookFault, Entry, Naming};
 pub use query::{Answer, Query};
 pub use settling::{SettleFault, settle};
 pub use start::StartFault;

@@ -1,7 +1,7 @@
 //! What a client asks of the history and of the kernel, and what it is answered.
-use crate::entry::Entry;
 use abstract_kernel::{Inbox, ThreadState};
 use cap_core::Cap;
+use kernel_book::Entry;
 
 /// What a look asks for.
 #[derive(Clone, Copy)]

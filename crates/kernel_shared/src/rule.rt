@@ -2,10 +2,10 @@
 ghost use Rattle.std.specs.Prelude.{[]};
 ghost use Rattle.kernel_shared.specs.Fronts.{Keeps, Sees};
 
-use crate::entry::Entry;
 use crate::request::Request;
 use crate::view::View;
 use crossbeam_utils::rule::{Outcome, Protocol};
+use kernel_book::Entry;
 use left_right::Absorb;
 
 /// Each thread's view is a beginning of the published history. The first view is empty.

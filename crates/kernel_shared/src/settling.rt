@@ -3,15 +3,14 @@ ghost use Rattle.std.specs.Prelude.{◌≡◌, ◌<◌, ◌≤◌, ◌↔◌, le
 ghost use Rattle.kernel_shared.specs.Tokens.{EachBegins, made};
 ghost use Rattle.kernel_shared.specs.declared.settling.SettleFault.TheVariants as Why;
 
-use crate::book::Book;
 use crate::client::Client;
 use crate::desk::Desk;
-use crate::naming::Naming;
 use crate::shared::Shared;
 use crate::shelf::Shelf;
 use crate::volume::Volume;
 use cap_core::Profile;
 use ipc_core::Waiters;
+use kernel_book::{Book, Naming};
 use slot_core::CapStore;
 use std::sync::Wait;
 

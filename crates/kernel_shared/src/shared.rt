@@ -1,6 +1,6 @@
 //! One kernel for many clients: calls.
 ghost use Rattle.std.specs.Prelude.{◌≡◌, ◌++◌, ◌∷◌, [], Some, None, IfOk, Err, OnOk, OnErr, IfErr, ◌⊎◌};
-ghost use Rattle.kernel_shared.specs.Laws.{count_of};
+ghost use Rattle.kernel_book.specs.Laws.{count_of};
 ghost use Rattle.kernel_shared.specs.declared.fault.SharedFault.TheVariants as Fault;
 ghost use Rattle.kernel_shared.specs.Fronts.{StartsWith};
 ghost use Rattle.kernel_shared.specs.Faults.{Told};
@@ -9,10 +9,10 @@ ghost use Rattle.kernel_shared.specs.Tokens.{Lost, IsAnswered, calls_made, lost,
 use crate::client::Client;
 use crate::desk::Desk;
 use crate::fault::SharedFault;
-use crate::naming::Naming;
 use crate::tie::Tie;
 use crate::volume::Volume;
 use abstract_kernel::{Call, Reply};
+use kernel_book::Naming;
 use std::sync::{Mutex, MutexGuard, Wait};
 
 /// A kernel that client threads share: two copies of its book, of which one is read while the other is written, and one

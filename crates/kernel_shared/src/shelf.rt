@@ -1,16 +1,14 @@
 //! One of the two copies of a book.
 ghost use Rattle.std.specs.Prelude.{◌≡◌, refl};
-ghost use Rattle.kernel_shared.specs.Laws.{Begins};
+ghost use Rattle.kernel_book.specs.Laws.{Begins};
 ghost use Rattle.kernel_shared.specs.Taking.{taken};
 
-use crate::book::Book;
-use crate::entry::Entry;
-use crate::naming::Naming;
 use crate::query::{Answer, Query};
 use crate::request::Request;
 use crate::volume::Volume;
 use cap_core::Profile;
 use ipc_core::Waiters;
+use kernel_book::{Book, Entry, Naming};
 use left_right::Absorb;
 use slot_core::CapStore;
 use std::alloc::AllocError;
@@ -25,8 +23,8 @@ pub struct Shelf<N: Naming, P: Profile, S: CapStore<P> + Drop, W: Waiters<P> + D
 impl<N: Naming, P: Profile, S: CapStore<P> + Drop, W: Waiters<P> + Drop> Model
     for Shelf<N, P, S, W> {
     ghost use Rattle.std.specs.Prelude.{◌≡◌, List};
-    ghost use Rattle.kernel_shared.specs.declared.entry.Entry.{Entry};
-    ghost use Rattle.kernel_shared.specs.Laws.{Begins};
+    ghost use Rattle.kernel_book.specs.declared.entry.Entry.{Entry};
+    ghost use Rattle.kernel_book.specs.Laws.{Begins};
 
     ghost Value = { List Entry };
 

@@ -1,18 +1,17 @@
 //! How a kernel comes to be shared.
 ghost use Rattle.std.specs.Prelude.{ℕ, ◌≡◌, ◌<◌, [], None, Some, slice_get, IfOk, vec_len};
-ghost use Rattle.kernel_shared.specs.Laws.{Begins};
+ghost use Rattle.kernel_book.specs.Laws.{Begins};
 ghost use Rattle.kernel_shared.specs.Tokens.{token};
 
-use crate::book::Book;
 use crate::client::Client;
 use crate::desk::Desk;
-use crate::naming::Naming;
 use crate::shared::Shared;
 use crate::shelf::Shelf;
 use crate::tie::Tie;
 use crate::volume::Volume;
 use cap_core::Profile;
 use ipc_core::MakeWaiters;
+use kernel_book::{Book, Naming};
 use kernel_core::Kernel;
 use left_right::writer::Writer;
 use slot_core::MakeStore;

@@ -3,7 +3,7 @@ ghost use Rattle.std.specs.Prelude.{◌≡◌, ◌≢◌, ◌<◌, ◌≤◌, �
 ghost use Rattle.abstract_kernel.specs.State.{State, shown};
 ghost use Rattle.abstract_kernel.specs.Step.{step};
 ghost use Rattle.abstract_kernel.specs.Reached.{IsReached};
-ghost use Rattle.kernel_shared.specs.Laws.{Lawful, StandsAfter, AreCounts, entry, count_of};
+ghost use Rattle.kernel_book.specs.Laws.{Lawful, StandsAfter, AreCounts, entry, count_of};
 
 use crate::entry::Entry;
 use crate::naming::Naming;

@@ -7,7 +7,7 @@ use Rattle.abstract_kernel.specs.State.{State, shown}
 use Rattle.abstract_kernel.specs.Shown.{Shown}
 use Rattle.abstract_kernel.specs.Step.{state_after, replies_of}
 use Rattle.abstract_kernel.specs.Reached.{IsReached}
-use Rattle.kernel_shared.specs.declared.entry.Entry.{Entry}
+use Rattle.kernel_book.specs.declared.entry.Entry.{Entry}
 
 abbrev pub entry : ℕ → ℕ → Call → Reply → Entry
 entry client number call reply = record { client = client; number = number; call = call; reply = reply }

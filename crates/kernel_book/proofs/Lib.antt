@@ -1,0 +1,2 @@
+-- Lemmas on a book that takes one more call.
+pub mod Grows

@@ -1,0 +1,2 @@
+-- What contracts cite of a book.
+pub mod Laws
