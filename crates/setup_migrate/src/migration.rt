@@ -21,7 +21,11 @@ fn rewrite<P: Profile>(alloc: Global, plan: &BootPlan, table: &mut Table) -> Res
     requires { IsPlan P.the plan.now }
     ensures { IfOk result (λ _. table_view table.new ≡ spec.migrated P.the plan.now (table_view table.old)) }
 {
-    put(table, String::from_str(alloc, "format")?, Value::from(NEWEST_FORMAT))?;
+    put(
+        table,
+        String::from_str(alloc, "format")?,
+        Value::from(NEWEST_FORMAT),
+    )?;
     let names = boot_names::<P>(alloc, plan)?;
     put(table, String::from_str(alloc, "names")?, Value::from(names))?;
     name_threads::<P>(alloc, plan, table)

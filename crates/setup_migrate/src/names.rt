@@ -58,6 +58,13 @@ pub fn boot_names<P: Profile>(alloc: Global, plan: &BootPlan) -> Result<Table, A
     add_names(alloc, &mut names, "ep_", endpoints, first_endpoint, 1)?;
     add_names(alloc, &mut names, "tcb_", threads, FIRST_SLOT, 1)?;
     let first_thread = plan.first_tcb::<P>();
-    add_names(alloc, &mut names, "thread_", threads, first_thread, tcb_size::<P>())?;
+    add_names(
+        alloc,
+        &mut names,
+        "thread_",
+        threads,
+        first_thread,
+        tcb_size::<P>(),
+    )?;
     Ok(names)
 }

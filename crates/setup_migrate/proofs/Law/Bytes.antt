@@ -1,8 +1,7 @@
 -- The table that bytes are migrated to, where they are a set-up of the first format, and what it is read as.
 use Rattle.std.proofs.Common.{◌≡◌, ℕ, List, Ok, sym, ap, ◌∙◌}
 use Rattle.toml.specs.Data.{Members}
-use Rattle.cap_core.specs.declared.profile.ProfileName.{ProfileName}
-use Rattle.abstract_kernel.specs.Plan.{Plan, IsPlan}
+use Rattle.abstract_kernel.specs.Plan.{IsPlan}
 use Rattle.setup_format.specs.Setups.{document_of, first_format_setup_of, first_format_setup_of_bytes, setup_of}
 use Rattle.setup_format.specs.Views.{SetupView}
 use Rattle.setup_migrate.specs.Migration.{migrated, migrated_bytes}

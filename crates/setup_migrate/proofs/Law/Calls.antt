@@ -1,12 +1,11 @@
 -- A call whose boot thread stands by its name is read as it was.
-use Rattle.std.proofs.Common.{◌≡◌, ℕ, ◌+◌, ◌-◌, ◌^◌, ◌++◌, codes, List, [], ◌∷◌, length, map, not, nat_lt, Bool, Option, Some, None, option_map, option_and_then, Result, Ok, Err, refl, sym, ap, ◌∙◌, inl, inr}
+use Rattle.std.proofs.Common.{◌≡◌, ℕ, ◌+◌, ◌-◌, ◌^◌, ◌++◌, codes, List, [], ◌∷◌, length, map, not, nat_lt, Option, Some, None, option_map, Result, Ok, refl, sym, ap, inl, inr}
 use Rattle.std.proofs.lemmas.Bool.{cases_Bool}
 use Rattle.std.proofs.lemmas.List.{length-map}
 use Rattle.std.proofs.lemmas.Option.{none-some, same_Some}
 use Rattle.std.specs.Fmt.{decimal}
 use Rattle.std.specs.List.{filter}
-use Rattle.std.specs.Result.{result_ok}
-use Rattle.toml.specs.Data.{Data, string, integer, float, boolean, datetime, array, table, Items, no_items, item, Members, get_member, as_array, as_table, as_integer, as_str}
+use Rattle.toml.specs.Data.{Data, array, table, Items, no_items, item, Members, get_member, as_table}
 use Rattle.cap_core.specs.declared.profile.ProfileName.{ProfileName}
 use Rattle.cap_core.specs.Numbers.{word_bits}
 use Rattle.abstract_kernel.specs.Plan.{Plan}
@@ -14,14 +13,12 @@ use Rattle.setup_values.specs.declared.values.Wrong.{Wrong}
 use Rattle.setup_values.specs.declared.values.Wrong.TheVariants.{OtherValue}
 use Rattle.setup_values.specs.Names.{Names, word_named}
 use Rattle.setup_values.specs.Keys.{least}
-use Rattle.setup_values.specs.Kinds.{◌>>=◌, between, word, natural, below, number, expect, op, each, item_list, array_in, table_in, tables}
+use Rattle.setup_values.specs.Kinds.{between, word, natural, below, number, expect, op, each, item_list, array_in, table_in, tables}
 use Rattle.setup_format.specs.declared.fault.Place.{Place}
 use Rattle.setup_format.specs.declared.fault.Place.TheVariants as places
-use Rattle.setup_format.specs.Faults.{Fault}
-use Rattle.setup_format.specs.Tables.{required, needed, at_key, known_only, no_unknown, is_one_of}
+use Rattle.setup_format.specs.Tables.{required, needed, known_only, no_unknown, is_one_of}
 use Rattle.setup_format.specs.Operations.{call_keys}
 use Rattle.setup_format.specs.Setups.{call_at}
-use Rattle.setup_format.specs.Views.{CallView}
 use Rattle.setup_migrate.specs.Migration.{with_changed, each_item, thread_at, thread_or, named_thread, named_call, named_calls}
 use Rattle.setup_migrate.proofs.Parts.{get_changed, get_changed_other, keys_changed}
 use Rattle.setup_migrate.proofs.Law.Follows.{Follows, same, equal, after, no_answer, parts, together, at_key_follows, required_follows, optional_follows}

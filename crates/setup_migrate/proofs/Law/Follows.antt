@@ -1,10 +1,9 @@
 -- A reading that gives what another reading gives, wherever that one gives something.
-use Rattle.std.proofs.Common.{◌≡◌, ℕ, ◌+◌, List, [], ◌∷◌, Option, Some, None, Result, Ok, Err, refl, sym, ap, ◌∙◌}
+use Rattle.std.proofs.Common.{◌≡◌, ℕ, ◌+◌, List, [], ◌∷◌, Option, Some, None, Result, Ok, Err, refl, ap, ◌∙◌}
 use Rattle.toml.specs.Data.{Data, Members, get_member}
 use Rattle.setup_values.specs.declared.values.Wrong.{Wrong}
 use Rattle.setup_values.specs.Kinds.{◌>>=◌, each}
 use Rattle.setup_format.specs.declared.fault.Place.{Place}
-use Rattle.setup_format.specs.Faults.{Fault}
 use Rattle.setup_format.specs.Tables.{required, optional, needed, given_or, at_key}
 
 pub record Follows {A E : Type 0} (r s : Result A E) : Type 0 where

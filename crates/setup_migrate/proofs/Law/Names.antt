@@ -1,6 +1,6 @@
 -- The names of a migrated set-up are read as what they were made of.
-use Rattle.std.proofs.Common.{◌≡◌, ℕ, zero, suc, ◌+◌, ◌*◌, ◌^◌, ◌<◌, ◌≤◌, Bool, true, false, cond, ◌&&◌, ◌==◌, nat_lt, nat_le, codes, ℤ, pos, negsuc, List, [], ◌∷◌, ◌++◌, length, map, find, Option, Some, None, option_map, Result, Ok, Err, Ordering, Less, Equal, Greater, nat_cmp, is_eq, refl, sym, ap, ◌∙◌, inl, inr, ◌⊎◌, arith, length-append, is_err, le-leb, ◌%◌, subst, ◌||◌}
-use Rattle.std.proofs.lemmas.Bool.{cases_Bool, false≢true}
+use Rattle.std.proofs.Common.{◌≡◌, ℕ, zero, suc, ◌+◌, ◌^◌, ◌<◌, ◌≤◌, Bool, true, false, cond, nat_lt, pos, List, [], ◌∷◌, ◌++◌, length, map, find, Option, Some, option_map, Ok, Ordering, Less, Equal, Greater, nat_cmp, is_eq, refl, sym, ap, ◌∙◌, inl, inr, ◌⊎◌, arith, length-append, is_err, le-leb, ◌%◌, subst, ◌||◌}
+use Rattle.std.proofs.lemmas.Bool.{cases_Bool}
 use Rattle.std.proofs.lemmas.Bool.Decides.{nat_tests}
 use Rattle.std.proofs.lemmas.Cmp.{nat_list_cmp_total}
 use Rattle.std.proofs.lemmas.Fmt.{decimal_injective, decimal_by_steps, length-decimal-le}
@@ -16,10 +16,9 @@ use Rattle.std.specs.Str.{bytes_eq}
 use Rattle.toml.specs.Data.{Data, integer, table, Members, no_members, member, get_member, same_key}
 use Rattle.cap_core.specs.declared.profile.ProfileName.{ProfileName}
 use Rattle.cap_core.specs.Numbers.{word_bits}
-use Rattle.setup_values.specs.declared.values.Wrong.{Wrong}
 use Rattle.setup_values.specs.Names.{Names, word_named}
 use Rattle.setup_values.specs.Keys.{entries_of}
-use Rattle.setup_values.specs.Kinds.{◌>>=◌, between, each, is_name, is_name_byte, entry, names_in, names, word}
+use Rattle.setup_values.specs.Kinds.{between, each, is_name, is_name_byte, entry, names, word}
 use Rattle.setup_migrate.specs.Migration.{with_member, with_words, numbered}
 use Rattle.setup_migrate.proofs.Parts.{get_with, get_with_other, texts_tied, cases_ordering}
 
@@ -159,8 +158,10 @@ name_bytes n h = decimal_by_steps (λ _ ds. list_all is_name_byte ds ≡ true) o
   where
     digit_byte : (n : ℕ) → n < 10 → is_name_byte (48 + n) ≡ true
     digit_byte n h = rw (le-leb 48 (48 + n) (omega arith), le-leb (48 + n) 57 (omega arith)) (or_true (between 97 122 (48 + n)))
+
     one : (n : ℕ) → n < 10 → list_all is_name_byte ((48 + n) ∷ []) ≡ true
     one n h = rw (digit_byte n h)
+
     more : (n : ℕ) (ds : List ℕ) → 10 ≤ n → list_all is_name_byte ds ≡ true → list_all is_name_byte (ds ++ ((48 + n % 10) ∷ [])) ≡ true
     more n ds h e = rw (list_all-append, e, digit_byte (n % 10) (omega arith))
 

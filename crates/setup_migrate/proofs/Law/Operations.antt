@@ -1,6 +1,5 @@
 -- An operation that was read without names is read the same with names, whatever the call's thread is.
-use Rattle.std.proofs.Common.{◌≡◌, ℕ, ◌^◌, codes, List, [], ◌∷◌, Bool, true, false, cond, ◌==◌, ℤ, pos, negsuc, Option, Some, None, Result, Ok, Err, refl, sym, ap, ◌∙◌, inl, inr}
-use Rattle.std.proofs.lemmas.Bool.{cases_Bool}
+use Rattle.std.proofs.Common.{◌≡◌, ℕ, ◌^◌, codes, List, [], ◌∷◌, Bool, true, false, cond, ◌==◌, ℤ, pos, negsuc, Option, Some, None, Ok, refl}
 use Rattle.toml.specs.Data.{Data, Members, get_member, same_key, as_array, as_integer, as_str}
 use Rattle.cap_core.specs.declared.profile.ProfileName.{ProfileName}
 use Rattle.cap_core.specs.declared.limits.TheConstants.{MAX_MESSAGE_WORDS}
@@ -8,11 +7,9 @@ use Rattle.cap_core.specs.Numbers.{word_bits}
 use Rattle.cap_core.specs.Rights.{all_rights}
 use Rattle.setup_values.specs.declared.values.OpName.{OpName}
 use Rattle.setup_values.specs.declared.values.OpName.TheVariants.{Retype, CapCopy, CapMint, CapMove, CapMutate, CapDelete, CapRevoke, CancelBadged, Send, NbSend, Recv, NbRecv, SetSpace, Suspend, Resume}
-use Rattle.setup_values.specs.declared.values.Wrong.{Wrong}
 use Rattle.setup_values.specs.Names.{Names, word_named}
-use Rattle.setup_values.specs.Kinds.{◌>>=◌, natural, natural_in, spelt, or_other, word, words, filled, label, rights, array_in, each, below}
+use Rattle.setup_values.specs.Kinds.{natural_in, spelt, or_other, word, words, filled, label, rights, array_in, below}
 use Rattle.setup_format.specs.declared.fault.Place.{Place}
-use Rattle.setup_format.specs.Faults.{Fault}
 use Rattle.setup_format.specs.Tables.{required, optional}
 use Rattle.setup_format.specs.Operations.{operation_at, retype_at, slots_at, copy_at, mint_at, move_at, mutate_at, delete_at, revoke_at, cancel_badged_at, message_at, send_at, nb_send_at, recv_at, nb_recv_at, set_space_at, suspend_at, resume_at}
 use Rattle.setup_migrate.proofs.Law.Follows.{Follows, same, after, no_answer, required_follows, optional_follows, each_follows}

@@ -1,21 +1,21 @@
 -- The names that a plan gives: each may stand as a name, its word fits, and a boot thread's stands for its address.
-use Rattle.std.proofs.Common.{◌≡◌, ℕ, zero, suc, ◌+◌, ◌*◌, ◌^◌, ◌<◌, ◌≤◌, Bool, true, false, cond, ◌==◌, codes, pos, List, [], ◌∷◌, ◌++◌, length, map, find, Option, Some, None, option_map, refl, sym, ap, ◌∙◌, inl, inr, arith}
+use Rattle.std.proofs.Common.{◌≡◌, ℕ, zero, suc, ◌+◌, ◌^◌, ◌<◌, ◌≤◌, Bool, true, ◌==◌, codes, pos, ◌++◌, length, find, Some, option_map, refl, ap, ◌∙◌, inl, inr, arith}
 use Rattle.std.proofs.lemmas.Bool.{cases_Bool}
 use Rattle.std.proofs.lemmas.Bool.Decides.{nat_tests}
 use Rattle.std.proofs.lemmas.Option.{none-some, same_Some}
 use Rattle.std.proofs.Math.Nat.{pow-le-pow_right}
 use Rattle.std.specs.Fmt.{decimal}
 use Rattle.std.specs.List.{range_with_len}
-use Rattle.toml.specs.Data.{Data, integer, table, Members, no_members, get_member}
+use Rattle.toml.specs.Data.{integer, Members, no_members, get_member}
 use Rattle.cap_core.specs.declared.profile.ProfileName.{ProfileName}
 use Rattle.cap_core.specs.declared.profile.ProfileName.TheVariants.{Wide, Narrow}
-use Rattle.cap_core.specs.declared.limits.TheConstants.{MAX_MEMORY_BITS, MAX_BOOT_THREADS, MAX_BOOT_ENDPOINTS, MAX_BOOT_UNTYPEDS}
-use Rattle.cap_core.specs.Numbers.{word_bits, tcb_bits, tcb_size, endpoint_size}
+use Rattle.cap_core.specs.declared.limits.TheConstants.{MAX_MEMORY_BITS}
+use Rattle.cap_core.specs.Numbers.{word_bits, tcb_bits}
 use Rattle.abstract_kernel.specs.Plan.{Plan, IsPlan, tcb_place, boot_end}
 use Rattle.abstract_kernel.proofs.Boot.Places.{tcb_fits}
 use Rattle.abstract_kernel.proofs.Boot.SoundPlans.{objects_within}
-use Rattle.setup_values.specs.Names.{Names, word_named}
-use Rattle.setup_migrate.specs.Migration.{with_words, numbered, boot_names, thread_at}
+use Rattle.setup_values.specs.Names.{word_named}
+use Rattle.setup_migrate.specs.Migration.{with_words, boot_names, thread_at}
 use Rattle.setup_migrate.proofs.Law.Names.{AreNamed, AllNamed, all_named-append, all_named-numbered, with_words-append, named-with_words, names_read, word_in, word_named_read, get_numbered}
 use Rattle.setup_migrate.proofs.Law.Calls.{NamesThreads}
 

@@ -1,33 +1,32 @@
 -- The migrated table is read as the same set-up as the table itself by the first format.
-use Rattle.std.proofs.Common.{◌≡◌, ℕ, zero, suc, ◌+◌, ◌*◌, ◌^◌, ◌<◌, ◌≤◌, Bool, true, false, cond, not, ◌||◌, ◌==◌, nat_lt, nat_le, max, codes, ℤ, pos, negsuc, List, [], ◌∷◌, ◌++◌, length, map, Option, Some, None, option_map, Result, Ok, Err, refl, sym, ap, subst, ◌∙◌, inl, inr, arith}
+use Rattle.std.proofs.Common.{◌≡◌, ℕ, Bool, true, false, not, ◌||◌, codes, ℤ, pos, negsuc, List, [], ◌∷◌, length, map, Option, Some, None, option_map, Result, Ok, refl, sym, ap, subst, ◌∙◌, inl, inr, arith}
 use Rattle.std.proofs.lemmas.Bool.{cases_Bool, false≢true}
 use Rattle.std.proofs.lemmas.Bool.Decides.{nat_tests}
-use Rattle.std.proofs.lemmas.Option.{none-some, same_Some}
+use Rattle.std.proofs.lemmas.Option.{none-some}
 use Rattle.std.specs.Cmp.Lexicographic.{slice_cmp}
 use Rattle.std.specs.List.{filter}
 use Rattle.std.specs.Ordering.{nat_cmp, is_lt}
 use Rattle.std.specs.Str.{bytes_eq}
-use Rattle.toml.specs.Data.{Data, integer, array, table, Members, no_members, member, get_member, as_integer, same_key}
+use Rattle.toml.specs.Data.{Data, integer, table, Members, no_members, member, get_member, as_integer, same_key}
 use Rattle.cap_core.specs.declared.profile.ProfileName.{ProfileName}
 use Rattle.cap_core.specs.declared.profile.ProfileName.TheVariants.{Wide}
-use Rattle.cap_core.specs.declared.limits.TheConstants.{MIN_MEMORY_BITS, MAX_MEMORY_BITS, MIN_ROOT_RADIX, MAX_ROOT_RADIX, MIN_BOOT_THREADS, MAX_BOOT_THREADS, MAX_BOOT_ENDPOINTS, MAX_BOOT_UNTYPEDS, MAX_CLIENTS, MAX_HISTORY_LIMIT}
+use Rattle.cap_core.specs.declared.limits.TheConstants.{MAX_BOOT_UNTYPEDS, MAX_CLIENTS, MAX_HISTORY_LIMIT}
 use Rattle.abstract_kernel.specs.Plan.{Plan, IsPlan}
 use Rattle.setup_values.specs.declared.values.Wrong.{Wrong}
 use Rattle.setup_values.specs.declared.values.Wrong.TheVariants.{OtherValue}
 use Rattle.setup_values.specs.Names.{Names}
 use Rattle.setup_values.specs.Keys.{keys_of, least, lesser}
-use Rattle.setup_values.specs.Kinds.{◌>>=◌, between, number, number_in, names, profile, tables, each}
+use Rattle.setup_values.specs.Kinds.{between, number, number_in, names, profile, tables, each}
 use Rattle.setup_format.specs.declared.limits.TheConstants.{FIRST_FORMAT, NEWEST_FORMAT, MAX_CALLS}
-use Rattle.setup_format.specs.declared.fault.Place.{Place}
 use Rattle.setup_format.specs.declared.fault.Place.TheVariants as places
 use Rattle.setup_format.specs.declared.setup.Sizes.{Sizes}
 use Rattle.setup_format.specs.Faults.{Fault}
-use Rattle.setup_format.specs.Tables.{required, optional, needed, given_or, at_key, known_only, no_unknown, is_one_of, least_unknown}
+use Rattle.setup_format.specs.Tables.{required, optional, needed, given_or, at_key, known_only, no_unknown, is_one_of}
 use Rattle.setup_format.specs.Setups.{first_keys, top_keys, sizes_of, planned_with, laid_out, limit_of, untyped_at, call_at, setup_with, setup_at, setup_up_to, setup_of, first_format_setup_of}
-use Rattle.setup_format.specs.Views.{CallView, SetupView}
-use Rattle.setup_migrate.specs.Migration.{with_member, with_changed, named_calls, migrated}
+use Rattle.setup_format.specs.Views.{SetupView}
+use Rattle.setup_migrate.specs.Migration.{with_member, named_calls, migrated}
 use Rattle.setup_migrate.proofs.Parts.{get_changed, get_changed_other, get_with, get_with_other, keys_changed, keys_with, past, texts_tied}
-use Rattle.setup_migrate.proofs.Law.Follows.{Follows, no_answer, parts, together, at_key_gives}
+use Rattle.setup_migrate.proofs.Law.Follows.{no_answer, parts, together, at_key_gives}
 use Rattle.setup_migrate.proofs.Law.Names.{names_read, names_of_table}
 use Rattle.setup_migrate.proofs.Law.Calls.{NamesThreads, renamed, calls_follow, tables_named}
 use Rattle.setup_migrate.proofs.Law.Plans.{name_table, table_named, names_threads}
@@ -140,8 +139,12 @@ no_names t n e = not_a_key (λ key. not (is_one_of first_keys key)) (codes "name
 sizes_same : (p : ProfileName) (plan : Plan) (t : Members) → sizes_of (migrated p plan t) ≡ sizes_of t
 unfolding sizes_of
 sizes_same p plan t =
-    rw (other_member p plan t (codes "memory_bits") refl refl refl, other_member p plan t (codes "root_radix") refl refl refl,
-    other_member p plan t (codes "threads") refl refl refl, other_member p plan t (codes "endpoints") refl refl refl)
+    rw (
+      other_member p plan t (codes "memory_bits") refl refl refl,
+      other_member p plan t (codes "root_radix") refl refl refl,
+      other_member p plan t (codes "threads") refl refl refl,
+      other_member p plan t (codes "endpoints") refl refl refl,
+    )
 
 optional_same : {A : Type 0} (p : ProfileName) (plan : Plan) (t : Members) (k : List ℕ) (default : A) (kind : Data → Result A Wrong) → get_member k (migrated p plan t) ≡ get_member k t
     → optional places.Top (migrated p plan t) k default kind ≡ optional places.Top t k default kind
@@ -189,14 +192,15 @@ at_profile p t s none e h =
     let (call, e6, r6) = parts (optional places.Top t (codes "call") [] (tables 0 MAX_CALLS)) _ s r5 in
     let plan = s.plan in
     let is_plan : s.profile ≡ p → IsPlan p plan = λ same. rw (← same) h in
-    let (same, done) = with_names p ns (names_read (name_table p plan)) sizes clients limit untyped call s empty r6 (λ same. names_threads p plan (is_plan same)) in
-    (same,
+    let (same, done) = with_names p ns (names_read (name_table p plan)) sizes clients limit untyped call s empty r6 (λ same. names_threads p plan (is_plan same)) in (
+      same,
       together _ _ sizes s (sizes_same p plan t ∙ e1)
-      (together _ _ clients s (optional_same p plan t (codes "clients") 1 _ (other_member p plan t (codes "clients") refl refl refl) ∙ e2)
-      (together _ _ limit s (optional_same p plan t (codes "limit") 0 _ (other_member p plan t (codes "limit") refl refl refl) ∙ e3)
-      (together _ _ (names_read (name_table p plan)) s (names_after p plan t (is_plan same))
-      (together _ _ untyped s (optional_same p plan t (codes "untyped") [] _ (other_member p plan t (codes "untyped") refl refl refl) ∙ e5)
-      (together _ _ (map (renamed p plan) call) s (calls_after p plan t call e6) done))))))
+          (together _ _ clients s (optional_same p plan t (codes "clients") 1 _ (other_member p plan t (codes "clients") refl refl refl) ∙ e2)
+          (together _ _ limit s (optional_same p plan t (codes "limit") 0 _ (other_member p plan t (codes "limit") refl refl refl) ∙ e3)
+          (together _ _ (names_read (name_table p plan)) s (names_after p plan t (is_plan same))
+          (together _ _ untyped s (optional_same p plan t (codes "untyped") [] _ (other_member p plan t (codes "untyped") refl refl refl) ∙ e5)
+          (together _ _ (map (renamed p plan) call) s (calls_after p plan t call e6) done))))),
+    )
 
 -- ---- the law
 

@@ -1,4 +1,4 @@
-use Rattle.std.proofs.Common.{◌≡◌, sym, ap, ◌∙◌}
+use Rattle.std.proofs.Common.{sym, ap, ◌∙◌}
 use Rattle.toml.specs.Data.{table}
 use Rattle.toml.proofs.Views.{view-Table}
 use Rattle.setup_migrate.proofs.Law.Calls.{call_of_table, call_of_none}

@@ -1,4 +1,4 @@
-use Rattle.std.proofs.Common.{◌≡◌, ◌<◌, length, refl, ◌∙◌, arith}
+use Rattle.std.proofs.Common.{◌<◌, length, refl, ◌∙◌, arith}
 use Rattle.std.proofs.lemmas.List.{length-set}
 use Rattle.setup_migrate.specs.Migration.{named_call}
 use Rattle.setup_migrate.proofs.Parts.{changed_so_far, changed_rest, changed_all}

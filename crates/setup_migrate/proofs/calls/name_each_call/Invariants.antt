@@ -1,4 +1,4 @@
-use Rattle.std.proofs.Common.{◌≡◌, ◌≤◌, length, take, drop, map}
+use Rattle.std.proofs.Common.{◌≡◌, length, take, drop, map}
 use Rattle.toml.specs.View.{view}
 use Rattle.setup_migrate.specs.Migration.{named_call}
 use Rattle.setup_migrate.proofs.calls.name_each_call.Given as goal

@@ -1,5 +1,5 @@
-use Rattle.std.proofs.Common.{◌≡◌, codes, sym, ap, ◌∙◌}
-use Rattle.toml.specs.View.{view, members_view}
+use Rattle.std.proofs.Common.{codes, sym, ap, ◌∙◌}
+use Rattle.toml.specs.View.{members_view}
 use Rattle.setup_migrate.specs.Migration.{named_calls}
 use Rattle.setup_migrate.proofs.Parts.{view_changed, view_unchanged}
 use Rattle.setup_migrate.proofs.calls.name_threads.Goals as goal

@@ -1,4 +1,4 @@
-use Rattle.std.proofs.Common.{◌≡◌, ℕ, ◌+◌, ◌*◌, codes, length, sym, ap, ◌∙◌, arith}
+use Rattle.std.proofs.Common.{ℕ, ◌+◌, ◌*◌, codes, length, sym, ap, ◌∙◌, arith}
 use Rattle.toml.specs.Data.{no_members}
 use Rattle.toml.specs.View.{members_view, table_view}
 use Rattle.abstract_kernel.specs.Plan.{first_tcb, tcb_place}
