@@ -7,6 +7,7 @@ pub mod BuiltRuns
 pub mod Forests
 pub mod Lines
 pub mod Nested
+pub mod Parented
 pub mod Renamed
 pub mod Standing
 pub mod Without

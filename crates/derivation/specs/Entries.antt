@@ -1,9 +1,9 @@
 -- What stands in the derivation forest: a full slot, by its address, its capability, and whether it is original.
-use Rattle.std.specs.Prelude.{ℕ, Bool, false, cond, ◌==◌, List, [], ◌∷◌, map, Option, Some, None}
+use Rattle.std.specs.Prelude.{ℕ, Bool, false, cond, ◌==◌, List, [], ◌∷◌, map, Option, Some, None, option_map}
 use Rattle.std.specs.List.{list_any}
 use Rattle.cap_core.specs.declared.capability.Cap.{Cap}
 use Rattle.cap_core.specs.declared.capability.Cap.TheVariants.{Null}
-use Rattle.derivation.specs.Forest.{Forest, preorder, children}
+use Rattle.derivation.specs.Forest.{Forest, preorder, children, parented}
 
 pub record Entry : Type 0 where
   pub slot : ℕ
@@ -50,3 +50,10 @@ first_slot (e ∷ es) = Some e.slot
 -- the newest child of a slot
 abbrev pub first_child : ℕ → Forest Entry → Option ℕ
 first_child slot f = first_slot (children (is_at slot) f)
+
+abbrev pub slot_of : Entry → ℕ
+slot_of e = e.slot
+
+-- the entries, each before those below it, with the slot of the one that it stands right below
+abbrev pub derivations_of : Forest Entry → List (Entry × Option ℕ)
+derivations_of f = map (λ (e : Entry × Option Entry). (e.0, option_map slot_of e.1)) (parented None f)

@@ -1,5 +1,5 @@
 -- Forests: lists of trees, what is read off them, and their edits.
-use Rattle.std.specs.Prelude.{◌≡◌, ℕ, Bool, false, cond, List, [], ◌∷◌, ◌++◌, length, ◌||◌}
+use Rattle.std.specs.Prelude.{◌≡◌, ℕ, Bool, false, cond, List, [], ◌∷◌, ◌++◌, length, ◌||◌, Option, Some}
 use Rattle.std.specs.List.{prefix_len}
 
 -- a list of trees: none, or a first tree, which is what stands there and a list of trees, and then the other trees
@@ -41,6 +41,11 @@ has is (tree a under others) = is a || (has is under || has is others)
 abbrev pub ancestors : {A : Type 0} → (A → Bool) → Forest A → List A
 ancestors is none = []
 ancestors is (tree a under others) = cond (has is under) (a ∷ ancestors is under) (ancestors is others)
+
+-- each, in preorder, and what it stands right below, where it stands below one; the tops stand below `above`
+abbrev pub parented : {A : Type 0} → Option A → Forest A → List (A × Option A)
+parented above none = []
+parented above (tree a under others) = (a, above) ∷ (parented (Some a) under ++ parented above others)
 
 -- the edits
 abbrev pub below : {A : Type 0} → (A → Bool) → A → Forest A → Forest A

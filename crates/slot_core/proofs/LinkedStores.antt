@@ -8,3 +8,4 @@ pub mod LinkedRows
 pub mod LinkedSteps
 pub mod Linkings
 pub mod Unlinkings
+pub mod Walked

@@ -4,3 +4,4 @@ pub mod RowLists
 pub mod RowRemoves
 pub mod RowSteps
 pub mod RowViews
+pub mod RowWalks

@@ -1,12 +1,13 @@
 -- What a store's calls speak of, at slots: what a slot holds, and the edits of the derivation forest.
-use Rattle.std.specs.Prelude.{◌≡◌, ℕ, true, Bool, Option, None, ◌⊎◌}
+use Rattle.std.specs.Prelude.{◌≡◌, ℕ, true, Bool, Option, None, option_map, ◌⊎◌}
 use Rattle.cap_core.specs.declared.profile.ProfileName.{ProfileName}
 use Rattle.cap_core.specs.declared.capability.Cap.{Cap}
 use Rattle.cap_core.specs.Objects.{is_untyped, badge_of}
 use Rattle.derivation.specs.Forest.{Forest}
-use Rattle.derivation.specs.Entries.{Entry, cap_at, is_full, first_child}
+use Rattle.derivation.specs.Entries.{Entry, entry, cap_at, is_full, first_child}
 use Rattle.derivation.specs.Derivation.{derived, rooted, retyped, moved, freed, emptied}
 use Rattle.slot_core.specs.declared.slot.Slot.{Slot}
+use Rattle.slot_core.specs.declared.derivations.Derivation.{Derivation}
 use Rattle.slot_core.specs.Places.{address_of}
 
 -- the capability that a slot holds
@@ -46,3 +47,7 @@ KeepsBadge from cap = (badge_of cap ≡ badge_of from) ⊎ (badge_of from ≡ 0)
 -- an untyped capability is derived only from one with no child
 abbrev pub IsChildless : ProfileName → Slot → Cap → Forest Entry → Type 0
 IsChildless p source cap f = is_untyped cap ≡ true → newest_child p source f ≡ None
+
+-- a derivation as an entry of the forest, with the slot of the one right above it
+abbrev pub derivation_view : ProfileName → Derivation → Entry × Option ℕ
+derivation_view p d = (entry (address_of p d.slot) d.cap d.original, option_map (address_of p) d.parent)

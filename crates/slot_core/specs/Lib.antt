@@ -10,3 +10,4 @@ pub mod Rows
 pub mod Links
 pub mod Calls
 pub mod TableEdits
+pub mod Walks

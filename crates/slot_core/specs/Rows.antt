@@ -15,6 +15,9 @@ use Rattle.slot_core.specs.Places.{address_of}
 abbrev pub is_deeper : Row → Row → Bool
 is_deeper a b = ltb a.depth b.depth
 
+abbrev pub slot_of_row : Row → Slot
+slot_of_row row = row.slot
+
 abbrev pub entry_of : ProfileName → Row → Entry
 entry_of p row = entry (address_of p row.slot) row.cap row.original
 

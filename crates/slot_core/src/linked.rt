@@ -2,6 +2,7 @@
 ghost use Rattle.std.specs.Prelude.{◌≡◌};
 
 mod table;
+mod walk;
 
 pub use self::table::Link;
 use self::table::{

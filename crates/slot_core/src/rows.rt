@@ -1,8 +1,11 @@
 //! The capability store as rows.
 ghost use Rattle.std.specs.Prelude.{◌≡◌, ◌+◌, ◌^◌, ◌<◌};
-ghost use Rattle.slot_core.specs.Rows.{place_of as place_in, derived_row, names_elsewhere, raised};
+ghost use Rattle.slot_core.specs.Rows.{place_of as place_in, derived_row, names_elsewhere, raised, is_deeper, slot_of_row};
 ghost use Rattle.std.specs.List.{list_any};
+ghost use Rattle.std.specs.Prelude.{reverse, option_map};
+ghost use Rattle.derivation.proofs.Trees.Parented.{still_above, innermost};
 
+use crate::derivations::{Derivation, DerivationStore};
 use crate::derived::{is_new_original, with_free};
 use crate::slot::Slot;
 use crate::store::{CapStore, MakeStore};
@@ -198,4 +201,42 @@ impl<P: Profile> MakeStore<P> for RowStore<P> {
             profile: PhantomData,
         })
     }
+}
+
+// Takes the rows off a stack that a row of this depth does not stand below, from the last on.
+fn leave(above: &mut Vec<Row>, row: Row)
+    ensures { reverse above.new.items ≡ still_above is_deeper row (reverse above.old.items) }
+{
+    while let Some(top) = above.last() {
+        if top.depth < row.depth {
+            return;
+        }
+        above.pop();
+    }
+}
+
+impl<P: Profile> DerivationStore<P> for RowStore<P> {
+    fn derivations(&self, alloc: Global) -> Result<Vec<Derivation>, AllocError> {
+        let mut found = Vec::new(alloc);
+        let mut above = Vec::new(alloc);
+        for row in self.rows.iter() {
+            leave(&mut above, *row);
+            found.push(Derivation {
+                slot: row.slot,
+                cap: row.cap,
+                original: row.original,
+                parent: slot_of_last(&above),
+            })?;
+            above.push(*row)?;
+        }
+        Ok(found)
+    }
+}
+
+// The slot of the last row.
+fn slot_of_last(rows: &[Row]) -> Option<Slot>
+    ensures { result ≡ option_map slot_of_row (innermost (reverse rows.now)) }
+{
+    let row = rows.last()?;
+    Some(row.slot)
 }

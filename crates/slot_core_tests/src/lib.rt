@@ -7,6 +7,8 @@ mod answers;
 #[cfg(test)]
 mod calls;
 #[cfg(test)]
+mod derivations;
+#[cfg(test)]
 mod links;
 #[cfg(test)]
 mod sequences;
