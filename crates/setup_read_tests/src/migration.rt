@@ -13,7 +13,8 @@ const MESSAGE: &str = "[[call]]\nthread = 2048\nop = \"send\"\ncap = 4\nlabel = 
     [[call]]\nthread = 4096\nop = \"recv\"\ncap = 4\nexpect = \"delivered 6144 from 2048\"\n";
 
 /// The same sizes in the narrow profile, and calls by both boot threads and by none.
-const NARROW: &str = "format = 1\nprofile = \"narrow\"\nmemory_bits = 16\nroot_radix = 4\nthreads = 2\nendpoints = 1\n\
+const NARROW: &str =
+    "format = 1\nprofile = \"narrow\"\nmemory_bits = 16\nroot_radix = 4\nthreads = 2\nendpoints = 1\n\
     [[call]]\nthread = 1024\nop = \"nbsend\"\ncap = 4\n\
     [[call]]\nthread = \"0x0800\"\nop = \"nbsend\"\ncap = 4\n\
     [[call]]\nthread = 4096\nop = \"nbsend\"\ncap = 4\n";
