@@ -29,7 +29,7 @@ fn command<'a>(alloc: Global) -> Result<Command<'a>, AllocError>
     let threads = with_file(
         alloc,
         "threads",
-        "Runs each client of a set-up in a thread of its own and prints what was done, in order",
+        "Not in this program yet: it ends as where no thread could be started",
     )?;
     let migrate = with_file(
         alloc,
