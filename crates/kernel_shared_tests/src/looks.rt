@@ -119,7 +119,8 @@ pub fn two_clients<N: Naming, R: Wait>(
         clients.push(second).is_ok(),
     ];
     let book = settled(rt, shared, clients);
-    count(&steps) + book.is_some_and(|book| book.length() == 2) as usize
+    let settled = book.is_some_and(|book| book.length() == 2) as usize;
+    count(&steps).saturating_add(settled)
 }
 
 fn endpoint_cap() -> Cap {
