@@ -4,3 +4,4 @@ pub mod Puts
 pub mod Spaces
 pub mod Places
 pub mod BootedStore
+pub mod BootedThreads

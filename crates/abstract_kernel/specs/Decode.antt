@@ -25,7 +25,7 @@ use Rattle.abstract_kernel.specs.declared.invocation.NewObjects.{NewObjects}
 use Rattle.abstract_kernel.specs.declared.invocation.CapPlacement.{CapPlacement}
 use Rattle.abstract_kernel.specs.declared.invocation.Invocation.{Invocation}
 use Rattle.abstract_kernel.specs.declared.invocation.Invocation.TheVariants as invocation
-use Rattle.abstract_kernel.specs.Checks.{◌>>=◌}
+use Rattle.cap_core.specs.Checks.{◌>>=◌}
 use Rattle.abstract_kernel.specs.Lookups.{invoked_slot}
 use Rattle.abstract_kernel.specs.Retyping.{decoded_retype}
 use Rattle.abstract_kernel.specs.CNodes.{decoded_placement}

@@ -11,7 +11,7 @@ use Rattle.derivation.specs.Forest.{Forest}
 use Rattle.derivation.specs.Entries.{Entry, cap_at}
 use Rattle.cspace_core.specs.Target.{target_slot}
 use Rattle.abstract_kernel.specs.declared.invocation.Service.{Service}
-use Rattle.abstract_kernel.specs.Checks.{◌>>=◌}
+use Rattle.cap_core.specs.Checks.{◌>>=◌}
 use Rattle.abstract_kernel.specs.Lookups.{where_kind}
 
 -- the slot that is named by an index and a depth from the invoked CNode; an empty one is no refusal

@@ -2,7 +2,6 @@
 pub mod Plan
 pub mod Shown
 pub mod State
-pub mod Checks
 pub mod Lookups
 pub mod Retyping
 pub mod CNodes

@@ -21,7 +21,7 @@ use Rattle.cspace_core.specs.Resolution.{slot_of}
 use Rattle.cspace_core.specs.Target.{target_slot}
 use Rattle.abstract_kernel.specs.declared.invocation.NewObjects.{NewObjects}
 use Rattle.abstract_kernel.specs.declared.invocation.RetypeArguments.{RetypeArguments}
-use Rattle.abstract_kernel.specs.Checks.{◌>>=◌}
+use Rattle.cap_core.specs.Checks.{◌>>=◌}
 use Rattle.abstract_kernel.specs.Lookups.{held_in, extra_cap, where_kind}
 use Rattle.abstract_kernel.specs.Shown.{has_child}
 

@@ -14,7 +14,7 @@ use Rattle.derivation.specs.Derivation.{derived}
 use Rattle.clearing.specs.Clear.{clear}
 use Rattle.cspace_core.specs.Resolution.{is_cnode}
 use Rattle.abstract_kernel.specs.declared.invocation.NewSpace.{NewSpace}
-use Rattle.abstract_kernel.specs.Checks.{◌>>=◌}
+use Rattle.cap_core.specs.Checks.{◌>>=◌}
 use Rattle.abstract_kernel.specs.Lookups.{invoked_slot}
 use Rattle.abstract_kernel.specs.CNodes.{where_set}
 

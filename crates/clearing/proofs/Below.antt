@@ -7,7 +7,7 @@ use Rattle.derivation.specs.Forest.{Forest, none, tree, preorder, join, below_th
 use Rattle.derivation.proofs.Trees.Built.{join-assoc, join-nothing}
 use Rattle.derivation.proofs.Trees.Forests.{preorder-join}
 use Rattle.clearing.specs.Members.{OneAtMost}
-use Rattle.clearing.specs.Without.{without}
+use Rattle.derivation.specs.Without.{without}
 use Rattle.clearing.proofs.Without.{without-join, preorder-without, one-left, one-right}
 use Rattle.clearing.proofs.Orders.{one-filter}
 

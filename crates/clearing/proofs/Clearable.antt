@@ -12,7 +12,7 @@ use Rattle.derivation.specs.Entries.{Entry, slots, caps}
 use Rattle.derivation.specs.Disjoint.{IsDisjoint, are_disjoint}
 use Rattle.derivation.proofs.Trees.Forests.{each-contains, each-contained}
 use Rattle.clearing.specs.Members.{In}
-use Rattle.clearing.specs.Slots.{slots_of}
+use Rattle.derivation.specs.Slots.{slots_of}
 use Rattle.clearing.specs.Work.{IsClearable}
 use Rattle.clearing.proofs.Members.{each_in, each_of}
 use Rattle.clearing.proofs.Orders.{apart_of}

@@ -6,7 +6,7 @@ use Rattle.cap_core.specs.declared.capability.Cap.TheVariants.{Untyped, Endpoint
 use Rattle.cap_core.specs.Rights.{all_rights}
 use Rattle.derivation.specs.Forest.{Forest, none, tree}
 use Rattle.derivation.specs.Entries.{Entry, entry, slots}
-use Rattle.clearing.specs.Slots.{slots_of}
+use Rattle.derivation.specs.Slots.{slots_of}
 use Rattle.clearing.specs.Least.{cleared}
 use Rattle.clearing.specs.Revoke.{revoke}
 

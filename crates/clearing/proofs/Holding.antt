@@ -5,9 +5,9 @@ use Rattle.std.proofs.lemmas.Bool.{eqb-true}
 use Rattle.cap_core.specs.declared.profile.ProfileName.{ProfileName}
 use Rattle.derivation.specs.Entries.{Entry, is_at, first_child}
 use Rattle.cap_core.specs.Objects.{same_object}
-use Rattle.clearing.specs.Slots.{slots_of}
+use Rattle.derivation.specs.Slots.{slots_of}
 use Rattle.derivation.specs.Forest.{Forest, preorder}
-use Rattle.clearing.specs.Without.{without}
+use Rattle.derivation.specs.Without.{without}
 use Rattle.clearing.specs.Clear.{clear}
 use Rattle.clearing.specs.Least.{full, has_all, IsLeast}
 use Rattle.clearing.specs.Members.{In}

@@ -8,10 +8,10 @@ use Rattle.cap_core.specs.Objects.{same_object, is_untyped, contains}
 use Rattle.derivation.specs.Forest.{Forest, preorder, below_those, descendants, ancestors}
 use Rattle.derivation.specs.Entries.{Entry, is_at, slots, first_child}
 use Rattle.derivation.specs.Disjoint.{IsDisjoint, AreInLine, are_disjoint}
-use Rattle.clearing.specs.Slots.{slots_of}
+use Rattle.derivation.specs.Slots.{slots_of}
 use Rattle.clearing.specs.Members.{In}
 use Rattle.clearing.specs.Least.{full, has_all, cleared}
-use Rattle.clearing.specs.Without.{without}
+use Rattle.derivation.specs.Without.{without}
 use Rattle.clearing.specs.Clear.{clear}
 use Rattle.clearing.specs.Revoke.{revoked, revoke}
 use Rattle.clearing.specs.Housed.{is_housed, IsHoused}

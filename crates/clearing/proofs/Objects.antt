@@ -9,7 +9,7 @@ use Rattle.cap_core.specs.declared.capability.Cap.{Cap}
 use Rattle.cap_core.specs.declared.capability.Cap.TheVariants.{Null, Untyped, Endpoint, CNode, Tcb}
 use Rattle.cap_core.specs.Objects.{is_untyped, same_object}
 use Rattle.derivation.proofs.Disjoint.Disjointness.{same_object-swap}
-use Rattle.clearing.specs.Slots.{slots_of}
+use Rattle.derivation.specs.Slots.{slots_of}
 use Rattle.clearing.specs.Members.{In}
 use Rattle.clearing.proofs.Members.{both_true, eqb_self}
 

@@ -8,7 +8,7 @@ use Rattle.derivation.proofs.Slots.Distinct.{once_at}
 use Rattle.clearing.specs.Least.{cleared}
 use Rattle.derivation.specs.Entries.{slots, Entry, is_at}
 use Rattle.derivation.specs.Forest.{Forest, none, tree, preorder, out}
-use Rattle.clearing.specs.Without.{without}
+use Rattle.derivation.specs.Without.{without}
 use Rattle.clearing.specs.Clear.{clear, all_emptied}
 use Rattle.clearing.specs.Members.{In, OneAtMost, AreApart}
 use Rattle.clearing.proofs.Members.{any_in, any_of, tells, in_filter}

@@ -12,7 +12,7 @@ use Rattle.cap_core.specs.declared.capability.Cap.TheVariants.{Null, Untyped, En
 use Rattle.cap_core.specs.Numbers.{word_bits, slot_bits, slot_size, tcb_bits}
 use Rattle.cap_core.specs.Objects.{IsLawful, base_of, end_of}
 use Rattle.clearing.specs.Members.{In, AreDistinct, AreBelow}
-use Rattle.clearing.specs.Slots.{addresses, slots_of}
+use Rattle.derivation.specs.Slots.{addresses, slots_of}
 
 -- an address of so many, each `size` past the one before it, lies among them
 pub in_addresses : (size first count n : ℕ) → In n (addresses size first count) → (first ≤ n) × (n + size ≤ first + count * size)

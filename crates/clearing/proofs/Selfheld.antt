@@ -5,7 +5,7 @@ use Rattle.std.proofs.lemmas.Bool.{eqb-true}
 use Rattle.cap_core.specs.declared.profile.ProfileName.{ProfileName}
 use Rattle.cap_core.specs.Objects.{same_object}
 use Rattle.derivation.specs.Entries.{Entry}
-use Rattle.clearing.specs.Slots.{slots_of}
+use Rattle.derivation.specs.Slots.{slots_of}
 use Rattle.clearing.specs.Members.{In}
 use Rattle.clearing.specs.Least.{full, has_all, IsClosed, cleared}
 use Rattle.clearing.specs.Work.{IsClearable}

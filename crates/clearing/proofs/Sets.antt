@@ -5,7 +5,7 @@ use Rattle.std.proofs.lemmas.Bool.{eqb-true}
 use Rattle.cap_core.specs.declared.profile.ProfileName.{ProfileName}
 use Rattle.derivation.specs.Entries.{Entry, is_at}
 use Rattle.cap_core.specs.Objects.{same_object}
-use Rattle.clearing.specs.Slots.{slots_of}
+use Rattle.derivation.specs.Slots.{slots_of}
 use Rattle.clearing.specs.Least.{full, has_all, IsClosed, IsLeast}
 use Rattle.clearing.specs.Members.{In}
 use Rattle.clearing.proofs.Members.{either_true, true_right, true_left, any_in, all_in, all_of, each_in, each_of, tells, same_truth, in_append, in_left, in_right, eqb_self}

@@ -6,7 +6,7 @@ use Rattle.cap_core.specs.declared.capability.Cap.TheVariants.{Null}
 use Rattle.cap_core.specs.Objects.{same_object}
 use Rattle.derivation.specs.Forest.{Forest, preorder, out}
 use Rattle.derivation.specs.Entries.{Entry, is_at}
-use Rattle.clearing.specs.Slots.{slots_of}
+use Rattle.derivation.specs.Slots.{slots_of}
 use Rattle.clearing.specs.Least.{full}
 use Rattle.clearing.specs.Work.{held, last_at, ended_in, ends, list_after, IsClearable}
 use Rattle.clearing.proofs.Members.{tells}

@@ -4,7 +4,7 @@ use Rattle.std.specs.List.{list_any, filter}
 use Rattle.std.proofs.lemmas.List.Folds.{list_any-append}
 use Rattle.std.proofs.lemmas.List.Elements.{filter-append}
 use Rattle.derivation.specs.Forest.{Forest, none, tree, preorder, join, out}
-use Rattle.clearing.specs.Without.{without}
+use Rattle.derivation.specs.Without.{without}
 use Rattle.clearing.specs.Members.{OneAtMost}
 use Rattle.derivation.proofs.Trees.Forests.{preorder-join}
 use Rattle.derivation.proofs.Trees.Built.{join-assoc}

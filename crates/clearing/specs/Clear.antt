@@ -6,7 +6,7 @@ use Rattle.derivation.specs.Forest.{Forest, preorder}
 use Rattle.derivation.specs.Entries.{Entry}
 use Rattle.derivation.specs.Derivation.{emptied, is_named}
 use Rattle.clearing.specs.Least.{cleared}
-use Rattle.clearing.specs.Without.{without}
+use Rattle.derivation.specs.Without.{without}
 
 -- all of the set have left, and with them whether they were original
 abbrev pub clear : ProfileName → ℕ → Forest Entry → Forest Entry

@@ -4,7 +4,7 @@ use Rattle.std.specs.List.{list_any, AllByRecursion as Each}
 use Rattle.cap_core.specs.declared.profile.ProfileName.{ProfileName}
 use Rattle.derivation.specs.Forest.{Forest, preorder}
 use Rattle.derivation.specs.Entries.{Entry}
-use Rattle.clearing.specs.Slots.{slots_of}
+use Rattle.derivation.specs.Slots.{slots_of}
 
 -- the slot is one of a live CNode, or the root slot of a live thread
 abbrev pub is_housed : ProfileName → Forest Entry → ℕ → Bool

@@ -4,7 +4,7 @@ use Rattle.std.specs.List.{list_any, IsDistinct}
 use Rattle.cap_core.specs.declared.profile.ProfileName.{ProfileName}
 use Rattle.derivation.specs.Forest.{Forest, preorder}
 use Rattle.derivation.specs.Entries.{Entry, slots, first_child}
-use Rattle.clearing.specs.Slots.{slots_of}
+use Rattle.derivation.specs.Slots.{slots_of}
 use Rattle.clearing.specs.Members.{In}
 use Rattle.clearing.specs.Least.{IsLeast, cleared}
 use Rattle.clearing.specs.Clear.{clear, all_emptied}

@@ -7,7 +7,7 @@ use Rattle.cap_core.specs.declared.capability.Cap.TheVariants.{Null}
 use Rattle.cap_core.specs.Objects.{is_untyped, same_object}
 use Rattle.derivation.specs.Entries.{Entry, cap_in}
 use Rattle.clearing.specs.Members.{In, AreApart, AreDistinct, AreBelow}
-use Rattle.clearing.specs.Slots.{slots_of}
+use Rattle.derivation.specs.Slots.{slots_of}
 use Rattle.clearing.specs.Least.{full}
 
 -- the capability at a slot

@@ -3,7 +3,7 @@ ghost use Rattle.std.specs.Prelude.{◌≡◌, ◌+◌, ◌*◌, ◌%◌, ◌^�
 ghost use Rattle.cap_core.specs.Numbers.{slot_size, word_bits};
 ghost use Rattle.slot_core.specs.Places.{address_of};
 ghost use Rattle.clearing.specs.Members.{In, AreDistinct, AreBelow};
-ghost use Rattle.clearing.specs.Slots.{addresses};
+ghost use Rattle.derivation.specs.Slots.{addresses};
 ghost use Rattle.clearing.specs.Chain.{IsTaken};
 
 use cap_core::Profile;

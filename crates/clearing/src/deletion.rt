@@ -7,7 +7,7 @@ ghost use Rattle.slot_core.specs.Places.{address_of};
 ghost use Rattle.derivation.specs.Forest.{preorder};
 ghost use Rattle.derivation.specs.Derivation.{emptied};
 ghost use Rattle.clearing.specs.Members.{AreDistinct, AreBelow};
-ghost use Rattle.clearing.specs.Slots.{slots_of};
+ghost use Rattle.derivation.specs.Slots.{slots_of};
 ghost use Rattle.clearing.specs.Clear.{clear as cleared_forest, ended};
 ghost use Rattle.clearing.specs.Revoke.{revoke as revoked_forest};
 ghost use Rattle.clearing.specs.Work.{IsClearable};
@@ -33,7 +33,7 @@ pub trait Finalise {
 }
 
 /// Puts the slots of an object in front of the chain, by rising address.
-#[tactic(auto, unfolding(crate::specs::Slots::slots_of))]
+#[tactic(auto, unfolding(derivation::specs::Slots::slots_of))]
 fn push_slots<P: Profile>(chain: &mut SlotChain<P>, cap: Cap)
     requires lawful { IsLawful P.the (word_bits P.the) cap }
     requires distinct { AreDistinct (slots_of P.the cap ++ chain.old.0) }

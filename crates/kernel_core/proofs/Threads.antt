@@ -1,5 +1,4 @@
 -- The rows of threads, and what is shown of them.
-pub mod Sizes
 pub mod KeyedRows
 pub mod Addresses
 pub mod RowViews

@@ -12,7 +12,8 @@ use Rattle.setup_format.specs.declared.fault.Place.{Place}
 use Rattle.setup_values.specs.declared.values.OpName.{OpName}
 use Rattle.setup_values.specs.declared.values.OpName.TheVariants.{Retype, CapCopy, CapMint, CapMove, CapMutate, CapDelete, CapRevoke, CancelBadged, Send, NbSend, Recv, NbRecv, SetSpace, Suspend, Resume}
 use Rattle.setup_values.specs.Names.{Names}
-use Rattle.setup_values.specs.Kinds.{◌>>=◌, word, rights, label, words, filled}
+use Rattle.cap_core.specs.Checks.{◌>>=◌}
+use Rattle.setup_values.specs.Kinds.{word, rights, label, words, filled}
 use Rattle.setup_format.specs.Faults.{Fault}
 use Rattle.setup_format.specs.Tables.{required, optional}
 

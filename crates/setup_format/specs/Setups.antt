@@ -13,7 +13,8 @@ use Rattle.setup_format.specs.declared.limits.TheConstants.{FIRST_FORMAT, NEWEST
 use Rattle.setup_format.specs.declared.fault.Place.TheVariants as places
 use Rattle.setup_format.specs.declared.setup.Sizes.{Sizes}
 use Rattle.setup_values.specs.Names.{Names}
-use Rattle.setup_values.specs.Kinds.{◌>>=◌, number, word, names, expect, op, profile, tables, each}
+use Rattle.cap_core.specs.Checks.{◌>>=◌}
+use Rattle.setup_values.specs.Kinds.{number, word, names, expect, op, profile, tables, each}
 use Rattle.setup_format.specs.Faults.{Fault, text, layout}
 use Rattle.setup_format.specs.Tables.{required, optional, known_only}
 use Rattle.setup_format.specs.Operations.{call_keys, operation_at}

@@ -9,7 +9,8 @@ use Rattle.toml.specs.Data.{Data, string, integer, array, table, Items, no_items
 use Rattle.cap_core.specs.declared.profile.ProfileName.{ProfileName}
 use Rattle.abstract_kernel.specs.Plan.{Plan, tcb_place}
 use Rattle.setup_values.specs.Names.{Names}
-use Rattle.setup_values.specs.Kinds.{◌>>=◌, word}
+use Rattle.cap_core.specs.Checks.{◌>>=◌}
+use Rattle.setup_values.specs.Kinds.{word}
 use Rattle.setup_format.specs.declared.limits.TheConstants.{NEWEST_FORMAT}
 use Rattle.setup_format.specs.Faults.{Fault}
 use Rattle.setup_format.specs.Setups.{document_of, first_format_setup_of}

@@ -9,7 +9,8 @@ use Rattle.setup_values.specs.declared.values.Wrong.TheVariants.{OtherValue}
 use Rattle.cap_core.specs.declared.profile.ProfileName.{ProfileName}
 use Rattle.cap_core.specs.declared.limits.TheConstants.{MAX_MESSAGE_WORDS}
 use Rattle.setup_values.specs.Names.{Names}
-use Rattle.setup_values.specs.Kinds.{◌>>=◌, each, item_list, array_in, between, word, words, filled, tables, table_in}
+use Rattle.cap_core.specs.Checks.{◌>>=◌}
+use Rattle.setup_values.specs.Kinds.{each, item_list, array_in, between, word, words, filled, tables, table_in}
 
 -- the elements of an array
 pub item_list_view : (vs : List Value) → item_list (items_view vs) ≡ map view vs

@@ -7,6 +7,7 @@ use Rattle.cap_core.specs.declared.profile.ProfileName.{ProfileName}
 use Rattle.cap_core.specs.declared.profile.ProfileName.TheVariants.{Wide, Narrow}
 use Rattle.cap_core.specs.declared.limits.TheConstants.{MAX_MESSAGE_WORDS}
 use Rattle.cap_core.specs.declared.rights.Rights.{Rights}
+use Rattle.cap_core.specs.Checks.{◌>>=◌}
 use Rattle.cap_core.specs.Numbers.{word_bits, label_bits}
 use Rattle.cap_core.specs.Rights.{all_rights}
 use Rattle.setup_values.specs.declared.limits.TheConstants.{MAX_EXPECT_BYTES, MAX_NAME_BYTES}
@@ -27,12 +28,6 @@ wrong_code OtherType = 203
 wrong_code OtherValue = 204
 
 -- ---- what is read
-
--- what is read, and then what is made of it
-infixl 10 ◌>>=◌
-abbrev pub ◌>>=◌ : {A B E : Type 0} → Result A E → (A → Result B E) → Result B E
-(Ok x) >>= f = f x
-(Err e) >>= f = Err e
 
 abbrev pub between : ℕ → ℕ → ℕ → Bool
 between low high n = nat_le low n && nat_le n high

@@ -11,7 +11,7 @@ use Rattle.derivation.specs.Entries.{Entry, caps, slots, cap_at, is_full}
 use Rattle.derivation.specs.Derivation.{derived, freed, names_same}
 use Rattle.cspace_core.specs.Resolution.{is_cnode}
 use Rattle.clearing.specs.Members.{In}
-use Rattle.clearing.specs.Slots.{slots_of}
+use Rattle.derivation.specs.Slots.{slots_of}
 use Rattle.clearing.specs.Clear.{clear}
 use Rattle.abstract_kernel.specs.declared.invocation.NewSpace.{NewSpace}
 use Rattle.abstract_kernel.specs.declared.invocation.CapPlacement.{CapPlacement}

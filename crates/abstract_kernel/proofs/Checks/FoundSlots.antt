@@ -19,7 +19,7 @@ use Rattle.cspace_core.specs.Target.{found_whole, target_slot}
 use Rattle.cspace_core.proofs.Inside.{found_within}
 use Rattle.cap_core.specs.declared.capability.Kind.{Kind}
 use Rattle.abstract_kernel.specs.declared.invocation.Invocation.{Invocation}
-use Rattle.abstract_kernel.specs.Checks.{◌>>=◌}
+use Rattle.cap_core.specs.Checks.{◌>>=◌}
 use Rattle.abstract_kernel.specs.Memory.{IsSlotAddress}
 use Rattle.abstract_kernel.specs.Lookups.{is_of_kind, where_kind, where_empty, where_full, held_in}
 

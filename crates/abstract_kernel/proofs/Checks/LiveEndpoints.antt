@@ -10,7 +10,7 @@ use Rattle.derivation.specs.Forest.{Forest, preorder}
 use Rattle.derivation.specs.Entries.{Entry, cap_at, cap_in}
 use Rattle.cap_core.specs.declared.profile.ProfileName.{ProfileName}
 use Rattle.cap_core.specs.Rights.{write_bit, read_bit, all_rights}
-use Rattle.abstract_kernel.specs.Checks.{◌>>=◌}
+use Rattle.cap_core.specs.Checks.{◌>>=◌}
 use Rattle.abstract_kernel.specs.declared.call.Op.{Op}
 use Rattle.abstract_kernel.specs.declared.call.Op.TheVariants as op
 use Rattle.abstract_kernel.specs.declared.invocation.Service.{Service}

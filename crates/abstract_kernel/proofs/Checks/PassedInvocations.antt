@@ -34,7 +34,7 @@ use Rattle.mem_core.proofs.Placing.{placed_lie}
 use Rattle.abstract_kernel.proofs.Checks.FilledSlots.{along, slots_there, slot_address}
 use Rattle.cspace_core.specs.Inside.{IsSlotOf}
 use Rattle.clearing.specs.Members.{In}
-use Rattle.clearing.specs.Slots.{slots_of}
+use Rattle.derivation.specs.Slots.{slots_of}
 use Rattle.clearing.specs.Housed.{is_housed}
 use Rattle.abstract_kernel.proofs.Housed.FoundSlots.{slot_in, housed_by}
 use Rattle.abstract_kernel.proofs.Checks.PassedCNodeChecks.{copy_derives, mint_derives, move_moves, mutate_moves}

@@ -12,7 +12,7 @@ use Rattle.derivation.specs.Entries.{Entry, entry, is_full}
 use Rattle.derivation.specs.Derivation.{rooted, derived, derived_entry}
 use Rattle.derivation.proofs.Slots.Edits.{any-rooted, any-derived, full-derived}
 use Rattle.clearing.specs.Members.{In}
-use Rattle.clearing.specs.Slots.{slots_of}
+use Rattle.derivation.specs.Slots.{slots_of}
 use Rattle.clearing.specs.Housed.{is_housed, IsHoused}
 use Rattle.clearing.proofs.Members.{any_in, either_true, true_right, in_left, eqb_self}
 use Rattle.abstract_kernel.specs.Plan.{Plan, IsPlan, tcb_place}

@@ -17,7 +17,7 @@ use Rattle.derivation.proofs.Slots.Holding.{cap-entry}
 use Rattle.mem_core.specs.Plans.{object_at}
 use Rattle.cap_core.specs.Kinds.{new_cap}
 use Rattle.cspace_core.specs.Resolution.{slot_of}
-use Rattle.clearing.specs.Slots.{slots_of}
+use Rattle.derivation.specs.Slots.{slots_of}
 use Rattle.clearing.specs.Clear.{clear}
 use Rattle.clearing.specs.Housed.{is_housed, IsHoused}
 use Rattle.clearing.proofs.Objects.{same_slots}

@@ -18,7 +18,7 @@ use Rattle.cspace_core.specs.Target.{target_slot}
 use Rattle.cspace_core.specs.Inside.{IsSlotOf}
 use Rattle.cspace_core.proofs.Inside.{lies_in_cnode}
 use Rattle.clearing.specs.Members.{In}
-use Rattle.clearing.specs.Slots.{addresses, slots_of}
+use Rattle.derivation.specs.Slots.{addresses, slots_of}
 use Rattle.clearing.specs.Housed.{is_housed}
 use Rattle.clearing.proofs.Members.{any_in, eqb_self}
 use Rattle.clearing.proofs.Clearable.{contains_in}

@@ -24,7 +24,7 @@ use Rattle.clearing.proofs.Members.{same_truth, either_true}
 use Rattle.kernel_core.specs.declared.rows.ThreadRow.{ThreadRow}
 use Rattle.kernel_core.specs.Rows.{rows_map}
 use Rattle.kernel_core.specs.Private.Ended.{AreLeft, HaveEnded, is_endpoint_at, is_thread_at, ends_endpoint, ends_thread, role_left}
-use Rattle.kernel_core.proofs.Threads.Sizes.{tcb_size-pos}
+use Rattle.cap_core.proofs.Sizes.{tcb_size-pos}
 use Rattle.kernel_core.proofs.Threads.KeyedRows.{row_set}
 
 pub eqb_swap : (a b : ℕ) → (a == b) ≡ (b == a)

@@ -19,7 +19,7 @@ use Rattle.abstract_kernel.specs.Shown.{endpoint_base}
 use Rattle.kernel_core.specs.Rows.{rows_map}
 use Rattle.abstract_kernel.specs.Memory.{IsSlotAddress}
 use Rattle.kernel_core.proofs.Threads.KeyedRows.{row_is_there}
-use Rattle.kernel_core.proofs.Threads.Sizes.{tcb_size-pos}
+use Rattle.cap_core.proofs.Sizes.{tcb_size-pos}
 
 -- an address below the n-th multiple of a size
 below_product : (t size n : ℕ) → t / size < n → 0 < size → t < n * size

@@ -2,7 +2,7 @@
 use Rattle.std.specs.Prelude.{Result, Ok}
 use Rattle.cap_core.specs.declared.refusal.Refusal.{Refusal}
 use Rattle.abstract_kernel.specs.declared.invocation.Invocation.{Invocation}
-use Rattle.abstract_kernel.specs.Checks.{◌>>=◌}
+use Rattle.cap_core.specs.Checks.{◌>>=◌}
 
 -- where the checks pass, an invocation of one kind
 abbrev pub invokes : {X : Type 0} → (X → Invocation) → Result X Refusal → Result Invocation Refusal

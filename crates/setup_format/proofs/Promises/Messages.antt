@@ -26,7 +26,8 @@ use Rattle.setup_values.specs.Names.{Names}
 use Rattle.setup_format.specs.declared.limits.TheConstants.{NEWEST_FORMAT}
 use Rattle.setup_format.specs.Views.{SetupView}
 use Rattle.setup_format.specs.Faults.{Fault, text, at, layout, Gives}
-use Rattle.setup_values.specs.Kinds.{◌>>=◌, below, number, word, rights, label, each, array_in, item_list, words, filled}
+use Rattle.cap_core.specs.Checks.{◌>>=◌}
+use Rattle.setup_values.specs.Kinds.{below, number, word, rights, label, each, array_in, item_list, words, filled}
 use Rattle.setup_format.specs.Tables.{at_key, needed, given_or, required, optional, known_only, least_unknown, no_unknown}
 use Rattle.setup_format.specs.Messages.{IsMessage, SendsMessage, HasMessage}
 use Rattle.setup_format.specs.Operations.{retype_at, slots_at, copy_at, mint_at, move_at, mutate_at, delete_at, revoke_at, cancel_badged_at, message_at, send_at, nb_send_at, recv_at, nb_recv_at, set_space_at, suspend_at, resume_at, operation_at}

@@ -2,7 +2,8 @@
 use Rattle.std.proofs.Common.{◌≡◌, ℕ, ◌+◌, List, [], ◌∷◌, Option, Some, None, Result, Ok, Err, refl, ap, ◌∙◌}
 use Rattle.toml.specs.Data.{Data, Members, get_member}
 use Rattle.setup_values.specs.declared.values.Wrong.{Wrong}
-use Rattle.setup_values.specs.Kinds.{◌>>=◌, each}
+use Rattle.cap_core.specs.Checks.{◌>>=◌}
+use Rattle.setup_values.specs.Kinds.{each}
 use Rattle.setup_format.specs.declared.fault.Place.{Place}
 use Rattle.setup_format.specs.Tables.{required, optional, needed, given_or, at_key}
 

@@ -4,7 +4,7 @@ use Rattle.derivation.specs.Forest.{preorder}
 use Rattle.derivation.specs.Entries.{is_at}
 use Rattle.slot_core.specs.Places.{address_of}
 use Rattle.clearing.specs.Members.{AreDistinct, AreBelow}
-use Rattle.clearing.specs.Slots.{slots_of}
+use Rattle.derivation.specs.Slots.{slots_of}
 use Rattle.clearing.specs.Work.{ends}
 use Rattle.clearing.proofs.Lookups.{out_absent}
 use Rattle.clearing.proofs.Ranges.{below_left}

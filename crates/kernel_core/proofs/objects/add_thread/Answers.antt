@@ -4,7 +4,7 @@ use Rattle.std.proofs.Math.ListN.{set}
 use Rattle.cap_core.specs.Numbers.{tcb_size}
 use Rattle.kernel_core.specs.Rows.{rows_map}
 use Rattle.kernel_core.specs.Private.NewRows.{new_row}
-use Rattle.kernel_core.proofs.Threads.Sizes.{tcb_size-pos}
+use Rattle.cap_core.proofs.Sizes.{tcb_size-pos}
 use Rattle.kernel_core.proofs.Threads.KeyedRows.{row_changed}
 use Rattle.kernel_core.proofs.objects.add_thread.Goals as goal
 

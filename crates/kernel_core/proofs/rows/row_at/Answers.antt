@@ -1,7 +1,7 @@
 -- The proof of `row_at`: the goals that a search leaves open.
 use Rattle.std.proofs.Common.{◌≡◌, ◌≤◌, ◌/◌, ◌%◌, ◌^◌, ℕ, None, get_or, length, sym, ap, subst, ◌∙◌}
 use Rattle.cap_core.specs.Numbers.{tcb_size}
-use Rattle.kernel_core.proofs.Threads.Sizes.{tcb_size-pos, tcb_size-shifted}
+use Rattle.cap_core.proofs.Sizes.{tcb_size-pos, tcb_size-shifted}
 use Rattle.kernel_core.proofs.Threads.KeyedRows.{get_row, get_no_row, get_row_past}
 use Rattle.kernel_core.proofs.rows.row_at.Goals as goal
 use Rattle.kernel_core.proofs.rows.row_at.Goals.{then-thread-TCB_BITS-ne0-via-then-thread-TCB_BITS-ne0, then-thread-TCB_BITS-ne0-via-else-thread-TCB_BITS-ne0+then-place-rows}

@@ -3,7 +3,7 @@ use Rattle.std.proofs.Common.{◌≡◌, ◌<◌, ◌/◌, ◌^◌, ℕ, Some, l
 use Rattle.std.proofs.Math.ListN.{set}
 use Rattle.cap_core.specs.Numbers.{tcb_size}
 use Rattle.kernel_core.specs.Rows.{rows_map}
-use Rattle.kernel_core.proofs.Threads.Sizes.{tcb_size-pos}
+use Rattle.cap_core.proofs.Sizes.{tcb_size-pos}
 use Rattle.kernel_core.proofs.Threads.KeyedRows.{row_changed, row_is_there}
 use Rattle.kernel_core.proofs.rows.set_row.Goals as goal
 

@@ -3,7 +3,8 @@ use Rattle.std.proofs.lemmas.Result.{err_from_is_err_and}
 use Rattle.std.proofs.lemmas.List.{take_more_set, length-set, drop_all}
 use Rattle.toml.specs.View.{view}
 use Rattle.cap_core.specs.declared.limits.TheConstants.{MAX_MESSAGE_WORDS}
-use Rattle.setup_values.specs.Kinds.{◌>>=◌, word, each, filled}
+use Rattle.cap_core.specs.Checks.{◌>>=◌}
+use Rattle.setup_values.specs.Kinds.{word, each, filled}
 use Rattle.setup_values.specs.Private.Seen.{names_view}
 use Rattle.setup_values.proofs.Loops.{goes_on, ends, is_done, words_are}
 use Rattle.setup_values.proofs.Padding.{rest_after, filled_is, words_record}

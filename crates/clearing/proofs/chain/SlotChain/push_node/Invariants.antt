@@ -1,6 +1,6 @@
 use Rattle.std.proofs.Common.{◌≡◌, ◌+◌, ◌-◌, ◌*◌, ◌≤◌, ◌++◌}
 use Rattle.cap_core.specs.Numbers.{slot_size}
-use Rattle.clearing.specs.Slots.{addresses}
+use Rattle.derivation.specs.Slots.{addresses}
 use Rattle.clearing.proofs.chain.SlotChain.push_node.Given as goal
 
 abbrev pub invariant-loop-left : goal.invariant-loop-left
