@@ -7,6 +7,7 @@ use Rattle.std.proofs.lemmas.List.Elements.{filter-append}
 use Rattle.std.specs.Cmp.Derive.{both_true}
 use Rattle.std.proofs.Math.Logic.{∥∥₁_map, ∥∥₁_map₂}
 use Rattle.cap_core.specs.declared.profile.ProfileName.{ProfileName}
+use Rattle.cap_core.specs.declared.limits.TheConstants.{MAX_CLIENTS}
 use Rattle.abstract_kernel.specs.declared.call.Call.{Call}
 use Rattle.abstract_kernel.specs.declared.call.Reply.{Reply}
 use Rattle.abstract_kernel.specs.State.{State, shown}
@@ -87,7 +88,7 @@ count_at i client number call reply h true s n = let e : i ≡ client = grind (a
 count_at i client number call reply h false s n = let f : (client == i) ≡ false = grind (arith, nat_tests) in rw f (omega arith)
 
 pub counts_grow : (counts counts' : List ℕ) (h h' : List Entry) (client number : ℕ) (call : Call) (reply : Reply) → h' ≡ h ++ entry client number call reply ∷ [] → AreCounts counts h → number ≡ count_of client h
-    → ((i : ℕ) → i < 8 → slice_index counts' i ≡ cond (i == client) (number + 1) (slice_index counts i)) → AreCounts counts' h'
+    → ((i : ℕ) → i < MAX_CLIENTS → slice_index counts' i ≡ cond (i == client) (number + 1) (slice_index counts i)) → AreCounts counts' h'
 counts_grow counts counts' h h' client number call reply is old n new i lt =
     new i lt
     ∙ (ap (λ x. cond (i == client) (number + 1) x) (old i lt)

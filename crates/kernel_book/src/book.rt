@@ -1,5 +1,6 @@
 //! A kernel, and the history of the calls that led to it.
 ghost use Rattle.std.specs.Prelude.{◌≡◌, ◌≢◌, ◌<◌, ◌≤◌, ◌↔◌, ◌++◌, ◌∷◌, [], Ok, Err, IsTrue, IfOk, OnErr, length, slice_get, slice_index, cond, ℕ, ◌==◌, vec_len, vec_capacity};
+ghost use Rattle.cap_core.specs.declared.limits.TheConstants.{MAX_CLIENTS};
 ghost use Rattle.abstract_kernel.specs.State.{State, shown};
 ghost use Rattle.abstract_kernel.specs.Step.{step};
 ghost use Rattle.abstract_kernel.specs.Reached.{IsReached};
@@ -9,11 +10,15 @@ use crate::entry::Entry;
 use crate::naming::Naming;
 use abstract_kernel::{Call, Reply};
 use cap_core::Profile;
+use cap_core::limits::MAX_CLIENTS;
 use ipc_core::Waiters;
 use kernel_core::Kernel;
 use slot_core::CapStore;
 use std::alloc::{AllocError, Global};
 use std::marker::PhantomData;
+
+/// How many clients a set-up can name, and so the length of the table of counts.
+const COUNTED: usize = MAX_CLIENTS as usize;
 
 /// Why a book does not take a call.
 #[derive(Debug, Clone, Copy, PartialEq, Eq, Drop)]
@@ -30,8 +35,8 @@ pub enum BookFault {
 pub struct Book<N: Naming, P: Profile, S: CapStore<P> + Drop, W: Waiters<P> + Drop> {
     pub kernel: Kernel<P, S, W>,
     pub history: Vec<Entry>,
-    /// How many entries each of the first eight clients has.
-    counts: [u32; 8],
+    /// How many entries each client has that a set-up can name.
+    counts: [u32; COUNTED],
     limit: u32,
     of: PhantomData<N>,
     pub ghost lawful: { ∥ Lawful P.the N.opening history.items ∥₁ },
@@ -61,7 +66,7 @@ impl<N: Naming, P: Profile, S: CapStore<P> + Drop, W: Waiters<P> + Drop> Book<N,
         Ok(Book {
             kernel,
             history,
-            counts: [0; 8],
+            counts: [0; COUNTED],
             limit,
             of: PhantomData,
         })
@@ -96,12 +101,12 @@ impl<N: Naming, P: Profile, S: CapStore<P> + Drop, W: Waiters<P> + Drop> Book<N,
         self.history.len() == self.limit as usize
     }
 
-    /// How many entries a client has. It takes no longer in a longer history, for the first eight clients. It takes no
+    /// How many entries a client has. For clients below `MAX_CLIENTS` it takes no longer in a longer history. It takes no
     /// memory.
     pub fn made_by(&self, client: u32) -> usize
         ensures { result ≡ count_of client self.now.history.items }
     {
-        if client < 8 {
+        if client < MAX_CLIENTS {
             self.counts[client as usize] as usize
         } else {
             self.history.iter().filter(|e| e.client == client).count()
@@ -149,11 +154,11 @@ impl<N: Naming, P: Profile, S: CapStore<P> + Drop, W: Waiters<P> + Drop> Book<N,
     }
 }
 
-/// Keeps how many entries a client has, where it is one of the first eight.
-fn set_count(counts: &mut [u32; 8], client: u32, made: u32)
-    ensures { (i : ℕ) → i < 8 → slice_index counts.new i ≡ cond (i == client) made (slice_index counts.old i) }
+/// Keeps how many entries a client has, where it is one that a set-up can name.
+fn set_count(counts: &mut [u32; COUNTED], client: u32, made: u32)
+    ensures { (i : ℕ) → i < MAX_CLIENTS → slice_index counts.new i ≡ cond (i == client) made (slice_index counts.old i) }
 {
-    if client < 8 {
+    if client < MAX_CLIENTS {
         counts[client as usize] = made;
     }
 }
