@@ -9,7 +9,8 @@ use std::alloc::{AllocError, Global};
 use std::sync::Wait;
 use std::thread::Threads;
 
-/// What is left of a drive: how many calls were made, how many clients stopped, and how many of these by a full history.
+/// What is left of a drive: how many calls were made, how many clients stopped, and how many of these by a full
+/// history.
 #[derive(Drop)]
 pub struct Outcome<N: Naming> {
     pub made: u32,
@@ -57,8 +58,8 @@ fn lists_of(alloc: Global, lists: &[&[Call]]) -> Result<Vec<Vec<Call>>, AllocErr
     Ok(all)
 }
 
-/// How many calls were made, how many clients stopped, how many by a full history, how many entries the book has, and whose
-/// the first one is.
+/// How many calls were made, how many clients stopped, how many by a full history, how many entries the book has, and
+/// whose the first one is.
 type Counts = (u32, u32, u32, u32, Option<u32>);
 
 fn counts<N: Naming + Send + Sync, R: Threads + Wait + Sync, G: Gate + Sync>(

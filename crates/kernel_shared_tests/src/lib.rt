@@ -8,6 +8,8 @@ mod gates;
 #[cfg(test)]
 mod looks;
 #[cfg(test)]
+mod observed;
+#[cfg(test)]
 mod played;
 #[cfg(test)]
 mod setup;

@@ -7,6 +7,7 @@ ghost use Rattle.abstract_kernel.specs.State.{shown};
 
 use crate::crowd::{eight_at_once, one_finds_it_full, second_first};
 use crate::looks::{one_call, one_client_missing, two_clients};
+use crate::observed::calls_under_looks;
 use crate::setup::{begin, plan};
 use kernel_core::BootPlan;
 use kernel_shared::{Naming, StartFault};
@@ -26,6 +27,7 @@ enum Case {
     SecondFirst,
     EightAtOnce,
     OneFindsItFull,
+    Observed,
 }
 
 /// How many steps of a case came out as they should.
@@ -54,6 +56,7 @@ fn play<N: Naming + Send + Sync, R: Threads + Wait + Sync>(
         Case::SecondFirst => second_first(rt, alloc, shared, all) as usize,
         Case::EightAtOnce => eight_at_once(rt, alloc, shared, all) as usize,
         Case::OneFindsItFull => one_finds_it_full(rt, alloc, shared, all) as usize,
+        Case::Observed => calls_under_looks(rt, alloc, plan, shared, all) as usize,
     })
 }
 
@@ -68,6 +71,7 @@ fn cases_come_out(rt: HostRuntime) -> Result<(), Fail> {
         (Case::SecondFirst, 2, 2, 1),
         (Case::EightAtOnce, 8, 16, 1),
         (Case::OneFindsItFull, 2, 3, 1),
+        (Case::Observed, 10, 8000, 1),
     ] {
         let blank = Blank::new(u64::from(clients));
         let played = play::<Brand, _>(&rt, rt.alloc(), blank, &plan, clients, limit, case);
