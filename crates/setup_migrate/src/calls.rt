@@ -34,7 +34,8 @@ fn name_thread<P: Profile>(
     call: &mut Table,
 ) -> Result<(), AllocError>
     requires { IsPlan P.the plan.now }
-    ensures { IfOk result (λ _. table_view call.new ≡ spec.with_changed (codes "thread") (spec.named_thread P.the plan.now) (table_view call.old)) }
+    ensures { IfOk result (λ _. table_view call.new
+        ≡ spec.with_changed (codes "thread") (spec.named_thread P.the plan.now) (table_view call.old)) }
 {
     if let Some(thread) = call.get_mut("thread") {
         if let Some(i) = boot_thread::<P>(plan, thread) {
@@ -62,7 +63,8 @@ fn name_each_call<P: Profile>(
     calls: &mut [Value],
 ) -> Result<(), AllocError>
     requires { IsPlan P.the plan.now }
-    ensures { IfOk result (λ _. items_view calls.new ≡ spec.each_item (spec.named_call P.the plan.now) (items_view calls.old)) }
+    ensures { IfOk result (λ _. items_view calls.new
+        ≡ spec.each_item (spec.named_call P.the plan.now) (items_view calls.old)) }
 {
     for i in 0..calls.len() {
         name_call::<P>(alloc, plan, &mut calls[i])?;
@@ -92,7 +94,8 @@ pub fn name_threads<P: Profile>(
     table: &mut Table,
 ) -> Result<(), AllocError>
     requires { IsPlan P.the plan.now }
-    ensures { IfOk result (λ _. table_view table.new ≡ spec.with_changed (codes "call") (spec.named_calls P.the plan.now) (table_view table.old)) }
+    ensures { IfOk result (λ _. table_view table.new
+        ≡ spec.with_changed (codes "call") (spec.named_calls P.the plan.now) (table_view table.old)) }
 {
     if let Some(calls) = table.get_mut("call") {
         name_calls::<P>(alloc, plan, calls)?;

@@ -31,15 +31,15 @@ fn rewrite<P: Profile>(alloc: Global, plan: &BootPlan, table: &mut Table) -> Res
     name_threads::<P>(alloc, plan, table)
 }
 
-/// The table of format 2 that stands for a set-up of format 1: the document's, with `format` 2; with `names` for the address and
-/// the slot of each boot thread (`thread_0`, `tcb_0`) and for the slot of each boot endpoint (`ep_0`) and untyped region
-/// (`untyped_0`); and with `@thread_0` for the thread of a call that is boot thread 0, however its address is spelt. It is read
-/// as the same set-up.
+/// The table of format 2 that stands for a set-up of format 1: the document's, with `format` 2; with `names` for the
+/// address and the slot of each boot thread (`thread_0`, `tcb_0`) and for the slot of each boot endpoint (`ep_0`) and
+/// untyped region (`untyped_0`); and with `@thread_0` for the thread of a call that is boot thread 0, however its
+/// address is spelt. It is read as the same set-up.
 ///
 /// # Errors
 ///
-/// The first fault of the set-up by the rules of format 1 alone, in which format 2 is no format; or `Memory` in place of any
-/// answer where memory was refused.
+/// The first fault of the set-up by the rules of format 1 alone, in which format 2 is no format; or `Memory` in place
+/// of any answer where memory was refused.
 #[tactic(auto, unfolding(crate::specs::Migration::migrated_bytes, setup_format::specs::Setups::first_format_setup_of_bytes))]
 pub fn migrate(alloc: Global, bytes: &[u8]) -> Result<Table, SetupFault>
     ensures table { Gives table_view result (spec.migrated_bytes bytes.now) }

@@ -15,8 +15,8 @@ use toml::{Table, Value};
 /// The slot of the first capability that a boot puts after that of the root CNode.
 const FIRST_SLOT: u64 = 2;
 
-/// Adds a name for each of `count` things: the prefix and the thing's number, from 0. The first stands for the word `first`, and
-/// each further one for a word that is `step` more.
+/// Adds a name for each of `count` things: the prefix and the thing's number, from 0. The first stands for the word
+/// `first`, and each further one for a word that is `step` more.
 fn add_names(
     alloc: Global,
     names: &mut Table,
@@ -26,7 +26,8 @@ fn add_names(
     step: u64,
 ) -> Result<(), AllocError>
     requires { first + step * count < 2 ^ 63 }
-    ensures { IfOk result (λ _. table_view names.new ≡ spec.with_words (spec.numbered prefix.now (λ i. first + step * i) count) (table_view names.old)) }
+    ensures { IfOk result (λ _. table_view names.new
+        ≡ spec.with_words (spec.numbered prefix.now (λ i. first + step * i) count) (table_view names.old)) }
 {
     for i in 0..count {
         let word = first + step * u64::from(i);
@@ -43,7 +44,8 @@ fn tcb_size<P: Profile>() -> u64
     1 << P::TCB_BITS
 }
 
-/// A table of names: one for the slot of each untyped region, endpoint and thread of a boot, and one for each thread's address.
+/// A table of names: one for the slot of each untyped region, endpoint and thread of a boot, and one for each thread's
+/// address.
 pub fn boot_names<P: Profile>(alloc: Global, plan: &BootPlan) -> Result<Table, AllocError>
     requires { IsPlan P.the plan.now }
     ensures { IfOk result (λ names. table_view names ≡ spec.with_words (spec.boot_names P.the plan.now) no_members) }

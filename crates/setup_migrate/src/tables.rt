@@ -8,7 +8,8 @@ use toml::{Table, Value};
 
 /// Puts a value at a key of a table, in place of the one that the key had.
 pub fn put(table: &mut Table, key: String, value: Value) -> Result<(), AllocError>
-    ensures { IfOk result (λ _. table_view table.new ≡ with_member (string_bytes key) (view value) (table_view table.old)) }
+    ensures { IfOk result (λ _. table_view table.new
+        ≡ with_member (string_bytes key) (view value) (table_view table.old)) }
 {
     table.insert(key, value)?;
     Ok(())

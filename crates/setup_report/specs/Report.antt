@@ -20,7 +20,7 @@ use Rattle.abstract_kernel.specs.declared.call.Inbox.{Inbox}
 use Rattle.abstract_kernel.specs.Shown.{Shown, tcb_base, endpoint_base, state_at, inbox_at, waiting_at, has_child}
 use Rattle.setup_format.specs.Views.{CallView}
 use Rattle.setup_report.specs.declared.naming.Naming.{Naming}
-use Rattle.setup_report.specs.Text.{cap_text, numbers_text, op_text, reply_text, begins_as, verdict_text, state_text, inbox_text}
+use Rattle.setup_report.specs.Text.{cap_text, numbers_text, answered_text, reply_text, begins_as, verdict_text, state_text, inbox_text}
 
 abbrev pub line : List ℕ → List ℕ
 line text = text ++ codes "\n"
@@ -29,7 +29,7 @@ line text = text ++ codes "\n"
 
 abbrev pub call_text : ℕ → Call → Reply → Option (List ℕ) → List ℕ
 call_text number call reply expected =
-    decimal number ++ (codes " " ++ (decimal call.thread ++ (codes " " ++ (op_text call.op ++ (codes ": " ++ (reply_text reply ++ verdict_text expected (reply_text reply)))))))
+    decimal number ++ (codes " " ++ (answered_text call reply ++ verdict_text expected (reply_text reply)))
 
 abbrev pub call_lines : ℕ → List CallView → List Reply → List ℕ
 call_lines number [] replies = []

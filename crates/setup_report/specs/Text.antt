@@ -9,6 +9,7 @@ use Rattle.cap_core.specs.declared.capability.Cap.{Cap}
 use Rattle.cap_core.specs.declared.capability.Cap.TheVariants.{Null, Untyped, Endpoint, CNode, Tcb}
 use Rattle.cap_core.specs.declared.refusal.Refusal.{Refusal}
 use Rattle.cap_core.specs.Refusals.{refusal_code, refusal_kind}
+use Rattle.abstract_kernel.specs.declared.call.Call.{Call}
 use Rattle.abstract_kernel.specs.declared.call.Op.{Op}
 use Rattle.abstract_kernel.specs.declared.call.Op.TheVariants.{Retype, CapCopy, CapMint, CapMove, CapMutate, CapDelete, CapRevoke, CancelBadged, Send, NbSend, Recv, NbRecv, SetSpace, Suspend, Resume}
 use Rattle.abstract_kernel.specs.declared.call.Reply.{Reply}
@@ -75,6 +76,10 @@ reply_text Empty = codes "empty"
 reply_text (Refused refusal) = codes "refused " ++ refusal_text refusal
 reply_text (Delivered endpoint from to badge message) =
     codes "delivered " ++ (decimal endpoint ++ (codes " from " ++ (decimal from ++ (codes " to " ++ (decimal to ++ (codes " badge " ++ (decimal badge.0 ++ (codes " " ++ message_text message))))))))
+
+-- the thread that makes a call, the operation, and what it is answered
+abbrev pub answered_text : Call → Reply → List ℕ
+answered_text call reply = decimal call.thread ++ (codes " " ++ (op_text call.op ++ (codes ": " ++ reply_text reply)))
 
 -- a text equals the expected one, or begins with it followed by a space
 abbrev pub begins_as : List ℕ → List ℕ → Bool

@@ -5,7 +5,7 @@ ghost use Rattle.setup_report.specs.Report as spec;
 ghost use Rattle.setup_report.specs.Private.Verdicts.{text_of_verdict, met_of_verdict, expected_of_verdict};
 
 use crate::lines::Verdict;
-use crate::text::{ReplyText, op_text};
+use crate::text::{AnsweredText, ReplyText};
 use kernel_core::{Call, Reply};
 use setup_format::Setup;
 use std::alloc::{AllocError, Global};
@@ -30,21 +30,22 @@ fn is_met(shown: &str, expected: &str) -> bool
     }
 }
 
-/// What is said of an expectation, by the text of the reply.
-fn verdict<'a>(shown: &str, expected: Option<&'a str>) -> Verdict<'a>
-    ensures text { text_of_verdict result ≡ text.verdict_text (option_copied expected.entry) shown.now }
-    ensures met { met_of_verdict result ≡ spec.one_met (option_copied expected.entry) shown.now }
-    ensures expected { expected_of_verdict result ≡ spec.one_expected (option_copied expected.entry) }
+/// What is said of an expectation, by the text of the reply. Where nothing is expected no memory is taken.
+fn verdict(alloc: Global, expected: Option<&str>, reply: Reply) -> Result<Verdict<'_>, AllocError>
+    ensures text { IfOk result (λ v. text_of_verdict v
+        ≡ text.verdict_text (option_copied expected.entry) (text.reply_text reply)) }
+    ensures met { IfOk result (λ v. met_of_verdict v
+        ≡ spec.one_met (option_copied expected.entry) (text.reply_text reply)) }
+    ensures expected { IfOk result (λ v. expected_of_verdict v ≡ spec.one_expected (option_copied expected.entry)) }
 {
-    match expected {
-        None => Verdict::None,
-        Some(expected) => {
-            if is_met(shown, expected) {
-                Verdict::Met
-            } else {
-                Verdict::NotMet(expected)
-            }
-        }
+    let Some(expected) = expected else {
+        return Ok(Verdict::None);
+    };
+    let shown = ReplyText(reply).to_string(alloc)?;
+    if is_met(shown.as_str(), expected) {
+        Ok(Verdict::Met)
+    } else {
+        Ok(Verdict::NotMet(expected))
     }
 }
 
@@ -77,15 +78,14 @@ fn add_call(
     expected: Option<&str>,
     reply: Reply,
 ) -> Result<ExpectationCount, AllocError>
-    ensures line { OnOk result (string_bytes out.new ≡ string_bytes out.old ++ spec.line (spec.call_text number call.now reply (option_copied expected.entry))) }
+    ensures line { OnOk result (string_bytes out.new ≡ string_bytes out.old
+        ++ spec.line (spec.call_text number call.now reply (option_copied expected.entry))) }
     ensures met { IfOk result (λ e. e.met ≡ spec.one_met (option_copied expected.entry) (text.reply_text reply)) }
     ensures expected { IfOk result (λ e. e.expected ≡ spec.one_expected (option_copied expected.entry)) }
 {
-    let thread = call.thread;
-    let op = op_text(&call.op);
-    let shown = ReplyText(reply).to_string(alloc)?;
-    let verdict = verdict(shown.as_str(), expected);
-    writeln!(out, "{number} {thread} {op}: {shown}{verdict}")?;
+    let verdict = verdict(alloc, expected, reply)?;
+    let answered = AnsweredText { call, reply };
+    writeln!(out, "{number} {answered}{verdict}")?;
     Ok(count(verdict))
 }
 
@@ -97,7 +97,8 @@ pub fn add_calls(
     replies: &[Reply],
 ) -> Result<ExpectationCount, AllocError>
     requires { length replies.now ≡ length setup.now.calls }
-    ensures lines { OnOk result (string_bytes out.new ≡ string_bytes out.old ++ spec.call_lines 1 setup.now.calls replies.now) }
+    ensures lines { OnOk result (string_bytes out.new ≡ string_bytes out.old
+        ++ spec.call_lines 1 setup.now.calls replies.now) }
     ensures met { IfOk result (λ e. e.met ≡ spec.met_count setup.now.calls replies.now) }
     ensures expected { IfOk result (λ e. e.expected ≡ spec.expectation_count setup.now.calls replies.now) }
 {
@@ -119,11 +120,7 @@ fn expectation(
     ensures met { IfOk result (λ e. e.met ≡ spec.one_met (option_copied expected.entry) (text.reply_text reply)) }
     ensures expected { IfOk result (λ e. e.expected ≡ spec.one_expected (option_copied expected.entry)) }
 {
-    if expected.is_none() {
-        return Ok(count(Verdict::None));
-    }
-    let shown = ReplyText(reply).to_string(alloc)?;
-    Ok(count(verdict(shown.as_str(), expected)))
+    Ok(count(verdict(alloc, expected, reply)?))
 }
 
 /// Counts the expectations of a set-up's calls, given the reply to each.

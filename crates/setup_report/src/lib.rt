@@ -1,9 +1,9 @@
 //! The report of a run: each call with its reply, what the kernel shows at the end, and how many expectations are met.
 #![tactic(auto)]
 
-ghost use Rattle.std.specs.Prelude.{◌≡◌, ◌<◌, ◌^◌, All, length, IfOk};
+ghost use Rattle.std.specs.Prelude.{◌≡◌, ◌++◌, ◌<◌, ◌^◌, All, length, IfOk, OnOk, string_bytes};
 ghost use Rattle.derivation.specs.Entries.{slots as slots_of};
-ghost use Rattle.setup_report.specs.Report.{report_of, met_count, expectation_count};
+ghost use Rattle.setup_report.specs.Report.{report_of, state_lines, met_count, expectation_count};
 
 mod calls;
 mod lines;
@@ -21,13 +21,14 @@ use setup_format::Setup;
 use slot_core::CapStore;
 use std::alloc::{AllocError, Global};
 use std::fmt::Write;
+pub use text::AnsweredText;
 
-/// The report of a run as text: a line for each call of the set-up with its reply; of the memory, as `kernel` shows it, a
-/// line for each live thread, each live endpoint, each full slot and each CNode that only slots of its own name, each by
-/// rising address; and how many of the expectations are met.
+/// The report of a run as text: a line for each call of the set-up with its reply; of the memory, as `kernel` shows it,
+/// a line for each live thread, each live endpoint, each full slot and each CNode that only slots of its own name, each
+/// by rising address; and how many of the expectations are met.
 ///
-/// `replies` has the reply to each call, in order, and the full slots of `kernel` lie in the set-up's memory. The lines, and
-/// what is read of a kernel, are this project's profile.
+/// `replies` has the reply to each call, in order, and the full slots of `kernel` lie in the set-up's memory. The
+/// lines, and what is read of a kernel, are this project's profile.
 ///
 /// # Errors
 ///
@@ -66,9 +67,27 @@ pub fn counted_report<P: Profile, S: CapStore<P> + Drop, W: Waiters<P> + Drop>(
 {
     let mut out = String::new(alloc);
     let count = calls::add_calls(alloc, &mut out, setup, replies)?;
-    memory::add_state::<P, Kernel<P, S, W>>(alloc, &mut out, setup.plan().memory_bits(), kernel)?;
+    add_state(alloc, &mut out, setup, kernel)?;
     let met = count.met;
     let expected = count.expected;
     writeln!(out, "expected {met} of {expected}")?;
     Ok((out.into_bytes(), count))
+}
+
+/// Adds what a kernel shows of a set-up's memory, in which all its full slots lie: a line for each live thread, each
+/// live endpoint, each full slot and each CNode that only slots of its own name, each by rising address.
+///
+/// # Errors
+///
+/// Memory was refused.
+pub fn add_state<P: Profile, S: CapStore<P> + Drop, W: Waiters<P> + Drop>(
+    alloc: Global,
+    out: &mut String,
+    setup: &Setup,
+    kernel: &Kernel<P, S, W>,
+) -> Result<(), AllocError>
+    requires slots { All (λ a. a < 2 ^ setup.now.plan.memory_bits) (slots_of kernel.now.derivations) }
+    ensures { OnOk result (string_bytes out.new ≡ string_bytes out.old ++ state_lines P.the kernel.now) }
+{
+    memory::add_state::<P, Kernel<P, S, W>>(alloc, out, setup.plan().memory_bits(), kernel)
 }

@@ -23,7 +23,8 @@ fn add_thread<P: Profile, K: Readable<P>>(
     address: u64,
     kernel: &K,
 ) -> Result<(), AllocError>
-    ensures { OnOk result (string_bytes out.new ≡ string_bytes out.old ++ spec.thread_line (K.shown kernel.now) address) }
+    ensures { OnOk result (string_bytes out.new ≡ string_bytes out.old
+        ++ spec.thread_line (K.shown kernel.now) address) }
 {
     match kernel.thread_state(address) {
         None => Ok(()),
@@ -44,7 +45,8 @@ fn add_threads<P: Profile, K: Readable<P>>(
     threads: &BTreeSet<u64>,
     kernel: &K,
 ) -> Result<(), AllocError>
-    ensures { OnOk result (string_bytes out.new ≡ string_bytes out.old ++ flat_map (spec.thread_line (K.shown kernel.now)) threads.now.keys) }
+    ensures { OnOk result (string_bytes out.new ≡ string_bytes out.old
+        ++ flat_map (spec.thread_line (K.shown kernel.now)) threads.now.keys) }
 {
     for thread in threads {
         add_thread::<P, K>(out, *thread, kernel)?;
@@ -73,7 +75,8 @@ fn add_slots<P: Profile, K: Readable<P>>(
     slots: &[u64],
     kernel: &K,
 ) -> Result<(), AllocError>
-    ensures { OnOk result (string_bytes out.new ≡ string_bytes out.old ++ flat_map (spec.slot_line (K.shown kernel.now)) slots.now) }
+    ensures { OnOk result (string_bytes out.new ≡ string_bytes out.old
+        ++ flat_map (spec.slot_line (K.shown kernel.now)) slots.now) }
 {
     for slot in slots {
         add_slot::<P, K>(out, *slot, kernel)?;
@@ -120,7 +123,8 @@ fn add_endpoint<P: Profile, K: Readable<P>>(
     address: u64,
     kernel: &K,
 ) -> Result<(), AllocError>
-    ensures { OnOk result (string_bytes out.new ≡ string_bytes out.old ++ spec.endpoint_line (K.shown kernel.now) address) }
+    ensures { OnOk result (string_bytes out.new ≡ string_bytes out.old
+        ++ spec.endpoint_line (K.shown kernel.now) address) }
 {
     let threads = waiting_threads::<P, K>(alloc, address, kernel)?;
     let line = EndpointLine {
@@ -138,7 +142,8 @@ fn add_endpoints<P: Profile, K: Readable<P>>(
     endpoints: &BTreeSet<u64>,
     kernel: &K,
 ) -> Result<(), AllocError>
-    ensures { OnOk result (string_bytes out.new ≡ string_bytes out.old ++ flat_map (spec.endpoint_line (K.shown kernel.now)) endpoints.now.keys) }
+    ensures { OnOk result (string_bytes out.new ≡ string_bytes out.old
+        ++ flat_map (spec.endpoint_line (K.shown kernel.now)) endpoints.now.keys) }
 {
     for endpoint in endpoints {
         add_endpoint::<P, K>(alloc, out, *endpoint, kernel)?;
@@ -152,7 +157,8 @@ fn add_selfheld(
     own: &BTreeSet<u64>,
     others: &BTreeSet<u64>,
 ) -> Result<(), AllocError>
-    ensures { OnOk result (string_bytes out.new ≡ string_bytes out.old ++ flat_map spec.selfheld_line (difference nat_cmp own.now others.now)) }
+    ensures { OnOk result (string_bytes out.new ≡ string_bytes out.old
+        ++ flat_map spec.selfheld_line (difference nat_cmp own.now others.now)) }
 {
     for node in own.difference(others) {
         writeln!(out, "selfheld {node}")?;

@@ -67,7 +67,8 @@ pub fn bases_named<P: Profile, K: Readable<P>>(
     slots: &[u64],
     kernel: &K,
 ) -> Result<BTreeSet<u64>, AllocError>
-    ensures { IfOk result (λ s. s.keys ≡ spec.rising (filter_map (spec.base_at P.the naming (K.shown kernel.now)) slots.now)) }
+    ensures { IfOk result (λ s. s.keys
+        ≡ spec.rising (filter_map (spec.base_at P.the naming (K.shown kernel.now)) slots.now)) }
 {
     let mut bases = BTreeSet::new(alloc);
     for slot in slots {

@@ -23,7 +23,8 @@ pub trait Readable<P: Profile> {
     fn inbox(&self, tcb: u64) -> Option<Inbox>
         ensures { result ≡ inbox_at (shown self.now) tcb };
 
-    /// The capability that a slot holds, and `Null` in an empty one. Each full slot stands at a multiple of a slot's size.
+    /// The capability that a slot holds, and `Null` in an empty one. Each full slot stands at a multiple of a slot's
+    /// size.
     fn cap_at(&self, slot: u64) -> Cap
         ensures cap { result ≡ cap_at (shown self.now).derivations slot }
         ensures aligned { All (IsAligned P.the) (slots (shown self.now).derivations) };

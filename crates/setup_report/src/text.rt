@@ -5,7 +5,7 @@ ghost use Rattle.setup_report.specs.Text as text;
 use bitflags::Flags;
 use cap_core::limits::MAX_MESSAGE_WORDS;
 use cap_core::{Cap, Message, Refusal, Rights};
-use kernel_core::{Inbox, Op, Reply, ThreadState};
+use kernel_core::{Call, Inbox, Op, Reply, ThreadState};
 use std::fmt;
 
 /// The rights of an endpoint capability: a letter for each right, or `-` where it is missing.
@@ -176,6 +176,24 @@ impl fmt::Display for ReplyText {
                 )
             }
         }
+    }
+}
+
+/// A call that was made: the thread that makes it, the operation, and what it is answered.
+#[derive(Clone, Copy)]
+pub struct AnsweredText<'a> {
+    pub call: &'a Call,
+    pub reply: Reply,
+}
+
+impl fmt::Display for AnsweredText<'_> {
+    ghost output = { λ a. Some (text.answered_text a.call.now a.reply) };
+
+    fn fmt<W: fmt::Write>(&self, f: &mut fmt::Formatter<W>) -> fmt::Result {
+        let thread = self.call.thread;
+        let op = op_text(&self.call.op);
+        let reply = ReplyText(self.reply);
+        write!(f, "{thread} {op}: {reply}")
     }
 }
 

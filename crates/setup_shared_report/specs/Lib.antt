@@ -1,0 +1,2 @@
+-- The text of the report of a kernel that clients shared.
+pub mod SharedReport
