@@ -31,11 +31,13 @@ impl Engine for Checker {
     }
 }
 
-/// Reads the source to its end, runs the set-up that it holds, and writes the report, or the line of a refusal, to the sink.
+/// Reads the source to its end, runs the set-up that it holds, and writes the report, or the line of a refusal, to the
+/// sink.
 ///
 /// # Errors
-/// `Reading` where a read failed in this call, or where `INPUT_LIMIT` bytes came without an end; nothing is written then.
-/// `Writing` where a write failed or took no byte; a front of the text was written then. `Memory`; nothing is written then.
+/// `Reading` where a read failed in this call, or where `INPUT_LIMIT` bytes came without an end; nothing is written
+/// then. `Writing` where a write failed or took no byte; a front of the text was written then. `Memory`; nothing is
+/// written then.
 pub fn check<S: Source, K: Sink>(
     alloc: Global,
     source: &mut S,

@@ -29,7 +29,7 @@ fn command<'a>(alloc: Global) -> Result<Command<'a>, AllocError>
     let threads = with_file(
         alloc,
         "threads",
-        "Not in this program yet: it ends as where no thread could be started",
+        "Runs each client of a set-up in a thread of its own and prints what was done, in order",
     )?;
     let migrate = with_file(
         alloc,
@@ -50,7 +50,8 @@ fn command<'a>(alloc: Global) -> Result<Command<'a>, AllocError>
 fn line_in<'a>(matches: &ArgMatches<'a>) -> Line<'a>
     requires { IsSome (job_of (subcommand_name_of matches.now)) }
     ensures job { job_of (subcommand_name_of matches.now) ≡ Some result.job }
-    ensures file { file_of (option_map (λ met. met.1) (subcommand_rows_of matches.now)) ≡ option_map (λ s. s.now) result.file }
+    ensures file { file_of (option_map (λ met. met.1) (subcommand_rows_of matches.now))
+        ≡ option_map (λ s. s.now) result.file }
 {
     let Some((name, inner)) = matches.subcommand() else {
         return Line {
@@ -82,17 +83,21 @@ fn fault_for(alloc: Global, error: &Error) -> LineFault
     }
 }
 
-/// What clap says of words that the command does not take: why, what looks like them, and the usage. Nothing where it takes
-/// them, or where memory was refused.
+/// What clap says of words that the command does not take: why, what looks like them, and the usage. Nothing where it
+/// takes them, or where memory was refused.
 pub fn refused_line_words(alloc: Global, words: &[&str]) -> Option<String> {
     let error = command(alloc).ok()?.try_get_matches_from(words).err()?;
+    if error.kind() == ErrorKind::OutOfMemory {
+        return None;
+    }
     format!(in alloc; "{error}").ok()
 }
 
 /// Reads the words of a command line, of which the first is the program's name.
 ///
 /// # Errors
-/// `Help` where the words call for help, `Refused` where they are none that the command takes, and `Memory` where memory ran out.
+/// `Help` where the words call for help, `Refused` where they are none that the command takes, and `Memory` where
+/// memory ran out.
 pub fn line<'a>(alloc: Global, words: &'a [&'a str]) -> Result<Line<'a>, LineFault>
     ensures job { IfOk result (λ l. job_asked (texts words.now) ≡ Some l.job) }
     ensures file { IfOk result (λ l. file_asked (texts words.now) ≡ option_map (λ s. s.now) l.file) }

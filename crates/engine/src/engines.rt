@@ -32,9 +32,9 @@ pub trait Engine {
 /// Reads the source to its end, and writes to the sink the text that the engine makes of it.
 ///
 /// # Errors
-/// `Reading` where a read failed in this call, or where `INPUT_LIMIT` bytes came without an end; nothing is written then.
-/// `Writing` where a write failed or took no byte; a front of the text was written then. `Memory`, and `Thread` where the
-/// engine starts threads; nothing is written then.
+/// `Reading` where a read failed in this call, or where `INPUT_LIMIT` bytes came without an end; nothing is written
+/// then. `Writing` where a write failed or took no byte; a front of the text was written then. `Memory`, and `Thread`
+/// where the engine starts threads; nothing is written then.
 pub fn run_engine<S: Source, K: Sink, E: Engine>(
     alloc: Global,
     engine: &E,

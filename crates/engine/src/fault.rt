@@ -32,7 +32,8 @@ pub enum RunFault {
     Thread,
 }
 
-/// The program's exit status: 0 where all expectations are met, 1 where one is not, 2 where the set-up is refused, 3 after a fault.
+/// The program's exit status: 0 where all expectations are met, 1 where one is not, 2 where the set-up is refused, 3
+/// after a fault.
 pub fn status_of(answer: &Result<Verdict, RunFault>) -> u8
     ensures { result ≡ run_status answer.now }
 {

@@ -1,5 +1,5 @@
 //! How much an engine reads.
-use setup_read::limits::MAX_SETUP_BYTES;
+use setup_format::limits::MAX_SETUP_BYTES;
 
 /// The number of bytes that an input has to stay below.
 pub const INPUT_LIMIT: usize = MAX_SETUP_BYTES;

@@ -11,8 +11,8 @@ use crate::fault::{RunFault, Verdict};
 use crate::run::refusal;
 use crate::sink::Sink;
 use crate::source::Source;
+use setup_format::SetupFault;
 use setup_migrate::migrate;
-use setup_read::SetupFault;
 use std::alloc::{AllocError, Global};
 use toml::Table;
 
@@ -57,12 +57,13 @@ impl Engine for Migrator {
     }
 }
 
-/// Reads the source to its end, and writes to the sink the set-up of format 1 that it holds as one of format 2, or the line of a
-/// refusal. The verdict is `AllMet` or `Refused`.
+/// Reads the source to its end, and writes to the sink the set-up of format 1 that it holds as one of format 2, or the
+/// line of a refusal. The verdict is `AllMet` or `Refused`.
 ///
 /// # Errors
-/// `Reading` where a read failed in this call, or where `INPUT_LIMIT` bytes came without an end; nothing is written then.
-/// `Writing` where a write failed or took no byte; a front of the text was written then. `Memory`; nothing is written then.
+/// `Reading` where a read failed in this call, or where `INPUT_LIMIT` bytes came without an end; nothing is written
+/// then. `Writing` where a write failed or took no byte; a front of the text was written then. `Memory`; nothing is
+/// written then.
 pub fn migrate_run<S: Source, K: Sink>(
     alloc: Global,
     source: &mut S,

@@ -10,7 +10,8 @@ use crate::fault::Verdict;
 use cap_core::{Narrow, Profile, ProfileName, Wide};
 use ipc_core::MakeWaiters;
 use kernel_core::{Kernel, Reply};
-use setup_read::{ExpectationCount, Setup, SetupFault, counted_report, read_setup};
+use setup_format::{Setup, SetupFault, read_setup};
+use setup_report::{ExpectationCount, counted_report};
 use slot_core::MakeStore;
 use std::alloc::{AllocError, Global};
 
@@ -65,9 +66,9 @@ pub fn refusal(alloc: Global, fault: &SetupFault) -> Result<Vec<u8>, AllocError>
     Ok(text.into_bytes())
 }
 
-/// The text that the program writes for the bytes of its input, and the verdict. The kernel has the words of the set-up's
-/// profile: `S` and `W` are the stores of a wide kernel, `T` and `V` those of a narrow one. The text is the same whatever
-/// stores it is made of.
+/// The text that the program writes for the bytes of its input, and the verdict. The kernel has the words of the
+/// set-up's profile: `S` and `W` are the stores of a wide kernel, `T` and `V` those of a narrow one. The text is the
+/// same whatever stores it is made of.
 #[tactic(auto, unfolding(crate::specs::Program::program))]
 pub fn text_of<
     S: MakeStore<Wide>,

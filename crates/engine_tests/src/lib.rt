@@ -1,4 +1,5 @@
-//! Tests of `engine`: reads and writes that fail, a source without an end, the command line, migrations and the exit statuses.
+//! Tests of `engine`: reads and writes that fail, a source without an end, the command line, migrations and the exit
+//! statuses.
 #![tactic(auto)]
 
 #[cfg(test)]

@@ -19,27 +19,35 @@ fn run(
     check(alloc, &mut source, &mut WriterSink::new(out))
 }
 
-/// Whether nothing is written where a read fails after so many.
-fn fails_reading(alloc: Global, reads: usize) -> bool {
+/// Whether nothing is written where a read of so many bytes fails after so many.
+fn fails_reading(alloc: Global, piece: usize, reads: usize) -> bool {
     let mut out = writer(alloc, usize::MAX, usize::MAX, false);
-    let answer = run(alloc, 16, reads, &mut out);
+    let answer = run(alloc, piece, reads, &mut out);
     matches!(answer, Err(RunFault::Reading)) && out.taken.is_empty()
 }
 
 /// Whether all expectations are met where no read fails before the end.
-fn is_met_after(alloc: Global, reads: usize) -> bool {
+fn is_met_after(alloc: Global, piece: usize, reads: usize) -> bool {
     let mut out = writer(alloc, usize::MAX, usize::MAX, false);
-    let answer = run(alloc, 16, reads, &mut out);
+    let answer = run(alloc, piece, reads, &mut out);
     matches!(answer, Ok(Verdict::AllMet))
 }
 
 #[test]
 fn each_read_of_the_stored_run_fails_in_turn(rt: HostRuntime) {
-    let reads = STORED.len() / 16 + 2;
-    for k in 0..reads {
-        assert!(rt; fails_reading(rt.alloc(), k), "at read {k}");
+    for (piece, reads) in [
+        (1, STORED.len() + 1),
+        (16, STORED.len() / 16 + 2),
+        (4096, 2),
+    ] {
+        for k in 0..reads {
+            assert!(rt;
+                fails_reading(rt.alloc(), piece, k),
+                "at read {k} of {piece} bytes"
+            );
+        }
+        assert!(rt; is_met_after(rt.alloc(), piece, reads), "{piece} bytes");
     }
-    assert!(rt; is_met_after(rt.alloc(), reads));
 }
 
 /// Whether a beginning of the report of just that length is written where a write fails there.

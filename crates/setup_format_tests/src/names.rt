@@ -3,8 +3,8 @@ use setup_format::read_setup;
 use std::alloc::Global;
 use std::test::Fail;
 
-/// What is told of a set-up of a format with these lines below its sizes: `accepted`, or the line of its refusal after its
-/// first two words.
+/// What is told of a set-up of a format with these lines below its sizes: `accepted`, or the line of its refusal after
+/// its first two words.
 fn told(alloc: Global, format: u32, lines: &str) -> Result<String, Fail> {
     let text = format!(in alloc;
         "format = {format}\nmemory_bits = 16\nroot_radix = 4\nthreads = 2\nendpoints = 1\n{lines}"
@@ -17,8 +17,8 @@ fn told(alloc: Global, format: u32, lines: &str) -> Result<String, Fail> {
     Ok(String::from_str(alloc, rest.unwrap_or("-"))?)
 }
 
-/// A name has 1 to 40 small letters, digits or `_`, and a word that fits the profile and is no name itself. Of the entries at
-/// fault the one with the least name is told; of one entry the name first.
+/// A name has 1 to 40 small letters, digits or `_`, and a word that fits the profile and is no name itself. Of the
+/// entries at fault the one with the least name is told; of one entry the name first.
 #[test]
 fn which_names_are_taken(rt: HostRuntime) -> Result<(), Fail> {
     for (lines, want) in [

@@ -4,6 +4,7 @@ use cap_core::limits::{
     MAX_MEMORY_BITS, MAX_MESSAGE_WORDS, MAX_ROOT_RADIX, MIN_BOOT_THREADS, MIN_MEMORY_BITS,
     MIN_ROOT_RADIX,
 };
+use cap_core::{Narrow, Profile, Wide};
 use setup_format::Place;
 use setup_format::limits::{FIRST_FORMAT, MAX_CALLS, MAX_EXPECT_BYTES, NEWEST_FORMAT};
 use std::fmt;
@@ -59,10 +60,23 @@ pub const OPERATIONS: [&str; 15] = [
     "resume",
 ];
 
+/// What a name has.
+pub const A_NAME: &str = "1 to 40 of the letters a to z, the digits and _";
+
+/// What a word of a call accepts.
+const A_WORD: &str =
+    "a number, a text of 0x and 1 to 16 hexadecimal digits, or in format 2 a text of @ and a name from names; \
+     in a narrow set-up it is below 2^32";
+
+/// What a word that takes no name accepts.
+const A_NUMBER: &str =
+    "a number, or a text of 0x and 1 to 16 hexadecimal digits; in a narrow set-up it is below 2^32";
+
 /// A kind of value.
 #[derive(Clone, Copy)]
 pub enum Accepted {
     Number(u32, u32),
+    Plain,
     Word,
     Label,
     Words,
@@ -95,18 +109,24 @@ impl fmt::Display for Accepted {
     fn fmt<W: fmt::Write>(&self, f: &mut fmt::Formatter<W>) -> fmt::Result {
         match self {
             Accepted::Number(low, high) => write!(f, "a number from {low} to {high}"),
-            Accepted::Word => f.write_str(
-                "a number, a text of 0x and 1 to 16 hexadecimal digits, or in format 2 a text of @ and a name",
+            Accepted::Plain => f.write_str(A_NUMBER),
+            Accepted::Word => f.write_str(A_WORD),
+            Accepted::Label => {
+                let (wide, narrow) = (Wide::LABEL_BITS, Narrow::LABEL_BITS);
+                write!(
+                    f,
+                    "a number below 2^{wide}, or in a narrow set-up below 2^{narrow}"
+                )
+            }
+            Accepted::Words => write!(
+                f,
+                "an array of at most {MAX_MESSAGE_WORDS} of these: {A_WORD}",
             ),
-            Accepted::Label => f.write_str("a number that fits a message's label"),
-            Accepted::Words => write!(f, "an array of at most {MAX_MESSAGE_WORDS} numbers"),
             Accepted::Rights => f.write_str(
                 "a number from 0 to 15, the sum of 1 for w, 2 for r, 4 for g and 8 for p",
             ),
             Accepted::Profile => f.write_str("\"wide\" or \"narrow\""),
-            Accepted::Names => f.write_str(
-                "a table of numbers, whose keys have 1 to 40 of the letters a to z, the digits and _",
-            ),
+            Accepted::Names => write!(f, "a table of numbers, whose keys have {A_NAME}"),
             Accepted::Size => f.write_str(
                 "the number of bits of an untyped region's size, at least 4",
             ),
@@ -156,7 +176,7 @@ pub fn kind_of_key(place: Place, key: &str) -> Accepted {
     match place {
         Place::Top => accepted_in_top(key),
         Place::Untyped(_) if key == "bits" => Accepted::Size,
-        Place::Untyped(_) => Accepted::Word,
+        Place::Untyped(_) => Accepted::Plain,
         Place::Call(_) => accepted_in_call(key),
     }
 }

@@ -1,11 +1,15 @@
-//! What is said in words of a set-up, beside the report and the line of a refusal: why it is refused, and which expectations no
-//! reply can meet. The texts are tested, and no clause says what they are.
+//! What is said in words of a set-up, beside the report and the line of a refusal: why it is refused, and which
+//! expectations no reply can meet. The texts are tested, and no clause says what they are.
 #![tactic(auto)]
 
 mod accepted;
 mod expectations;
+mod found;
+mod layouts;
+mod names;
 mod near;
 mod refused;
+mod regions;
 
 pub use expectations::unmet_warnings;
 pub use refused::refusal_words;

@@ -1,32 +1,14 @@
 //! Why a set-up is refused, in words.
 use crate::accepted::{FIRST_TOP_KEYS, Listed, OPERATIONS, TOP_KEYS, UNTYPED_KEYS, kind_of_key};
+use crate::found::{Found, MAX_SHOWN_BYTES};
+use crate::layouts::defect_words;
+use crate::names::{entry_words, name_words};
 use crate::near::nearest;
-use boot_plan::PlanDefect;
+use crate::regions::profile_in;
 use setup_format::{Key, Place, SetupFault, Wrong, call_keys, read_setup};
 use setup_values::kinds::op;
 use std::alloc::{AllocError, Global};
-use std::fmt;
 use toml::{Table, Value};
-
-/// The most characters of a text that are shown.
-const MAX_SHOWN_BYTES: usize = 60;
-
-/// A value that was found: a short text or a number as it is, and the type of any other.
-#[derive(Clone, Copy)]
-struct Found<'a>(&'a Value);
-
-impl fmt::Display for Found<'_> {
-    fn fmt<W: fmt::Write>(&self, f: &mut fmt::Formatter<W>) -> fmt::Result {
-        match self.0 {
-            Value::Integer(number) => write!(f, "{number}"),
-            Value::String(text) if text.len() <= MAX_SHOWN_BYTES => {
-                let text = text.as_str();
-                write!(f, "{text:?}")
-            }
-            other => write!(f, "of the type {}", other.type_str()),
-        }
-    }
-}
 
 /// The table at a place of the document.
 fn table_at(document: &Table, place: Place) -> Option<&Table> {
@@ -61,8 +43,17 @@ fn unknown_words(
     place: Place,
     key: &str,
 ) -> Result<String, AllocError> {
+    if let (Place::Top, "names") = (place, key) {
+        return format!(in alloc; "top: names are a key of format 2, and this set-up has format 1");
+    }
     let keys = keys_at(table, place);
     let known = Listed(keys);
+    if key.len() > MAX_SHOWN_BYTES {
+        let length = key.len();
+        return format!(in alloc;
+            "{place}: there is no key of {length} bytes; the keys are {known}"
+        );
+    }
     match nearest(alloc, key, keys)? {
         Some(near) => {
             format!(in alloc;
@@ -83,7 +74,9 @@ fn value_words(
     let wanted = kind_of_key(place, key);
     let found = Found(value);
     let near = match (key, value) {
-        ("op", Value::String(text)) => nearest(alloc, text.as_str(), OPERATIONS.as_slice())?,
+        ("op", Value::String(text)) if text.len() <= MAX_SHOWN_BYTES => {
+            nearest(alloc, text.as_str(), OPERATIONS.as_slice())?
+        }
         _ => None,
     };
     match near {
@@ -96,6 +89,28 @@ fn value_words(
             "{place}, key {key}: the value is {found}; it has to be {wanted}"
         ),
     }
+}
+
+/// The words on a value that its key does not take: an entry of the names, a text that is no name, or another value.
+fn found_words(
+    alloc: Global,
+    document: &Table,
+    place: Place,
+    key: &str,
+    value: &Value,
+) -> Result<String, AllocError> {
+    if let (Place::Top, "names", Value::Table(names)) = (place, key, value)
+        && let Some(profile) = profile_in(document)
+        && let Some(words) = entry_words(alloc, names, profile)?
+    {
+        return Ok(words);
+    }
+    if let Some(Value::Table(names)) = document.get("names")
+        && let Some(words) = name_words(alloc, names, place, key, value)?
+    {
+        return Ok(words);
+    }
+    value_words(alloc, place, key, value)
 }
 
 /// The words on a fault at a key.
@@ -112,7 +127,7 @@ fn key_words(
     let wanted = kind_of_key(place, key);
     let words = match (wrong, table.get(key)) {
         (Wrong::Unknown, _) => unknown_words(alloc, table, place, key)?,
-        (_, Some(value)) => value_words(alloc, place, key, value)?,
+        (_, Some(value)) => found_words(alloc, document, place, key, value)?,
         (_, None) => format!(in alloc;
             "{place}, key {key}: the key is missing; it has to be {wanted}"
         )?,
@@ -131,41 +146,8 @@ fn text_words(alloc: Global, bytes: &[u8]) -> Result<Option<String>, AllocError>
     }
 }
 
-/// The words on a plan that cannot be laid out. Untyped regions are counted from 1.
-fn defect_words(alloc: Global, defect: PlanDefect) -> Result<String, AllocError> {
-    match defect {
-        PlanDefect::Outside => {
-            format!(in alloc;
-                "the root CNode, the threads and the endpoints do not fit into the memory; raise memory_bits"
-            )
-        }
-        PlanDefect::Unaligned(i) => {
-            format!(in alloc;
-                "untyped {}: the base is no multiple of the size, which is 2 to the power of bits",
-                i.saturating_add(1)
-            )
-        }
-        PlanDefect::UntypedOutside(i) => {
-            format!(in alloc;
-                "untyped {}: the region ends past the memory, which has 2 to the power of memory_bits bytes",
-                i.saturating_add(1)
-            )
-        }
-        PlanDefect::Overlap(i) => {
-            format!(in alloc;
-                "untyped {}: the region has bytes in common with the root CNode, a thread, an endpoint or an untyped region before it",
-                i.saturating_add(1)
-            )
-        }
-        PlanDefect::Slots => {
-            format!(in alloc;
-                "the root CNode has too few slots for the capabilities of the boot; raise root_radix"
-            )
-        }
-    }
-}
-
-/// Says in words why a set-up is refused, in one line or two; nothing where it is not refused.
+/// Says in words why a set-up is refused, in one line, or two where its text is no TOML document; nothing where it is
+/// not refused.
 ///
 /// # Errors
 /// Where memory was refused.
@@ -176,7 +158,7 @@ pub fn refusal_words(alloc: Global, bytes: &[u8]) -> Result<Option<String>, Allo
     let (wrong, place, key) = match &fault {
         SetupFault::Memory => return Err(AllocError),
         SetupFault::Text => return text_words(alloc, bytes),
-        SetupFault::Layout(defect) => return Ok(Some(defect_words(alloc, *defect)?)),
+        SetupFault::Layout(defect) => return defect_words(alloc, bytes, *defect),
         SetupFault::At {
             wrong,
             place,

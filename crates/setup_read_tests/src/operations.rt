@@ -188,8 +188,8 @@ fn what_operations_on_a_slot_or_a_thread_are_read_as(rt: HostRuntime) -> Result<
     )
 }
 
-/// Without their keys the depths of copies and moves are 64, the source's CNode is the one that is invoked, and all rights
-/// are kept; those of a retype, and the label of a message, are 0.
+/// Without their keys the depths of copies and moves are 64, the source's CNode is the one that is invoked, and all
+/// rights are kept; those of a retype, and the label of a message, are 0.
 #[test]
 fn what_operations_are_read_as(rt: HostRuntime) -> Result<(), Fail> {
     for (keys, name, want) in [

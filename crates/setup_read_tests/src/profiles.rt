@@ -67,8 +67,8 @@ fn which_profile_a_set_up_names(rt: HostRuntime) -> Result<(), Fail> {
     Ok(())
 }
 
-/// Of each bound the last region that a narrow set-up may have, and the first that it may not. A region that is larger than
-/// the memory is a fault of the layout.
+/// Of each bound the last region that a narrow set-up may have, and the first that it may not. A region that is larger
+/// than the memory is a fault of the layout.
 #[test]
 fn bounds_of_a_narrow_untyped_region(rt: HostRuntime) -> Result<(), Fail> {
     for (region, want) in [
@@ -166,8 +166,8 @@ fn bounds_of_the_words_of_a_narrow_call(rt: HostRuntime) -> Result<(), Fail> {
     Ok(())
 }
 
-/// The most objects that a memory holds in each profile, and one more. A CNode has 2^radix slots of 32 or 16 bytes, and a thread
-/// control block 2048 or 1024 bytes; the slots of the root CNode suffice.
+/// The most objects that a memory holds in each profile, and one more. A CNode has 2^radix slots of 32 or 16 bytes, and
+/// a thread control block 2048 or 1024 bytes; the slots of the root CNode suffice.
 #[test]
 fn what_a_memory_holds_in_each_profile(rt: HostRuntime) -> Result<(), Fail> {
     for (sizes, want) in [
