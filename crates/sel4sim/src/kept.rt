@@ -1,6 +1,6 @@
-//! A reader that keeps what it gave.
+//! A reader that keeps what it gave, and a writer that keeps why it failed.
 use std::alloc::Global;
-use std::io::{self, Read};
+use std::io::{self, Read, Write};
 
 /// A reader, the bytes that it gave, and why a read of it failed.
 #[derive(Drop)]
@@ -52,5 +52,44 @@ impl<T: Read> Read for KeptReader<T> {
                 Err(io::Error::from(kind))
             }
         }
+    }
+}
+
+/// A writer, and why a write to it failed.
+#[derive(Drop)]
+pub struct KeptWriter<T> {
+    writer: T,
+    failure: Option<io::Error>,
+}
+
+impl<T> KeptWriter<T> {
+    /// The writer, to which nothing was written yet.
+    pub fn new(writer: T) -> KeptWriter<T> {
+        KeptWriter {
+            writer,
+            failure: None,
+        }
+    }
+
+    /// Why a write failed, where one did.
+    pub fn failure(&self) -> Option<&io::Error> {
+        self.failure.as_ref()
+    }
+}
+
+impl<T: Write> Write for KeptWriter<T> {
+    fn write(&mut self, buffer: &[u8]) -> io::Result<usize> {
+        match self.writer.write(buffer) {
+            Ok(n) => Ok(n),
+            Err(error) => {
+                let kind = error.kind();
+                self.failure = Some(error);
+                Err(io::Error::from(kind))
+            }
+        }
+    }
+
+    fn flush(&mut self) -> io::Result<()> {
+        self.writer.flush()
     }
 }

@@ -1,72 +1,78 @@
-//! The program `sel4sim`: reads a set-up from a file or from standard input, runs it and writes the report, or writes it in the
-//! newest format.
+//! The program `sel4sim`: reads a set-up from a file or from standard input, runs it and writes the report, or writes
+//! it in the newest format.
 //!
-//! The exit status is 0 where all expectations are met or the set-up is migrated, 1 where an expectation is not met, 2 where the
-//! set-up is refused, 3 where the program could not read, write or get memory, and 4 where the command line is refused; for 3
-//! and 4 the first line of standard error says what went wrong, and more lines may follow it.
+//! The exit status is 0 where all expectations are met or the set-up is migrated, 1 where an expectation is not met, 2
+//! where the set-up is refused, 3 where the program could not read, write, start a thread or get memory, and 4 where
+//! the command line is refused; for 3 and 4 the first line of standard error says what went wrong, and more lines may
+//! follow it.
 #![tactic(auto)]
 
 mod kept;
 mod messages;
 
-use crate::kept::KeptReader;
-use crate::messages::{complain, note_on_verdict};
+use crate::kept::{KeptReader, KeptWriter};
+use crate::messages::{complain, complain_of_reading, complain_of_writing, note_on_verdict};
 use engine::{
     Job, Line, LineFault, ReaderSource, RunFault, Verdict, WriterSink, check, line, migrate_run,
     refused_line_words, status_of, write_all,
 };
+use engine_threads::{OpenGate, threads_run};
 use std::env::{self, Env};
 use std::fs::{self, Files};
-use std::io::{self, Eprint, ErrorKind, Input, Read};
+use std::io::{self, Eprint, ErrorKind, Input, Read, Write};
 use std::process::ExitCode;
+use std::sync::Wait;
+use std::thread::Threads;
 
-/// Does the job with the set-up that a reader gives, and writes to standard output.
-fn run_job<R: Print + AllocGlobal, T: Read>(
+/// Does the job with the set-up that a reader gives.
+fn run_job<R: AllocGlobal + Threads + Wait + Sync, T: Read, W: Write>(
     rt: &R,
     job: Job,
     reader: &mut KeptReader<T>,
+    writer: &mut KeptWriter<W>,
 ) -> Result<Verdict, RunFault> {
     let mut source = ReaderSource::new(reader);
-    let mut sink = WriterSink::new(io::writer(rt));
+    let mut sink = WriterSink::new(writer);
     match job {
         Job::Check => check(rt.alloc(), &mut source, &mut sink),
         Job::Migrate => migrate_run(rt.alloc(), &mut source, &mut sink),
-        Job::Threads => Err(RunFault::Thread),
+        Job::Threads => threads_run(rt, rt.alloc(), &mut source, &mut sink, &OpenGate),
     }
 }
 
-/// Does the job with the set-up that a reader gives, says on standard error what there is to say, and answers the exit status.
-fn run_reader<R: Print + Eprint + AllocGlobal, T: Read + Drop>(
+/// Does the job with the set-up that a reader gives, writes to standard output, says on standard error what there is to
+/// say, and answers the exit status.
+fn run_reader<R: Print + Eprint + AllocGlobal + Threads + Wait + Sync, T: Read + Drop>(
     rt: &R,
     job: Job,
     name: &str,
     reader: T,
 ) -> u8 {
     let mut reader = KeptReader::new(rt.alloc(), reader);
-    let answer = run_job(rt, job, &mut reader);
+    let mut writer = KeptWriter::new(io::writer(rt));
+    let answer = run_job(rt, job, &mut reader, &mut writer);
     match &answer {
         Ok(verdict) => note_on_verdict(rt, job, *verdict, &reader),
-        Err(fault) => {
-            complain(rt, fault);
-            if let Some(error) = reader.failure() {
-                complain(rt, format_args!("{name}: {error}"));
-            }
-        }
+        Err(RunFault::Reading) => complain_of_reading(rt, name, reader.failure()),
+        Err(RunFault::Writing) => complain_of_writing(rt, writer.failure()),
+        Err(fault) => complain(rt, fault),
     }
     status_of(&answer)
 }
 
-/// Does what the line asks for, with the file that it names or with standard input, and answers the exit status. A file that
-/// cannot be opened is a failed read.
-fn run_line<R: Files + Input + Print + Eprint + AllocGlobal>(rt: &R, line: Line<'_>) -> u8 {
+/// Does what the line asks for, with the file that it names or with standard input, and answers the exit status. A file
+/// that cannot be opened is a failed read.
+fn run_line<R: Files + Input + Print + Eprint + AllocGlobal + Threads + Wait + Sync>(
+    rt: &R,
+    line: Line<'_>,
+) -> u8 {
     let Some(path) = line.file else {
         return run_reader(rt, line.job, "standard input", rt.reader());
     };
     match fs::open(rt, path) {
         Ok(file) => run_reader(rt, line.job, path, file),
         Err(error) => {
-            complain(rt, RunFault::Reading);
-            complain(rt, format_args!("{path}: {error}"));
+            complain_of_reading(rt, path, Some(&error));
             status_of(&Err(RunFault::Reading))
         }
     }
@@ -74,11 +80,11 @@ fn run_line<R: Files + Input + Print + Eprint + AllocGlobal>(rt: &R, line: Line<
 
 /// Writes the help text to standard output, and answers the exit status.
 fn write_help<R: Print + Eprint>(rt: &R, text: &str) -> u8 {
-    let mut sink = WriterSink::new(io::writer(rt));
-    match write_all(&mut sink, text.as_bytes()) {
+    let mut writer = KeptWriter::new(io::writer(rt));
+    match write_all(&mut WriterSink::new(&mut writer), text.as_bytes()) {
         Ok(()) => 0,
         Err(fault) => {
-            complain(rt, fault);
+            complain_of_writing(rt, writer.failure());
             status_of(&Err(fault))
         }
     }
@@ -111,7 +117,9 @@ fn words_of<R: Env + AllocGlobal>(rt: &R) -> Result<Vec<String>, LineFault> {
 }
 
 /// Reads the command line, does what it asks for, and answers the exit status.
-fn run<R: Env + Files + Input + Print + Eprint + AllocGlobal>(rt: &R) -> u8 {
+fn run<R: Env + Files + Input + Print + Eprint + AllocGlobal + Threads + Wait + Sync>(
+    rt: &R,
+) -> u8 {
     let words = match words_of(rt) {
         Ok(words) => words,
         Err(fault) => return refuse_line(rt, &[], &fault),

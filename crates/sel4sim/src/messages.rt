@@ -1,13 +1,34 @@
-//! What is said on standard error. Nothing else can be told where that fails too.
+//! What is said on standard error. Where that fails too, nothing more is said.
 use crate::kept::KeptReader;
-use engine::{Job, Verdict};
+use engine::{INPUT_LIMIT, Job, RunFault, Verdict};
 use setup_messages::{refusal_words, unmet_warnings};
 use std::fmt::Display;
-use std::io::Eprint;
+use std::io::{self, Eprint};
 
 /// Says what went wrong.
 pub fn complain(rt: &impl Eprint, fault: impl Display + Drop) {
     let _ = eprintln!(rt; "sel4sim: {fault}");
+}
+
+/// Says that a read failed, and of what name and why; with no error the input is too long.
+pub fn complain_of_reading(rt: &impl Eprint, name: &str, failure: Option<&io::Error>) {
+    complain(rt, RunFault::Reading);
+    match failure {
+        Some(error) => complain(rt, format_args!("{name}: {error}")),
+        None => complain(
+            rt,
+            format_args!("{name}: {INPUT_LIMIT} bytes or more; a set-up has to be shorter"),
+        ),
+    }
+}
+
+/// Says that a write to standard output failed, and why; with no error it took no byte.
+pub fn complain_of_writing(rt: &impl Eprint, failure: Option<&io::Error>) {
+    complain(rt, RunFault::Writing);
+    match failure {
+        Some(error) => complain(rt, format_args!("standard output: {error}")),
+        None => complain(rt, "standard output: a write took no byte"),
+    }
 }
 
 /// Says something that helps to understand an answer, each line of a text in a line of its own.

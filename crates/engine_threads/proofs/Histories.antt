@@ -1,0 +1,108 @@
+-- What the clients of a settled history made stands in it.
+use Rattle.std.proofs.Common.{◌≡◌, ℕ, zero, suc, ◌+◌, ◌<◌, ◌≤◌, nat_lt, List, [], ◌∷◌, ◌++◌, All, filter, length, take, map, get_or, slice_get, option_map, Some, None, refl, ap, sym, ◌∙◌, subst, arith}
+use Rattle.std.proofs.lemmas.List.{append-nil, take_all, length-map}
+use Rattle.std.proofs.lemmas.Option.{slice_get-get_or, slice_get_within, slice_get-map, get_or_from_slice_get}
+use Rattle.std.specs.List.{sum_by}
+use Rattle.abstract_kernel.specs.declared.call.Call.{Call}
+use Rattle.kernel_book.specs.declared.entry.Entry.{Entry}
+use Rattle.kernel_book.specs.Laws.{calls_of}
+use Rattle.kernel_shared.specs.Tokens.{Token, token, is_below, calls_made, lost_calls, newly_lost, made}
+use Rattle.kernel_shared.specs.Driving.{EachThree, IsRun}
+use Rattle.setup_format.specs.Views.{CallView}
+use Rattle.engine_threads.specs.SharedRuns.{client_calls, calls_by, IsBeginning}
+use Rattle.engine_threads.specs.Private.Settled.{AreSettled}
+use Rattle.engine_threads.proofs.Counting.{total, total-sum_by}
+use Rattle.engine_threads.proofs.Shares.{HasMade, each_begins, carry_whole, counts_whole}
+
+-- the client's own entries in what it saw, below the number of calls that were answered, carry the first of its calls
+pub record IsMade (calls : List CallView) (i : ℕ) (t : Token) : Type 0 where
+  pub id : t.id ≡ i
+  pub carry : calls_of (filter (is_below t.id t.done) t.front) ≡ take t.done (client_calls i calls)
+  pub within : t.done ≤ length (client_calls i calls)
+
+-- a client that had seen nothing, after its run
+pub made_by : (calls : List CallView) (i : ℕ) (old : Token) (own : List Call) (new : Token) (n : ℕ) → old ≡ token i 0 [] None → own ≡ client_calls i calls → new.stray ≡ None → IsRun old own new n → IsMade calls i new
+made_by calls i old own new n is list whole run =
+    let first : IsRun (token i 0 [] None) own new n = subst (λ (t : Token). IsRun t own new n) is run in
+    let done : new.done ≡ n = let d = first.done in omega arith in
+    let lost : length (newly_lost None new.stray) ≡ 0 = ap (λ (s : _). length (newly_lost None s)) whole in
+    let many : n + length (newly_lost None new.stray) ≡ new.done = omega arith in
+    let grown : calls_made new ≡ take new.done own = first.grown ∙ ap (λ k. take k own) many in
+    let kept : calls_made new ≡ calls_of (filter (is_below new.id new.done) new.front) =
+    ap (λ (s : _). calls_of (filter (is_below new.id new.done) new.front) ++ lost_calls s) whole ∙ append-nil (calls_of (filter (is_below new.id new.done) new.front)) in
+    record {
+      id = first.id;
+      carry = sym kept ∙ grown ∙ ap (take new.done) list;
+      within = subst (λ l. new.done ≤ length l) list (let w = first.within in omega arith);
+    }
+
+module _ (calls : List CallView) (h : List Entry) (clients : List Token) (settled : AreSettled h clients) (each : (i : ℕ) (t : Token) → slice_get clients i ≡ Some t → IsMade calls i t) where
+  client : ℕ → Token
+  client i = get_or clients i (token 0 0 [] None)
+
+  done : ℕ → ℕ
+  done i = made (client i)
+
+  has_made : (i : ℕ) → i < length clients → HasMade (λ (e : Entry). e.client) (λ (e : Entry). e.call) h i (done i) (client_calls i calls)
+  unfolding done client
+  has_made i lt =
+      let d : Token = token 0 0 [] None in
+      let t : Token = get_or clients i d in
+      let at : slice_get clients i ≡ Some t = slice_get-get_or clients i d lt in
+      let is = each i t at in
+      let s = settled.fronts i t at in
+      let whole : t.stray ≡ None = settled.whole i d lt in
+      let many : made t ≡ t.done = ap (λ (l : _). t.done + length (lost_calls l)) whole ∙ (let z : t.done + 0 ≡ t.done = omega arith in z) in
+      record {
+        front = t.front;
+        rest = s.rest;
+        passes = λ e. nat_lt e.number t.done;
+        begins = s.is;
+        carry = subst (λ k. calls_of (filter (is_below k t.done) t.front) ≡ take (made t) (client_calls i calls)) is.id (is.carry ∙ ap (λ k. take k (client_calls i calls)) (sym many));
+        within = let w = is.within in omega arith;
+      }
+
+  sums : length h ≤ total (length clients) done
+  unfolding done client
+  sums =
+      let e = total-sum_by made clients (token 0 0 [] None) (length clients) (omega arith) in
+      let a : sum_by made (take (length clients) clients) ≡ sum_by made clients = ap (sum_by made) (take_all (length clients) clients (omega arith)) in
+      let s = settled.entries in
+      omega arith
+
+  pub beginnings : (i : ℕ) → IsBeginning (calls_by i h) (client_calls i calls)
+  beginnings i = each_begins (λ (e : Entry). e.client) (λ (e : Entry). e.call) h (length clients) done (λ i. client_calls i calls) has_made sums i
+
+  pub whole : length h ≡ length calls → (i : ℕ) → calls_by i h ≡ client_calls i calls
+  whole same i =
+      carry_whole (λ (e : Entry). e.client) (λ (e : Entry). e.call) (λ (c : CallView). c.client) (λ (c : CallView). c.call) h calls (length clients)
+      (counts_whole (λ (e : Entry). e.client) (λ (e : Entry). e.call) h (length clients) done (λ i. client_calls i calls) has_made sums) same beginnings i
+
+pub some_there : {C : Type 0} (zs : List C) (i : ℕ) → i < length zs → (z : C) × (slice_get zs i ≡ Some z)
+some_there [] i lt = absurd (omega arith)
+some_there (z ∷ zs) zero lt = (z, refl)
+some_there (z ∷ zs) (suc i) lt = some_there zs i (omega arith)
+
+some_same : {A : Type 0} (x y : A) → Some x ≡ Some y → x ≡ y
+some_same x y e = cc
+
+all_at : {A : Type 0} (P : A → Type 0) (xs : List A) (i : ℕ) (x : A) → All P xs → slice_get xs i ≡ Some x → P x
+all_at P xs i x all at = subst P (get_or_from_slice_get xs i x x at) (all i x (slice_get_within xs i x at))
+
+-- what each client made, by what is known of it before and after its run
+pub each_made : {D L : Type 0} (calls : List CallView) (client : D → Token) (many : D → ℕ) (own : L → List Call) (olds : List Token) (lists : List L) (driven : List D)
+    → length lists ≡ length olds → length driven ≡ length olds
+    → ((i : ℕ) (t : Token) → slice_get olds i ≡ Some t → t ≡ token i 0 [] None)
+    → ((i : ℕ) (l : L) → slice_get lists i ≡ Some l → own l ≡ client_calls i calls)
+    → EachThree olds lists driven (λ t l d. IsRun t (own l) (client d) (many d))
+    → All (λ (t : Token). t.stray ≡ None) (map client driven)
+    → (i : ℕ) (t : Token) → slice_get (map client driven) i ≡ Some t → IsMade calls i t
+each_made calls client many own olds lists driven a b first listed ran stray i t at =
+    let lt : i < length driven = let w = slice_get_within (map client driven) i t at in let l = length-map driven client in omega arith in
+    let old = some_there olds i (omega arith) in
+    let l = some_there lists i (omega arith) in
+    let d = some_there driven i lt in
+    let same : client d.0 ≡ t = some_same (client d.0) t (sym (slice_get-map client driven i ∙ ap (option_map client) d.1) ∙ at) in
+    let run = ran i old.0 l.0 d.0 old.1 l.1 d.1 in
+    made_by calls i old.0 (own l.0) t (many d.0) (first i old.0 old.1) (listed i l.0 l.1) (all_at (λ (t : Token). t.stray ≡ None) (map client driven) i t stray at)
+    (subst (λ (t : Token). IsRun old.0 (own l.0) t (many d.0)) same run)

@@ -1,0 +1,96 @@
+-- What a settled book shows, and that its history is a shared run of the set-up.
+use Rattle.std.proofs.Common.{◌≡◌, ℕ, ◌<◌, ◌≤◌, ◌^◌, true, List, [], All, Vec, Global, Result, Ok, Err, IfOk, length, map, slice_get, Some, None, refl, ap, sym, subst, arith}
+use Rattle.std.proofs.Props.{props}
+use mathlib.Core.Logic.{∥∥₁_elim}
+use Rattle.cap_core.specs.declared.profile.ProfileName.{ProfileName}
+use Rattle.derivation.specs.Entries.{slots}
+use Rattle.abstract_kernel.specs.declared.call.Call.{Call}
+use Rattle.abstract_kernel.specs.declared.call.Reply.{Reply}
+use Rattle.abstract_kernel.specs.Boot.{boot}
+use Rattle.abstract_kernel.specs.Plan.{Plan, IsPlan}
+use Rattle.abstract_kernel.specs.Reached.{IsReached}
+use Rattle.abstract_kernel.specs.Shown.{Shown}
+use Rattle.abstract_kernel.specs.State.{shown}
+use Rattle.abstract_kernel.specs.Step.{replies_of, state_after}
+use Rattle.abstract_kernel.proofs.Reached.Simulation.{reached_is}
+use Rattle.kernel_book.specs.declared.entry.Entry.{Entry}
+use Rattle.kernel_shared.specs.Driving.{EachThree, IsRun}
+use Rattle.kernel_book.specs.Laws.{Lawful, StandsAfter, calls_of, replies_in, is_numbered}
+use Rattle.kernel_shared.specs.Tokens.{Token, token}
+use Rattle.setup_format.specs.Views.{SetupView}
+use Rattle.setup_shared_report.specs.SharedReport.{shared_report_of}
+use Rattle.engine.proofs.Runs.{boot_reached}
+use Rattle.engine_threads.specs.Private.Settled.{AreSettled}
+use Rattle.engine_threads.specs.SharedRuns.{IsSharedRun, client_calls, state_of}
+use Rattle.engine_threads.proofs.Histories.{IsMade, beginnings, each_made, whole}
+
+-- ---- the kernel of a book
+
+-- the slots of a reached state lie in the plan's memory
+slots_lie : (p : ProfileName) (plan : Plan) → IsPlan p plan → (calls : List Call) → All (λ a. a < 2 ^ plan.memory_bits) (slots (shown (state_after p (boot p plan) calls)).derivations)
+unfolding shown
+slots_lie p plan lawful calls =
+    let r : IsReached p (state_after p (boot p plan) calls) = record { plan = plan; lawful = lawful; calls = calls; is = refl } in
+    λ i d lt. ((reached_is p (state_after p (boot p plan) calls) r).store.slots_placed i d lt).within
+
+lie_set : (m : ℕ) (xs : List ℕ) → IsProp (All (λ a. a < 2 ^ m) xs)
+lie_set m xs = hlevel props
+
+pub book_lies : (p : ProfileName) (plan : Plan) (o k : Shown) (h : List Entry) → IsPlan p plan → o ≡ shown (boot p plan) → ∥ StandsAfter p o h k ∥₁ → All (λ a. a < 2 ^ plan.memory_bits) (slots k.derivations)
+book_lies p plan o k h lawful is b =
+    ∥∥₁_elim b (lie_set plan.memory_bits (slots k.derivations))
+    (λ s. subst (λ (v : Shown). All (λ a. a < 2 ^ plan.memory_bits) (slots v.derivations)) (sym (s.stands (boot p plan) (boot_reached p plan lawful) is)) (slots_lie p plan lawful (calls_of h)))
+
+text_set : (x y : List ℕ) → IsProp (x ≡ y)
+text_set x y = hlevel props
+
+pub book_shows : (p : ProfileName) (setup : SetupView) (o k : Shown) (h : List Entry) (n : ℕ) → IsPlan p setup.plan → o ≡ shown (boot p setup.plan) → ∥ StandsAfter p o h k ∥₁ → shared_report_of p n h k ≡ shared_report_of p n h (shown (state_of p setup h))
+book_shows p setup o k h n lawful is b =
+    ∥∥₁_elim b (text_set (shared_report_of p n h k) (shared_report_of p n h (shown (state_of p setup h))))
+    (λ s. ap (shared_report_of p n h) (s.stands (boot p setup.plan) (boot_reached p setup.plan lawful) is))
+
+-- ---- the history of a book
+
+replies_set : (x y : List Reply) → IsProp (x ≡ y)
+replies_set x y = hlevel props
+
+pub answered : (p : ProfileName) (plan : Plan) (o : Shown) (h : List Entry) → IsPlan p plan → o ≡ shown (boot p plan) → ∥ Lawful p o h ∥₁ → replies_in h ≡ replies_of p (boot p plan) (calls_of h)
+answered p plan o h lawful is b =
+    ∥∥₁_elim b (replies_set (replies_in h) (replies_of p (boot p plan) (calls_of h)))
+    (λ l. l.answered (boot p plan) (boot_reached p plan lawful) is)
+
+numbered_set : (h : List Entry) → IsProp (is_numbered [] h ≡ true)
+numbered_set h = hlevel props
+
+pub numbered : (p : ProfileName) (o : Shown) (h : List Entry) → ∥ Lawful p o h ∥₁ → is_numbered [] h ≡ true
+numbered p o h b = ∥∥₁_elim b (numbered_set h) (λ l. l.numbered)
+
+-- ---- the whole
+
+pub shared_run_is : (p : ProfileName) (setup : SetupView) (o : Shown) (limit : ℕ) (h : List Entry) (clients : List Token)
+    → IsPlan p setup.plan → o ≡ shown (boot p setup.plan) → limit ≡ setup.limit
+    → ∥ Lawful p o h ∥₁ → length h ≤ limit → AreSettled h clients
+    → ((i : ℕ) (t : Token) → slice_get clients i ≡ Some t → IsMade setup.calls i t) → IsSharedRun p setup h
+shared_run_is p setup o limit h clients lawful is bound law short settled each = record {
+  replies = answered p setup.plan o h lawful is law;
+  numbered = numbered p o h law;
+  within = omega arith;
+  beginnings = beginnings setup.calls h clients settled each;
+  whole = whole setup.calls h clients settled each;
+}
+
+-- a history that was settled with the clients of a drive
+pub run_settled : {D : Type 0} (p : ProfileName) (setup : SetupView) (o : Shown) (limit : ℕ) (client : D → Token) (many : D → ℕ) (olds : List Token) (lists : List (Vec Call Global)) (driven : List D) (h : List Entry)
+    → IsPlan p setup.plan → o ≡ shown (boot p setup.plan) → limit ≡ setup.limit
+    → length lists ≡ length olds → length driven ≡ length olds
+    → ((i : ℕ) (t : Token) → slice_get olds i ≡ Some t → t ≡ token i 0 [] None)
+    → ((i : ℕ) (l : Vec Call Global) → slice_get lists i ≡ Some l → l.items ≡ client_calls i setup.calls)
+    → EachThree olds lists driven (λ t l d. IsRun t l.items (client d) (many d))
+    → ∥ Lawful p o h ∥₁ → length h ≤ limit → AreSettled h (map client driven) → IsSharedRun p setup h
+run_settled p setup o limit client many olds lists driven h lawful is bound a b first listed ran law short settled =
+    shared_run_is p setup o limit h (map client driven) lawful is bound law short settled
+    (each_made setup.calls client many (λ (l : Vec Call Global). l.items) olds lists driven a b first listed ran settled.whole)
+
+pub ok_map : {A F : Type 0} (P Q : A → Type 0) (r : Result A F) → IfOk r P → ((v : A) → P v → Q v) → IfOk r Q
+ok_map P Q (Ok v) p f = f v p
+ok_map P Q (Err e) p f = tt

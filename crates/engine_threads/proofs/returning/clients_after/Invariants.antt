@@ -1,0 +1,12 @@
+use Rattle.std.proofs.Common.{◌≡◌, All, None, length, map, vec_len, vec_capacity}
+use Rattle.kernel_shared.specs.declared.driving.Driven.{Driven}
+use Rattle.kernel_shared.specs.Tokens.{Token}
+use Rattle.engine_threads.proofs.returning.clients_after.Given as goal
+
+abbrev pub invariant-loop-driven : goal.invariant-loop-driven
+invariant-loop-driven g l = record {
+  len : length l.clients.items ≡ length l.yielded;
+  room : vec_capacity l.clients ≡ vec_len l.fn.all;
+  same : l.clients.items ≡ map (λ (d : Driven g.row.N.Denot g.row.T.Denot). d.client) l.yielded;
+  whole : All (λ (t : Token). t.stray ≡ None) l.clients.items;
+}

@@ -1,0 +1,34 @@
+use Rattle.std.proofs.Common.{rules, arith, ◌≡◌, ◌≤◌, length, slice_get, ap, sym, ◌∙◌, subst}
+use Rattle.abstract_kernel.specs.Boot.{boot}
+use Rattle.abstract_kernel.specs.Reached.{IsReached}
+use Rattle.abstract_kernel.specs.State.{State, shown}
+use Rattle.kernel_shared.specs.declared.driving.Driven.{Driven}
+use Rattle.engine.proofs.Runs.{boot_reached}
+use Rattle.engine_threads.proofs.Reports.{ok_map, run_settled}
+use Rattle.engine_threads.proofs.sharing.shared_run.Goals as goal
+
+pub start-requires-clause-begins : goal.start-requires-clause-begins
+start-requires-clause-begins g c =
+    let plan = c.args.setup.now.plan in
+    let r : IsReached g.P.Profile.the (boot g.P.Profile.the plan) = boot_reached g.P.Profile.the plan c.requires.plan in
+    ∣ record { reached = subst (λ (s : State). IsReached g.P.Profile.the s) (sym c.requires.start) r; shows = c.requires.opening ∙ ap shown (sym c.requires.start) } ∣₁
+
+pub returns-in-Ok-drive-clause-run : goal.returns-in-Ok-drive-clause-run
+returns-in-Ok-drive-clause-run g c =
+    let setup = c.args.setup.now in
+    let olds = c.in-Ok-start.started.1.items in
+    let lists = c.as_slice.result.now in
+    let all = c.in-Ok-drive.all.items in
+    let a : length lists ≡ length olds = search rules in
+    let b : length all ≡ length olds = search rules in
+    ok_map _ _ c.settle_after.result c.settle_after.ensures.settled
+    (λ book settled.
+    let counted : length book.history.items ≡ book.history.len = search rules in
+    let bound : book.history.len ≤ book.limit = book.short in
+    let short : length book.history.items ≤ book.limit = omega arith in
+    run_settled g.P.Profile.the setup g.N.Naming.opening book.limit (λ (d : Driven _ _). d.client) (λ (d : Driven _ _). d.made) olds lists all book.history.items
+    c.requires.plan c.requires.opening (book.limited ∙ c.requires.limit) a b
+    c.in-Ok-start.ensures.each
+    (λ i l at. c.in-Ok-calls_of_clients.ensures.each i l (ap (λ ls. slice_get ls i) (sym c.as_slice.ensures.value) ∙ at))
+    (λ i x y z p q r. (c.in-Ok-drive.ensures.each i x y z p q r).run)
+    book.lawful short settled)

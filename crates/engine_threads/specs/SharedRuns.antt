@@ -1,0 +1,63 @@
+-- What the program writes for the bytes that it reads where the clients of a set-up share one kernel, and its verdict.
+use Rattle.std.specs.Prelude.{◌≡◌, ℕ, ◌≤◌, ◌==◌, true, List, [], ◌++◌, map, filter, length, Result, Ok, Err}
+use Rattle.cap_core.specs.declared.profile.ProfileName.{ProfileName}
+use Rattle.abstract_kernel.specs.declared.call.Call.{Call}
+use Rattle.abstract_kernel.specs.Boot.{boot}
+use Rattle.abstract_kernel.specs.State.{State, shown}
+use Rattle.abstract_kernel.specs.Step.{replies_of, state_after}
+use Rattle.kernel_book.specs.declared.entry.Entry.{Entry}
+use Rattle.kernel_book.specs.Laws.{calls_of, replies_in, is_numbered}
+use Rattle.setup_format.specs.Views.{SetupView, CallView}
+use Rattle.setup_format.specs.Faults.{Fault}
+use Rattle.setup_format.specs.Setups.{setup_of_bytes}
+use Rattle.setup_format.specs.Refusal.{refusal_line}
+use Rattle.setup_shared_report.specs.SharedReport.{shared_report_of}
+use Rattle.engine.specs.Program.{verdict_on}
+use Rattle.engine.specs.declared.fault.Verdict.{Verdict}
+use Rattle.engine.specs.declared.fault.Verdict.TheVariants.{Refused}
+
+-- the calls of a client in a set-up, in order
+abbrev pub client_calls : ℕ → List CallView → List Call
+client_calls client calls = map (λ (c : CallView). c.call) (filter (λ (c : CallView). c.client == client) calls)
+
+-- the calls of a client in a history, in order
+abbrev pub calls_by : ℕ → List Entry → List Call
+calls_by client history = calls_of (filter (λ (e : Entry). e.client == client) history)
+
+-- the calls begin with these
+abbrev pub IsBeginning : List Call → List Call → Type 0
+IsBeginning first calls = (rest : List Call) × (calls ≡ first ++ rest)
+
+-- A history that the clients of a set-up can make of a kernel that they share. The replies are those of the abstract kernel
+-- from its boot on; each client's entries are numbered from 0 on, in order; there are no more entries than the set-up's limit;
+-- and each client's entries carry a beginning of its calls, which is all of them where the history has as many entries as
+-- the set-up has calls.
+pub record IsSharedRun (p : ProfileName) (setup : SetupView) (history : List Entry) : Type 0 where
+  pub replies : replies_in history ≡ replies_of p (boot p setup.plan) (calls_of history)
+  pub numbered : is_numbered [] history ≡ true
+  pub within : length history ≤ setup.limit
+  pub beginnings : (client : ℕ) → IsBeginning (calls_by client history) (client_calls client setup.calls)
+  pub whole : length history ≡ length setup.calls → (client : ℕ) → calls_by client history ≡ client_calls client setup.calls
+
+-- what the abstract kernel shows after the calls of a history
+abbrev pub state_of : ProfileName → SetupView → List Entry → State
+state_of p setup history = state_after p (boot p setup.plan) (calls_of history)
+
+-- the report of a history, and its verdict: all calls of the set-up are made, or not all
+abbrev pub IsReportOf : ProfileName → SetupView → List Entry → List ℕ → Verdict → Type 0
+IsReportOf p setup history text verdict =
+    (text ≡ shared_report_of p (length setup.calls) history (shown (state_of p setup history)))
+    × (verdict ≡ verdict_on (length history) (length setup.calls))
+
+-- the report of some shared run of the set-up
+abbrev pub IsOutcomeIn : ProfileName → SetupView → List ℕ → Verdict → Type 0
+IsOutcomeIn p setup text verdict = (history : List Entry) × IsSharedRun p setup history × IsReportOf p setup history text verdict
+
+-- or the line by which it is refused
+abbrev pub IsOutcome : Result SetupView Fault → List ℕ → Verdict → Type 0
+IsOutcome (Ok setup) text verdict = IsOutcomeIn setup.profile setup text verdict
+IsOutcome (Err fault) text verdict = (text ≡ refusal_line fault) × (verdict ≡ Refused)
+
+-- what is right to write for the bytes of an input, in the profile that its set-up names
+unfoldable pub IsSharedProgram : List ℕ → List ℕ → Verdict → Type 0
+IsSharedProgram input text verdict = IsOutcome (setup_of_bytes input) text verdict

@@ -1,0 +1,146 @@
+//! A shared run of a set-up: its clients make their calls of one kernel, each in a thread of its own.
+ghost use Rattle.std.specs.Prelude.{◌≡◌, IfOk, IfErr, map};
+ghost use Rattle.abstract_kernel.specs.Boot.{boot};
+ghost use Rattle.abstract_kernel.specs.Plan.{IsPlan};
+ghost use Rattle.abstract_kernel.specs.State.{shown};
+ghost use Rattle.engine_threads.specs.Private.Settled.{AreSettled, IsOwnFault};
+ghost use Rattle.engine_threads.specs.SharedRuns.{IsSharedRun};
+
+use crate::client_calls::calls_of_clients;
+use crate::returning::{ReturnFault, clients_after};
+use cap_core::Profile;
+use engine::RunFault;
+use ipc_core::MakeWaiters;
+use kernel_core::Kernel;
+use kernel_shared::{
+    Book, DriveFault, Driven, Gate, Naming, SettleFault, SharedKernel, StartFault, drive, settle,
+};
+use setup_format::Setup;
+use slot_core::MakeStore;
+use std::alloc::Global;
+use std::sync::Wait;
+use std::sync::ledger::Blank;
+use std::thread::Threads;
+
+/// The fault that stands for one of a start.
+fn start_fault(fault: StartFault) -> RunFault
+    ensures { IsOwnFault result }
+{
+    match fault {
+        StartFault::Memory => RunFault::Memory,
+        StartFault::Reader => RunFault::Thread,
+    }
+}
+
+/// The fault that stands for one of a drive.
+fn drive_fault(fault: DriveFault) -> RunFault
+    ensures { IsOwnFault result }
+{
+    match fault {
+        DriveFault::Memory => RunFault::Memory,
+        DriveFault::Thread => RunFault::Thread,
+    }
+}
+
+/// The fault that stands for one of a settlement.
+fn settle_fault(fault: SettleFault) -> RunFault
+    ensures { IsOwnFault result }
+{
+    match fault {
+        SettleFault::Memory => RunFault::Memory,
+        SettleFault::Missing | SettleFault::NoEntry => RunFault::Thread,
+    }
+}
+
+/// The fault that stands for one of the clients of a drive.
+fn return_fault(fault: ReturnFault) -> RunFault
+    ensures { IsOwnFault result }
+{
+    match fault {
+        ReturnFault::Memory => RunFault::Memory,
+        ReturnFault::Lost => RunFault::Thread,
+    }
+}
+
+/// Settles a shared kernel after a drive of its clients, or ends it without its book.
+fn settle_after<N: Naming, P: Profile, S: MakeStore<P>, W: MakeWaiters<P>, R: Wait>(
+    rt: &R,
+    alloc: Global,
+    shared: SharedKernel<N, P, S, W>,
+    all: Vec<Driven<N, P, S, W>>,
+) -> Result<Book<N, P, S, W>, RunFault>
+    ensures settled { IfOk result (λ b. AreSettled b.history.items (map (λ d. d.client) all.items)) }
+    ensures fault { IfErr result IsOwnFault }
+{
+    let clients = match clients_after(alloc, all) {
+        Ok(clients) => clients,
+        Err(fault) => {
+            shared.give_up(rt);
+            return Err(return_fault(fault));
+        }
+    };
+    match settle(rt, shared, clients) {
+        Ok(book) => Ok(book),
+        Err(unsettled) => {
+            let fault = settle_fault(unsettled.why);
+            unsettled.give_up(rt);
+            Err(fault)
+        }
+    }
+}
+
+/// Boots a kernel from the set-up's plan, shares it among the set-up's clients, and lets each make its calls, in order,
+/// in a thread of its own.
+///
+/// # Errors
+/// `Memory`, and `Thread` where a thread could not be started, or where the shared kernel gave a reader no entry.
+pub fn shared_run<
+    N: Naming + Send + Sync,
+    P: Profile + Send + Sync,
+    S: MakeStore<P> + Send + Sync,
+    W: MakeWaiters<P> + Send + Sync,
+    R: Threads + Wait + Sync,
+    G: Gate + Sync,
+>(
+    rt: &R,
+    alloc: Global,
+    blank: Blank,
+    setup: &Setup,
+    gate: &G,
+) -> Result<Book<N, P, S, W>, RunFault>
+    requires name { blank.name ≡ N.name }
+    requires parts { blank.parts ≡ N.parts }
+    requires clients { blank.parts ≡ setup.now.clients }
+    requires plan { IsPlan P.the setup.now.plan }
+    requires profile { N.profile ≡ P.the }
+    requires start { N.start ≡ boot P.the setup.now.plan }
+    requires opening { N.opening ≡ shown (boot P.the setup.now.plan) }
+    requires limit { N.limit ≡ setup.now.limit }
+    ensures run { IfOk result (λ b. IsSharedRun P.the setup.now b.history.items) }
+    ensures fault { IfErr result IsOwnFault }
+{
+    let Ok(kernel) = Kernel::<P, S, W>::boot(alloc, setup.plan()) else {
+        return Err(RunFault::Memory);
+    };
+    let Ok(lists) = calls_of_clients(alloc, setup) else {
+        return Err(RunFault::Memory);
+    };
+    let (shared, clients) = match SharedKernel::<N, P, S, W>::start(
+        rt,
+        alloc,
+        blank,
+        kernel,
+        setup.clients(),
+        setup.limit(),
+    ) {
+        Ok(started) => started,
+        Err(fault) => return Err(start_fault(fault)),
+    };
+    match drive(rt, alloc, &shared, clients, lists.as_slice(), gate) {
+        Ok(all) => settle_after(rt, alloc, shared, all),
+        Err(fault) => {
+            shared.give_up(rt);
+            Err(drive_fault(fault))
+        }
+    }
+}

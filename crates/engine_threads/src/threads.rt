@@ -1,0 +1,158 @@
+//! The run of a set-up's clients, over a source and a sink.
+ghost use Rattle.std.specs.Prelude.{◌≡◌, false, IfOk, IfErr};
+ghost use Rattle.abstract_kernel.specs.Boot.{boot};
+ghost use Rattle.abstract_kernel.specs.Plan.{IsPlan};
+ghost use Rattle.abstract_kernel.specs.State.{shown};
+ghost use Rattle.engine.specs.Program.{verdict_on as verdict_of_counts};
+ghost use Rattle.engine.specs.Runs.{IsRun};
+ghost use Rattle.engine_threads.specs.Private.Settled.{IsOwnFault};
+ghost use Rattle.engine_threads.specs.SharedRuns.{IsOutcomeIn, IsSharedProgram};
+
+use crate::sharing::shared_run;
+use cap_core::{Narrow, Profile, ProfileName, Wide};
+use engine::{INPUT_LIMIT, RunFault, Sink, Source, Verdict, read_below, refusal, write_all};
+use ipc_core::{LinkedWaiters, MakeWaiters};
+use kernel_shared::{Gate, Naming};
+use setup_format::{Setup, SetupFault, read_setup};
+use setup_shared_report::shared_report;
+use slot_core::{LinkedStore, MakeStore};
+use std::alloc::Global;
+use std::marker::Brand;
+use std::sync::Wait;
+use std::sync::ledger::Blank;
+use std::thread::Threads;
+
+/// Whether all calls of the set-up are made.
+fn verdict_on(entries: usize, calls: usize) -> Verdict
+    ensures { result ≡ verdict_of_counts entries calls }
+{
+    if entries == calls {
+        Verdict::AllMet
+    } else {
+        Verdict::NotMet
+    }
+}
+
+/// Lets the clients of a set-up share a kernel, and reports on the history of their calls.
+fn report_on<
+    N: Naming + Send + Sync,
+    P: Profile + Send + Sync,
+    S: MakeStore<P> + Send + Sync,
+    W: MakeWaiters<P> + Send + Sync,
+    R: Threads + Wait + Sync,
+    G: Gate + Sync,
+>(
+    rt: &R,
+    alloc: Global,
+    blank: Blank,
+    setup: &Setup,
+    gate: &G,
+) -> Result<(Vec<u8>, Verdict), RunFault>
+    requires name { blank.name ≡ N.name }
+    requires parts { blank.parts ≡ N.parts }
+    requires clients { blank.parts ≡ setup.now.clients }
+    requires plan { IsPlan P.the setup.now.plan }
+    requires profile { N.profile ≡ P.the }
+    requires start { N.start ≡ boot P.the setup.now.plan }
+    requires opening { N.opening ≡ shown (boot P.the setup.now.plan) }
+    requires limit { N.limit ≡ setup.now.limit }
+    ensures made { IfOk result (λ made. IsOutcomeIn P.the setup.now made.0.items made.1) }
+    ensures fault { IfErr result IsOwnFault }
+{
+    let book = shared_run::<N, P, S, W, R, G>(rt, alloc, blank, setup, gate)?;
+    let Ok(text) = shared_report(alloc, setup, &book) else {
+        return Err(RunFault::Memory);
+    };
+    let verdict = verdict_on(book.history.len(), setup.calls().len());
+    Ok((text, verdict))
+}
+
+/// The same by the linked forms, under a name of its own.
+fn report_by_links<P: Profile + Send + Sync, R: Threads + Wait + Sync, G: Gate + Sync>(
+    rt: &R,
+    alloc: Global,
+    setup: &Setup,
+    gate: &G,
+) -> Result<(Vec<u8>, Verdict), RunFault>
+    requires { IsPlan P.the setup.now.plan }
+    ensures made { IfOk result (λ made. IsOutcomeIn P.the setup.now made.0.items made.1) }
+    ensures fault { IfErr result IsOwnFault }
+{
+    let blank = Blank::new(u64::from(setup.clients()));
+    report_on::<Brand, P, LinkedStore<P>, LinkedWaiters<P>, R, G>(rt, alloc, blank, setup, gate)
+}
+
+/// The same in the profile of the set-up.
+fn report_in_profile<R: Threads + Wait + Sync, G: Gate + Sync>(
+    rt: &R,
+    alloc: Global,
+    setup: &Setup,
+    gate: &G,
+) -> Result<(Vec<u8>, Verdict), RunFault>
+    requires { IsPlan setup.now.profile setup.now.plan }
+    ensures made { IfOk result (λ made. IsOutcomeIn setup.now.profile setup.now made.0.items made.1) }
+    ensures fault { IfErr result IsOwnFault }
+{
+    match setup.profile() {
+        ProfileName::Wide => report_by_links::<Wide, R, G>(rt, alloc, setup, gate),
+        ProfileName::Narrow => report_by_links::<Narrow, R, G>(rt, alloc, setup, gate),
+    }
+}
+
+/// The text that is written for the bytes of an input, and the verdict.
+#[tactic(auto, unfolding(crate::specs::SharedRuns::IsSharedProgram))]
+fn report_of_input<R: Threads + Wait + Sync, G: Gate + Sync>(
+    rt: &R,
+    alloc: Global,
+    input: &[u8],
+    gate: &G,
+) -> Result<(Vec<u8>, Verdict), RunFault>
+    ensures made { IfOk result (λ made. IsSharedProgram input.now made.0.items made.1) }
+    ensures fault { IfErr result IsOwnFault }
+{
+    match read_setup(alloc, input) {
+        Ok(setup) => report_in_profile(rt, alloc, &setup, gate),
+        Err(SetupFault::Memory) => Err(RunFault::Memory),
+        Err(fault) => match refusal(alloc, &fault) {
+            Ok(text) => Ok((text, Verdict::Refused)),
+            Err(_) => Err(RunFault::Memory),
+        },
+    }
+}
+
+/// Reads the source to its end, lets the clients of the set-up that it holds make their calls of one kernel, each in a
+/// thread of its own, with the gate before and after each call, and writes the report of the history to the sink, or
+/// the line by which the set-up is refused. It waits until the clients have ended.
+///
+/// # Errors
+/// `Reading` where a read failed in this call, or where `INPUT_LIMIT` bytes came without an end; nothing is written
+/// then. `Writing` where a write failed or took no byte; a front of the text was written then. `Memory`, and `Thread`
+/// where a thread could not be started, or the shared kernel gave a reader no entry; nothing is written then.
+pub fn threads_run<R: Threads + Wait + Sync, S: Source, K: Sink, G: Gate + Sync>(
+    rt: &R,
+    alloc: Global,
+    source: &mut S,
+    sink: &mut K,
+    gate: &G,
+) -> Result<Verdict, RunFault>
+    requires source { S.failed source.old ≡ false }
+    requires sink { K.failed sink.old ≡ false }
+    ensures run { IsRun IsSharedProgram S.Source K.Sink source.old source.new sink.old sink.new result }
+{
+    let input = read_below(alloc, source, INPUT_LIMIT)?;
+    let (text, verdict) = report_of_input(rt, alloc, input.as_slice(), gate)?;
+    write_all(sink, text.as_slice())?;
+    Ok(verdict)
+}
+
+/// A gate that is always open.
+#[derive(Clone, Copy, Drop)]
+pub struct OpenGate;
+
+impl Gate for OpenGate {
+    fn before(&self, _client: u32, _number: u32) -> bool {
+        true
+    }
+
+    fn after(&self, _client: u32, _number: u32) {}
+}
