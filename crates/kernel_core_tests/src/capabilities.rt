@@ -14,8 +14,8 @@ const DONE: (u32, u32) = (0, 0);
 /// An operation, and what it is to be answered: `DONE`, or a refusal's number and kind.
 type Step = (Op, (u32, u32));
 
-/// Makes calls of one thread on a boot with two threads, one endpoint and an untyped region of 4096 bytes at 16384, whose
-/// capability is in slot 5, and looks at the reply to each.
+/// Makes calls of one thread on a boot with two threads, one endpoint and an untyped region of 4096 bytes at 16384,
+/// whose capability is in slot 5, and looks at the reply to each.
 fn stepped<P: Profile, S: MakeStore<P>, W: MakeWaiters<P>>(
     rt: &impl Abort,
     alloc: Global,

@@ -254,8 +254,8 @@ fn a_revoke_may_end_the_revoked_slot(rt: HostRuntime) -> Result<(), Fail> {
     ends_the_revoked_slot::<LinkedStore<Wide>, LinkedWaiters<Wide>>(&rt, rt.alloc())
 }
 
-/// Two CNodes hold each other's capability, so that no word leads to them. A revoke of their untyped ends both, and what
-/// is made then starts at the region's base: an endpoint where a CNode was.
+/// Two CNodes hold each other's capability, so that no word leads to them. A revoke of their untyped ends both, and
+/// what is made then starts at the region's base: an endpoint where a CNode was.
 fn ends_both_nodes<S: MakeStore<Wide>, W: MakeWaiters<Wide>>(
     rt: &impl Abort,
     alloc: Global,
@@ -446,4 +446,33 @@ fn a_copy_is_a_kernel_of_its_own(rt: HostRuntime) -> Result<(), Fail> {
     copies::<RowStore<Wide>, LinkedWaiters<Wide>>(&rt, rt.alloc())?;
     copies::<LinkedStore<Wide>, RowWaiters<Wide>>(&rt, rt.alloc())?;
     copies::<LinkedStore<Wide>, LinkedWaiters<Wide>>(&rt, rt.alloc())
+}
+
+/// An endpoint is made at one address, waited on and deleted, a thousand times; when it is made once more nobody waits
+/// there.
+fn uses_an_address_again<S: MakeStore<Wide>, W: MakeWaiters<Wide>>(
+    rt: &impl Abort,
+    alloc: Global,
+) -> Result<(), Fail> {
+    let mut kernel = stepped::<S, W>(rt, alloc, &[])?;
+    let round = [
+        (CALLER, retype(2, 0, 8, 1), DONE),
+        (4096, send(8, 1), WAITS),
+        (CALLER, delete(8), DONE),
+    ];
+    for _ in 0..1000 {
+        go_on(rt, &mut kernel, &round);
+    }
+    go_on(rt, &mut kernel, &[(CALLER, retype(2, 0, 8, 1), DONE)]);
+    has_waiting(rt, &kernel, 16384, 0, None);
+    has_state(rt, &kernel, 4096, Some(ThreadState::Ready));
+    Ok(())
+}
+
+#[test]
+fn an_address_is_used_again_a_thousand_times(rt: HostRuntime) -> Result<(), Fail> {
+    uses_an_address_again::<RowStore<Wide>, RowWaiters<Wide>>(&rt, rt.alloc())?;
+    uses_an_address_again::<RowStore<Wide>, LinkedWaiters<Wide>>(&rt, rt.alloc())?;
+    uses_an_address_again::<LinkedStore<Wide>, RowWaiters<Wide>>(&rt, rt.alloc())?;
+    uses_an_address_again::<LinkedStore<Wide>, LinkedWaiters<Wide>>(&rt, rt.alloc())
 }

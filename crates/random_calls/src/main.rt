@@ -1,0 +1,65 @@
+//! Makes 10,000 calls, drawn from a seed, on kernels over each pair of a capability store and a store of waiting
+//! threads, in both profiles: lawful calls and others, with derivations hundreds deep, and with all of a region
+//! retyped, revoked and used again.
+//!
+//! After each call the reply is compared with that of a kernel over the linked forms, and so is all that the kernels
+//! show: threads, inboxes, waiting lists and slots. For each pair one line says that they agree, or at which call they
+//! do not. A line for each profile says what the calls reached. The exit status is 1 where kernels differ, or where the
+//! calls reached too little.
+#![tactic(auto)]
+
+use cap_core::{Narrow, Profile, Wide};
+use ipc_core::{LinkedWaiters, MakeWaiters, RowWaiters};
+use run::{CALLS, Difference, agree};
+use slot_core::{LinkedStore, MakeStore, RowStore};
+use std::process::ExitCode;
+use tally::Tally;
+
+mod drawn;
+mod layout;
+mod numbers;
+mod operations;
+mod run;
+mod shown;
+mod tally;
+
+/// Runs the calls over one pair, and says whether it agrees with the linked forms: what the calls reached, where it
+/// does.
+fn run_pair<P: Profile, S: MakeStore<P>, W: MakeWaiters<P>, R: Print + AllocGlobal>(
+    rt: &R,
+    pair: &str,
+) -> anyhow::Result<Option<Tally>> {
+    let profile = P::name();
+    match agree::<P, S, W>(rt.alloc())? {
+        Ok(tally) => {
+            println!(rt; "{profile:?}, {pair}: {CALLS} calls as with LinkedStore, LinkedWaiters")?;
+            Ok(Some(tally))
+        }
+        Err(Difference { place, call }) => {
+            println!(rt; "{profile:?}, {pair}: call {place} differs: {call:?}")?;
+            Ok(None)
+        }
+    }
+}
+
+/// Runs the calls over each pair in one profile: whether all agree, and the calls reach what they have to.
+fn run_profile<P: Profile, R: Print + AllocGlobal>(rt: &R) -> anyhow::Result<bool> {
+    let rows = run_pair::<P, RowStore<P>, RowWaiters<P>, R>(rt, "RowStore, RowWaiters")?;
+    let links = run_pair::<P, LinkedStore<P>, RowWaiters<P>, R>(rt, "LinkedStore, RowWaiters")?;
+    let queues = run_pair::<P, RowStore<P>, LinkedWaiters<P>, R>(rt, "RowStore, LinkedWaiters")?;
+    let (Some(tally), Some(_), Some(_)) = (rows, links, queues) else {
+        return Ok(false);
+    };
+    let profile = P::name();
+    match tally.missing() {
+        None => println!(rt; "{profile:?}: the calls reach all that they have to")?,
+        Some(missing) => println!(rt; "{profile:?}: {missing}: {tally:?}")?,
+    }
+    Ok(tally.missing().is_none())
+}
+
+fn main(rt: HostRuntime) -> anyhow::Result<ExitCode> {
+    let wide = run_profile::<Wide, HostRuntime>(&rt)?;
+    let narrow = run_profile::<Narrow, HostRuntime>(&rt)?;
+    Ok(ExitCode::from(if wide && narrow { 0 } else { 1 }))
+}
