@@ -1,13 +1,18 @@
 # make run: the proved program on the stored set-up; make test: the gate; make try: the stored set-up before any proof;
 # make rows: the built program: each worked set-up, as it is and migrated, what it says of wrong command lines, files and
-# set-ups, an address used again a thousand times, each request for memory refused in turn, inputs and outputs that fail,
-# texts that are broken, deep or long, and what the documents print;
-# make bench: the linked forms and the kernel beside plain Rust, and the time of long set-ups.
-.PHONY: run test try rows bench
+# set-ups, an address used again a thousand times, each request for memory refused in turn, by each subcommand and by
+# calls of the libraries, inputs and outputs that fail, texts that are broken, deep or long, three clients in whatever
+# order they come, and what the documents print;
+# make bench: how the cost of check, the kernel and the linked forms grows, beside plain Rust, measured and drawn
+# (docs/performance.md); it says first what it needs and does not find.
+.PHONY: run test try rows needs bench
 
 program = crates/sel4sim/out/sel4sim
+calls = crates/refused_memory/out/refused_memory
 setups = crates/worked_setups/data
+plain = bench/check_plain/out/target/release/check_plain
 stored = $(setups)/examples/send_then_receive.toml
+first_format = $(setups)/messages/receive_then_send.toml
 
 run:
 	cd crates/sel4sim && rt run < stdin
@@ -23,15 +28,19 @@ rows: run
 	python3 rows/migrate.py $(program) $(setups)
 	python3 rows/messages.py $(program)
 	python3 rows/use_address_again.py $(program) 1000
-	python3 rows/refuse_memory.py $(program) $(stored)
+	cd crates/refused_memory && rt run
+	python3 rows/refuse_memory.py $(program) $(calls) $(stored) $(first_format)
 	python3 rows/devices.py $(program) $(stored)
+	python3 rows/fail_each_transfer.py $(program) $(stored)
 	python3 rows/hostile_texts.py $(program) $(setups) $(stored)
+	python3 rows/run_clients.py $(program) $(setups)/examples/three_clients.toml 100
 	python3 rows/documents.py $(dir $(program)) README.md docs/*.md
 
-bench: run
-	bench/run.sh store_cycle
-	bench/run.sh ping_pong
-	bench/run.sh kernel_cycle kernel_cycle kernel_replies
-	bench/run.sh revoke_cycle
-	python3 bench/instructions.py bench/kernel_cycle/out/target/release/kernel_cycle bench/revoke_cycle/out/target/release/revoke_cycle
-	python3 bench/check.py $(program)
+needs:
+	bench/needs.sh
+
+bench: needs run
+	cd bench/check_plain && CARGO_TARGET_DIR=out/target cargo build --release --quiet
+	python3 bench/same_reports.py $(plain) $(setups)
+	python3 bench/growth.py $(program) $(plain)
+	python3 bench/draw.py

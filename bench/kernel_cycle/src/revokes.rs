@@ -8,7 +8,7 @@ mod plain_store;
 #[path = "../../ping_pong/src/plain_waiters.rs"]
 mod plain_waiters;
 
-use plain_kernel::{Kernel, Op, Reply, Slots};
+use plain_kernel::{Kernel, Layout, Op, Reply, Slots};
 
 const THREAD: u64 = 2048;
 
@@ -31,7 +31,13 @@ pub const ALL_SLOTS: u32 = 1 << CNODE_RADIX;
 /// untyped one, each of the copy before it (`deep`). With `revokes`, that capability is revoked each time that so many slots
 /// were filled. Whether each call was accepted.
 pub fn revoke_run(slots: u32, deep: bool, revokes: bool) -> bool {
-    let mut kernel = Kernel::boot(20, 4, &[(524288, 19), (16384, 12)]);
+    let mut kernel = Kernel::boot(&Layout {
+        memory_bits: 20,
+        root_radix: 4,
+        threads: 2,
+        endpoints: 1,
+        untypeds: &[(524288, 19), (16384, 12)],
+    });
     let prepared = accepts(&mut kernel, new_cnode()) && accepts(&mut kernel, mint());
     let source = if deep { SMALL_UNTYPED } else { BADGED };
     prepared

@@ -8,7 +8,7 @@ mod plain_store;
 #[path = "../../ping_pong/src/plain_waiters.rs"]
 mod plain_waiters;
 
-use plain_kernel::{Kernel, Op, Reply, Slots};
+use plain_kernel::{Kernel, Layout, Op, Reply, Slots};
 use plain_waiters::Message;
 use std::hint::black_box;
 
@@ -155,7 +155,13 @@ fn delete(slot: u64) -> Op {
 }
 
 fn booted() -> Kernel {
-    Kernel::boot(20, 12, &[(524288, 19)])
+    Kernel::boot(&Layout {
+        memory_bits: 20,
+        root_radix: 12,
+        threads: 2,
+        endpoints: 1,
+        untypeds: &[(524288, 19)],
+    })
 }
 
 fn is_accepted(reply: &Reply) -> bool {

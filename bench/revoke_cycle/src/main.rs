@@ -4,11 +4,11 @@ use plain::ALL_SLOTS;
 use std::hint::black_box;
 use std::time::Instant;
 
-// Many runs of which the least counts, so that other work on the machine weighs little.
-const REPEATS: u32 = 200;
+// Many runs, so that other work on the machine weighs little.
+const REPEATS: usize = 200;
 
 /// How many slots each revocation clears.
-const SIZES: [u32; 6] = [16, 64, 256, 1024, 4096, 16384];
+const SIZES: [u32; 4] = [16, 256, 4096, 16384];
 
 /// The names of the forests: all copies children of one, and each copy the child of the one before it.
 const FORESTS: [(&str, bool); 2] = [("wide", false), ("deep", true)];
@@ -42,23 +42,27 @@ fn time(run: Run, slots: u32, deep: bool, revokes: bool) -> f64 {
     start.elapsed().as_secs_f64()
 }
 
-/// The least seconds of a run that revokes, and of one that does not.
-#[derive(Clone, Copy)]
-struct Least {
-    revoking: f64,
-    filling: f64,
+/// Seconds that a run takes longer with revocations than without.
+fn difference(run: Run, slots: u32, deep: bool) -> f64 {
+    let filling = time(run, slots, deep, false);
+    time(run, slots, deep, true) - filling
 }
 
-/// Nanoseconds of revocation a slot, for each of the runs.
+fn middle(mut seconds: Vec<f64>) -> f64 {
+    seconds.sort_by(f64::total_cmp);
+    seconds[seconds.len() / 2]
+}
+
+/// Nanoseconds of revocation a slot, for each of the runs: the middle of the differences. The difference of the least times
+/// would be that of a run in a quiet moment and of one in another.
 fn measured(slots: u32, deep: bool) -> [f64; RUNS.len()] {
-    let mut all = [Least { revoking: f64::MAX, filling: f64::MAX }; RUNS.len()];
+    let mut all = RUNS.map(|_| Vec::with_capacity(REPEATS));
     for _ in 0..REPEATS {
-        for ((_, run), least) in RUNS.iter().zip(&mut all) {
-            least.filling = least.filling.min(time(*run, slots, deep, false));
-            least.revoking = least.revoking.min(time(*run, slots, deep, true));
+        for ((_, run), seconds) in RUNS.iter().zip(&mut all) {
+            seconds.push(difference(*run, slots, deep));
         }
     }
-    all.map(|least| (least.revoking - least.filling) * 1e9 / f64::from(ALL_SLOTS))
+    all.map(|seconds| middle(seconds) * 1e9 / f64::from(ALL_SLOTS))
 }
 
 fn print_times() {

@@ -1,0 +1,81 @@
+"""growth.py PROGRAM PLAIN: measures how cost grows with the work, of the proved PROGRAM beside the same in plain Rust
+(PLAIN, the built program of bench/check_plain): of `check` for the set-ups of set_ups.py, at four sizes each, and of
+the kernel's steps and revocations, and of kernels that clients share. Writes docs/performance.csv. Both programs have
+to write the same report, byte for byte."""
+
+import pathlib
+import sys
+import tempfile
+
+import cycles
+import figures
+import set_ups
+import shared
+from measures import counts_of_functions, instructions, least_seconds, output, peak_kib
+
+# The functions whose instructions are those of a part; the C compiler puts `text_of` into its only caller.
+WHOLE = ["engine::run::text_of", "engine::checking::CheckerEngine::make"]
+BOOT = "kernel_core::kernel::Kernel::boot"
+PLAIN_PARTS = {
+    "reading": "setup::read_setup",
+    "booting": "boot",
+    "running": "run_calls",
+    "reporting": "report::write_report",
+}
+
+
+def proved_parts(command):
+    counts = counts_of_functions(command)
+    made = next(counts[name] for name in WHOLE if name in counts)
+    setup, calls, boot = counts["engine::run::run_setup"], counts["engine::run::run_calls"], counts[BOOT]
+    parts = {"reading": made - setup, "booting": boot, "running": calls - boot, "reporting": setup - calls}
+    return {"instructions": counts[None], **parts}
+
+
+def plain_parts(command):
+    counts = counts_of_functions(command)
+    parts = {part: counts[f"check_plain::{name}"] for part, name in PLAIN_PARTS.items()}
+    return {"instructions": counts[None], **parts}
+
+
+def whole(command):
+    return {"instructions": instructions(command)}
+
+
+def counters(subject):
+    # To tell the parts apart takes some three times as long, and the parts are the same however the calls are spelt.
+    return (whole, whole) if subject.endswith("headers") else (proved_parts, plain_parts)
+
+
+def check_rows(proved, plain, path, subject, size):
+    commands = [[program, "check", path] for program in (proved, plain)]
+    reports = [output(command) for command in commands]
+    assert reports[0] == reports[1], f"{subject}, {size}: the reports differ"
+    times = least_seconds(commands)
+    for name, command, count, time in zip(("proved", "plain Rust"), commands, counters(subject), times):
+        costs = {"seconds": f"{time:.6f}", "peak_kib": peak_kib(command)}
+        yield {"subject": subject, "size": size, "program": name, **count(command), **costs}
+
+
+def growth_rows(proved, plain):
+    with tempfile.TemporaryDirectory() as folder:
+        path = pathlib.Path(folder) / "setup.toml"
+        for subject, (sizes, text_of) in set_ups.SUBJECTS.items():
+            for size in sizes:
+                path.write_text(text_of(size))
+                yield from check_rows(proved, plain, path, subject, size)
+
+
+def told(rows):
+    """The rows as they are, each printed when it is there."""
+    for row in rows:
+        print("; ".join(f"{key} {value}" for key, value in row.items()), flush=True)
+        yield row
+
+
+def main():
+    proved, plain = sys.argv[1:]
+    figures.write([*told(cycles.rows()), *told(shared.rows()), *told(growth_rows(proved, plain))])
+
+
+main()

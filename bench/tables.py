@@ -1,0 +1,132 @@
+"""The tables of docs/performance.md, between two marks, from the figures of docs/performance.csv."""
+
+import shared
+
+BEGIN, END = "<!-- figures: bench/draw.py writes what stands from here on -->", "<!-- end of the figures -->"
+
+PARTS = ["reading", "booting", "running", "reporting"]
+HINTS = "plain Rust with hints"
+
+# How many slots the revocations of one run clear.
+ALL_SLOTS = 16384
+
+KIB_IN_MB = 1024e-6
+
+
+def shown(number):
+    """A number with three digits that count."""
+    if number >= 100:
+        return f"{number:,.0f}"
+    return f"{number:.3g}" if number < 1 else f"{number:.1f}"
+
+
+def ratio(proved, plain):
+    return f"{proved / plain:.2f}" if proved is not None and plain else ""
+
+
+def table(head, lines):
+    rows = ["| " + " | ".join(line) + " |" for line in [head, *lines]]
+    return "\n".join([rows[0], "|" + "---|" * len(head), *rows[1:]])
+
+
+class Figures:
+    def __init__(self, rows):
+        self.by_key = {(row["subject"], row["size"], row["program"]): row for row in rows}
+        self.sizes = {}
+        for row in rows:
+            sizes = self.sizes.setdefault(row["subject"], [])
+            if row["size"] not in sizes:
+                sizes.append(row["size"])
+
+    def of(self, subject, size, program, field):
+        return self.by_key.get((subject, size, program), {}).get(field)
+
+    def pair(self, subject, size, field, plain="plain Rust"):
+        return self.of(subject, size, "proved", field), self.of(subject, size, plain, field)
+
+    def grown(self):
+        """The subjects of which whole runs were measured, at several sizes."""
+        return [s for s, sizes in self.sizes.items() if self.of(s, sizes[-1], "proved", "peak_kib") is not None]
+
+    def small(self):
+        """The subjects of which the time of one step was measured."""
+        return [s for s, sizes in self.sizes.items() if sizes == [1]]
+
+    def revocations(self):
+        return [subject for subject in self.sizes if subject.startswith("revocations")]
+
+
+def costs(figures, subject, size):
+    """The figures of a whole run, proved and plain with their ratio: millions of instructions, milliseconds and MB."""
+    for field, scale in (("instructions", 1e-6), ("seconds", 1e3), ("peak_kib", KIB_IN_MB)):
+        proved, plain = figures.pair(subject, size, field)
+        yield from (shown(proved * scale), shown(plain * scale), ratio(proved, plain))
+
+
+def largest(figures):
+    head = ["subject, largest size"]
+    for cost in ("10⁶ instructions", "ms", "peak MB"):
+        head += [f"{cost}, proved", "plain", "ratio"]
+    lines = []
+    for subject in figures.grown():
+        size = figures.sizes[subject][-1]
+        lines.append([f"{subject}, {size:,}", *costs(figures, subject, size)])
+    return table(head, lines)
+
+
+def growth(figures):
+    head = ["ratio of instructions, of all and of the parts", "at the four sizes", *PARTS]
+    lines = []
+    for subject in figures.grown():
+        sizes = figures.sizes[subject]
+        ratios = ", ".join(ratio(*figures.pair(subject, size, "instructions")) for size in sizes)
+        parts = [ratio(*figures.pair(subject, sizes[-1], part)) for part in PARTS]
+        lines.append([subject, ratios, *parts])
+    return table(head, lines)
+
+
+def line_of_one(figures, name, subject, size, field, scale):
+    """The figures of one of what a run has many of, beside plain Rust with and without hints."""
+    proved, plain, hinted = (figures.of(subject, size, program, field) for program in ("proved", "plain Rust", HINTS))
+    line = [name, shown(proved * scale), shown(plain * scale), ratio(proved, plain)]
+    return line + ([shown(hinted * scale), ratio(proved, hinted)] if hinted else ["", ""])
+
+
+def cleared(figures):
+    """Each forest and size of revocations, and the name of one slot that they clear."""
+    for subject in figures.revocations():
+        for size in (figures.sizes[subject][0], figures.sizes[subject][-1]):
+            yield subject, size, f"slot cleared by a {subject.replace('revocations, ', '')} revocation of {size:,}"
+
+
+def shared_ones(figures):
+    """Each call and look of a kernel that clients share, at each size, with its name."""
+    for subject, unit in shared.SIZES.items():
+        for size in figures.sizes.get(subject, []):
+            yield subject, size, f"{subject}, {size:,} {unit}"
+
+
+def times_of_one(figures):
+    head = ["nanoseconds of one", "proved", "plain Rust", "ratio", "with the same hints", "ratio"]
+    lines = [line_of_one(figures, subject, subject, 1, "seconds", 1e9) for subject in figures.small()]
+    lines += [line_of_one(figures, name, s, size, "seconds", 1e9 / ALL_SLOTS) for s, size, name in cleared(figures)]
+    lines += [line_of_one(figures, name, s, size, "seconds", 1e9) for s, size, name in shared_ones(figures)]
+    return table(head, lines)
+
+
+def instructions_of_one(figures):
+    head = ["instructions of one", "proved", "plain Rust", "ratio", "with the same hints", "ratio"]
+    lines = []
+    for subject in (subject for subject in figures.grown() if subject.startswith("steps")):
+        size = figures.sizes[subject][-1]
+        lines.append(line_of_one(figures, subject.replace("steps", "step"), subject, size, "running", 1 / size))
+    lines += [line_of_one(figures, name, s, size, "running", 1 / ALL_SLOTS) for s, size, name in cleared(figures)]
+    return table(head, lines)
+
+
+def write(notes, rows, path):
+    figures = Figures(rows)
+    drawn = [table_of(figures) for table_of in (largest, growth, times_of_one, instructions_of_one)]
+    text = "\n\n".join([f"{notes[0].capitalize()}; {notes[1]}.", *drawn])
+    before, rest = path.read_text().split(BEGIN)
+    path.write_text(f"{before}{BEGIN}\n\n{text}\n\n{END}{rest.split(END)[1]}")
