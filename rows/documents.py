@@ -4,8 +4,8 @@
 A page's blocks are taken in order, in a folder of the page's own that has `crates` in it:
 
 - ```toml NAME      is written to the file NAME; with the word `more` behind the name it is added to its end;
-- ```console        has commands, each behind `$ `, and below each what it writes: standard output, with or without what
-                    standard error has before it;
+- ```console        has commands, each behind `$ `, and below each what it writes: standard output alone, or with standard
+                    error as a terminal shows both;
 - ```report         stands in what the last command wrote, behind the reports that came before;
 - ```sh             builds or proves: it is not run, and each `make` has to name a target of the Makefile;
 - ```rust FILE      stands in that file, line for line;
@@ -65,13 +65,17 @@ class Runner:
             file.writelines(f"{line}\n" for line in lines)
         return []
 
+    def run(self, command, errors):
+        """What a command writes to standard output, where standard error goes there too or to nothing."""
+        return subprocess.run(["sh", "-c", command], cwd=self.folder, env=self.environment, timeout=60, text=True,
+                              stdin=subprocess.DEVNULL, stdout=subprocess.PIPE, stderr=errors).stdout
+
     def console(self, _, lines):
         for command, wanted in commands(lines):
-            done = subprocess.run(["sh", "-c", command], cwd=self.folder, env=self.environment, timeout=60, text=True,
-                                  stdin=subprocess.DEVNULL, capture_output=True)
-            self.written = done.stdout
-            if not any(re.fullmatch(pattern(wanted), text) for text in (done.stdout, done.stderr + done.stdout)):
-                yield f"`{command}` wrote\n{done.stderr}{done.stdout}"
+            self.written = self.run(command, subprocess.DEVNULL)
+            shown = self.run(command, subprocess.STDOUT)
+            if not any(re.fullmatch(pattern(wanted), text) for text in (self.written, shown)):
+                yield f"`{command}` wrote\n{shown}"
 
     def report(self, _, lines):
         met = re.match(ANY_LINES + pattern(lines), self.written)

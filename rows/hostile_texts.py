@@ -4,7 +4,7 @@
 Of each format that the set-ups in the folders of FOLDER have, the longest that is not just calls repeated: each beginning of
 it. Of the set-up STORED: itself with each byte replaced by others. Then texts that are deep or long, within limits of time, of
 memory and of stack. The answer to each is a report (status 0 or 1) or the line of a refusal (status 2), with nothing on
-standard error; a text that is too long is a failed read (status 3).
+standard error but lines in words beside a status other than 0; a text that is too long is a failed read (status 3).
 """
 import collections
 import concurrent.futures
@@ -21,6 +21,8 @@ POOL = 4
 BYTES = (0, 10, 34, 91, 123, 255)
 INPUT_LIMIT = 67_108_864
 REFUSAL = re.compile(rb"set-up refused (20[0-5]) at (text|(top|untyped \d+|call \d+) key [A-Za-z0-9_?-]+|layout [a-z]+|untyped \d+ [a-z]+)\n")
+TOO_LONG = re.compile(rb"sel4sim: reading failed\nsel4sim: .*: 67108864 bytes or more; a set-up has to be shorter\n")
+WORDS = re.compile(rb"(?:sel4sim: .*\n)*")
 LAST_LINE = re.compile(rb"(?:.*\n)*expected (\d+) of (\d+)\n")
 
 # The bounds of one run: seconds of processor time, bytes of stack, and bytes of memory: so many, and so many for each byte of
@@ -32,13 +34,13 @@ MOST_MEMORY_A_BYTE = 48
 
 
 def is_answer(status, output, errors):
-    """Whether this is a whole report with its status, or the line of a refusal with its own."""
-    if errors:
+    """Whether this is a whole report with its status, or the line of a refusal with its own and some words."""
+    if not WORDS.fullmatch(errors):
         return False
     if status == 2:
-        return REFUSAL.fullmatch(output) is not None
+        return REFUSAL.fullmatch(output) is not None and errors != b""
     last = LAST_LINE.fullmatch(output)
-    return last is not None and status == (0 if last[1] == last[2] else 1)
+    return last is not None and (status == 1 if last[1] != last[2] else status == 0 and errors == b"")
 
 
 def check(program, text):
@@ -147,7 +149,8 @@ def run_within(program, text, folder):
 
 def is_wanted(answer, wanted):
     if wanted == 3:
-        return answer == (3, b"", b"sel4sim: reading failed\n")
+        status, output, errors = answer
+        return (status, output) == (3, b"") and TOO_LONG.fullmatch(errors) is not None
     return is_answer(*answer) and wanted in (None, answer[0])
 
 

@@ -8,11 +8,22 @@ import sys
 
 SIZES = "memory_bits = 16\nroot_radix = 4\nthreads = 2\nendpoints = 1\n"
 FIRST = "format = 1\n" + SIZES
+SECOND = "format = 2\n" + SIZES + "names = { a = 2048, endpoint = 4 }\n"
+NARROW = FIRST + 'profile = "narrow"\n'
 CALL = '[[call]]\nthread = 2048\ncap = 4\n'
 OPERATIONS = ("send, nbsend, recv, nbrecv, retype, copy, mint, move, mutate, delete, revoke, cancel_badged, set_space, "
               "suspend, resume")
 RIGHTS = "a number from 0 to 15, the sum of 1 for w, 2 for r, 4 for g and 8 for p"
+NAME = "1 to 40 of the letters a to z, the digits and _"
+NUMBER = "a number, or a text of 0x and 1 to 16 hexadecimal digits; in a narrow set-up it is below 2^32"
+WORD = ("a number, a text of 0x and 1 to 16 hexadecimal digits, or in format 2 a text of @ and a name from names; "
+        "in a narrow set-up it is below 2^32")
 KEYS = "format, profile, memory_bits, root_radix, threads, endpoints, clients, limit, untyped, call"
+
+
+def untyped(base, bits):
+    return f"[[untyped]]\nbase = {base}\nbits = {bits}\n"
+
 
 # a set-up on standard input, the exit status of check, and the whole of standard error, without `sel4sim: `
 SETUPS = [
@@ -27,26 +38,72 @@ SETUPS = [
      [f'call 1, key op: the value is "Send"; did you mean send? It has to be one of {OPERATIONS}']),
     (FIRST + CALL + 'op = "copy"\nindex = 8\nsrc_index = 4\nrights = "wr--"\n', 2,
      [f'call 1, key rights: the value is "wr--"; it has to be {RIGHTS}']),
+    (FIRST + CALL + 'op = "send"\nlabel = "@x"\n', 2,
+     ['call 1, key label: the value is "@x"; it has to be a number below 2^52, or in a narrow set-up below 2^20']),
+    (FIRST + CALL + 'op = "send"\nwords = 1\n', 2,
+     [f"call 1, key words: the value is 1; it has to be an array of at most 4 of these: {WORD}"]),
+    (FIRST + CALL.replace("2048", '"@x"') + 'op = "send"\n', 2,
+     [f'call 1, key thread: the value is "@x"; it has to be {WORD}']),
+    (SECOND + CALL.replace("2048", '"@a"').replace("cap = 4", 'cap = "@endpont"') + 'op = "recv"\n', 2,
+     ['call 1, key cap: names has no "endpont"; did you mean endpoint?']),
+    (SECOND + CALL.replace("2048", '"@nobody"') + 'op = "recv"\n', 2, ['call 1, key thread: names has no "nobody"']),
+    (SECOND + CALL.replace("2048", '"a"') + 'op = "recv"\n', 2, ['call 1, key thread: a name is written with @, as "@a"']),
+    (SECOND + '[[untyped]]\nbase = "@a"\nbits = 5\n', 2,
+     [f'untyped 1, key base: the value is "@a"; it has to be {NUMBER}']),
     (FIRST + CALL + 'op = "recv"\nlabel = 1\n', 2,
      ['call 1: there is no key "label"; the keys are thread, op, client, expect, cap']),
     (FIRST + "memory_bit = 3\n", 2, [f'top: there is no key "memory_bit"; did you mean memory_bits? The keys are {KEYS}']),
-    (FIRST + "names = {}\n", 2, [f'top: there is no key "names"; the keys are {KEYS}']),
+    (FIRST + "k" * 100 + " = 1\n", 2, [f"top: there is no key of 100 bytes; the keys are {KEYS}"]),
+    (FIRST + "names = {}\n", 2, ["top: names are a key of format 2, and this set-up has format 1"]),
+    (SECOND.replace("a = 2048", "Alice = 2048"), 2, [f'top, key names: "Alice" is no name; a name has {NAME}']),
+    (SECOND.replace("2048", '"@endpoint"'), 2,
+     [f'top, key names: the value of a is "@endpoint"; it has to be {NUMBER}']),
     (FIRST.replace("16", "30"), 2, ["top, key memory_bits: the value is 30; it has to be a number from 12 to 20"]),
     (FIRST.replace("endpoints = 1\n", ""), 2,
      ["top, key endpoints: the key is missing; it has to be a number from 0 to 256"]),
     (FIRST.replace("threads = 2", "threads = 64"), 2,
      ["the root CNode, the threads and the endpoints do not fit into the memory; raise memory_bits"]),
-    (FIRST + "[[untyped]]\nbase = 6144\nbits = 5\n", 2,
-     ["untyped 1: the region has bytes in common with the root CNode, a thread, an endpoint or an untyped region before it"]),
-    (FIRST + "[[untyped]]\nbase = 16388\nbits = 5\n", 2,
-     ["untyped 1: the base is no multiple of the size, which is 2 to the power of bits"]),
+    (FIRST + untyped(0, 4), 2, ["untyped 1: it overlaps the root CNode at 0"]),
+    (FIRST + untyped(4096, 12), 2, ["untyped 1: it overlaps thread 1 at 4096"]),
+    (FIRST + untyped(6144, 5), 2, ["untyped 1: it overlaps endpoint 0 at 6144"]),
+    (FIRST.replace("endpoints = 1", "endpoints = 3") + untyped(6176, 4), 2, ["untyped 1: it overlaps endpoint 2 at 6176"]),
+    (FIRST + untyped(8192, 12) + untyped(16384, 12) + untyped(16384, 4), 2, ["untyped 3: it overlaps untyped 2 at 16384"]),
+    (NARROW + untyped(1024, 4), 2, ["untyped 1: it overlaps thread 0 at 1024"]),
+    (NARROW + untyped(3072, 10), 2, ["untyped 1: it overlaps endpoint 0 at 3072"]),
+    (FIRST + untyped(65536, 4), 2,
+     ["untyped 1: it ends at 65552, and the memory at 65536"]),
+    (FIRST.replace("root_radix = 4", "root_radix = 2"), 2,
+     ["the root CNode has too few slots for the capabilities of the boot; raise root_radix"]),
+    (FIRST + untyped(16388, 5), 2,
+     ["untyped 1: its base 16388 is no multiple of its size 32"]),
     ("format = 1\nthreads =\n", 2,
      ["TOML parse error at line 2, column 10", None]),
 ]
 
+# the words of a command line, the first line of standard error, and a part of what follows it
+LINES = [
+    (["chek"], "sel4sim: command line refused", "a similar subcommand exists: 'check'"),
+    (["check", "a", "b"], "sel4sim: command line refused", "unexpected argument 'b' found"),
+    (["--version"], "sel4sim: command line refused", "unexpected argument '--version' found"),
+    (["check", "no such file.toml"], "sel4sim: reading failed", "sel4sim: no such file.toml: No such file or directory (os error 2)\n"),
+    (["check", "/"], "sel4sim: reading failed", "sel4sim: /: Is a directory (os error 21)\n"),
+]
 
-def said(program, words, text):
-    done = subprocess.run([program, *words], input=text.encode(), capture_output=True, timeout=60)
+# the words of a command line, the text on standard input, where standard output goes, the status, and the whole of standard
+# error
+INPUT_LIMIT = 67108864
+STREAMS = [
+    (["check"], "#" * INPUT_LIMIT, "/dev/null", 3,
+     ["reading failed", f"standard input: {INPUT_LIMIT} bytes or more; a set-up has to be shorter"]),
+    (["check"], FIRST, "/dev/full", 3, ["writing failed", "standard output: No space left on device (os error 28)"]),
+    (["--help"], "", "/dev/full", 3, ["writing failed", "standard output: No space left on device (os error 28)"]),
+    (["migrate"], FIRST, "/dev/null", 0, []),
+    (["migrate"], SECOND, "/dev/null", 2, ["only a set-up of format 1 is migrated"]),
+]
+
+
+def said(program, words, text, output=subprocess.PIPE):
+    done = subprocess.run([program, *words], input=text.encode(), stdout=output, stderr=subprocess.PIPE, timeout=60)
     return done.returncode, done.stderr.decode()
 
 
@@ -62,25 +119,27 @@ def wrong_setups(program):
 
 
 def wrong_lines(program):
-    for words, first, part in [
-        (["chek"], "sel4sim: command line refused", "a similar subcommand exists: 'check'"),
-        (["check", "a", "b"], "sel4sim: command line refused", "unexpected argument 'b' found"),
-        (["--version"], "sel4sim: command line refused", "unexpected argument '--version' found"),
-        (["check", "no such file.toml"], "sel4sim: reading failed", "sel4sim: no such file.toml: No such file or directory"),
-        (["check", "/"], "sel4sim: reading failed", "sel4sim: /: Is a directory"),
-    ]:
+    for words, first, part in LINES:
         status, error = said(program, words, "")
         wanted = 4 if first.endswith("refused") else 3
         if status != wanted or error.split("\n")[0] != first or part not in error:
             yield f"{words}: status {status}, said\n{error}"
 
 
+def wrong_streams(program):
+    for words, text, path, wanted_status, wanted in STREAMS:
+        with open(path, "wb") as output:
+            status, error = said(program, words, text, output)
+        if status != wanted_status or not fits(error.splitlines(), wanted):
+            yield f"{words}: status {status}, said\n{error}"
+
+
 def main():
     program = sys.argv[1]
-    wrong = [*wrong_setups(program), *wrong_lines(program)]
+    wrong = [*wrong_setups(program), *wrong_lines(program), *wrong_streams(program)]
     for text in wrong:
         print(text)
-    print(f"{len(SETUPS) + 5} messages, {len(wrong)} wrong")
+    print(f"{len(SETUPS) + len(LINES) + len(STREAMS)} messages, {len(wrong)} wrong")
     return 1 if wrong else 0
 
 

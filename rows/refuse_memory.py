@@ -1,8 +1,13 @@
 #!/usr/bin/env python3
-"""refuse_memory.py PROGRAM SETUP..: lets each request for memory of a run fail in turn, counting up until a run meets none: by
-each of the program's subcommands with each set-up, from a file and from standard input, and of the help.
+"""refuse_memory.py PROGRAM CALLS SETUP..: lets each request for memory of a run fail in turn, counting up until a run
+meets none: by each of the program's subcommands with each set-up, from a file and from standard input, of the help
+and of a refused command line. Each set-up has one client, so that `threads` has one answer too. CALLS is the program
+of `crates/refused_memory`, which says how calls of the libraries end.
 
-Each answer has to be that of a run with ample memory, or exit status 3 with `sel4sim: out of memory` and nothing written.
+Each answer of the program has to be that of a run with ample memory, or exit status 3 with `sel4sim: out of memory`, or
+where a thread wanted it `sel4sim: thread not started`, and nothing written. For the words that follow a fault's line on
+standard error there may be no memory. Each answer of CALLS has to be that of a run with ample memory, but that one call
+may end `out of memory, then done` in place of `done`; and each call has to end so at least once.
 The requests are counted, and one is refused, by a small library that stands before the C library's (gcc builds it).
 """
 import concurrent.futures
@@ -29,7 +34,7 @@ static int refused(void)
         const char *text = getenv("REFUSED_REQUEST");
         wanted = text ? atol(text) : 0;
     }
-    if (++count != wanted)
+    if (__atomic_add_fetch(&count, 1, __ATOMIC_SEQ_CST) != wanted)
         return 0;
     const char *mark = getenv("REFUSED_MARK");
     if (mark)
@@ -72,9 +77,10 @@ int posix_memalign(void **made, size_t alignment, size_t size)
 """
 
 
-SUBCOMMANDS = ["check"]
+SUBCOMMANDS = ["check", "threads", "migrate"]
 POOL = 4
 MEMORY = (3, b"", b"sel4sim: out of memory\n")
+THREAD = (3, b"", b"sel4sim: thread not started\n")
 
 
 def answer_of(words, text, changed):
@@ -93,9 +99,33 @@ def refused(library, room, words, text, number):
     return answer, is_met
 
 
+def without_words(answer):
+    """An answer without the words that follow on standard error: the line of a fault alone stays there."""
+    status, said, fault = answer
+    return status, said, fault[:fault.find(b"\n") + 1] if status in (3, 4) else b""
+
+
+def answers_of_calls(ample):
+    """The answers in which one of the calls was out of memory."""
+    status, said, fault = ample
+    lines = said.splitlines(keepends=True)
+    calls = [place for place, line in enumerate(lines) if line.endswith(b": done\n")]
+    ended = [line.replace(b": done", b": out of memory, then done") for line in lines]
+    return [(status, b"".join(lines[:place] + [ended[place]] + lines[place + 1:]), fault) for place in calls]
+
+
+def answers_expected(words, ample):
+    """The answers that runs with a refused request have to give, each at least once, and those that they may give."""
+    if len(words) == 1:
+        return answers_of_calls(ample), [ample]
+    return [MEMORY], [ample, without_words(ample)] + ([THREAD] if words[1] == "threads" else [])
+
+
 def refuse_each(library, room, words, text):
-    """Refuses each request of a run in turn: how many there are, and how many answers are wrong."""
-    wanted = answer_of(words, text, {})
+    """Refuses each request of a run in turn: how many there are, how many answers are wrong, how many never came."""
+    ample = answer_of(words, text, {})
+    expected, allowed = answers_expected(words, ample)
+    missing = list(expected)
     requests = wrong = 0
     with concurrent.futures.ThreadPoolExecutor(POOL) as pool:
         while True:
@@ -103,15 +133,19 @@ def refuse_each(library, room, words, text):
             answers = list(pool.map(lambda number: refused(library, room, words, text, number), numbers))
             for number, (answer, is_met) in zip(numbers, answers):
                 if not is_met:
-                    return requests, wrong + (answer != wanted)
+                    return requests, wrong + (answer != ample), len(missing)
                 requests += 1
-                if answer not in (wanted, MEMORY):
+                if answer in missing:
+                    missing.remove(answer)
+                if answer not in expected + allowed:
                     wrong += 1
-                    print(f"{' '.join(words)}, request {number}: status {answer[0]}, {len(answer[1])} bytes, {answer[2]!r}")
+                    said = f"status {answer[0]}, {len(answer[1])} bytes, {answer[2]!r}"
+                    print(f"{' '.join(words)}, request {number}: {said}")
 
 
-def runs_of(program, setups):
+def runs_of(program, calls, setups):
     """The words of each run, and what it has as standard input."""
+    yield [calls], b""
     for job in SUBCOMMANDS:
         for setup in setups:
             yield [program, job, setup], b""
@@ -121,17 +155,17 @@ def runs_of(program, setups):
 
 
 def main():
-    program, *setups = sys.argv[1:]
+    program, calls, *setups = sys.argv[1:]
     failed = False
     with tempfile.TemporaryDirectory() as room:
         source, library = pathlib.Path(room, "refuse.c"), f"{room}/refuse.so"
         source.write_text(LIBRARY)
         subprocess.run(["gcc", "-O1", "-shared", "-fPIC", "-o", library, str(source), "-ldl"], check=True)
-        for words, text in runs_of(program, setups):
-            requests, wrong = refuse_each(library, room, words, text)
-            said = " ".join(words[1:]) + (" from standard input" if text else "")
-            print(f"{said}: {requests} requests refused in turn, {wrong} wrong answers")
-            failed |= wrong > 0 or requests == 0
+        for words, text in runs_of(program, calls, setups):
+            requests, wrong, missing = refuse_each(library, room, words, text)
+            run = (" ".join(words[1:]) or "calls") + (" from standard input" if text else "")
+            print(f"{run}: {requests} requests refused in turn, {wrong} wrong answers, {missing} answers never given")
+            failed |= wrong > 0 or missing > 0 or requests == 0
     return 1 if failed else 0
 
 
