@@ -1,5 +1,5 @@
-//! The memory of 2^16 bytes that the lookups of the tests go through: a CNode of sixteen slots at address 0, an endpoint at
-//! 6144 and a CNode of four slots at 16384.
+//! The memory of 2^16 bytes that the lookups of the tests go through: a CNode of sixteen slots at address 0, an
+//! endpoint at 6144 and a CNode of four slots at 16384.
 ghost use Rattle.std.specs.Prelude.{◌≡◌, ◌+◌, ◌*◌, ◌<◌, ◌≤◌, ◌^◌, IfOk};
 ghost use Rattle.cap_core.specs.Numbers.{slot_size, word_bits};
 ghost use Rattle.derivation.specs.Forest.{none};
@@ -71,9 +71,9 @@ fn in_node<P: Profile>(index: u64) -> Slot
     Slot::of_node::<P>(NODE_BASE, index)
 }
 
-/// The larger CNode's slot 1 holds that CNode with the guard that it has at boot, its slot 4 the endpoint, and its slots 8 and
-/// 9 the smaller CNode, without a guard and with a guard of 101. The smaller one's slot 0 holds itself, and its slot 3 the
-/// endpoint.
+/// The larger CNode's slot 1 holds that CNode with the guard that it has at boot, its slot 4 the endpoint, and its
+/// slots 8 and 9 the smaller CNode, without a guard and with a guard of 101. The smaller one's slot 0 holds itself, and
+/// its slot 3 the endpoint.
 pub fn memory<P: Profile, S: MakeStore<P>>(alloc: Global) -> Result<S, AllocError>
     ensures { IfOk result (λ s. S.memory_bits s ≡ memory_bits) }
 {

@@ -156,7 +156,8 @@ fn an_endpoint_starts_empty_after_its_end(rt: HostRuntime) -> Result<(), Fail> {
     Ok(())
 }
 
-/// Two threads send, the waiting threads are copied, and then the endpoint is emptied in the first and changed in the copy.
+/// Two threads send, the waiting threads are copied, and then the endpoint is emptied in the first and changed in the
+/// copy.
 fn stand_apart<P: Profile, W: MakeWaiters<P>>(alloc: Global) -> Result<bool, AllocError> {
     let mut waiters = W::new(alloc, MEMORY_BITS)?;
     let before = [sends(64, 2048, 5), sends(64, 4096, 6)];
