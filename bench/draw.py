@@ -39,11 +39,13 @@ SUBJECTS = {
     ),
 }
 
-# The picture of kernels that clients share: what the sizes are, the subjects, and the title of each of its panels.
+# The picture of kernels that clients share: what the sizes are, the subjects, the figures and the title of each panel.
+CALLS = {"call that a book takes": "book", "call of a client": "client"}
 SHARED = [
-    ("entries", {"call that a book takes": "book", "call of a client": "client"}, "seconds of a call"),
-    ("clients that look", {"look": ""}, "seconds of a look, of all clients together"),
-    ("clients that look", {"call beside looks": ""}, "seconds of a call meanwhile"),
+    ("entries", CALLS, "running", "instructions of a call"),
+    ("entries", CALLS, "seconds", "seconds of a call"),
+    ("clients that look", {"look": ""}, "seconds", "seconds of a look, of all clients together"),
+    ("clients that look", {"call beside looks": ""}, "seconds", "seconds of a call meanwhile"),
 ]
 
 PARTS = {"reading": "the reading of the set-up", "running": "the calls", "reporting": "the report"}
@@ -125,7 +127,7 @@ def script(rows, notes, name):
 def shared_script(rows, notes):
     """The picture of kernels that clients share, whose panels have axes of their own."""
     head = "\n".join(head_of("a kernel that clients share")) + "\n"
-    drawn = [axis(rows, subjects, sizes) + panel(rows, subjects, "seconds", title) for sizes, subjects, title in SHARED]
+    drawn = [axis(rows, of, sizes) + panel(rows, of, field, title) for sizes, of, field, title in SHARED]
     return head + "".join([*drawn[:-1], caption_of(notes), drawn[-1]])
 
 

@@ -2,8 +2,11 @@
 that a book takes, a client's call, and looks of clients that look all the time while another one calls."""
 
 import pathlib
+import statistics
 import subprocess
 import time
+
+from measures import instructions
 
 HERE = pathlib.Path(__file__).parent
 CRATE = HERE.parent / "crates" / "shared_cycle"
@@ -21,13 +24,11 @@ SIZES = {
     "look": "readers",
     "call beside looks": "readers",
 }
-ENTRIES = [100, 1000, 10000, 65536]
-READERS = [1, 2, 4, 8]
+ENTRIES = [1000, 4000, 16000, 65536]
+READERS = [1, 2, 4]
 
-# How many calls are made to measure one, and how many histories of the greatest length while clients look.
-CALLS = 1_000_000
-FILLS = 4
-REPEATS = 7
+REPEATS = 25
+LOOK_REPEATS = 3
 
 
 def build():
@@ -47,23 +48,29 @@ def row(subject, size, program, seconds):
     return {"subject": subject, "size": size, "program": program, "seconds": f"{seconds:.3e}"}
 
 
+def costs_of_call(program, job, entries):
+    """What a call costs: a history that it fills with so many, less one of a single call."""
+    first, whole = ([program, job, "1", str(most)] for most in (1, entries))
+    counted = instructions(whole) - instructions(first)
+    times = [timed(*whole)[0] - timed(*first)[0] for _ in range(REPEATS)]
+    return counted / (entries - 1), statistics.median(times) / (entries - 1)
+
+
 def call_rows():
-    """The time of a call, where as many histories are filled as have CALLS entries; boots and memory count with it."""
     for job, subject in JOBS.items():
         for entries in ENTRIES:
-            times = CALLS // entries
             for name, program in PROGRAMS.items():
-                seconds = min(timed(program, job, times, entries)[0] for _ in range(REPEATS))
-                yield row(subject, entries, name, seconds / (times * entries))
+                counted, seconds = costs_of_call(program, job, entries)
+                yield {**row(subject, entries, name, seconds), "running": f"{counted:.1f}"}
 
 
 def look_rows():
     """The time of a look, of all clients together, and of the calls that are made meanwhile: the least of each."""
     for readers in READERS:
         for name, program in PROGRAMS.items():
-            runs = [timed(program, "look", FILLS, readers) for _ in range(REPEATS)]
+            runs = [timed(program, "look", 1, readers) for _ in range(LOOK_REPEATS)]
             yield row("look", readers, name, min(seconds / looks for seconds, looks in runs))
-            yield row("call beside looks", readers, name, min(runs)[0] / (FILLS * ENTRIES[-1]))
+            yield row("call beside looks", readers, name, min(runs)[0] / ENTRIES[-1])
 
 
 def rows():

@@ -100,9 +100,10 @@ def cleared(figures):
 
 
 def shared_ones(figures):
-    """Each call and look of a kernel that clients share, at each size, with its name."""
+    """Each call and look of a kernel that clients share, at its least and its largest size, with its name."""
     for subject, unit in shared.SIZES.items():
-        for size in figures.sizes.get(subject, []):
+        sizes = figures.sizes.get(subject, [])
+        for size in sizes[:1] + sizes[-1:]:
             yield subject, size, f"{subject}, {size:,} {unit}"
 
 
@@ -121,6 +122,8 @@ def instructions_of_one(figures):
         size = figures.sizes[subject][-1]
         lines.append(line_of_one(figures, subject.replace("steps", "step"), subject, size, "running", 1 / size))
     lines += [line_of_one(figures, name, s, size, "running", 1 / ALL_SLOTS) for s, size, name in cleared(figures)]
+    counted = [one for one in shared_ones(figures) if figures.of(one[0], one[1], "proved", "running")]
+    lines += [line_of_one(figures, name, s, size, "running", 1) for s, size, name in counted]
     return table(head, lines)
 
 

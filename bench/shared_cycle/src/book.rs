@@ -1,5 +1,5 @@
 //! A kernel and the history of the calls that led to it, in plain Rust.
-use crate::plain_kernel::{Kernel, Op, Reply};
+use crate::plain_kernel::{Kernel, Layout, Op, Reply};
 
 /// How many clients' entries are counted in a table.
 const COUNTED: usize = 8;
@@ -35,7 +35,13 @@ pub struct Book {
 impl Book {
     pub fn open(limit: u32) -> Book {
         Book {
-            kernel: Kernel::boot(16, 4, &[(16384, 12)]),
+            kernel: Kernel::boot(&Layout {
+                memory_bits: 16,
+                root_radix: 4,
+                threads: 2,
+                endpoints: 1,
+                untypeds: &[(16384, 12)],
+            }),
             history: Vec::with_capacity(limit as usize),
             counts: [0; COUNTED],
             limit: limit as usize,
