@@ -21,14 +21,15 @@ JOBS = {"take": "call that a book takes", "call": "call of a client"}
 SIZES = {
     "call that a book takes": "entries",
     "call of a client": "entries",
-    "look": "readers",
-    "call beside looks": "readers",
+    "look": "clients that look",
+    "call beside looks": "clients that look",
 }
 ENTRIES = [1000, 4000, 16000, 65536]
-READERS = [1, 2, 4]
+READERS = [1, 2, 4, 8]
 
 REPEATS = 25
-LOOK_REPEATS = 3
+LOOK_REPEATS = 5
+LOOK_SECONDS = 2.0
 
 
 def build():
@@ -64,13 +65,22 @@ def call_rows():
                 yield {**row(subject, entries, name, seconds), "running": f"{counted:.1f}"}
 
 
+def calls_for(program, readers):
+    """So many calls that a run takes some seconds while so many clients look."""
+    calls = 16
+    while calls < ENTRIES[-1] and timed(program, "look", calls, readers)[0] < LOOK_SECONDS / 4:
+        calls *= 4
+    return calls
+
+
 def look_rows():
     """The time of a look, of all clients together, and of the calls that are made meanwhile: the least of each."""
     for readers in READERS:
         for name, program in PROGRAMS.items():
-            runs = [timed(program, "look", 1, readers) for _ in range(LOOK_REPEATS)]
+            calls = calls_for(program, readers)
+            runs = [timed(program, "look", calls, readers) for _ in range(LOOK_REPEATS)]
             yield row("look", readers, name, min(seconds / looks for seconds, looks in runs))
-            yield row("call beside looks", readers, name, min(runs)[0] / ENTRIES[-1])
+            yield row("call beside looks", readers, name, min(runs)[0] / calls)
 
 
 def rows():

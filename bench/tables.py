@@ -104,7 +104,7 @@ def shared_ones(figures):
     for subject, unit in shared.SIZES.items():
         sizes = figures.sizes.get(subject, [])
         for size in sizes[:1] + sizes[-1:]:
-            yield subject, size, f"{subject}, {size:,} {unit}"
+            yield subject, size, f"{subject}, {unit}: {size:,}"
 
 
 def times_of_one(figures):

@@ -2,8 +2,8 @@
 //!
 //! - `take TIMES ENTRIES` opens a book so many times, and takes so many calls each time;
 //! - `call TIMES ENTRIES` shares a kernel with one client so many times, which makes so many calls each time;
-//! - `look TIMES READERS` shares a kernel so many times, where one client calls until the history is full, while so many others
-//!   look all the time, and prints how many looks were answered.
+//! - `look CALLS READERS` shares a kernel where one client makes so many calls, while so many others look all the time, and
+//!   prints how many looks were answered.
 //!
 //! With no words it does each once with a few, and prints what they gave. The exit status is 1 where a call was not taken.
 #![tactic(auto)]
@@ -41,29 +41,33 @@ fn job_of<R: Env + AllocGlobal>(rt: &R) -> Option<(Job, u32, u32)> {
     Some((job, times, number))
 }
 
-/// Does a job so many times, and says what it gave: how many looks were answered, or `None` where a call was not taken.
+/// Does a job so many times with so many calls each, or looks beside so many calls with so many clients: how many looks
+/// were answered, or `None` where a call was not taken.
 fn repeat<R: Threads + Wait + AllocGlobal + Sync>(
     rt: &R,
     job: Job,
     times: u32,
     number: u32,
 ) -> Option<u64> {
-    let number = match job {
-        Job::Look => number.min(MOST_READERS),
-        _ => number.min(MAX_HISTORY_LIMIT),
-    };
-    let mut looks = 0u64;
-    for _ in 0..times {
-        looks = looks.saturating_add(run(rt, job, number)?);
+    if job == Job::Look {
+        return run(
+            rt,
+            job,
+            times.min(MAX_HISTORY_LIMIT),
+            number.min(MOST_READERS),
+        );
     }
-    Some(looks)
+    for _ in 0..times {
+        run(rt, job, number.min(MAX_HISTORY_LIMIT), 0)?;
+    }
+    Some(0)
 }
 
 /// Each job once.
 fn sample<R: Threads + Wait + Print + AllocGlobal + Sync>(rt: &R) -> anyhow::Result<bool> {
     let taken = repeat(rt, Job::Take, 1, FEW_ENTRIES).is_some();
     let called = repeat(rt, Job::Call, 1, FEW_ENTRIES).is_some();
-    let looked = repeat(rt, Job::Look, 1, FEW_READERS).is_some();
+    let looked = repeat(rt, Job::Look, FEW_ENTRIES, FEW_READERS).is_some();
     println!(rt; "taken {taken}, called {called}, looked {looked}")?;
     Ok(taken && called && looked)
 }

@@ -7,7 +7,6 @@ ghost use Rattle.abstract_kernel.specs.State.{shown};
 
 use crate::calls::{looks_beside, take_all};
 use crate::kernel::{LinkedBook, LinkedKernel, LinkedShared, plan};
-use cap_core::limits::MAX_HISTORY_LIMIT;
 use kernel_core::BootPlan;
 use kernel_shared::Naming;
 use std::alloc::Global;
@@ -91,13 +90,15 @@ fn play<N: Naming + Send + Sync, R: Threads + Wait + Sync>(
     }
 }
 
-/// Does a job once, with so many calls, or for looks with so many clients that look.
-pub fn run<R: Threads + Wait + AllocGlobal + Sync>(rt: &R, job: Job, number: u32) -> Option<u64> {
+/// Does a job once with so many calls, and for looks with so many clients that look.
+pub fn run<R: Threads + Wait + AllocGlobal + Sync>(
+    rt: &R,
+    job: Job,
+    calls: u32,
+    readers: u32,
+) -> Option<u64> {
     let plan = plan(rt.alloc())?;
-    let (clients, limit) = match job {
-        Job::Look => (number.saturating_add(1), MAX_HISTORY_LIMIT),
-        _ => (1, number),
-    };
+    let clients = readers.saturating_add(1);
     let blank = Blank::new(u64::from(clients));
-    play::<Brand, _>(rt, rt.alloc(), blank, &plan, clients, limit, job)
+    play::<Brand, _>(rt, rt.alloc(), blank, &plan, clients, calls, job)
 }
