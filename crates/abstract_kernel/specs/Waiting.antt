@@ -7,6 +7,8 @@ use Rattle.ipc_core.specs.declared.waiter.Waiter.TheVariants.{Sender, Receiver}
 use Rattle.ipc_core.specs.Waits.{thread_of}
 use Rattle.ipc_core.specs.Cancelled.{is_thread}
 use Rattle.ipc_core.specs.Agreement.{DoTheSame}
+use Rattle.ipc_core.specs.declared.waiter.Offer.{Offer}
+use Rattle.ipc_core.specs.Offers.{offer_in}
 use Rattle.abstract_kernel.specs.declared.call.ThreadState.{ThreadState}
 use Rattle.abstract_kernel.specs.declared.call.ThreadState.TheVariants.{Sending, Receiving}
 use Rattle.abstract_kernel.specs.Shown.{Shown, state_at, waiting_at}
@@ -24,6 +26,14 @@ pub record AreStatesAndLists (v : Shown) : Type 0 where
   pub receives : (t e : ℕ) → state_at v t ≡ Some (Receiving e) → list_any (is_thread t) (waiting_at v e) ≡ true
   pub once : (e : ℕ) → IsApart (map thread_of (waiting_at v e))
   pub alike : (e : ℕ) → DoTheSame (waiting_at v e)
+
+-- what a thread sends that is shown to wait to send
+abbrev pub offer_where : Option ThreadState → ℕ → Shown → Option Offer
+offer_where (Some (Sending e)) t v = offer_in t (waiting_at v e)
+offer_where other t v = None
+
+abbrev pub offer_at : Shown → ℕ → Option Offer
+offer_at v t = offer_where (state_at v t) t v
 
 -- the thread that waits at a place of an endpoint's waiting list, 0 the first
 abbrev pub thread_waiting : Shown → ℕ → ℕ → Option ℕ

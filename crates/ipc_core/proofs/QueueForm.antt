@@ -10,3 +10,4 @@ pub mod Emptied
 pub mod EndpointRows
 pub mod Drained
 pub mod FirstOut
+pub mod Offers

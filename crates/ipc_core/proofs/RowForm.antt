@@ -5,3 +5,4 @@ pub mod Served
 pub mod Room
 pub mod Kept
 pub mod Behind
+pub mod Offers

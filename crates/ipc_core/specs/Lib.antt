@@ -1,5 +1,6 @@
 pub mod Records
 pub mod Waits
+pub mod Offers
 pub mod Pairing
 pub mod Cancelled
 pub mod Deliveries

@@ -7,7 +7,7 @@ ghost use Rattle.ipc_core.specs.Representation.TablesAgree.{tables_agree};
 ghost use Rattle.ipc_core.specs.Representation.Alike.{linked-prop, alike-prop};
 
 use crate::tables::{EndpointRow, Tables, ThreadRow};
-use crate::waiter::{Received, Role, Sent};
+use crate::waiter::{Offer, Received, Role, Sent};
 use crate::waiters::{MakeWaiters, Waiters};
 use cap_core::{Badge, Message, Profile};
 use std::alloc::{AllocError, Global};
@@ -92,6 +92,10 @@ impl<P: Profile> Waiters<P> for LinkedWaiters<P> {
 
     fn role(&self, thread: u64) -> Option<Role> {
         self.tables.thread::<P>(thread).role
+    }
+
+    fn offer(&self, thread: u64) -> Option<Offer> {
+        self.tables.thread::<P>(thread).offer(thread)
     }
 
     fn waiting(&self, endpoint: u64, place: u64) -> Option<u64> {

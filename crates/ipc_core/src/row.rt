@@ -2,7 +2,7 @@
 ghost use Rattle.std.specs.Prelude.{◌≡◌, ◌∷◌, ◌++◌, [], ℕ, ◌<◌, ◌≤◌, List, position, slice_get, option_map, find, vec_len, vec_capacity, None};
 ghost use Rattle.cap_core.specs.declared.profile.ProfileName.{ProfileName};
 ghost use Rattle.ipc_core.specs.declared.waiter.Waiter.{Waiter};
-ghost use Rattle.ipc_core.specs.Representation.Rows.{row_thread, row_role, is_at, waiting_at, waits_of, next_by, AreDistinct, ArePlaced};
+ghost use Rattle.ipc_core.specs.Representation.Rows.{row_thread, row_role, is_at, is_of, waiting_at, waits_of, next_by, AreDistinct, ArePlaced};
 ghost use Rattle.ipc_core.specs.Waits.{first_receiver as receiver_first, first_sender as sender_first, thread_of, served, queued};
 
 use crate::waiter::{Offer, Waiter};
@@ -18,6 +18,15 @@ fn first_place(rows: &[WaitRow], endpoint: u64) -> Option<usize>
     ensures { result ≡ position (is_at endpoint) rows.now }
 {
     rows.iter().position(|row| row.endpoint == endpoint)
+}
+
+/// The row of a thread, if it waits.
+pub fn row_of(rows: &[WaitRow], thread: u64) -> Option<WaitRow>
+    ensures { result ≡ find (is_of thread) rows.now }
+{
+    rows.iter()
+        .copied()
+        .find(|row| row.waiter.thread() == thread)
 }
 
 /// The one that waits at a place of an endpoint's waiting list, 0 the first.

@@ -7,9 +7,9 @@ ghost use Rattle.ipc_core.specs.Representation.RowsAgree.{rows_agree};
 ghost use Rattle.ipc_core.specs.Representation.Alike.{alike-prop};
 
 use crate::row::{
-    WaitRow, first_receiver, first_sender, next_waiting, push_row, remove_first, waiter_at,
+    WaitRow, first_receiver, first_sender, next_waiting, push_row, remove_first, row_of, waiter_at,
 };
-use crate::waiter::{Received, Role, Sent, Waiter};
+use crate::waiter::{Offer, Received, Role, Sent, Waiter};
 use crate::waiters::{MakeWaiters, Waiters};
 use cap_core::{Badge, Message, Profile};
 use std::alloc::{AllocError, Global};
@@ -94,10 +94,11 @@ impl<P: Profile> Waiters<P> for RowWaiters<P> {
     }
 
     fn role(&self, thread: u64) -> Option<Role> {
-        self.rows
-            .iter()
-            .find(|row| row.waiter.thread() == thread)
-            .map(|row| row.waiter.role_at(row.endpoint))
+        row_of(&self.rows, thread).map(|row| row.waiter.role_at(row.endpoint))
+    }
+
+    fn offer(&self, thread: u64) -> Option<Offer> {
+        row_of(&self.rows, thread)?.waiter.offer()
     }
 
     fn waiting(&self, endpoint: u64, place: u64) -> Option<u64> {

@@ -73,7 +73,8 @@ impl ThreadRow {
         }
     }
 
-    fn offer(&self, thread: u64) -> Option<Offer>
+    /// What the thread sends, where it waits to send.
+    pub fn offer(&self, thread: u64) -> Option<Offer>
         ensures { result ≡ offer_in thread self.now }
     {
         match self.role {

@@ -2,6 +2,7 @@
 ghost use Rattle.std.specs.Prelude.{◌≡◌};
 ghost use Rattle.ipc_core.specs.Waits.{thread_of, role_at, endpoint_of};
 ghost use Rattle.ipc_core.specs.Cancelled.{is_sender_with};
+ghost use Rattle.ipc_core.specs.Offers.{offer_by};
 
 use cap_core::{Badge, Message};
 
@@ -38,6 +39,24 @@ impl Waiter {
         match self {
             Waiter::Sender { .. } => Role::Sending(endpoint),
             Waiter::Receiver { .. } => Role::Receiving(endpoint),
+        }
+    }
+
+    /// What it sends, if it sends.
+    pub fn offer(&self) -> Option<Offer>
+        ensures { result ≡ offer_by self.now }
+    {
+        match *self {
+            Waiter::Sender {
+                thread,
+                badge,
+                message,
+            } => Some(Offer {
+                thread,
+                badge,
+                message,
+            }),
+            Waiter::Receiver { .. } => None,
         }
     }
 

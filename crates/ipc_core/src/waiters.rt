@@ -2,11 +2,12 @@
 ghost use Rattle.std.specs.Prelude.{◌≡◌, ℕ, Bool, true, false, List, ◌≤◌, None, IfOk, option_map, slice_get};
 ghost use Rattle.ipc_core.specs.Records.{SendRecord, ReceiveRecord, waiting_list};
 ghost use Rattle.ipc_core.specs.Waits.{Waits, no_waits, IsEndpointAddress, IsThreadAddress, sent, after_send, received, after_receive, thread_of, IsNextBehind};
+ghost use Rattle.ipc_core.specs.Offers.{offer_of};
 ghost use Rattle.ipc_core.specs.Agreement.{AreRolesAndQueues};
 ghost use Rattle.ipc_core.specs.Pairing.{SendsBy, ReceivesBy};
 ghost use Rattle.ipc_core.specs.Cancelled.{after_cancel_thread, after_cancel_badge, after_cancel_endpoint, waiting_less, is_sent_by, is_received_by, is_sent_with};
 
-use crate::waiter::{Received, Role, Sent};
+use crate::waiter::{Offer, Received, Role, Sent};
 use cap_core::limits::{MAX_MEMORY_BITS, MIN_MEMORY_BITS};
 use cap_core::{Badge, Message, Profile};
 use std::alloc::{AllocError, Global};
@@ -77,6 +78,11 @@ pub trait Waiters<P: Profile> {
     fn role(&self, thread: u64) -> Option<Role>
         requires { IsThreadAddress P.the (memory_bits self.now) thread }
         ensures { result ≡ (waits self.now).role thread };
+
+    /// What a thread sends that waits to send, and with which badge; `None` where it does not wait to send.
+    fn offer(&self, thread: u64) -> Option<Offer>
+        requires { IsThreadAddress P.the (memory_bits self.now) thread }
+        ensures { result ≡ offer_of (waits self.now) thread };
 
     /// The thread that waits at a place of an endpoint's waiting list, 0 the first.
     fn waiting(&self, endpoint: u64, place: u64) -> Option<u64>

@@ -1,14 +1,18 @@
 //! The kernel.
-ghost use Rattle.std.specs.Prelude.{◌≡◌, ◌⊎◌, ℕ, Some, None, IfOk, option_map, slice_get, All, vec_len, vec_capacity, length, drop, map, ◌≤◌, ◌<◌, ◌+◌, ◌++◌, ◌∷◌, []};
+ghost use Rattle.std.specs.Prelude.{◌≡◌, ◌==◌, ◌⊎◌, ℕ, false, Some, None, IfOk, option_map, slice_get, All, vec_len, vec_capacity, length, drop, map, ◌≤◌, ◌<◌, ◌+◌, ◌++◌, ◌∷◌, []};
 ghost use Rattle.cap_core.specs.Numbers.{tcb_size};
-ghost use Rattle.derivation.specs.Entries.{slots, cap_at as cap_held};
+ghost use Rattle.derivation.specs.Entries.{slots, caps, cap_at as cap_held, derivations_of};
+ghost use Rattle.std.specs.List.{IsDistinct};
+ghost use Rattle.cap_core.specs.Objects.{is_null};
+ghost use Rattle.cap_core.specs.declared.capability.Cap.{Cap};
+ghost use Rattle.slot_core.specs.Calls.{derivation_view};
 ghost use Rattle.clearing.specs.Housed.{IsHoused};
 ghost use Rattle.ipc_core.specs.Waits.{thread_of};
 ghost use Rattle.abstract_kernel.specs.Shown.{state_at, inbox_at, waiting_at, has_child};
 ghost use Rattle.abstract_kernel.specs.Decode.{decoded_call};
 ghost use Rattle.abstract_kernel.specs.Private.Effects.{send_effect, receive_effect, effect_of, performed_effect, rearranged, objects_shown, IsReady, IsLiveEndpoint};
 ghost use Rattle.abstract_kernel.specs.CNodes.{with_derived, with_moved};
-ghost use Rattle.abstract_kernel.specs.Waiting.{AreStatesAndLists, IsNextWaiting};
+ghost use Rattle.abstract_kernel.specs.Waiting.{AreStatesAndLists, IsNextWaiting, offer_at};
 ghost use Rattle.abstract_kernel.specs.Memory.{IsInMemory, IsAligned};
 ghost use Rattle.abstract_kernel.specs.Regions.{AreObjectsApart, IsForest};
 ghost use Rattle.abstract_kernel.specs.Private.Invocations.{IsInvocation, IsRetype, IsDerivation, IsMove};
@@ -29,8 +33,9 @@ use abstract_kernel::call::{Call, Inbox, Reply, ThreadState};
 use abstract_kernel::invocation::{CapPlacement, Invocation, NewObjects, Service};
 use cap_core::{Cap, Kind, Message, Profile, Refusal};
 use clearing::SlotChain;
-use ipc_core::{Received, Sent, Waiters};
-use slot_core::{CapStore, Slot};
+use ipc_core::{Offer, Received, Sent, Waiters};
+use slot_core::{CapStore, Derivation, DerivationStore, Slot};
+use std::alloc::{AllocError, Global};
 use std::marker::Model;
 
 /// The capability part of a kernel, over a store of capabilities and a store of waiting threads.
@@ -303,6 +308,15 @@ impl<P: Profile, S: CapStore<P> + Drop, W: Waiters<P> + Drop> Kernel<P, S, W> {
         row_at::<P>(self.threads.rows.as_slice(), tcb)?.inbox
     }
 
+    /// What a thread sends that waits to send, with the badge that it kept; `None` where it does not wait to send, and
+    /// where no live thread control block is at the address. It takes no memory.
+    pub fn offer(&self, tcb: u64) -> Option<Offer>
+        ensures { result ≡ offer_at self.now tcb }
+    {
+        row_at::<P>(self.threads.rows.as_slice(), tcb)?;
+        self.threads.waiters.offer(tcb)
+    }
+
     /// The capability that the slot at an address holds: `Null` where the slot is empty, and where no slot can stand at
     /// the address. Each full slot of a kernel stands at a multiple of a slot's size. It takes no memory.
     pub fn cap_at(&self, slot: u64) -> Cap
@@ -346,5 +360,17 @@ impl<P: Profile, S: CapStore<P> + Drop, W: Waiters<P> + Drop> Kernel<P, S, W> {
     {
         row_at::<P>(self.threads.rows.as_slice(), tcb)?;
         self.threads.waiters.next_waiting(tcb)
+    }
+}
+
+impl<P: Profile, S: DerivationStore<P> + Drop, W: Waiters<P> + Drop> Kernel<P, S, W> {
+    /// All full slots, each with its capability, whether that is original, and the slot that it is derived from, found in
+    /// one walk; each comes before those that are derived from it. It takes memory for them.
+    pub fn derivations(&self, alloc: Global) -> Result<Vec<Derivation>, AllocError>
+        ensures list { IfOk result (λ d. map (derivation_view P.the) d.items ≡ derivations_of self.now.derivations) }
+        ensures apart { IsDistinct (λ (a b : ℕ). a == b) (slots self.now.derivations) }
+        ensures full { All (λ (cap : Cap). is_null cap ≡ false) (caps self.now.derivations) }
+    {
+        self.store.derivations(alloc)
     }
 }

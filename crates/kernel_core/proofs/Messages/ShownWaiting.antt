@@ -1,6 +1,7 @@
 -- Who waits, by what a kernel shows: its waiting lists and what its threads do agree.
-use Rattle.std.proofs.Common.{◌≡◌, ◌≢◌, ℕ, ◌+◌, Bool, true, false, cond, List, [], ◌∷◌, map, Option, None, Some, IsSomeAnd, option_map, slice_get, refl, sym, ap, subst, ◌∙◌}
+use Rattle.std.proofs.Common.{◌≡◌, ◌≢◌, ℕ, ◌+◌, Bool, true, false, cond, List, [], ◌∷◌, map, Option, None, Some, IsSome, IsSomeAnd, option_map, slice_get, refl, sym, ap, subst, ◌∙◌}
 use Rattle.std.proofs.lemmas.List.Elements.{recursion_from_All}
+use Rattle.std.proofs.lemmas.Bool.{false≢true}
 use Rattle.std.specs.List.{list_any, AllByRecursion as Each}
 use Rattle.std.specs.FinMap.{get}
 use Rattle.cap_core.specs.declared.profile.ProfileName.{ProfileName}
@@ -14,10 +15,11 @@ use Rattle.ipc_core.specs.declared.waiter.Role.{Role}
 use Rattle.ipc_core.specs.declared.waiter.Role.TheVariants as R
 use Rattle.ipc_core.specs.Waits.{Waits, thread_of, role_at, endpoint_of, IsNextBehind}
 use Rattle.ipc_core.specs.Cancelled.{is_thread}
+use Rattle.ipc_core.specs.Offers.{offer_in, offer_as, offer_of}
 use Rattle.ipc_core.specs.Agreement.{DoTheSame, AreRolesAndQueues}
 use Rattle.abstract_kernel.specs.declared.call.ThreadState.TheVariants.{Ready, Inactive, Sending, Receiving}
 use Rattle.abstract_kernel.specs.Shown.{Shown, state_at, waiting_at}
-use Rattle.abstract_kernel.specs.Waiting.{state_in, thread_waiting, AreStatesAndLists, IsNextWaiting}
+use Rattle.abstract_kernel.specs.Waiting.{state_in, thread_waiting, offer_where, offer_at, AreStatesAndLists, IsNextWaiting}
 use Rattle.abstract_kernel.proofs.Lists.Places.{place_of, at_place}
 use Rattle.kernel_core.specs.declared.rows.ThreadRow.{ThreadRow}
 use Rattle.kernel_core.specs.Rows.{rows_map, kernel_shown, IsActive, IsKernel, state_with}
@@ -103,3 +105,23 @@ module _ (p : ProfileName) (memory store waiters : ℕ) (f : Forest Entry) (rows
       away : IsNextBehind w t None
       away = λ e place at.
           absurd (subst (λ (o : Option ThreadRow). IsSomeAnd o (λ (row : ThreadRow). row.inactive ≡ false)) rowless (at_place (IsActive (tcb_size p) rows) (w.queue e) place t (active e) at))
+
+  -- what a thread sends by its role and the queues is what it is shown to send
+  pub offer_shown : (t : ℕ) → IsSome (get (rows_map (tcb_size p) rows) t) → offer_of w t ≡ offer_at v t
+  offer_shown t there = by (get (rows_map (tcb_size p) rows) t) (w.role t) there ∙ ap (λ s. offer_where s t v) (seen t)
+    where
+      idle : (b : Bool) → None ≡ offer_where (Some (cond b Inactive Ready)) t v
+      idle true = refl
+      idle false = refl
+
+      by : (o : Option ThreadRow) (r : Option Role) → IsSome o → offer_as r t w ≡ offer_where (option_map (λ (row : ThreadRow). state_with r row.inactive) o) t v
+      by None r there = absurd (false≢true there)
+      by (Some row) None there = idle row.inactive
+      by (Some row) (Some (R.Sending e)) there = ap (offer_in t) (sym (list_is e))
+      by (Some row) (Some (R.Receiving e)) there = refl
+
+  -- a thread that has no row sends nothing
+  pub none_offered : (t : ℕ) → get (rows_map (tcb_size p) rows) t ≡ None → None ≡ offer_at v t
+  none_offered t rowless =
+      ap (λ (o : Option ThreadRow). offer_where (option_map (λ (row : ThreadRow). state_with (w.role t) row.inactive) o) t v) (sym rowless)
+      ∙ ap (λ s. offer_where s t v) (seen t)
