@@ -4,4 +4,3 @@ pub mod NewRows
 pub mod Ended
 pub mod EndedLaws
 pub mod Spaces
-pub mod Invoked

@@ -10,7 +10,7 @@ ghost use Rattle.kernel_core.specs.Private.NewRows.{with_stopped};
 ghost use Rattle.kernel_core.specs.Private.Ended.{AreLeft, HaveEnded, is_endpoint_at, is_thread_at};
 ghost use Rattle.kernel_core.specs.Private.EndedLaws.{nothing_ended, ended_twice};
 
-use crate::decode::lookup::{is_endpoint_address, is_thread_address};
+use crate::addresses::{is_endpoint_address, is_thread_address};
 use crate::rows::{ThreadRow, row_at, set_row};
 use cap_core::{Cap, Profile};
 use clearing::Finalise;

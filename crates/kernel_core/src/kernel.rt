@@ -23,8 +23,7 @@ ghost use Rattle.abstract_kernel.specs.Deliveries.{DeliversPairs};
 ghost use Rattle.abstract_kernel.specs.Step.{replies_of, state_after};
 ghost use Rattle.abstract_kernel.specs.Reached.{IsReached, StepsTo};
 
-use crate::decode::decode_op;
-use crate::decode::lookup::{is_endpoint_address, slot_within};
+use crate::addresses::{is_endpoint_address, slot_within};
 use crate::ending::Threads;
 use crate::objects::{add_threads, make_objects};
 use crate::placements::{derive_in, move_in};
@@ -33,6 +32,7 @@ use abstract_kernel::call::{Call, Inbox, Reply, ThreadState};
 use abstract_kernel::invocation::{CapPlacement, Invocation, NewObjects, Service};
 use cap_core::{Cap, Kind, Message, Profile, Refusal};
 use clearing::SlotChain;
+use decode::decode_op;
 use ipc_core::{Offer, Received, Sent, Waiters};
 use slot_core::{CapStore, Derivation, DerivationStore, Slot};
 use std::alloc::{AllocError, Global};

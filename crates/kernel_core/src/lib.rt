@@ -1,9 +1,9 @@
 //! The kernel: boot, one step, and runs, over any capability store and any store of waiting threads.
 #![tactic(auto)]
 
+mod addresses;
 mod boot;
 mod cancelling;
-mod decode;
 mod deletion;
 mod ending;
 pub mod kernel;

@@ -1,15 +1,14 @@
 -- Where threads, endpoints and slots can stand.
-use Rattle.std.proofs.Common.{◌≡◌, ℕ, suc, ◌+◌, ◌*◌, ◌/◌, ◌%◌, ◌^◌, ◌<◌, ◌≤◌, Bool, true, false, cond, ◌==◌, ◌||◌, List, [], ◌∷◌, ◌++◌, map, length, Option, None, Some, IsSome, All, refl, sym, ap, subst, ◌∙◌, arith, inl, inr}
+use Rattle.std.proofs.Common.{◌≡◌, ℕ, suc, ◌+◌, ◌*◌, ◌/◌, ◌^◌, ◌<◌, ◌≤◌, Bool, true, false, cond, ◌==◌, ◌||◌, List, [], ◌∷◌, ◌++◌, map, length, Option, None, Some, IsSome, All, refl, sym, ap, subst, ◌∙◌, arith, inl, inr}
 use Rattle.std.proofs.lemmas.Bool.{ne_eqb, false≢true}
 use Rattle.std.proofs.lemmas.Bool.Decides.{eqb_tells}
 use Rattle.std.proofs.Math.Nat.{div-add-mod, pow-le-pow_right, mul-le-mul_left}
 use Rattle.std.specs.List.{list_any, filter_map, cons_option, AllByRecursion}
 use Rattle.std.specs.FinMap.{get}
 use Rattle.cap_core.specs.declared.profile.ProfileName.{ProfileName}
-use Rattle.cap_core.specs.declared.profile.ProfileName.TheVariants.{Wide, Narrow}
 use Rattle.cap_core.specs.declared.capability.Cap.{Cap}
 use Rattle.cap_core.specs.declared.capability.Cap.TheVariants.{Null, Untyped, Endpoint, CNode, Tcb}
-use Rattle.cap_core.specs.Numbers.{tcb_size, slot_size, endpoint_bits}
+use Rattle.cap_core.specs.Numbers.{tcb_size, endpoint_bits}
 use Rattle.cap_core.specs.Objects.{IsLawful}
 use Rattle.derivation.specs.Forest.{Forest, none, tree, preorder, join, tops, below_those}
 use Rattle.derivation.specs.Entries.{Entry, cap_at, cap_in, slots, is_at, first_child, first_slot}
@@ -17,7 +16,6 @@ use Rattle.ipc_core.specs.Waits.{IsThreadAddress, IsEndpointAddress}
 use Rattle.kernel_core.specs.declared.rows.ThreadRow.{ThreadRow}
 use Rattle.abstract_kernel.specs.Shown.{endpoint_base}
 use Rattle.kernel_core.specs.Rows.{rows_map}
-use Rattle.abstract_kernel.specs.Memory.{IsSlotAddress}
 use Rattle.kernel_core.proofs.Threads.KeyedRows.{row_is_there}
 use Rattle.cap_core.proofs.Sizes.{tcb_size-pos}
 
@@ -33,16 +31,6 @@ pub row_address : (p : ProfileName) (memory : ℕ) (rows : List (Option ThreadRo
 row_address p memory rows t fill some =
     let there = row_is_there (tcb_size p) t rows (tcb_size-pos p) some in
     record { aligned = there.0; within = subst (λ (n : ℕ). t < n) fill (below_product t (tcb_size p) (length rows) there.1 (tcb_size-pos p)) }
-
--- a thread's address is that of a slot, its root slot
-slot_aligned : (p : ProfileName) (t : ℕ) → t % tcb_size p ≡ 0 → t % slot_size p ≡ 0
-slot_aligned Wide t h = omega arith
-slot_aligned Narrow t h = omega arith
-
-pub thread_slot : (p : ProfileName) (memory most t : ℕ) → memory ≤ most → IsThreadAddress p memory t → IsSlotAddress p most t
-thread_slot p memory most t le h =
-    let more : 2 ^ memory ≤ 2 ^ most = pow-le-pow_right (omega arith) le in
-    record { aligned = slot_aligned p t h.aligned; within = let lt = h.within in omega arith }
 
 -- a live endpoint stands where an endpoint can
 named_endpoint : (p : ProfileName) (memory e : ℕ) (cap : Cap) → endpoint_base cap ≡ Some e → IsLawful p memory cap → IsEndpointAddress p memory e
