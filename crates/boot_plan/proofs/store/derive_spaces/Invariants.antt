@@ -3,7 +3,7 @@ use Rattle.std.proofs.Common.{◌≡◌, ◌-◌, drop}
 use Rattle.cap_core.specs.Numbers.{word_bits, slot_size}
 use Rattle.abstract_kernel.specs.Boot.{boot_tcbs, boot_forest, root_cap, with_spaces}
 use Rattle.abstract_kernel.proofs.Boot.Spaces.{CanDerive}
-use Rattle.kernel_core.proofs.boot.derive_spaces.Given as goal
+use Rattle.boot_plan.proofs.store.derive_spaces.Given as goal
 
 -- the threads from i on still have no capability in their root slots; giving it gives what boot gives
 abbrev pub invariant-loop-i : goal.invariant-loop-i

@@ -7,7 +7,7 @@ use Rattle.abstract_kernel.specs.Plan.{tcb_place}
 use Rattle.abstract_kernel.specs.Boot.{boot_tcbs, with_spaces, root_cap}
 use Rattle.abstract_kernel.proofs.Boot.Spaces.{derive_next}
 use Rattle.abstract_kernel.proofs.Boot.Places.{can_derive}
-use Rattle.kernel_core.proofs.boot.derive_spaces.Goals as goal
+use Rattle.boot_plan.proofs.store.derive_spaces.Goals as goal
 
 pub loop-i-init : goal.loop-i-init
 loop-i-init g c =

@@ -3,7 +3,7 @@ use Rattle.std.proofs.Common.{ap}
 use Rattle.abstract_kernel.specs.Plan.{endpoint_place}
 use Rattle.abstract_kernel.specs.Boot.{whole_endpoint}
 use Rattle.abstract_kernel.proofs.Boot.Puts.{range_added}
-use Rattle.kernel_core.proofs.boot.add_endpoints.Goals as goal
+use Rattle.boot_plan.proofs.store.add_endpoints.Goals as goal
 
 pub loop-j-preserved : goal.loop-j-preserved
 loop-j-preserved g c =

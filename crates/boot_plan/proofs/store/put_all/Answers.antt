@@ -5,7 +5,7 @@ use Rattle.cap_core.specs.Numbers.{slot_size}
 use Rattle.abstract_kernel.specs.Boot.{boot_caps, with_roots}
 use Rattle.abstract_kernel.proofs.Boot.Puts.{put_next}
 use Rattle.abstract_kernel.proofs.Boot.Places.{can_put}
-use Rattle.kernel_core.proofs.boot.put_all.Goals as goal
+use Rattle.boot_plan.proofs.store.put_all.Goals as goal
 
 pub loop-i-init : goal.loop-i-init
 loop-i-init g c =

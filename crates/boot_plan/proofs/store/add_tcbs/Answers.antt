@@ -3,7 +3,7 @@ use Rattle.std.proofs.Common.{ap}
 use Rattle.cap_core.specs.declared.capability.Cap.TheVariants.{Tcb}
 use Rattle.abstract_kernel.specs.Plan.{tcb_place}
 use Rattle.abstract_kernel.proofs.Boot.Puts.{range_added}
-use Rattle.kernel_core.proofs.boot.add_tcbs.Goals as goal
+use Rattle.boot_plan.proofs.store.add_tcbs.Goals as goal
 
 pub loop-i-preserved : goal.loop-i-preserved
 loop-i-preserved g c =

@@ -3,7 +3,7 @@ use Rattle.std.proofs.Common.{◌≡◌, ◌+◌, drop}
 use Rattle.derivation.specs.Forest.{none}
 use Rattle.abstract_kernel.specs.Boot.{boot_caps, with_roots}
 use Rattle.abstract_kernel.proofs.Boot.Puts.{CanPut}
-use Rattle.kernel_core.proofs.boot.put_all.Given as goal
+use Rattle.boot_plan.proofs.store.put_all.Given as goal
 
 -- the capabilities from i on are still to be put, which gives what boot gives
 abbrev pub invariant-loop-i : goal.invariant-loop-i
