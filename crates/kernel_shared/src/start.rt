@@ -29,6 +29,10 @@ pub enum StartFault {
 }
 
 impl From<AllocError> for StartFault {
+    ghost use Rattle.kernel_shared.specs.declared.start.StartFault.TheVariants.{Memory};
+
+    ghost from_gives = { λ _ e. e ≡ Memory };
+
     fn from(_: AllocError) -> StartFault {
         StartFault::Memory
     }

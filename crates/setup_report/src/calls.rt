@@ -69,8 +69,12 @@ fn count(verdict: Verdict<'_>) -> ExpectationCount
     }
 }
 
-/// Adds the line of a call, and counts its expectation.
-fn add_call(
+/// Adds the line of a call, with its number from 1 on and its reply, and counts its expectation.
+///
+/// # Errors
+///
+/// Memory was refused.
+pub fn add_call(
     alloc: Global,
     out: &mut String,
     number: usize,

@@ -13,15 +13,19 @@ mod readable;
 mod slots;
 mod text;
 
-pub use calls::{ExpectationCount, expectations};
+pub use calls::{ExpectationCount, add_call, expectations};
 use cap_core::Profile;
 use ipc_core::Waiters;
 use kernel_core::{Kernel, Reply};
+pub use lines::EndpointLine;
+pub use memory::{first_sends, waiting_threads};
+pub use naming::{Naming, base_named};
+pub use readable::Readable;
 use setup_format::Setup;
 use slot_core::CapStore;
 use std::alloc::{AllocError, Global};
 use std::fmt::Write;
-pub use text::AnsweredText;
+pub use text::{AnsweredText, CapText, MessageText, StateText};
 
 /// The report of a run as text: a line for each call of the set-up with its reply; of the memory, as `kernel` shows it,
 /// a line for each live thread, each live endpoint, each full slot and each CNode that only slots of its own name, each

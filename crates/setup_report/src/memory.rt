@@ -84,8 +84,12 @@ fn add_slots<P: Profile, K: Readable<P>>(
     Ok(())
 }
 
-/// The threads that wait on an endpoint, the first to be served first.
-fn waiting_threads<P: Profile, K: Readable<P>>(
+/// The threads that wait on an endpoint, the first to be served first; none where no live endpoint is at the address.
+///
+/// # Errors
+///
+/// Memory was refused.
+pub fn waiting_threads<P: Profile, K: Readable<P>>(
     alloc: Global,
     endpoint: u64,
     kernel: &K,
@@ -108,7 +112,7 @@ fn is_sending(state: Option<ThreadState>) -> bool
 }
 
 /// Whether the thread that waits first on an endpoint sends, as all that wait there then do.
-fn first_sends<P: Profile, K: Readable<P>>(endpoint: u64, kernel: &K) -> bool
+pub fn first_sends<P: Profile, K: Readable<P>>(endpoint: u64, kernel: &K) -> bool
     ensures { result ≡ spec.first_sends (waiting_at (K.shown kernel.now) endpoint) }
 {
     match kernel.waiting(endpoint, 0) {

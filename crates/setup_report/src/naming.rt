@@ -36,7 +36,8 @@ fn is_slot_of<P: Profile>(base: u64, radix: u32, slot: u64) -> bool
     slot >= base && is_below_power((slot - base) >> P::SLOT_BITS, radix)
 }
 
-fn base_named<P: Profile>(naming: Naming, slot: u64, cap: Cap) -> Option<u64>
+/// The base of the object that the capability in a slot, at its address in bytes, names, where that is asked for.
+pub fn base_named<P: Profile>(naming: Naming, slot: u64, cap: Cap) -> Option<u64>
     ensures { result ≡ spec.base_named P.the naming slot cap }
 {
     match (naming, cap) {

@@ -83,7 +83,7 @@ sorted_rising (x ∷ xs) = sorted_insert x (rising xs) (sorted_rising xs)
 abbrev set_of : List ℕ → BTreeSet ℕ
 set_of keys = record { keys = keys }
 
-tied_in : (q : ℕ) (xs : List ℕ) → contains nat_cmp (set_of xs) q ≡ is_in q xs
+pub tied_in : (q : ℕ) (xs : List ℕ) → contains nat_cmp (set_of xs) q ≡ is_in q xs
 tied_in q [] = refl
 tied_in q (x ∷ xs) = λ i. unsigned_tied q x i || tied_in q xs i
 
@@ -177,7 +177,7 @@ named_none f xs i d before lt e is =
 pub rising_named : (p : ProfileName) (naming : Naming) (v : Shown) (keys full : List ℕ) → full ≡ rising (full_slots v) → keys ≡ rising (filter_map (base_at p naming v) full) → keys ≡ rising (bases_named p naming v)
 rising_named p naming v keys full e h = h ∙ ap (λ l. rising (filter_map (base_at p naming v) l)) e ∙ named_rising (base_at p naming v) (full_slots v)
 
-filter_alike : (f g : ℕ → Bool) (xs : List ℕ) → ((q : ℕ) → f q ≡ g q) → filter f xs ≡ filter g xs
+pub filter_alike : (f g : ℕ → Bool) (xs : List ℕ) → ((q : ℕ) → f q ≡ g q) → filter f xs ≡ filter g xs
 filter_alike f g [] h = refl
 filter_alike f g (x ∷ xs) h = λ i. cond (h x i) (x ∷ filter_alike f g xs h i) (filter_alike f g xs h i)
 

@@ -1,0 +1,4 @@
+pub mod Differences
+pub mod Listed
+pub mod Views
+pub mod Steps

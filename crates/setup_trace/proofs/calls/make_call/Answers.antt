@@ -1,0 +1,35 @@
+use Rattle.std.proofs.Common.{◌+◌, ◌++◌, subst, ◌∙◌, string_bytes, option_copied}
+use Rattle.abstract_kernel.specs.Reached.{StepsTo}
+use Rattle.setup_report.specs.Report.{line, call_text}
+use Rattle.setup_trace.specs.Changes.{state_lines, changes}
+use Rattle.setup_trace.specs.Trace.{words_line}
+use Rattle.setup_trace.proofs.Views.{view_told}
+use Rattle.setup_trace.proofs.Steps.{follows, call_is, expected_is, three_parts}
+use Rattle.setup_trace.proofs.calls.make_call.Goals as goal
+
+pub after_call-requires : goal.after_call-requires
+after_call-requires g c = (
+  c.args.kernel.now,
+  c.requires.view,
+  follows g.P.Profile.the c.requires.reached.0 _ c.step-reply.result c.args.kernel.now c.step-reply.new.self c.requires.reached.2
+      (c.step-reply.ensures.stands c.requires.reached.0 c.requires.reached.1 c.requires.reached.2),
+)
+
+pub returns-clause-steps : goal.returns-clause-steps
+returns-clause-steps g c = λ A call reached same there.
+    subst (λ k. StepsTo g.P.Profile.the A k c.step-reply.result c.step-reply.new.self)
+    (call_is c.args.setup.now.calls c.calls.result.now c.args.i _ call c.calls.ensures there)
+    (c.step-reply.ensures.stands A reached same)
+
+pub returns-clause-text : goal.returns-clause-text
+returns-clause-text g c = λ call there.
+    let p = g.P.Profile.the in
+    let made = call_is c.args.setup.now.calls c.calls.result.now c.args.i _ call c.calls.ensures there in
+    let expected = expected_is c.args.setup.now.calls c.args.i (option_copied c.expect.result) call c.expect.ensures there in
+    let told = state_lines p c.step-reply.new.self in
+    three_parts (string_bytes c.args.out.now) (string_bytes c.add_call.new.out) (string_bytes c.add_words.new.out) (string_bytes c.after_call.new.out) _ _ _
+    c.in_ok-add_call.ensures.line c.in_ok-add_words.ensures c.in_ok-told.ensures.text
+    ∙ (λ k. string_bytes c.args.out.now
+    ++ (line (call_text (c.args.i + 1) (made k) c.step-reply.result (expected k))
+    ++ (words_line (made k).op
+    ++ changes (view_told p c.args.kernel.now c.args.view c.requires.view k) told)))

@@ -1,0 +1,75 @@
+use Rattle.std.proofs.Common.{◌≡◌, ◌++◌, codes, map, length, string_bytes, ap, ◌∙◌}
+use Rattle.std.proofs.lemmas.List.{length-map}
+use Rattle.abstract_kernel.specs.Boot.{boot}
+use Rattle.abstract_kernel.specs.State.{shown}
+use Rattle.setup_format.specs.Views.{CallView}
+use Rattle.setup_report.specs.Report.{line, met_count, expectation_count}
+use Rattle.setup_trace.specs.Changes.{changes, state_lines}
+use Rattle.setup_trace.specs.Trace.{head_line, calls_lines, count_line, replies_to, trace_of}
+use Rattle.setup_trace.proofs.Views.{nothing_rises}
+use Rattle.setup_trace.proofs.Steps.{booted, replies_length, whole_text}
+use Rattle.setup_trace.proofs.run.trace.Goals as goal
+
+pub retell-requires-clause-memory : goal.retell-requires-clause-memory
+retell-requires-clause-memory g c = (nothing_rises c.nothing.result c.nothing.ensures).0
+
+pub retell-requires-clause-messages : goal.retell-requires-clause-messages
+retell-requires-clause-messages g c = (nothing_rises c.nothing.result c.nothing.ensures).1
+
+pub add_calls-requires-clause-reached : goal.add_calls-requires-clause-reached
+add_calls-requires-clause-reached g c =
+    let p = g.P.Profile.the in
+    (boot p c.args.setup.now.plan, booted p c.args.setup.now.plan c.requires, c.in_ok-kernel.ensures.shows ∙ ap (λ plan. shown (boot p plan)) c.plan.ensures.plan)
+
+pub expectations-requires : goal.expectations-requires
+expectations-requires g c =
+    let p = g.P.Profile.the in
+    let plan = c.args.setup.now.plan in
+    let stands = c.in_ok-kernel.ensures.shows ∙ ap (λ plan. shown (boot p plan)) c.plan.ensures.plan in
+    let replies : c.as_slice.result.now ≡ replies_to p c.args.setup.now =
+    c.as_slice.ensures.value ∙ c.in_ok-replies.ensures.replies (boot p plan) (booted p plan c.requires) stands in
+    ap length replies
+    ∙ replies_length p (boot p plan) (map (λ (k : CallView). k.call) c.args.setup.now.calls)
+    ∙ length-map c.args.setup.now.calls (λ (k : CallView). k.call)
+
+pub returns-clause-text : goal.returns-clause-text
+unfolding trace_of
+returns-clause-text g c =
+    let p = g.P.Profile.the in
+    let plan = c.args.setup.now.plan in
+    let stands = c.in_ok-kernel.ensures.shows ∙ ap (λ plan. shown (boot p plan)) c.plan.ensures.plan in
+    let replies : c.as_slice.result.now ≡ replies_to p c.args.setup.now =
+    c.as_slice.ensures.value ∙ c.in_ok-replies.ensures.replies (boot p plan) (booted p plan c.requires) stands in
+    let calls = c.args.setup.now.calls in
+    (λ i. (c.into_bytes.ensures.value i).items)
+    ∙ whole_text (string_bytes c.add_head.new.out) (string_bytes c.add_boot.new.out) (string_bytes c.retell.new.out) (string_bytes c.add_calls.new.out) (string_bytes c.add_expectations.new.out)
+    _ _ _ _ _
+    (c.in_ok-add_head.ensures ∙ ap (λ l. l ++ head_line c.args.setup.now) c.new-out.ensures.bytes)
+    c.in_ok-add_boot.ensures
+    c.in_ok-view.ensures.text
+    (c.in_ok-replies.ensures.text (boot p plan) (booted p plan c.requires) stands)
+    c.in_ok-add_expectations.ensures
+    ∙ (λ i. head_line c.args.setup.now
+    ++ ((line (codes "0 boot") ++ changes (c.nothing.ensures i) (state_lines p (stands i)))
+    ++ (calls_lines p 1 (boot p plan) calls
+    ++ count_line
+    ((c.in_ok-count.ensures.met ∙ ap (met_count calls) replies) i)
+    ((c.in_ok-count.ensures.expected ∙ ap (expectation_count calls) replies) i))))
+
+pub returns-clause-met : goal.returns-clause-met
+returns-clause-met g c =
+    let p = g.P.Profile.the in
+    let plan = c.args.setup.now.plan in
+    let stands = c.in_ok-kernel.ensures.shows ∙ ap (λ plan. shown (boot p plan)) c.plan.ensures.plan in
+    let replies : c.as_slice.result.now ≡ replies_to p c.args.setup.now =
+    c.as_slice.ensures.value ∙ c.in_ok-replies.ensures.replies (boot p plan) (booted p plan c.requires) stands in
+    c.in_ok-count.ensures.met ∙ ap (met_count c.args.setup.now.calls) replies
+
+pub returns-clause-expected : goal.returns-clause-expected
+returns-clause-expected g c =
+    let p = g.P.Profile.the in
+    let plan = c.args.setup.now.plan in
+    let stands = c.in_ok-kernel.ensures.shows ∙ ap (λ plan. shown (boot p plan)) c.plan.ensures.plan in
+    let replies : c.as_slice.result.now ≡ replies_to p c.args.setup.now =
+    c.as_slice.ensures.value ∙ c.in_ok-replies.ensures.replies (boot p plan) (booted p plan c.requires) stands in
+    c.in_ok-count.ensures.expected ∙ ap (expectation_count c.args.setup.now.calls) replies

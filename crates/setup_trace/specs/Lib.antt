@@ -1,0 +1,6 @@
+-- A trace: Lines has what is told of a state, Changes how two states differ, Words the words of a call, Trace all of it.
+pub mod Lines
+pub mod Changes
+pub mod Words
+pub mod Trace
+pub mod Private

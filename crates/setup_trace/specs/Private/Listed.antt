@@ -1,0 +1,32 @@
+-- Lines as the code keeps them.
+use Rattle.std.specs.Prelude.{ℕ, List, string_bytes, Option, Some, None, slice_get, ◌≡◌}
+use Rattle.std.specs.Ordering.{nat_cmp}
+use Rattle.std.specs.declared.cmp.Ordering.{Ordering}
+use Rattle.std.specs.declared.cmp.Ordering.TheVariants.{Less, Greater}
+use Rattle.cap_core.specs.declared.profile.ProfileName.{ProfileName}
+use Rattle.slot_core.specs.declared.derivations.Derivation.{Derivation}
+use Rattle.slot_core.specs.Places.{address_of}
+use Rattle.slot_core.specs.Calls.{derivation_view}
+use Rattle.setup_trace.specs.Lines.{slot_text}
+use Rattle.setup_trace.specs.declared.changes.Line.{Line}
+
+abbrev pub line_view : Line → ℕ × List ℕ
+line_view line = (line.address, string_bytes line.text)
+
+-- which of two lines has the lesser address, where each may be missing
+abbrev pub order_of : Option (ℕ × List ℕ) → Option (ℕ × List ℕ) → Ordering
+order_of None new = Greater
+order_of (Some old) None = Less
+order_of (Some old) (Some new) = nat_cmp old.0 new.0
+
+-- the address of a full slot
+abbrev pub slot_address : ProfileName → Derivation → ℕ
+slot_address p d = address_of p d.slot
+
+-- one of a list, at its address
+abbrev pub IsEntryOf : ProfileName → List Derivation → ℕ × Derivation → Type 0
+IsEntryOf p list e = (e.0 ≡ slot_address p e.1) × ((i : ℕ) × (slice_get list i ≡ Some e.1))
+
+-- the line of a full slot
+abbrev pub derivation_line : ProfileName → Derivation → ℕ × List ℕ
+derivation_line p d = (slot_address p d, slot_text (derivation_view p d))
