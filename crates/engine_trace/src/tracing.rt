@@ -1,0 +1,94 @@
+//! The trace of a set-up's run, from the bytes of an input to the text that is written for it.
+ghost use Rattle.std.specs.Prelude.{◌≡◌, ◌≢◌, IfOk, false};
+ghost use Rattle.abstract_kernel.specs.Plan.{IsPlan};
+ghost use Rattle.engine.specs.Program.{verdict_on as verdict_of_counts};
+ghost use Rattle.engine.specs.Runs.{IsRun};
+ghost use Rattle.engine_trace.specs.Traces.{traced_in, trace_of_bytes};
+
+use cap_core::{Narrow, Profile, ProfileName, Wide};
+use engine::{Engine, RunFault, Sink, Source, Verdict, refusal, run_engine};
+use ipc_core::{LinkedWaiters, MakeWaiters};
+use setup_format::{Setup, SetupFault, read_setup};
+use setup_report::ExpectationCount;
+use setup_trace::trace;
+use slot_core::{DerivationStore, LinkedStore, MakeStore};
+use std::alloc::{AllocError, Global};
+
+/// Whether all expectations are met.
+fn verdict_on(count: ExpectationCount) -> Verdict
+    ensures { result ≡ verdict_of_counts count.met count.expected }
+{
+    if count.met == count.expected {
+        Verdict::AllMet
+    } else {
+        Verdict::NotMet
+    }
+}
+
+/// Runs the set-up in a profile, and tells what each call changes.
+#[tactic(auto, unfolding(crate::specs::Traces::traced_in))]
+fn trace_setup<P: Profile, S: MakeStore<P> + DerivationStore<P>, W: MakeWaiters<P>>(
+    alloc: Global,
+    setup: &Setup,
+) -> Result<(Vec<u8>, Verdict), AllocError>
+    requires { IsPlan P.the setup.now.plan }
+    ensures { IfOk result (λ made. (made.0.items, made.1) ≡ traced_in P.the setup.now) }
+{
+    let (text, count) = trace::<P, S, W>(alloc, setup)?;
+    Ok((text, verdict_on(count)))
+}
+
+/// The text that is written for the bytes of an input, and the verdict.
+#[tactic(auto, unfolding(crate::specs::Traces::trace_of_bytes))]
+fn trace_text(alloc: Global, bytes: &[u8]) -> Result<(Vec<u8>, Verdict), AllocError>
+    ensures { IfOk result (λ made. (made.0.items, made.1) ≡ trace_of_bytes bytes.now) }
+{
+    match read_setup(alloc, bytes) {
+        Ok(setup) => match setup.profile() {
+            ProfileName::Wide => trace_setup::<Wide, LinkedStore<Wide>, LinkedWaiters<Wide>>(
+                alloc, &setup,
+            ),
+            ProfileName::Narrow => trace_setup::<
+                Narrow,
+                LinkedStore<Narrow>,
+                LinkedWaiters<Narrow>,
+            >(alloc, &setup),
+        },
+        Err(SetupFault::Memory) => Err(AllocError),
+        Err(fault) => Ok((refusal(alloc, &fault)?, Verdict::Refused)),
+    }
+}
+
+/// Tells what each call changes, by the linked forms.
+struct Tracer;
+
+impl Engine for Tracer {
+    ghost means = { λ tracer input text verdict. trace_of_bytes input ≡ (text, verdict) };
+
+    ghost starts_threads = { λ tracer. false };
+
+    fn make(&self, alloc: Global, input: &[u8]) -> Result<(Vec<u8>, Verdict), RunFault> {
+        trace_text(alloc, input).map_err(|_| RunFault::Memory)
+    }
+}
+
+/// Reads the source to its end, runs the set-up that it holds, and writes the trace, or the line of a refusal, to the
+/// sink.
+///
+/// # Errors
+/// `Reading` where a read failed in this call, or where `INPUT_LIMIT` bytes came without an end; nothing is written
+/// then. `Writing` where a write failed or took no byte; a front of the text was written then. `Memory`; nothing is
+/// written then.
+pub fn trace_run<S: Source, K: Sink>(
+    alloc: Global,
+    source: &mut S,
+    sink: &mut K,
+) -> Result<Verdict, RunFault>
+    requires source { S.failed source.old ≡ false }
+    requires sink { K.failed sink.old ≡ false }
+    ensures run { IsRun (λ input text verdict. trace_of_bytes input ≡ (text, verdict))
+        S.Source K.Sink source.old source.new sink.old sink.new result }
+    ensures never_thread { result ≢ Err RunFault.Thread }
+{
+    run_engine(alloc, &Tracer, source, sink)
+}
