@@ -27,8 +27,8 @@ fn add_words(out: &mut String, op: Op) -> Result<(), AllocError>
     writeln!(out, "  with{words}")
 }
 
-/// Makes the call at place `i` of a set-up, and adds its line, its words and what it changed of a state of which `view` is
-/// what was told.
+/// Makes the call at place `i` of a set-up, and adds its line, its words and what it changed of a state of which `view`
+/// is what was told.
 fn make_call<P: Profile, S: DerivationStore<P> + Drop, W: Waiters<P> + Drop>(
     alloc: Global,
     out: &mut String,

@@ -43,8 +43,8 @@ fn add_altered(out: &mut String, old: &Line, new: &Line) -> Result<(), AllocErro
     add_added(out, new)
 }
 
-/// Which of two lines comes first: the old one, with `Less`, where there is no new one; the new one, with `Greater`, where
-/// there is no old one.
+/// Which of two lines comes first: the old one, with `Less`, where there is no new one; the new one, with `Greater`,
+/// where there is no old one.
 fn order_at(old: &[Line], i: usize, new: &[Line], j: usize) -> Ordering
     requires { (i < length old.now) ⊎ (j < length new.now) }
     ensures order { result ≡ order_of (slice_get (map line_view old.now) i) (slice_get (map line_view new.now) j) }

@@ -47,7 +47,8 @@ pub fn thread_lines<P: Profile, S: CapStore<P> + Drop, W: Waiters<P> + Drop>(
     threads: &BTreeSet<u64>,
     kernel: &Kernel<P, S, W>,
 ) -> Result<Vec<Line>, AllocError>
-    ensures { IfOk result (λ v. map line_view v.items ≡ flat_map (spec.line_at (spec.thread_at kernel.now)) threads.now.keys) }
+    ensures { IfOk result (λ v. map line_view v.items
+        ≡ flat_map (spec.line_at (spec.thread_at kernel.now)) threads.now.keys) }
 {
     let mut lines = Vec::new(alloc);
     for thread in threads {
@@ -83,7 +84,8 @@ pub fn inbox_lines<P: Profile, S: CapStore<P> + Drop, W: Waiters<P> + Drop>(
     threads: &BTreeSet<u64>,
     kernel: &Kernel<P, S, W>,
 ) -> Result<Vec<Line>, AllocError>
-    ensures { IfOk result (λ v. map line_view v.items ≡ flat_map (spec.line_at (spec.inbox_line_at kernel.now)) threads.now.keys) }
+    ensures { IfOk result (λ v. map line_view v.items
+        ≡ flat_map (spec.line_at (spec.inbox_line_at kernel.now)) threads.now.keys) }
 {
     let mut lines = Vec::new(alloc);
     for thread in threads {
@@ -132,7 +134,8 @@ pub fn endpoint_lines<P: Profile, S: CapStore<P> + Drop, W: Waiters<P> + Drop>(
     endpoints: &BTreeSet<u64>,
     kernel: &Kernel<P, S, W>,
 ) -> Result<Vec<Line>, AllocError>
-    ensures { IfOk result (λ v. map line_view v.items ≡ flat_map (spec.line_at (spec.endpoint_at kernel.now)) endpoints.now.keys) }
+    ensures { IfOk result (λ v. map line_view v.items
+        ≡ flat_map (spec.line_at (spec.endpoint_at kernel.now)) endpoints.now.keys) }
 {
     let mut lines = Vec::new(alloc);
     for endpoint in endpoints {

@@ -54,8 +54,8 @@ fn add_expectations(out: &mut String, count: ExpectationCount) -> Result<(), All
     writeln!(out, "expected {met} of {expected}")
 }
 
-/// The trace of a set-up's run, in the profile of its plan: what the boot gives, and for each call the report's own line,
-/// its words, and what it changed: each line of the state that is gone and each that is new; and how many of the
+/// The trace of a set-up's run, in the profile of its plan: what the boot gives, and for each call the report's own
+/// line, its words, and what it changed: each line of the state that is gone and each that is new; and how many of the
 /// expectations are met. A line tells of a thread, of the last message delivered to one, of an endpoint, of a full slot
 /// with the slot that it is derived from, or of a CNode that only slots of its own name.
 ///
@@ -72,7 +72,8 @@ pub fn trace<P: Profile, S: MakeStore<P> + DerivationStore<P>, W: MakeWaiters<P>
     requires { IsPlan P.the setup.now.plan }
     ensures text { IfOk result (λ r. r.0.items ≡ spec.trace_of P.the setup.now) }
     ensures met { IfOk result (λ r. r.1.met ≡ met_count setup.now.calls (spec.replies_to P.the setup.now)) }
-    ensures expected { IfOk result (λ r. r.1.expected ≡ expectation_count setup.now.calls (spec.replies_to P.the setup.now)) }
+    ensures expected { IfOk result (λ r. r.1.expected
+        ≡ expectation_count setup.now.calls (spec.replies_to P.the setup.now)) }
 {
     let mut kernel = Kernel::<P, S, W>::boot(alloc, setup.plan())?;
     let mut out = String::new(alloc);

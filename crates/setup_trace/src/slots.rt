@@ -77,7 +77,8 @@ fn add_slot<P: Profile>(
     lines: &mut Vec<Line>,
     derivation: &Derivation,
 ) -> Result<(), AllocError>
-    ensures { OnOk result (map line_view lines.new.items ≡ map line_view lines.old.items ++ derivation_line P.the derivation.now ∷ []) }
+    ensures { OnOk result (map line_view lines.new.items
+        ≡ map line_view lines.old.items ++ derivation_line P.the derivation.now ∷ []) }
 {
     let line = slot_line::<P>(alloc, derivation)?;
     lines.push(line)?;
@@ -112,7 +113,8 @@ pub fn slot_lines<P: Profile>(alloc: Global, list: &[Derivation]) -> Result<Vec<
 }
 
 fn add_selfheld(alloc: Global, lines: &mut Vec<Line>, address: u64) -> Result<(), AllocError>
-    ensures { OnOk result (map line_view lines.new.items ≡ map line_view lines.old.items ++ spec.line_at spec.selfheld_at address) }
+    ensures { OnOk result (map line_view lines.new.items
+        ≡ map line_view lines.old.items ++ spec.line_at spec.selfheld_at address) }
 {
     let text = format!(in alloc; "selfheld {address}")?;
     lines.push(Line { address, text })?;
@@ -144,7 +146,8 @@ pub fn selfheld_lines<P: Profile>(
     alloc: Global,
     list: &[Derivation],
 ) -> Result<Vec<Line>, AllocError>
-    ensures { IfOk result (λ v. map line_view v.items ≡ spec.selfheld_lines P.the (map (derivation_view P.the) list.now)) }
+    ensures { IfOk result (λ v. map line_view v.items
+        ≡ spec.selfheld_lines P.the (map (derivation_view P.the) list.now)) }
 {
     let own = named::<P>(alloc, Naming::OwnNode, list)?;
     let others = named::<P>(alloc, Naming::OtherNode, list)?;

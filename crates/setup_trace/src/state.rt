@@ -127,8 +127,8 @@ pub fn retell<P: Profile, S: DerivationStore<P> + Drop, W: Waiters<P> + Drop>(
     Ok(View { memory, messages })
 }
 
-/// The messages of a kernel's state are told anew: adds how they differ from what was told before, where the capabilities
-/// are the same.
+/// The messages of a kernel's state are told anew: adds how they differ from what was told before, where the
+/// capabilities are the same.
 fn retell_messages<P: Profile, S: DerivationStore<P> + Drop, W: Waiters<P> + Drop>(
     alloc: Global,
     out: &mut String,
@@ -149,8 +149,8 @@ fn retell_messages<P: Profile, S: DerivationStore<P> + Drop, W: Waiters<P> + Dro
     })
 }
 
-/// Adds what a call changed, by its reply: a call that is refused, dropped or finds nothing changes nothing, and a send or
-/// a receive changes no capability.
+/// Adds what a call changed, by its reply: a call that is refused, dropped or finds nothing changes nothing, and a send
+/// or a receive changes no capability.
 pub fn after_call<P: Profile, S: DerivationStore<P> + Drop, W: Waiters<P> + Drop>(
     alloc: Global,
     out: &mut String,

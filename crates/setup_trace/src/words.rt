@@ -63,7 +63,8 @@ struct TransferWords {
 }
 
 impl fmt::Display for TransferWords {
-    ghost output = { λ w. Some (spec.transfer_words w.slot.cap w.slot.index w.slot.depth w.source.root w.source.index w.source.depth) };
+    ghost output = { λ w. Some (spec.transfer_words w.slot.cap w.slot.index w.slot.depth
+        w.source.root w.source.index w.source.depth) };
 
     fn fmt<W: fmt::Write>(&self, f: &mut fmt::Formatter<W>) -> fmt::Result {
         let slot = self.slot;
