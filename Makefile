@@ -1,11 +1,14 @@
 # make run: the proved program on the stored set-up; make test: the gate; make try: the stored set-up before any proof;
-# make rows: the built program: each worked set-up, as it is and migrated, what it says of wrong command lines, files and
+# make rows: the built program: each worked set-up, as it is, migrated and traced, what it says of wrong command lines, files and
 # set-ups, an address used again a thousand times, each request for memory refused in turn, by each subcommand and by
 # calls of the libraries, inputs and outputs that fail, texts that are broken, deep or long, three clients in whatever
 # order they come, and what the documents print;
+# make page: a page that steps through the run of each example, in page/out/; make page-test: steps through these pages in
+# chromium and compares what they show (traces=FOLDER: pages of the traces in a folder instead); it says first what it needs
+# and does not find;
 # make bench: how the cost of check, the kernel and the linked forms grows, beside plain Rust, measured and drawn
 # (docs/performance.md); it says first what it needs and does not find.
-.PHONY: run test try rows needs bench
+.PHONY: run test try rows page page-test needs bench
 
 program = crates/sel4sim/out/sel4sim
 calls = crates/refused_memory/out/refused_memory
@@ -26,6 +29,7 @@ try:
 rows: run
 	python3 rows/run.py $(program) $(setups)
 	python3 rows/migrate.py $(program) $(setups)
+	python3 rows/traces.py $(program) $(setups)
 	python3 rows/messages.py $(program)
 	python3 rows/use_address_again.py $(program) 1000
 	cd crates/refused_memory && rt run
@@ -35,6 +39,13 @@ rows: run
 	python3 rows/hostile_texts.py $(program) $(setups) $(stored)
 	python3 rows/run_clients.py $(program) $(setups)/examples/three_clients.toml 100
 	python3 rows/documents.py $(dir $(program)) README.md docs/*.md
+
+page: run
+	python3 page/join.py
+	page/pages.sh $(program) $(setups)/examples page/out
+
+page-test: $(if $(traces),,run)
+	python3 page/test/page_test.py $(if $(traces),--traces $(traces),$(program) $(setups)/examples)
 
 needs:
 	bench/needs.sh

@@ -12,7 +12,7 @@ import subprocess
 import sys
 import tempfile
 
-SUBCOMMANDS = ["check", "threads"]
+SUBCOMMANDS = ["check", "trace", "threads"]
 
 SECONDS = 60
 NOBODY = 65534

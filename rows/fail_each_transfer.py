@@ -1,6 +1,6 @@
 #!/usr/bin/env python3
 """fail_each_transfer.py PROGRAM SETUP: lets each read of standard input and each write of standard output fail in turn, counting up
-until a run meets none: by `check` and by `threads`, with all the bytes that a call asks for and with one byte at a time. A write
+until a run meets none: by `check`, `trace` and `threads`, with all the bytes that a call asks for and with one byte at a time. A write
 fails, or takes no byte. The set-up has one client, so that `threads` has one answer.
 
 A failed read has to give exit status 3, its line on standard error and nothing written; a failed write exit status 3, its line and a
@@ -74,7 +74,7 @@ ssize_t write(int file, const void *bytes, size_t size)
 }
 """
 
-SUBCOMMANDS = ["check", "threads"]
+SUBCOMMANDS = ["check", "trace", "threads"]
 MOST_BYTES = [0, 1]
 KINDS = ["read", "write", "no byte"]
 POOL = 4

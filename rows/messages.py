@@ -97,6 +97,10 @@ STREAMS = [
      ["reading failed", f"standard input: {INPUT_LIMIT} bytes or more; a set-up has to be shorter"]),
     (["check"], FIRST, "/dev/full", 3, ["writing failed", "standard output: No space left on device (os error 28)"]),
     (["--help"], "", "/dev/full", 3, ["writing failed", "standard output: No space left on device (os error 28)"]),
+    (["trace"], FIRST, "/dev/full", 3, ["writing failed", "standard output: No space left on device (os error 28)"]),
+    (["trace"], FIRST + CALL + 'op = "nbsend"\nexpect = "delivered to 2048"\n', "/dev/null", 1,
+     ['call 1: no reply begins with "delivered to 2048"']),
+    (["trace"], "format = 1\nthreads =\n", "/dev/null", 2, ["TOML parse error at line 2, column 10", None]),
     (["migrate"], FIRST, "/dev/null", 0, []),
     (["migrate"], SECOND, "/dev/null", 2, ["only a set-up of format 1 is migrated"]),
 ]

@@ -77,7 +77,7 @@ int posix_memalign(void **made, size_t alignment, size_t size)
 """
 
 
-SUBCOMMANDS = ["check", "threads", "migrate"]
+SUBCOMMANDS = ["check", "trace", "threads", "migrate"]
 POOL = 4
 MEMORY = (3, b"", b"sel4sim: out of memory\n")
 THREAD = (3, b"", b"sel4sim: thread not started\n")

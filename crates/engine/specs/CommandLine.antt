@@ -6,7 +6,7 @@ use Rattle.clap.specs.Simple.{on_top}
 use Rattle.clap.specs.declared.error.kind.ErrorKind.{ErrorKind}
 use Rattle.clap.specs.declared.error.kind.ErrorKind.TheVariants.{DisplayHelp, OutOfMemory}
 use Rattle.engine.specs.declared.arguments.Job.{Job}
-use Rattle.engine.specs.declared.arguments.Job.TheVariants.{Check, Threads, Migrate}
+use Rattle.engine.specs.declared.arguments.Job.TheVariants.{Check, Trace, Threads, Migrate}
 use Rattle.engine.specs.declared.arguments.LineFault.{LineFault}
 use Rattle.engine.specs.declared.arguments.LineFault.TheVariants.{Help, Refused, Memory}
 
@@ -18,16 +18,21 @@ with_file name = with_rule (new_app name) (new_rule (codes "FILE"))
 abbrev pub bare_command : App
 bare_command = on_top (λ s. record s { disable_help_subcommand = true }) (new_app (codes "sel4sim"))
 
--- `sel4sim`, with the subcommands `check`, `threads` and `migrate`
+-- a command with one more subcommand of that name
+abbrev pub and_subcommand : Text → App → App
+and_subcommand name app = with_subcommand app (with_file name).top
+
+-- `sel4sim`, with the subcommands `check`, `trace`, `threads` and `migrate`
 unfoldable pub command : App
-command = with_subcommand
-    (with_subcommand (with_subcommand bare_command (with_file (codes "check")).top) (with_file (codes "threads")).top)
-    (with_file (codes "migrate")).top
+command =
+    and_subcommand (codes "migrate")
+        (and_subcommand (codes "threads") (and_subcommand (codes "trace") (and_subcommand (codes "check") bare_command)))
 
 -- the job of a subcommand's name
 abbrev pub job_named : Text → Option Job
 job_named name =
     if bytes_eq name (codes "check") then Some Check
+    else if bytes_eq name (codes "trace") then Some Trace
     else if bytes_eq name (codes "threads") then Some Threads
     else if bytes_eq name (codes "migrate") then Some Migrate
     else None

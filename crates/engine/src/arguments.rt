@@ -8,6 +8,8 @@ use thiserror::Error;
 pub enum Job {
     /// Run a set-up and compare its replies with what it expects.
     Check,
+    /// Run a set-up and tell what each call of it changes.
+    Trace,
     /// Run a set-up's clients in threads of their own.
     Threads,
     /// Write a set-up of format 1 in format 2.
@@ -61,6 +63,8 @@ impl Job {
     {
         if name == "check" {
             Some(Job::Check)
+        } else if name == "trace" {
+            Some(Job::Trace)
         } else if name == "threads" {
             Some(Job::Threads)
         } else if name == "migrate" {

@@ -26,6 +26,11 @@ fn command<'a>(alloc: Global) -> Result<Command<'a>, AllocError>
     ensures { IfOk result (λ c. app_of c ≡ definition) }
 {
     let check = with_file(alloc, "check", "Runs a set-up and prints its report")?;
+    let trace = with_file(
+        alloc,
+        "trace",
+        "Runs a set-up and prints what each of its calls changed",
+    )?;
     let threads = with_file(
         alloc,
         "threads",
@@ -41,6 +46,7 @@ fn command<'a>(alloc: Global) -> Result<Command<'a>, AllocError>
         .after_help("Without a command, the set-up on standard input is run as by check.")
         .disable_help_subcommand(true)
         .subcommand(check)?
+        .subcommand(trace)?
         .subcommand(threads)?
         .subcommand(migrate)?;
     Ok(whole)

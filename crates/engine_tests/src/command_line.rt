@@ -7,6 +7,7 @@ use std::test::Fail;
 fn name_of(job: Job) -> &'static str {
     match job {
         Job::Check => "check",
+        Job::Trace => "trace",
         Job::Threads => "threads",
         Job::Migrate => "migrate",
     }
@@ -50,7 +51,7 @@ fn says(alloc: Global, fault: RunFault, said: &str) -> Result<bool, AllocError> 
 
 #[test]
 fn lines_are_taken(rt: HostRuntime) {
-    let forms: [(&[&str], &str, Option<&str>); 8] = [
+    let forms: [(&[&str], &str, Option<&str>); 10] = [
         (&["sel4sim"], "check", None),
         (&["sel4sim", "check"], "check", None),
         (
@@ -62,6 +63,12 @@ fn lines_are_taken(rt: HostRuntime) {
             &["sel4sim", "check", "--", "--help"],
             "check",
             Some("--help"),
+        ),
+        (&["sel4sim", "trace"], "trace", None),
+        (
+            &["sel4sim", "trace", "rows.toml"],
+            "trace",
+            Some("rows.toml"),
         ),
         (&["sel4sim", "threads"], "threads", None),
         (
@@ -79,10 +86,11 @@ fn lines_are_taken(rt: HostRuntime) {
 
 #[test]
 fn help_has_its_text(rt: HostRuntime) {
-    let forms: [&[&str]; 4] = [
+    let forms: [&[&str]; 5] = [
         &["sel4sim", "--help"],
         &["sel4sim", "-h"],
         &["sel4sim", "check", "--help"],
+        &["sel4sim", "trace", "--help"],
         &["sel4sim", "migrate", "--help"],
     ];
     for words in forms {

@@ -1,6 +1,7 @@
 //! The trace of a set-up's run, from the bytes of an input to the text that is written for it.
 ghost use Rattle.std.specs.Prelude.{◌≡◌, ◌≢◌, IfOk, false};
 ghost use Rattle.abstract_kernel.specs.Plan.{IsPlan};
+ghost use Rattle.setup_values.specs.Private.Seen.{names_view};
 ghost use Rattle.engine.specs.Program.{verdict_on as verdict_of_counts};
 ghost use Rattle.engine.specs.Runs.{IsRun};
 ghost use Rattle.engine_trace.specs.Traces.{traced_in, trace_of_bytes};
@@ -8,9 +9,10 @@ ghost use Rattle.engine_trace.specs.Traces.{traced_in, trace_of_bytes};
 use cap_core::{Narrow, Profile, ProfileName, Wide};
 use engine::{Engine, RunFault, Sink, Source, Verdict, refusal, run_engine};
 use ipc_core::{LinkedWaiters, MakeWaiters};
-use setup_format::{Setup, SetupFault, read_setup};
+use setup_format::{NamedSetup, Setup, SetupFault, read_named_setup};
 use setup_report::ExpectationCount;
 use setup_trace::trace;
+use setup_values::Name;
 use slot_core::{DerivationStore, LinkedStore, MakeStore};
 use std::alloc::{AllocError, Global};
 
@@ -29,13 +31,33 @@ fn verdict_on(count: ExpectationCount) -> Verdict
 #[tactic(auto, unfolding(crate::specs::Traces::traced_in))]
 fn trace_setup<P: Profile, S: MakeStore<P> + DerivationStore<P>, W: MakeWaiters<P>>(
     alloc: Global,
+    names: &[Name],
     setup: &Setup,
 ) -> Result<(Vec<u8>, Verdict), AllocError>
     requires { IsPlan P.the setup.now.plan }
-    ensures { IfOk result (λ made. (made.0.items, made.1) ≡ traced_in P.the setup.now) }
+    ensures { IfOk result (λ made. (made.0.items, made.1) ≡ traced_in P.the (names_view names.now) setup.now) }
 {
-    let (text, count) = trace::<P, S, W>(alloc, setup)?;
+    let (text, count) = trace::<P, S, W>(alloc, names, setup)?;
     Ok((text, verdict_on(count)))
+}
+
+/// Runs the set-up in the profile that it names, and tells what each call changes.
+fn trace_named(
+    alloc: Global,
+    names: &[Name],
+    setup: &Setup,
+) -> Result<(Vec<u8>, Verdict), AllocError>
+    requires { IsPlan setup.now.profile setup.now.plan }
+    ensures { IfOk result (λ made. (made.0.items, made.1) ≡ traced_in setup.now.profile (names_view names.now) setup.now) }
+{
+    match setup.profile() {
+        ProfileName::Wide => {
+            trace_setup::<Wide, LinkedStore<Wide>, LinkedWaiters<Wide>>(alloc, names, setup)
+        }
+        ProfileName::Narrow => {
+            trace_setup::<Narrow, LinkedStore<Narrow>, LinkedWaiters<Narrow>>(alloc, names, setup)
+        }
+    }
 }
 
 /// The text that is written for the bytes of an input, and the verdict.
@@ -43,17 +65,8 @@ fn trace_setup<P: Profile, S: MakeStore<P> + DerivationStore<P>, W: MakeWaiters<
 fn trace_text(alloc: Global, bytes: &[u8]) -> Result<(Vec<u8>, Verdict), AllocError>
     ensures { IfOk result (λ made. (made.0.items, made.1) ≡ trace_of_bytes bytes.now) }
 {
-    match read_setup(alloc, bytes) {
-        Ok(setup) => match setup.profile() {
-            ProfileName::Wide => trace_setup::<Wide, LinkedStore<Wide>, LinkedWaiters<Wide>>(
-                alloc, &setup,
-            ),
-            ProfileName::Narrow => trace_setup::<
-                Narrow,
-                LinkedStore<Narrow>,
-                LinkedWaiters<Narrow>,
-            >(alloc, &setup),
-        },
+    match read_named_setup(alloc, bytes) {
+        Ok(NamedSetup { names, setup }) => trace_named(alloc, names.as_slice(), &setup),
         Err(SetupFault::Memory) => Err(AllocError),
         Err(fault) => Ok((refusal(alloc, &fault)?, Verdict::Refused)),
     }

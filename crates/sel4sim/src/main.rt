@@ -1,5 +1,5 @@
-//! The program `sel4sim`: reads a set-up from a file or from standard input, runs it and writes the report, or writes
-//! it in the newest format.
+//! The program `sel4sim`: reads a set-up from a file or from standard input, runs it and writes the report or what
+//! each call changed, or writes the set-up in the newest format.
 //!
 //! The exit status is 0 where all expectations are met or the set-up is migrated, 1 where an expectation is not met, 2
 //! where the set-up is refused, 3 where the program could not read, write, start a thread or get memory, and 4 where
@@ -17,6 +17,7 @@ use engine::{
     refused_line_words, status_of, write_all,
 };
 use engine_threads::{OpenGate, threads_run};
+use engine_trace::trace_run;
 use std::env::{self, Env};
 use std::fs::{self, Files};
 use std::io::{self, Eprint, ErrorKind, Input, Read, Write};
@@ -35,6 +36,7 @@ fn run_job<R: AllocGlobal + Threads + Wait + Sync, T: Read, W: Write>(
     let mut sink = WriterSink::new(writer);
     match job {
         Job::Check => check(rt.alloc(), &mut source, &mut sink),
+        Job::Trace => trace_run(rt.alloc(), &mut source, &mut sink),
         Job::Migrate => migrate_run(rt.alloc(), &mut source, &mut sink),
         Job::Threads => threads_run(rt, rt.alloc(), &mut source, &mut sink, &OpenGate),
     }

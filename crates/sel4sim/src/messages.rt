@@ -38,7 +38,7 @@ pub fn note(rt: &impl Eprint, text: &str) {
     }
 }
 
-/// Says why a set-up is refused, or which of its expectations no reply can meet where it was checked.
+/// Says why a set-up is refused, or which of its expectations no reply can meet where it was checked or traced.
 pub fn note_on_verdict<R: Eprint + AllocGlobal, T>(
     rt: &R,
     job: Job,
@@ -49,7 +49,7 @@ pub fn note_on_verdict<R: Eprint + AllocGlobal, T>(
         return;
     };
     match (job, verdict) {
-        (Job::Check, Verdict::NotMet) => {
+        (Job::Check | Job::Trace, Verdict::NotMet) => {
             if let Ok(warnings) = unmet_warnings(rt.alloc(), bytes) {
                 note(rt, warnings.as_str());
             }

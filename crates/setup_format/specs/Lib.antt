@@ -8,5 +8,6 @@ pub mod Views
 pub mod Operations
 pub mod Messages
 pub mod Setups
+pub mod Named
 pub mod Refusal
 pub mod Private

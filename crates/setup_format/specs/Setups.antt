@@ -87,13 +87,17 @@ setup_with p names sizes clients limit untyped call = do
   calls ← each (call_at p names clients) 1 call
   Ok (record { profile = p; plan = plan; clients = clients; limit = limit_of limit (length calls); calls = calls })
 
+-- the names that a table gives to words
+abbrev pub names_of : ProfileName → Members → Result Names Fault
+names_of p table = optional places.Top table (codes "names") [] (names p)
+
 -- a table whose format, keys and profile are known
 unfoldable pub setup_at : ProfileName → Members → Result SetupView Fault
 setup_at p table = do
   sizes ← sizes_of table
   clients ← optional places.Top table (codes "clients") 1 (number 1 MAX_CLIENTS)
   limit ← optional places.Top table (codes "limit") 0 (number 1 MAX_HISTORY_LIMIT)
-  names ← optional places.Top table (codes "names") [] (names p)
+  names ← names_of p table
   untyped ← optional places.Top table (codes "untyped") [] (tables 0 MAX_BOOT_UNTYPEDS)
   call ← optional places.Top table (codes "call") [] (tables 0 MAX_CALLS)
   setup_with p names sizes clients limit untyped call
@@ -113,6 +117,13 @@ setup_of table = setup_up_to NEWEST_FORMAT table
 abbrev pub first_format_setup_of : Members → Result SetupView Fault
 first_format_setup_of table = setup_up_to FIRST_FORMAT table
 
+-- a set-up, beside the names that its table gives to words: they are how it is spelt, and no part of it
+unfoldable pub named_setup_of : Members → Result (Names × SetupView) Fault
+named_setup_of table = do
+  setup ← setup_of table
+  names ← names_of setup.profile table
+  Ok (names, setup)
+
 -- ---- bytes
 
 -- the table of a TOML document
@@ -128,3 +139,6 @@ setup_of_bytes bytes = document_of bytes >>= setup_of
 
 unfoldable pub first_format_setup_of_bytes : List ℕ → Result SetupView Fault
 first_format_setup_of_bytes bytes = document_of bytes >>= first_format_setup_of
+
+unfoldable pub named_setup_of_bytes : List ℕ → Result (Names × SetupView) Fault
+named_setup_of_bytes bytes = document_of bytes >>= named_setup_of

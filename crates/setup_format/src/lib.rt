@@ -11,5 +11,5 @@ mod tables;
 
 pub use fault::{Key, Place, SetupFault, Wrong};
 pub use operations::call_keys;
-pub use read::{read_document, read_first_format, read_setup, read_table};
-pub use setup::Setup;
+pub use read::{read_document, read_first_format, read_named_setup, read_setup, read_table};
+pub use setup::{NamedSetup, Setup};

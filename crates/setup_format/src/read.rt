@@ -6,6 +6,7 @@ ghost use Rattle.setup_values.specs.Private.Seen.{names_view};
 ghost use Rattle.setup_format.specs.Faults.{Gives};
 ghost use Rattle.setup_values.specs.Kinds.{each};
 ghost use Rattle.setup_format.specs.Messages.{HasMessage};
+ghost use Rattle.setup_format.specs.Named.{named_view};
 ghost use Rattle.setup_format.specs.Private.Seen.{call_view};
 ghost use Rattle.setup_format.specs.Private.Sizes.{IsSizes};
 ghost use Rattle.setup_format.specs.Views.{IsWithinBounds};
@@ -14,7 +15,7 @@ ghost use Rattle.setup_format.specs.Setups as spec;
 use crate::fault::{Place, SetupFault};
 use crate::limits::{FIRST_FORMAT, MAX_CALLS, NEWEST_FORMAT};
 use crate::operations::{call_keys, operation_at};
-use crate::setup::{Setup, SetupCall, SetupCalls, Sizes};
+use crate::setup::{NamedSetup, Setup, SetupCall, SetupCalls, Sizes};
 use crate::tables::{
     expect_or_none, known_only, names_or_none, number_at, number_or, op_at, profile_or_wide,
     tables_or_none, word_at,
@@ -279,6 +280,31 @@ pub fn read_table(alloc: Global, table: &Table) -> Result<Setup, SetupFault>
     setup_up_to(NEWEST_FORMAT, alloc, table)
 }
 
+/// The names that a table gives to words, in the order of their bytes; none where the key `names` is not there.
+fn names_of(
+    alloc: Global,
+    profile: ProfileName,
+    table: &Table,
+) -> Result<Vec<Name>, SetupFault>
+    ensures { Gives (λ v. names_view v.items) result (spec.names_of profile (table_view table.now)) }
+{
+    match profile {
+        ProfileName::Wide => names_or_none::<Wide>(alloc, table, Place::Top, "names"),
+        ProfileName::Narrow => names_or_none::<Narrow>(alloc, table, Place::Top, "names"),
+    }
+}
+
+/// The set-up that a table is read as, with the names by which it is spelt.
+#[tactic(auto, unfolding(crate::specs::Setups::named_setup_of))]
+fn named_setup_of(alloc: Global, table: &Table) -> Result<NamedSetup, SetupFault>
+    ensures setup { Gives named_view result (spec.named_setup_of (table_view table.now)) }
+    ensures plan { IfOk result (λ r. IsPlan r.setup.profile r.setup.plan) }
+{
+    let setup = read_table(alloc, table)?;
+    let names = names_of(alloc, setup.profile(), table)?;
+    Ok(NamedSetup { names, setup })
+}
+
 /// The set-up that a table is read as by the rules of the first format alone, or its first fault.
 ///
 /// # Errors
@@ -330,4 +356,18 @@ pub fn read_setup(alloc: Global, bytes: &[u8]) -> Result<Setup, SetupFault>
 {
     let table = read_document(alloc, bytes)?;
     read_table(alloc, &table)
+}
+
+/// The set-up that a text is read as, with the names by which it is spelt, or its first fault.
+///
+/// # Errors
+///
+/// As `read_setup`.
+#[tactic(auto, unfolding(crate::specs::Setups::named_setup_of_bytes))]
+pub fn read_named_setup(alloc: Global, bytes: &[u8]) -> Result<NamedSetup, SetupFault>
+    ensures setup { Gives named_view result (spec.named_setup_of_bytes bytes.now) }
+    ensures plan { IfOk result (λ r. IsPlan r.setup.profile r.setup.plan) }
+{
+    let table = read_document(alloc, bytes)?;
+    named_setup_of(alloc, &table)
 }

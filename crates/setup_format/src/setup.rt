@@ -5,6 +5,7 @@ use abstract_kernel::Call;
 use boot_plan::BootPlan;
 use cap_core::ProfileName;
 use cap_core::limits::{MAX_MEMORY_BITS, MIN_MEMORY_BITS};
+use setup_values::Name;
 pub use setup_values::{OpName, Words};
 use std::alloc::{AllocError, Global};
 use std::marker::Model;
@@ -119,6 +120,13 @@ pub struct Setup {
     clients: u32,
     limit: u32,
     calls: SetupCalls,
+}
+
+/// A set-up, and the names by which it is spelt, in the order of their bytes. They are no part of what it means.
+#[derive(Drop)]
+pub struct NamedSetup {
+    pub names: Vec<Name>,
+    pub setup: Setup,
 }
 
 impl Model for Setup {

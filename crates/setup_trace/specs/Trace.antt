@@ -1,5 +1,6 @@
 -- A trace: what the boot gives and what each call changes, told by how the states before and after differ.
 use Rattle.std.specs.Prelude.{codes, ℕ, ◌+◌, List, [], ◌∷◌, ◌++◌, map, length}
+use Rattle.std.specs.List.{flat_map}
 use Rattle.std.specs.Fmt.{decimal}
 use Rattle.cap_core.specs.declared.profile.ProfileName.{ProfileName}
 use Rattle.cap_core.specs.declared.profile.ProfileName.TheVariants.{Wide, Narrow}
@@ -8,6 +9,7 @@ use Rattle.abstract_kernel.specs.declared.call.Reply.{Reply}
 use Rattle.abstract_kernel.specs.Boot.{boot}
 use Rattle.abstract_kernel.specs.State.{State, shown}
 use Rattle.abstract_kernel.specs.Step.{step, replies_of}
+use Rattle.setup_values.specs.Names.{Names}
 use Rattle.setup_format.specs.Views.{SetupView, CallView}
 use Rattle.setup_report.specs.Report.{line, call_text, met_count, expectation_count}
 use Rattle.setup_trace.specs.Changes.{StateLines, state_lines, no_lines, changes}
@@ -21,6 +23,13 @@ profile_text Narrow = codes "narrow"
 abbrev pub head_line : SetupView → List ℕ
 head_line setup =
     line (codes "trace 1 " ++ (profile_text setup.profile ++ (codes " memory_bits " ++ (decimal setup.plan.memory_bits ++ (codes " calls " ++ decimal (length setup.calls))))))
+
+-- each name of the set-up, and the word that it stands for
+abbrev pub name_line : List ℕ × ℕ → List ℕ
+name_line name = line (codes "name " ++ (name.0 ++ (codes " " ++ decimal name.1)))
+
+abbrev pub name_lines : Names → List ℕ
+name_lines names = flat_map name_line names
 
 -- boot is the change from nothing
 abbrev pub boot_lines : StateLines → List ℕ
@@ -49,10 +58,10 @@ replies_to p setup = replies_of p (boot p setup.plan) (map (λ (c : CallView). c
 abbrev pub count_line : ℕ → ℕ → List ℕ
 count_line met expected = line (codes "expected " ++ (decimal met ++ (codes " of " ++ decimal expected)))
 
--- the trace of a set-up
-unfoldable pub trace_of : ProfileName → SetupView → List ℕ
-trace_of p setup =
-    head_line setup
+-- the trace of a set-up, and of the names by which it was spelt
+unfoldable pub trace_of : ProfileName → Names → SetupView → List ℕ
+trace_of p names setup =
+    (head_line setup ++ name_lines names)
     ++ (boot_lines (state_lines p (shown (boot p setup.plan)))
     ++ (calls_lines p 1 (boot p setup.plan) setup.calls
     ++ count_line (met_count setup.calls (replies_to p setup)) (expectation_count setup.calls (replies_to p setup))))

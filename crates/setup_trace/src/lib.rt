@@ -3,6 +3,7 @@
 
 mod calls;
 mod changes;
+mod head;
 mod messages;
 mod run;
 mod slots;

@@ -2,42 +2,22 @@
 ghost use Rattle.std.specs.Prelude.{◌≡◌, ◌++◌, IfOk, OnOk, codes, string_bytes};
 ghost use Rattle.abstract_kernel.specs.Boot.{boot};
 ghost use Rattle.abstract_kernel.specs.Plan.{IsPlan};
+ghost use Rattle.setup_values.specs.Private.Seen.{names_view};
 ghost use Rattle.setup_report.specs.Report.{line, met_count, expectation_count};
 ghost use Rattle.setup_trace.specs.Trace as spec;
 
 use crate::calls::add_calls;
+use crate::head::{add_head, add_names};
 use crate::state::{nothing, retell};
-use cap_core::{Profile, ProfileName};
+use cap_core::Profile;
 use ipc_core::MakeWaiters;
 use kernel_core::Kernel;
 use setup_format::Setup;
 use setup_report::{ExpectationCount, expectations};
+use setup_values::Name;
 use slot_core::{DerivationStore, MakeStore};
 use std::alloc::{AllocError, Global};
 use std::fmt::Write;
-
-/// The name of a profile.
-fn profile_text(profile: ProfileName) -> &'static str
-    ensures { result.now ≡ spec.profile_text profile }
-{
-    match profile {
-        ProfileName::Wide => "wide",
-        ProfileName::Narrow => "narrow",
-    }
-}
-
-/// Adds the first line: the version of the trace's form, and how large the set-up is.
-fn add_head(out: &mut String, setup: &Setup) -> Result<(), AllocError>
-    ensures { OnOk result (string_bytes out.new ≡ string_bytes out.old ++ spec.head_line setup.now) }
-{
-    let profile = profile_text(setup.profile());
-    let memory_bits = setup.plan().memory_bits();
-    let calls = setup.calls().len();
-    writeln!(
-        out,
-        "trace 1 {profile} memory_bits {memory_bits} calls {calls}"
-    )
-}
 
 fn add_boot(out: &mut String) -> Result<(), AllocError>
     ensures { OnOk result (string_bytes out.new ≡ string_bytes out.old ++ line (codes "0 boot")) }
@@ -54,10 +34,11 @@ fn add_expectations(out: &mut String, count: ExpectationCount) -> Result<(), All
     writeln!(out, "expected {met} of {expected}")
 }
 
-/// The trace of a set-up's run, in the profile of its plan: what the boot gives, and for each call the report's own
-/// line, its words, and what it changed: each line of the state that is gone and each that is new; and how many of the
-/// expectations are met. A line tells of a thread, of the last message delivered to one, of an endpoint, of a full slot
-/// with the slot that it is derived from, or of a CNode that only slots of its own name.
+/// The trace of a set-up's run, in the profile of its plan: the names by which it was spelt, what the boot gives, and
+/// for each call the report's own line, its words, and what it changed: each line of the state that is gone and each
+/// that is new; and how many of the expectations are met. A line tells of a thread, of the last message delivered to
+/// one, of an endpoint, of a full slot with the slot that it is derived from, or of a CNode that only slots of its own
+/// name.
 ///
 /// The lines are this project's profile.
 ///
@@ -67,10 +48,11 @@ fn add_expectations(out: &mut String, count: ExpectationCount) -> Result<(), All
 #[tactic(auto, unfolding(crate::specs::Trace::trace_of))]
 pub fn trace<P: Profile, S: MakeStore<P> + DerivationStore<P>, W: MakeWaiters<P>>(
     alloc: Global,
+    names: &[Name],
     setup: &Setup,
 ) -> Result<(Vec<u8>, ExpectationCount), AllocError>
     requires { IsPlan P.the setup.now.plan }
-    ensures text { IfOk result (λ r. r.0.items ≡ spec.trace_of P.the setup.now) }
+    ensures text { IfOk result (λ r. r.0.items ≡ spec.trace_of P.the (names_view names.now) setup.now) }
     ensures met { IfOk result (λ r. r.1.met ≡ met_count setup.now.calls (spec.replies_to P.the setup.now)) }
     ensures expected { IfOk result (λ r. r.1.expected
         ≡ expectation_count setup.now.calls (spec.replies_to P.the setup.now)) }
@@ -78,6 +60,7 @@ pub fn trace<P: Profile, S: MakeStore<P> + DerivationStore<P>, W: MakeWaiters<P>
     let mut kernel = Kernel::<P, S, W>::boot(alloc, setup.plan())?;
     let mut out = String::new(alloc);
     add_head(&mut out, setup)?;
+    add_names(&mut out, names)?;
     add_boot(&mut out)?;
     let view = retell::<P, S, W>(alloc, &mut out, &nothing(alloc), &kernel)?;
     let replies = add_calls::<P, S, W>(alloc, &mut out, setup, &mut kernel, view)?;

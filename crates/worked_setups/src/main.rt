@@ -2,7 +2,8 @@
 //! and compares the whole report and the exit status with those beside the set-up.
 //!
 //! Each folder here is a topic. In it `NAME.toml` is a set-up and `NAME.report` its report, byte for byte; the exit status that
-//! is wanted stands in `NAME.status`, and is 0 where there is no such file. For each topic one line says how many set-ups it
+//! is wanted stands in `NAME.status`, and is 0 where there is no such file. `NAME.trace` is a set-up's trace, which `make rows`
+//! compares. For each topic one line says how many set-ups it
 //! has, and one line for each case that fails what differs. The exit status is 1 where a case failed.
 #![tactic(auto)]
 

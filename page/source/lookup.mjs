@@ -1,0 +1,89 @@
+// Lookups of words in capability spaces, by the rules of docs/behaviour.md. The trace does not tell which slots a call
+// named, nor who can reach what: the page works these out here. They are not proved, and they never say what happened.
+
+const lowBits = (word, bits) => BigInt(word) & ((1n << BigInt(bits)) - 1n);
+
+/** The slot that the low bits of a word lead to from a capability, and how many bits are left; or null. */
+function resolve(state, machine, root, word, bits) {
+  let capability = root;
+  let left = bits;
+  const value = lowBits(word, bits);
+  while (capability?.kind === "cnode") {
+    const { base, radix, guard, guardSize } = capability;
+    if (guardSize + radix > left) return null;
+    left -= guardSize;
+    if (lowBits(value >> BigInt(left), guardSize) !== BigInt(guard)) return null;
+    left -= radix;
+    const address = base + (Number(lowBits(value >> BigInt(left), radix)) << machine.slotBits);
+    const next = state.slot.get(address)?.capability;
+    if (left === 0 || next?.kind !== "cnode") return { address, left };
+    capability = next;
+  }
+  return null;
+}
+
+/** The address of the slot that a thread names by a word, or null. Bits that are left over are ignored. */
+export function slotOfWord(state, machine, thread, word) {
+  const root = state.slot.get(thread)?.capability;
+  return resolve(state, machine, root, word, machine.wordBits)?.address ?? null;
+}
+
+/** The address of the slot that an index and a depth name from a CNode's capability, or null. */
+function slotOfIndex(state, machine, root, index, depthText) {
+  const depth = Number(depthText);
+  if (depth < 1 || depth > machine.wordBits) return null;
+  const found = resolve(state, machine, root, index, depth);
+  return found?.left === 0 ? found.address : null;
+}
+
+/** The slots that a call names, in the state before it, each an address or null where the word leads to none:
+    `invoked`, `root`, `source`, `target`; and `filled`, the CNode that a retype fills. */
+export function namedSlots(state, machine, step) {
+  const { cap, root, index, depth, src_root: sourceRoot, src_index: sourceIndex, src_depth: sourceDepth } = step.words;
+  if (cap === undefined) return {};
+  const thread = Number(step.thread);
+  const byWord = (word) => (word === undefined ? undefined : slotOfWord(state, machine, thread, word));
+  const capabilityAt = (address) => state.slot.get(address)?.capability;
+  const byIndex = (start, place, bits) => slotOfIndex(state, machine, capabilityAt(start), place, bits);
+  const named = { invoked: byWord(cap), root: byWord(root) };
+  if (sourceIndex !== undefined) named.source = byIndex(byWord(sourceRoot), sourceIndex, sourceDepth);
+  if (step.operation === "retype") {
+    const into = capabilityAt(depth === "0" ? named.root : byIndex(named.root, index, depth));
+    named.filled = into?.kind === "cnode" ? into : null;
+  } else if (index !== undefined) {
+    named.target = byIndex(named.invoked, index, depth);
+  }
+  return named;
+}
+
+function writeWord(word) {
+  return word < 100000n ? String(word) : `0x${word.toString(16)}`;
+}
+
+/** Each full slot that some word of a thread leads to, with such a word: a map from addresses to texts. `3/9` is a word
+    of which the first 9 bits alone count. */
+export function wordsOfThread(places, thread) {
+  const { state, machine } = places;
+  const words = new Map();
+  const seen = new Set();
+  function walk(slot, above, bits) {
+    const { capability } = slot;
+    const key = `${slot.address} ${bits}`;
+    const left = bits - capability.guardSize - capability.radix;
+    if (left < 0 || seen.has(key)) return;
+    seen.add(key);
+    const prefix = (above << BigInt(capability.guardSize)) | BigInt(capability.guard);
+    for (const inner of places.slotsIn(capability.base)) {
+      const index = (inner.address - capability.base) >> machine.slotBits;
+      const word = (prefix << BigInt(capability.radix)) | BigInt(index);
+      if (left > 0 && inner.capability.kind === "cnode") {
+        walk(inner, word, left);
+      } else if (!words.has(inner.address)) {
+        words.set(inner.address, writeWord(word << BigInt(left)) + (left > 0 ? `/${machine.wordBits - left}` : ""));
+      }
+    }
+  }
+  const root = state.slot.get(thread);
+  if (root?.capability.kind === "cnode") walk(root, 0n, machine.wordBits);
+  return words;
+}

@@ -1,0 +1,79 @@
+// How capabilities, objects, slots and words are written on the page.
+import { code, dim, element, sign } from "./element.mjs";
+
+const KIND_WORDS = { untyped: "untyped", endpoint: "endpoint", cnode: "CNode", tcb: "thread" };
+const KIND_LETTERS = { untyped: "U", endpoint: "E", cnode: "C", tcb: "T" };
+const MOST_NAMES = 3;
+
+/** The kinds of objects by the numbers that a retype takes. */
+export const KINDS_BY_NUMBER = { 0: "untyped", 1: "tcb", 2: "endpoint", 4: "cnode" };
+
+/** The signs of the page, each with the word that a screen reader speaks. */
+const SIGNS = {
+  filled: ["+", "filled"], emptied: ["−", "emptied"], altered: ["~", "altered"], moved: ["⇒", "moved"],
+  ended: ["✕", "ended"], born: ["★", "new"], ready: ["▶", "ready"], waits: ["…", "waits"], message: ["✉", "message"],
+  warning: ["!", "warning"],
+};
+
+export const signOf = (name) => (name ? [sign(...SIGNS[name]), " "] : null);
+export const kindWord = (kind) => KIND_WORDS[kind];
+export const kindLetter = (kind) => KIND_LETTERS[kind];
+
+/** The letter of a kind of object, in its colour. */
+export function kindMark(kind) {
+  const word = KIND_WORDS[kind];
+  return element("span", { class: `mark ${kind}`, role: "img", "aria-label": word, title: word }, KIND_LETTERS[kind]);
+}
+
+/** The name that the set-up has for a word, behind a space. Of several names nothing tells which one was meant. */
+export function nameOfWord(view, word) {
+  const names = view.trace.names.get(String(word)) ?? [];
+  return names.length === 1 ? [" ", dim(names[0])] : null;
+}
+
+/** All names of a thread, behind a space. */
+export function namesOfThread(view, address) {
+  const names = view.trace.names.get(String(address)) ?? [];
+  const shown = names.slice(0, MOST_NAMES).join(", ") + (names.length > MOST_NAMES ? ", .." : "");
+  return shown && [" ", dim(shown)];
+}
+
+/** A thread with its names. */
+export const threadName = (view, address) => [code(String(address)), namesOfThread(view, address)];
+
+/** An object: the mark of its kind, its address, and a thread's names. By `data-object` it is found wherever it is. */
+export function objectName(view, capability) {
+  const { kind, base, object } = capability;
+  const name = element("span", { "data-object": object }, kindMark(kind), code(String(base)));
+  return [name, kind === "tcb" ? namesOfThread(view, base) : null];
+}
+
+/** A slot by its place, with its address as the tooltip: in a CNode that is live or ended at this step, or else as the
+    root slot of a thread, `2048.cspace`; `no slot` where there is none. */
+export function slotName(view, address) {
+  if (address === null || address === undefined) return dim("no slot");
+  const name = view.after.nameOf(address) ?? view.before.nameOf(address) ?? `${address}.cspace`;
+  return element("b", { class: "code", title: `slot at address ${address}` }, name);
+}
+
+function detailsOf(capability, machine, short) {
+  const { kind, size, free, badge, rights, slots, radix, guard, guardSize } = capability;
+  if (kind === "untyped") return `${size} B, used ${free}`;
+  if (kind === "endpoint") return badge === "0" ? rights : `badge ${badge} ${rights}`;
+  if (kind === "tcb") return "";
+  // A guard of all bits above the radix makes a CNode of one level; it is the usual one, and is not told.
+  const guarded = guardSize > 0 && guardSize + radix !== machine.wordBits || guard !== "0";
+  return [short ? "" : `${slots} slots`, guarded ? `guard ${guard}/${guardSize} bits` : ""].filter(Boolean).join(" ");
+}
+
+/** A capability: its object, then its badge and rights, its guard, or how much is used. */
+export function capabilityName(view, capability, short = false) {
+  const details = detailsOf(capability, view.trace.machine, short);
+  return [objectName(view, capability), details && [" ", element("span", { class: "dim code" }, details)]];
+}
+
+/** What waits or was received: a badge and a message. */
+export function messageName({ badge, message }) {
+  const [, label, words] = /^label (\d+) words ?(.*)$/.exec(message);
+  return `badge ${badge} · label ${label}${words ? ` · words ${words}` : ""}`;
+}

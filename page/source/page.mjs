@@ -1,0 +1,199 @@
+// The page: it reads the trace that stands in it, and draws the state behind the step that one chooses.
+import { CallList, hasText, isMissed, nextStep } from "./calls.mjs";
+import { Places } from "./places.mjs";
+import { Run, firstMisfit } from "./state.mjs";
+import { changesOf } from "./changes.mjs";
+import { drawChanges, drawSentence } from "./summary.mjs";
+import { drawForest } from "./forest.mjs";
+import { drawMemory } from "./memory.mjs";
+import { drawReachTable } from "./reach.mjs";
+import { drawSpaces } from "./spaces.mjs";
+import { drawThreadsAndEndpoints } from "./threads.mjs";
+import { listenToFiles } from "./files.mjs";
+import { listenToKeys } from "./keys.mjs";
+import { namedSlots } from "./lookup.mjs";
+import { readTrace } from "./trace.mjs";
+
+const byId = (id) => document.getElementById(id);
+
+/** The trace without the steps that do not fit the state before them, and what is to be said of it. */
+function fitting(trace) {
+  const misfit = firstMisfit(trace.steps);
+  if (misfit >= 0) {
+    const notice = `This trace does not fit itself at call ${misfit}: what it takes away is not there, or what it adds `
+      + "is there already. So it was altered. The calls before it are shown.";
+    return [{ ...trace, steps: trace.steps.slice(0, misfit) }, notice];
+  }
+  return [trace, trace.complete ? "" : "This trace was cut off: its last lines are missing."];
+}
+
+function expectedWords({ expected }) {
+  if (!expected) return "not finished";
+  return expected.of === 0 ? "no expectations" : `expected ${expected.met} of ${expected.of}`;
+}
+
+/** A page that steps through one run at a time. */
+class Page {
+  constructor() {
+    this.calls = new CallList(byId("calls"), byId("list"), (number) => this.show(number));
+    this.seer = null;
+    this.run = null;
+    this.trace = { steps: [] };
+  }
+
+  get last() {
+    return this.trace.steps.length - 1;
+  }
+
+  get number() {
+    return this.run?.number ?? 0;
+  }
+
+  /** Reads a trace and shows one of its steps; a text that is none is refused with its fault. */
+  open(text, number) {
+    try {
+      const [trace, notice] = fitting(readTrace(text));
+      if (trace.steps.length === 0) throw new Error(notice);
+      this.trace = trace;
+      this.run = new Run(trace.steps);
+      this.say(notice);
+    } catch (error) {
+      this.say(`This is not a trace of sel4sim. ${error.message}`);
+      return;
+    }
+    document.body.dataset.shows = "run";
+    this.drawFrame();
+    this.show(number);
+  }
+
+  /** Says what is wrong, or nothing. */
+  say(notice) {
+    byId("notice").textContent = notice;
+  }
+
+  /** What does not change from step to step. */
+  drawFrame() {
+    const missed = this.trace.steps.filter(isMissed).length;
+    byId("range").max = this.last;
+    byId("expected").textContent = expectedWords(this.trace);
+    byId("expected").className = missed > 0 || !this.trace.complete ? "tag missed" : "tag met";
+    byId("next-missed").hidden = missed === 0;
+  }
+
+  /** What is known of a step: the states around it, what it names and what it changes. */
+  viewOf(number) {
+    const { run, trace } = this;
+    const { machine, steps } = trace;
+    run.go(number - 1);
+    const before = new Places(run.state, machine);
+    const named = number === 0 ? {} : namedSlots(run.state, machine, steps[number]);
+    const roles = ["invoked", "root", "source", "target"];
+    const held = Object.fromEntries(roles.map((role) => [role, run.state.slot.get(named[role])?.capability]));
+    run.go(number);
+    const after = new Places(run.state, machine);
+    const ring = new Set([named.invoked, named.source, named.target]);
+    return { trace, step: steps[number], state: run.state, before, after, named, held,
+      changes: changesOf(steps[number], before, after), isNamed: (address) => ring.has(address) };
+  }
+
+  /** Shows the state behind a step; a number out of bounds means the nearest one. */
+  show(wanted) {
+    if (!this.run) return;
+    const number = Math.max(0, Math.min(this.last, Math.trunc(wanted) || 0));
+    const view = this.viewOf(number);
+    this.view = view;
+    byId("said").replaceChildren(...drawSentence(view).flat(Infinity));
+    this.put("changed", drawChanges(view));
+    this.put("forest", drawForest(view));
+    this.put("memory", drawMemory(view));
+    this.put("threads", drawThreadsAndEndpoints(view));
+    this.put("reach", drawReachTable(view));
+    this.drawSpaces();
+    this.drawLines();
+    this.drawPosition(number);
+    this.calls.show(this.trace, number);
+  }
+
+  put(id, children) {
+    byId(id).replaceChildren(...children.flat(Infinity).filter((child) => child !== null && child !== ""));
+  }
+
+  drawSpaces() {
+    this.put("spaces", drawSpaces(this.view, this.seer, (thread) => {
+      this.seer = thread;
+      this.drawSpaces();
+      byId("seer").focus();
+    }));
+  }
+
+  /** The step as the trace has it, and the state as lines, where these are opened. */
+  drawLines() {
+    const { step, state } = this.view;
+    const changes = step.changes.map(({ sign, line }) => `  ${sign} ${line.text}`);
+    byId("step-text").textContent = [step.line, step.with, ...changes].filter(Boolean).join("\n");
+    byId("state-text").textContent = byId("state-lines").open ? state.texts().join("\n") : "";
+  }
+
+  drawPosition(number) {
+    const { step } = this.view;
+    byId("position").textContent = number === 0 ? `boot, ${this.last} calls` : `call ${number} of ${this.last}`;
+    byId("range").value = number;
+    byId("range").setAttribute("aria-valuetext", number === 0 ? "boot" : `call ${number}, ${step.operation}`);
+    for (const id of ["first", "back"]) byId(id).disabled = number === 0;
+    for (const id of ["on", "last"]) byId(id).disabled = number === this.last;
+    try {
+      history.replaceState(null, "", `#${number}`);
+    } catch {
+      // Some browsers allow no change of a file's address; the page does without.
+    }
+  }
+
+  showNextMissed() {
+    const number = nextStep(this.trace.steps, this.number, 1, isMissed);
+    if (number >= 0) this.show(number);
+  }
+
+  /** Shows the next step with a text in its lines, or says that there is none. */
+  find(text, direction) {
+    const number = nextStep(this.trace.steps, this.number, direction, (step) => hasText(step, text));
+    byId("found").textContent = number < 0 ? "not found" : "";
+    if (number >= 0) this.show(number);
+  }
+}
+
+/** Outlines an object wherever it is named while the pointer is over it. */
+function listenToPointer() {
+  let shown = "";
+  document.addEventListener("mouseover", ({ target }) => {
+    const object = target.closest("[data-object]")?.dataset.object ?? "";
+    if (object === shown) return;
+    shown = object;
+    for (const named of document.querySelectorAll("[data-object]")) {
+      named.classList.toggle("outlined", object !== "" && named.dataset.object === object);
+    }
+  });
+}
+
+function listenToControls(page) {
+  byId("first").addEventListener("click", () => page.show(0));
+  byId("back").addEventListener("click", () => page.show(page.number - 1));
+  byId("on").addEventListener("click", () => page.show(page.number + 1));
+  byId("last").addEventListener("click", () => page.show(page.last));
+  byId("range").addEventListener("input", ({ target }) => page.show(Number(target.value)));
+  byId("next-missed").addEventListener("click", () => page.showNextMissed());
+  byId("state-lines").addEventListener("toggle", () => page.drawLines());
+  window.addEventListener("hashchange", () => page.show(Number(location.hash.slice(1))));
+  listenToKeys(page, byId("list"), byId("find"));
+  listenToFiles([byId("open"), byId("open-first")], (text) => page.open(text, 0));
+  listenToPointer();
+}
+
+function start() {
+  const page = new Page();
+  const text = byId("trace").textContent;
+  listenToControls(page);
+  if (text === "") document.body.dataset.shows = "start";
+  else page.open(text, Number(location.hash.slice(1)));
+}
+
+start();

@@ -1,0 +1,133 @@
+// A call as a sentence, and the meaning of its reply's number. The slots in it are found by the page's own lookups.
+import { code, counted, dim } from "./element.mjs";
+import { KINDS_BY_NUMBER, capabilityName, kindWord, nameOfWord, slotName, threadName } from "./names.mjs";
+
+const RIGHTS = "wrgp";
+const MOST_MEMORY_BITS = 20;
+
+/** What the refusals mean, in short; docs/errors.md has them in full. */
+const REFUSALS = {
+  1: "invalid argument", 2: "no capability there, or a right is missing", 3: "illegal operation", 4: "out of range",
+  "6/1": "failed lookup: it starts at no CNode", "6/2": "failed lookup: missing capability",
+  "6/3": "failed lookup: depth mismatch", "6/4": "failed lookup: guard mismatch", 8: "the slot is full: delete first",
+  9: "the untyped has children: revoke first", 10: "not enough memory", 100: "no live thread at this address",
+  101: "the thread is not ready",
+};
+
+/** What a reply means where it is a refusal, or an empty text. */
+export function meaningOf(reply) {
+  const refusal = /^refused (\S+)$/.exec(reply);
+  return refusal ? REFUSALS[refusal[1]] ?? "" : "";
+}
+
+/** The guard that a guard word sets: its size stands in the low bits, its value above them. */
+function guardOf(word, machine) {
+  const sizeBits = machine.wordBits === 64 ? 6n : 5n;
+  const size = BigInt(word) & ((1n << sizeBits) - 1n);
+  const value = (BigInt(word) >> sizeBits) & ((1n << size) - 1n);
+  return ["the guard word ", code(word), dim(` (guard ${value}/${size} bits)`)];
+}
+
+/** Rights by their bits, as the trace writes them. */
+function rightsOf(bits) {
+  return [...RIGHTS].map((right, place) => ((Number(bits) >> place) & 1 ? right : "-")).join("");
+}
+
+/** A slot that is named by an index and a depth, and the capability that it held before the call. */
+function slotNamed(view, address, index, depth, capability) {
+  if (address === null || address === undefined) return dim(`no slot (index ${index} of ${depth} bits leads to none)`);
+  const held = capability ? [" ", capabilityName(view, capability, true)] : null;
+  return [slotName(view, address), nameOfWord(view, index), held];
+}
+
+const target = (view, words) => slotNamed(view, view.named.target, words.index, words.depth, view.held.target);
+const source = (view, words) => slotNamed(view, view.named.source, words.src_index, words.src_depth, view.held.source);
+
+function invoked(view, words) {
+  const held = view.held.invoked ? [" ", capabilityName(view, view.held.invoked, true)] : null;
+  const slot = slotName(view, view.named.invoked);
+  return ["its capability ", code(words.cap), nameOfWord(view, words.cap), " (", slot, held, ")"];
+}
+
+/** The power of two with an exponent that is written out: in full where it fits the memory. */
+const powerOf = (exponent) => (Number(exponent) <= MOST_MEMORY_BITS ? String(2 ** Number(exponent)) : `2^${exponent}`);
+
+function retype(view, words) {
+  const kind = KINDS_BY_NUMBER[words.kind];
+  const noun = kind ? kindWord(kind) : `object of kind ${words.kind}`;
+  const made = kind === "untyped" ? `${words.count} untyped` : counted(Number(words.count), noun);
+  const size = kind === "cnode" ? ` of ${powerOf(words.size_bits)} slot${words.size_bits === "0" ? "" : "s"}`
+    : kind === "untyped" ? ` of ${powerOf(words.size_bits)} bytes` : "";
+  return [invoked(view, words), ` into ${made}${size}, in `, filledSlots(view, words)];
+}
+
+/** The slots that a retype fills. */
+function filledSlots(view, { offset, count }) {
+  const node = view.named.filled;
+  if (!node) return dim("no CNode");
+  const last = BigInt(offset) + BigInt(count) - 1n;
+  return code(`${node.base || "root"}[${offset}${last > BigInt(offset) ? `..${last}` : ""}]`);
+}
+
+const fromTo = (view, words) => [source(view, words), " to ", target(view, words)];
+
+function copy(view, words) {
+  const limited = words.rights !== "15" ? [", with no rights but ", code(rightsOf(words.rights))] : null;
+  return [fromTo(view, words), limited];
+}
+
+/** The data that a mint or a mutate sets: a CNode's guard, or else a badge. */
+function dataOf(view, { word }) {
+  if (view.held.source?.kind === "cnode") return [", with ", guardOf(word, view.trace.machine)];
+  return [", with the badge ", code(word), nameOfWord(view, word)];
+}
+
+const send = (view, words) => ["label ", code(words.label), words.words ? [", words ", code(words.words)] : null,
+  " by ", invoked(view, words)];
+
+/** The thread whose control block is invoked, where the word leads to one. */
+function threadInvoked(view, words) {
+  const held = view.held.invoked;
+  const thread = held?.kind === "tcb" ? ["thread ", threadName(view, held.base), " by "] : null;
+  return [thread, invoked(view, words)];
+}
+
+function setSpace(view, words) {
+  const guard = words.word === "0" ? null : [", with ", guardOf(words.word, view.trace.machine)];
+  const held = view.held.root ? [" ", capabilityName(view, view.held.root, true)] : null;
+  const root = [slotName(view, view.named.root), held];
+  return ["the CSpace root of ", threadInvoked(view, words), " to ", root, guard];
+}
+
+/** The verb of each operation, and what comes behind it. */
+const SENTENCES = {
+  retype: ["retype", retype],
+  copy: ["copy", copy],
+  mint: ["mint", (view, words) => [copy(view, words), dataOf(view, words)]],
+  move: ["move", fromTo],
+  mutate: ["move", (view, words) => [fromTo(view, words), dataOf(view, words)]],
+  delete: ["delete", target],
+  revoke: ["revoke", (view, words) => ["what was derived from ", target(view, words)]],
+  cancel_badged: ["cancel", (view, words) => ["the sends that wait with the badge of ", target(view, words)]],
+  send: ["send", send],
+  nbsend: ["send", (view, words) => [send(view, words), ", without waiting"]],
+  recv: ["receive", (view, words) => ["by ", invoked(view, words)]],
+  nbrecv: ["receive", (view, words) => ["by ", invoked(view, words), ", without waiting"]],
+  set_space: ["set", setSpace],
+  suspend: ["suspend", threadInvoked],
+  resume: ["resume", threadInvoked],
+};
+
+/** What the thread does, or, where it is refused, what it asks for. */
+function verbOf(verb, reply) {
+  if (reply.startsWith("refused")) return ` asks to ${verb} `;
+  return ` ${verb === "copy" ? "copies" : `${verb}s`} `;
+}
+
+/** The sentence of a step, as children of an element. */
+export function sentenceOf(view) {
+  const { number, operation, thread, words, reply } = view.step;
+  if (number === 0) return ["The state after boot, before the first call."];
+  const [verb, write] = SENTENCES[operation];
+  return [code(String(number)), " · thread ", threadName(view, thread), verbOf(verb, reply), write(view, words), "."];
+}

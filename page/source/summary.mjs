@@ -1,0 +1,134 @@
+// What a call did: its sentence, its reply, and one line for each thing that changed.
+import { code, counted, dim, element } from "./element.mjs";
+import { capabilityName, kindMark, kindWord, messageName, signOf, slotName, threadName } from "./names.mjs";
+import { holdsTheSame } from "./changes.mjs";
+import { meaningOf, sentenceOf } from "./sentence.mjs";
+
+// Of more changes of one kind than this, the first few are told and the others counted.
+const MOST_CHANGES = 24;
+const FEW_CHANGES = 12;
+const MOST_NEW_PARENTS = 4;
+
+const item = (look, name, ...children) => element("li", { class: look }, signOf(name), ...children);
+
+/** An item for each row, or for the first rows and their number where there are many. */
+function items(rows, draw) {
+  const all = [...rows];
+  if (all.length <= MOST_CHANGES) return all.map(draw);
+  const shown = all.slice(0, FEW_CHANGES).map(draw);
+  return [...shown, element("li", { class: shown[0].className }, `and ${all.length - FEW_CHANGES} more such`)];
+}
+
+const objectWords = ({ kind, base, size }) => [`${kindWord(kind)} `, code(String(base)), ` (${size} B)`];
+
+/** Why a thread is ready again: its message was taken, it got one, or its wait was cancelled. */
+function reasonOf(view, line) {
+  if (line.endpoint === null) return "";
+  const sent = line.state === "sending";
+  if (view.step.reply.startsWith("delivered")) return sent ? ": its message was received" : ": it received";
+  return sent ? `: its send was cancelled (${messageName(line)})` : ": its receive was cancelled";
+}
+
+function threadItems(view) {
+  const { old, now, ready } = view.changes;
+  const again = items(ready, ([was, is]) =>
+    item("filled", "ready", "thread ", threadName(view, is.address), " is ready again", reasonOf(view, was)));
+  const lines = [...now.values()];
+  const stops = ({ kind, address, state }) => kind === "thread" && state !== "ready" && old.has(`thread ${address}`);
+  const waits = items(lines.filter(stops), ({ address, state, endpoint }) => {
+    const what = endpoint === null ? ` is now ${state}` : ` waits now, ${state} on endpoint ${endpoint}`;
+    return item("altered", "waits", "thread ", threadName(view, address), what);
+  });
+  const inboxes = items(lines.filter((line) => line.kind === "inbox"), (line) =>
+    item("filled", "message", "thread ", threadName(view, line.address), ` got ${messageName(line)}`));
+  return [again, waits, inboxes];
+}
+
+function movedItem(view, { from, to }) {
+  const same = holdsTheSame(from, to);
+  const held = same ? capabilityName(view, to.capability)
+    : [capabilityName(view, from.capability), " → ", capabilityName(view, to.capability)];
+  const places = ["moved from ", slotName(view, from.address), " to ", slotName(view, to.address)];
+  return item("altered", "moved", ...places, ": ", held);
+}
+
+const isAnotherParent = ([was, is]) => was.under !== is.under && was.original === is.original && holdsTheSame(was, is);
+
+function alteredWords(view, was, is) {
+  if (!holdsTheSame(was, is)) {
+    if (was.capability.kind !== "untyped" || is.capability.kind !== "untyped") {
+      return [capabilityName(view, was.capability), " → ", capabilityName(view, is.capability)];
+    }
+    return [kindMark("untyped"), ` used ${was.capability.free} → `, code(String(is.capability.free))];
+  }
+  const parent = is.under === null ? "nothing" : slotName(view, is.under);
+  const mark = is.original ? " now original" : " no longer original";
+  return [was.under === is.under ? null : ["now derived from ", parent], was.original === is.original ? null : mark];
+}
+
+function alteredItems(view) {
+  const pairs = [...view.changes.altered.values()];
+  const parents = pairs.filter(isAnotherParent);
+  const many = parents.length > MOST_NEW_PARENTS;
+  const told = many ? pairs.filter((pair) => !isAnotherParent(pair)) : pairs;
+  const each = items(told, ([was, is]) =>
+    item("altered", "altered", slotName(view, is.address), " ", alteredWords(view, was, is)));
+  return many ? [each, item("altered", "altered", `${parents.length} slots are now derived from another slot`)] : each;
+}
+
+function slotItems(view) {
+  const { emptied, filled, moved } = view.changes;
+  const emptiedItem = ({ address, capability }) =>
+    item("emptied", "emptied", slotName(view, address), " ", element("s", {}, capabilityName(view, capability)));
+  const filledItem = ({ address, capability }) =>
+    item("filled", "filled", slotName(view, address), " ", capabilityName(view, capability));
+  if (moved) return [movedItem(view, moved), alteredItems(view)];
+  return [items(emptied.values(), emptiedItem), items(filled.values(), filledItem), alteredItems(view)];
+}
+
+/** One line for each thing that changed: first objects and threads, then slots. */
+function changeItems(view) {
+  const { ended, born, now } = view.changes;
+  const selfHeld = [...now.values()].filter((line) => line.kind === "selfheld");
+  return [
+    items(ended.values(), (object) => item("emptied", "ended", ...objectWords(object), " ended")),
+    items(born.values(), (object) => item("filled", "born", "new ", ...objectWords(object))),
+    threadItems(view),
+    items(selfHeld, ({ address }) =>
+      item("emptied", "warning", "CNode ", code(String(address)), " is now held by its own slots alone")),
+    slotItems(view),
+  ].flat(Infinity);
+}
+
+/** How much changed, in one line. */
+function countedChanges({ ended, born, ready, emptied, filled, altered, moved }) {
+  const counts = [
+    [ended.size, "object", " ended"], [born.size, "new object", ""], [ready.length, "thread", " ready again"],
+    [moved ? 0 : emptied.size, "slot", " emptied"], [moved ? 0 : filled.size, "slot", " filled"],
+    [moved ? 1 : 0, "capability", " moved"], [altered.size, "slot", " altered"],
+  ];
+  return counts.filter(([count]) => count > 0).map(([count, noun, rest]) => counted(count, noun) + rest).join(", ");
+}
+
+function expectationMark(expectation) {
+  if (!expectation) return null;
+  if (expectation === "met") return element("span", { class: "tag met" }, "✓ as expected");
+  return element("span", { class: "tag missed" }, `✗ ${expectation}`);
+}
+
+/** The sentence and the reply: what a screen reader says at each step. */
+export function drawSentence(view) {
+  const { step, changes } = view;
+  const sentence = element("p", { id: "sentence" }, sentenceOf(view));
+  if (step.number === 0) return [sentence];
+  const look = step.reply.startsWith("refused") ? "reply refused" : "reply";
+  const changed = step.changes.length === 0 ? "Nothing changed." : countedChanges(changes);
+  return [sentence, element("p", {}, element("span", { class: look }, step.reply), " ", meaningOf(step.reply), " ",
+    expectationMark(step.expectation), " ", dim(changed))];
+}
+
+/** What changed, one line for each thing. */
+export function drawChanges(view) {
+  const changed = view.step.number === 0 ? [] : changeItems(view);
+  return changed.length === 0 ? [] : [element("ul", { class: "changes", "aria-label": "What changed" }, changed)];
+}

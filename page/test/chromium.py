@@ -1,0 +1,172 @@
+"""A chromium without a window, driven through its debugging pipe, that can reach nobody.
+
+Every name is made unknown to it. What the browser asks for itself (the time, updates, accounts) goes to a proxy that
+does not exist. Its page stands in a context of its own, whose proxy is a recorder on this machine: it keeps the first
+line of whatever asks for a connection, and gives no answer.
+"""
+import fcntl
+import itertools
+import json
+import os
+import select
+import shutil
+import socket
+import subprocess
+import sys
+import tempfile
+import threading
+
+PROGRAMS = ("chromium", "chromium-browser", "google-chrome")
+SECONDS = 60
+NOBODY = "127.0.0.1:1"
+BECOME = "import os, sys; _, read, write, *words = sys.argv; os.dup2(int(read), 3); os.dup2(int(write), 4); " \
+    "os.execv(words[0], words)"
+LOADED = "new Promise((done) => document.readyState === 'complete' ? done() : addEventListener('load', done))"
+QUIET = [
+    "--headless=new", "--no-first-run", "--no-default-browser-check", "--disable-background-networking",
+    "--disable-component-update", "--disable-default-apps", "--disable-sync", "--disable-extensions", "--disable-gpu",
+    "--password-store=basic", "--use-mock-keychain", "--hide-scrollbars", "--disable-dev-shm-usage",
+]
+
+
+def program():
+    """The path of a chromium, or None."""
+    return next(filter(None, map(shutil.which, PROGRAMS)), None)
+
+
+class Recorder:
+    """A proxy that answers nobody: `asked` has the first line of each request."""
+
+    def __init__(self):
+        self.asked = []
+        self.socket = socket.create_server(("127.0.0.1", 0))
+        self.port = self.socket.getsockname()[1]
+        threading.Thread(target=self.serve, daemon=True).start()
+
+    def serve(self):
+        while True:
+            try:
+                connection, _ = self.socket.accept()
+            except OSError:
+                return
+            with connection:
+                connection.settimeout(5)
+                try:
+                    first = connection.recv(4096).split(b"\r\n")[0].decode("latin-1")
+                except OSError:
+                    first = "a connection without a word"
+                self.asked.append(first)
+
+    def close(self):
+        self.socket.close()
+
+
+class Chromium:
+    """A browser with one page. `asked` has the addresses that its page asked for, `denied` what its policy denied."""
+
+    def __init__(self, *, width=1200, height=800):
+        self.recorder = Recorder()
+        self.folder = tempfile.mkdtemp(prefix="page_test_")
+        self.numbers = itertools.count(1)
+        self.asked, self.complaints = [], []
+        read_end, our_write_end = os.pipe()
+        our_read_end, write_end = os.pipe()
+        # The browser reads from 3 and writes to 4: a python puts the ends of the pipes there and becomes the browser.
+        ends = tuple(fcntl.fcntl(end, fcntl.F_DUPFD, 10) for end in (read_end, write_end))
+        words = [sys.executable, "-c", BECOME, *map(str, ends), *self.command(width, height)]
+        self.process = subprocess.Popen(words, pass_fds=ends, stdin=subprocess.DEVNULL, stdout=subprocess.DEVNULL,
+                                        stderr=subprocess.DEVNULL)
+        for end in (read_end, write_end, *ends):
+            os.close(end)
+        self.out, self.into = os.fdopen(our_write_end, "wb"), os.fdopen(our_read_end, "rb")
+        self.waiting = b""
+        self.session = None
+        self.attach()
+
+    def command(self, width, height):
+        root = ["--no-sandbox"] if os.getuid() == 0 else []
+        return [program(), *QUIET, *root, f"--window-size={width},{height}", f"--user-data-dir={self.folder}",
+                "--host-resolver-rules=MAP * ~NOTFOUND , EXCLUDE 127.0.0.1", f"--proxy-server={NOBODY}",
+                "--remote-debugging-pipe", "about:blank"]
+
+    def attach(self):
+        context = self.call("Target.createBrowserContext", proxyServer=f"127.0.0.1:{self.recorder.port}",
+                            proxyBypassList="<-loopback>")["browserContextId"]
+        page = self.call("Target.createTarget", url="about:blank", browserContextId=context)["targetId"]
+        self.session = self.call("Target.attachToTarget", targetId=page, flatten=True)["sessionId"]
+        for domain in ("Page", "Network", "Runtime", "Log", "Accessibility"):
+            self.call(f"{domain}.enable")
+
+    def message(self):
+        """The next message of the browser."""
+        while b"\0" not in self.waiting:
+            ready, _, _ = select.select([self.into], [], [], SECONDS)
+            read = os.read(self.into.fileno(), 1 << 20) if ready else b""
+            if not ready:
+                raise RuntimeError(f"the browser gave no answer for {SECONDS} seconds")
+            if not read:
+                raise RuntimeError("the browser ended")
+            self.waiting += read
+        text, self.waiting = self.waiting.split(b"\0", 1)
+        return json.loads(text)
+
+    def note(self, message):
+        """Keeps what a page asked for, and what it complained of."""
+        method, told = message.get("method", ""), message.get("params", {})
+        if method == "Network.requestWillBeSent":
+            self.asked.append(told["request"]["url"])
+        elif method == "Runtime.exceptionThrown":
+            self.complaints.append(told["exceptionDetails"].get("exception", {}).get("description", "an exception"))
+        elif method == "Log.entryAdded" and told["entry"]["level"] in ("error", "warning"):
+            self.complaints.append(told["entry"]["text"])
+
+    def call(self, method, **params):
+        """Calls a method of the browser and gives its answer."""
+        number = next(self.numbers)
+        message = {"id": number, "method": method, "params": params}
+        if self.session:
+            message["sessionId"] = self.session
+        self.out.write(json.dumps(message).encode() + b"\0")
+        self.out.flush()
+        while True:
+            answer = self.message()
+            if answer.get("id") == number:
+                if "error" in answer:
+                    raise RuntimeError(f"{method}: {answer['error']['message']}")
+                return answer["result"]
+            self.note(answer)
+
+    def value(self, expression):
+        """The value of an expression in the page."""
+        answer = self.call("Runtime.evaluate", expression=expression, returnByValue=True, awaitPromise=True)
+        if "exceptionDetails" in answer:
+            raise RuntimeError(answer["exceptionDetails"].get("exception", {}).get("description", expression))
+        return answer["result"].get("value")
+
+    def open(self, url):
+        """Opens a page and waits until it is loaded."""
+        self.call("Page.navigate", url="about:blank")
+        self.asked.clear()
+        self.complaints.clear()
+        self.call("Page.navigate", url=url)
+        self.value(LOADED)
+
+    def press(self, key, *, shift=False):
+        """Presses a key, as a reader would."""
+        code = {"Enter": 13, "Home": 36, "End": 35, "PageUp": 33, "PageDown": 34, "ArrowLeft": 37, "ArrowUp": 38,
+                "ArrowRight": 39, "ArrowDown": 40, "Tab": 9, "Escape": 27}.get(key, ord(key[0].upper()))
+        told = {"key": key, "windowsVirtualKeyCode": code, "modifiers": 8 if shift else 0}
+        if len(key) == 1:
+            told["text"] = key
+        self.call("Input.dispatchKeyEvent", type="keyDown", **told)
+        self.call("Input.dispatchKeyEvent", type="keyUp", **told)
+
+    def close(self):
+        self.session = None
+        try:
+            self.call("Browser.close")
+        except (RuntimeError, OSError):
+            pass
+        self.process.wait(SECONDS)
+        self.recorder.close()
+        shutil.rmtree(self.folder, ignore_errors=True)

@@ -1,0 +1,84 @@
+// The modules that read and replay a trace, without a browser: node --test page/test
+import assert from "node:assert/strict";
+import { test } from "node:test";
+import { TraceFault, readTrace } from "../source/trace.mjs";
+import { Run, firstMisfit } from "../source/state.mjs";
+import { namedSlots, slotOfWord } from "../source/lookup.mjs";
+
+const HEAD = "trace 1 narrow memory_bits 12 calls 1\nname server 1024\nname again 1024\n0 boot\n";
+const BOOT = `  + thread 1024 ready
+  + endpoint 2048 idle
+  + slot 16 cnode 0 radix 4 guard 0 size 28 original
+  + slot 48 endpoint 2048 badge 0 rights wrgp original
+  + slot 1024 cnode 0 radix 4 guard 0 size 28 under 16
+`;
+const CALL = `1 1024 send: waiting [not met: done] [met]]
+  with cap 3 label 7 words 1 2
+  - thread 1024 ready
+  + thread 1024 sending 2048 badge 0 label 7 words 1 2
+  - endpoint 2048 idle
+  + endpoint 2048 sending 1024
+`;
+const TRACE = `${HEAD}${BOOT}${CALL}expected 0 of 1\n`;
+
+test("a trace is read in its parts", () => {
+  const { machine, names, steps, complete, expected } = readTrace(TRACE);
+  assert.equal(machine.wordBits, 32);
+  assert.deepEqual(names.get("1024"), ["server", "again"]);
+  assert.deepEqual(steps[1].words, { cap: "3", label: "7", words: "1 2" });
+  assert.equal(steps[1].expectation, "not met: done] [met]");
+  assert.deepEqual([complete, expected], [true, { met: 0, of: 1 }]);
+});
+
+test("the state runs forward and back", () => {
+  const { steps } = readTrace(TRACE);
+  const run = new Run(steps);
+  run.go(0);
+  const boot = run.state.texts();
+  assert.deepEqual(boot, BOOT.trim().split("\n").map((line) => line.trim().slice(2)));
+  run.go(1);
+  assert.deepEqual(run.state.texts().slice(0, 2),
+    ["thread 1024 sending 2048 badge 0 label 7 words 1 2", "endpoint 2048 sending 1024"]);
+  run.go(0);
+  assert.deepEqual(run.state.texts(), boot);
+  run.go(-1);
+  assert.deepEqual(run.state.texts(), []);
+});
+
+test("words lead to slots", () => {
+  const { machine, steps } = readTrace(TRACE);
+  const run = new Run(steps);
+  run.go(0);
+  assert.equal(slotOfWord(run.state, machine, 1024, "3"), 48);
+  assert.equal(slotOfWord(run.state, machine, 1024, "18446744069414584323"), 48, "the low 32 bits alone count");
+  assert.equal(slotOfWord(run.state, machine, 1024, "16"), null, "the guard does not match");
+  assert.deepEqual(namedSlots(run.state, machine, steps[1]), { invoked: 48, root: undefined });
+});
+
+test("a trace that was altered does not fit", () => {
+  assert.equal(firstMisfit(readTrace(TRACE).steps), -1);
+  const misfitWith = (line, other) => firstMisfit(readTrace(TRACE.replace(line, other)).steps);
+  assert.equal(misfitWith("- endpoint 2048 idle", "- endpoint 2048 receiving 1024"), 1);
+  assert.equal(misfitWith("  - endpoint 2048 idle\n", ""), 1);
+});
+
+test("a line that is dropped, doubled or altered is refused, or the trace is not complete, or does not fit", () => {
+  const lines = TRACE.split("\n").slice(0, -1);
+  const sound = (text) => {
+    try {
+      const { steps, complete } = readTrace(text);
+      return complete && firstMisfit(steps) < 0;
+    } catch (error) {
+      assert.ok(error instanceof TraceFault, error);
+      return false;
+    }
+  };
+  for (const [place, line] of lines.entries()) {
+    const replaced = (...others) => [...lines.slice(0, place), ...others, ...lines.slice(place + 1)].join("\n");
+    const harmless = line.startsWith("name ") || line.startsWith("  + ");
+    assert.ok(harmless || !sound(replaced()), `without ${line}`);
+    assert.ok(line.startsWith("name ") || !sound(replaced(line, line)), `twice ${line}`);
+    assert.ok(!sound(replaced(`${line}x`)), `${line}x`);
+    assert.ok(!sound(replaced(line.replace(/\d+/, "99999999999999999999999"))) || !/\d/.test(line), line);
+  }
+});

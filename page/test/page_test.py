@@ -1,0 +1,162 @@
+#!/usr/bin/env python3
+"""page_test.py PROGRAM FOLDER: makes a page of each set-up in FOLDER and steps through it in chromium.
+page_test.py --traces FOLDER: the same with traces that are there already, the files NAME.trace in FOLDER.
+
+Each page is stepped through forward and back (a long run for its first 60 calls) and by jumps; behind each step what it
+shows is compared with a replay of the trace that is made here. Nothing that a page does may leave it: its policy has to
+hold, and no request may reach the proxy. Then: the modules by themselves, the viewer, page.sh, texts and files that
+mean harm, the keys, what a screen reader is told, and the colours.
+"""
+import pathlib
+import random
+import shutil
+import subprocess
+import sys
+import tempfile
+
+import chromium
+import special
+from replay import states_of, steps_of
+from shown import READ, wrong_page
+
+PAGE = pathlib.Path(__file__).resolve().parent.parent
+SEED = 7
+MOST_STEPS = 60
+JUMPS = 12
+
+
+def needs():
+    """What is missing on this machine."""
+    if chromium.program() is None:
+        yield "chromium (apt-get install chromium)"
+    if shutil.which("node") is None:
+        yield "node (apt-get install nodejs)"
+
+
+def make_page(program, setup, folder):
+    """Makes a page by page.sh and gives its path; a refused set-up has none."""
+    made = subprocess.run([PAGE / "page.sh", program, setup], capture_output=True, timeout=120)
+    if made.returncode > 1:
+        return None
+    path = folder / f"{setup.stem}.html"
+    path.write_bytes(made.stdout)
+    return path
+
+
+class Stepper:
+    """Steps through one page, and keeps what is wrong."""
+
+    def __init__(self, browser, trace):
+        self.browser, self.head = browser, trace.splitlines()[0]
+        self.steps = steps_of(trace)
+        self.states = states_of(self.steps)
+        self.last = len(self.steps) - 1
+        self.compared, self.faults = 0, []
+
+    def compare(self, number, way):
+        shown = self.browser.value(READ)
+        self.compared += 1
+        for fault in wrong_page(shown, self.head, self.steps[number], self.states[number], number, self.last):
+            self.faults.append(f"step {number}, {way}: {fault}")
+
+    def forward(self):
+        self.compare(0, "at first")
+        for number in range(1, min(self.last, MOST_STEPS) + 1):
+            self.browser.press("ArrowRight")
+            self.compare(number, "forward")
+
+    def back(self):
+        for number in reversed(range(min(self.last, MOST_STEPS))):
+            self.browser.press("ArrowLeft")
+            self.compare(number, "back")
+
+    def jump(self, way, number):
+        """Goes to a step in one of several ways; the keys that step by ten start from where the page stands."""
+        browser = self.browser
+        if way == "slider":
+            browser.value(f"(() => {{ const range = document.getElementById('range'); range.value = {number};"
+                          " range.dispatchEvent(new Event('input')); })()")
+        elif way == "address":
+            browser.value(f"location.hash = '#{number}'")
+            browser.value("new Promise((done) => setTimeout(done, 50))")
+        elif way == "click":
+            browser.value(f"document.getElementById('calls').scrollTop = {44 * number}")
+            browser.value("new Promise((done) => setTimeout(done, 50))")
+            browser.value(f"document.getElementById('call-{number}').click()")
+        else:
+            browser.press(way)
+
+    def jumps(self):
+        draw = random.Random(SEED)
+        number = 0
+        for _ in range(JUMPS):
+            way = draw.choice(["slider", "address", "click", "Home", "End", "PageUp", "PageDown"])
+            wanted = draw.randrange(self.last + 1)
+            wanted = {"Home": 0, "End": self.last, "PageUp": max(0, number - 10),
+                      "PageDown": min(self.last, number + 10)}.get(way, wanted)
+            if way == "click" and self.last == 0 or way == "address" and wanted == number:
+                continue
+            self.jump(way, wanted)
+            number = wanted
+            self.compare(number, way)
+
+    def run(self, path):
+        self.browser.open(path.as_uri())
+        self.browser.value("document.getElementById('state-lines').open = true")
+        self.browser.value("new Promise((done) => setTimeout(done, 20))")
+        self.forward()
+        self.back()
+        self.jumps()
+        if self.browser.asked != [path.as_uri()] or self.browser.recorder.asked:
+            self.faults.append(f"it asked for {self.browser.asked}, {self.browser.recorder.asked}")
+        self.faults += self.browser.complaints
+
+
+def step_through(browser, program, setups, folder):
+    """Steps through a page of each set-up: whether all is right."""
+    pages = compared = wrong = 0
+    for setup in setups:
+        path = make_page(program, setup, folder)
+        if path is None:
+            continue
+        trace = subprocess.run([program, "trace", setup], capture_output=True, text=True, timeout=120).stdout
+        stepper = Stepper(browser, trace)
+        stepper.run(path)
+        for fault in stepper.faults[:5]:
+            print(f"{setup.stem}: {fault}")
+        pages, compared, wrong = pages + 1, compared + stepper.compared, wrong + bool(stepper.faults)
+    print(f"{pages} pages, {compared} times compared, {wrong} pages with faults")
+    return pages > 0 and wrong == 0
+
+
+def stand_in(folder):
+    """A program that gives a file as the trace."""
+    path = folder / "stand_in"
+    path.write_text('#!/bin/sh\n[ "$1" = trace ] && exec cat "$2"\n')
+    path.chmod(0o755)
+    return path
+
+
+def main():
+    missing = list(needs())
+    if missing:
+        print("make page-test needs " + ", ".join(missing))
+        return 1
+    folder = pathlib.Path(tempfile.mkdtemp(prefix="page_test_"))
+    traces = sys.argv[1] == "--traces"
+    program = stand_in(folder) if traces else pathlib.Path(sys.argv[1]).resolve()
+    setups = sorted(pathlib.Path(sys.argv[2]).resolve().glob("*.trace" if traces else "*.toml"))
+    browser = chromium.Chromium()
+    try:
+        right = step_through(browser, program, setups, folder)
+        (folder / "harm.trace").write_text(special.RUN)
+        right &= step_through(browser, stand_in(folder), [folder / "harm.trace"], folder)
+        right &= special.run(browser, PAGE, folder)
+    finally:
+        browser.close()
+        shutil.rmtree(folder)
+    return 0 if right else 1
+
+
+if __name__ == "__main__":
+    sys.exit(main())
