@@ -14,7 +14,7 @@ use Rattle.setup_trace.specs.Lines.{Lines}
 use Rattle.setup_trace.specs.Changes.{text_at, change, change_at, addresses, line_changes, removed, added}
 use Rattle.setup_trace.specs.Private.Listed.{order_of}
 
-abbrev Below : ℕ → List ℕ → Type 0
+abbrev pub Below : ℕ → List ℕ → Type 0
 Below k xs = AllByRecursion (λ y. nat_cmp k y ≡ Less) xs
 
 -- ---- the least of some addresses comes first
@@ -28,7 +28,7 @@ below_insert k x (y ∷ ys) e h =
       | Greater ↦ (h.0, below_insert k x ys e h.1)
     ]
 
-below_rising : (k : ℕ) (xs : List ℕ) → Below k xs → Below k (rising xs)
+pub below_rising : (k : ℕ) (xs : List ℕ) → Below k xs → Below k (rising xs)
 below_rising k [] h = tt
 below_rising k (x ∷ xs) h = below_insert k x (rising xs) h.0 (below_rising k xs h.1)
 
@@ -36,44 +36,44 @@ insert_least : (k : ℕ) (xs : List ℕ) → Below k xs → insert_key nat_cmp x
 insert_least k [] h = refl
 insert_least k (x ∷ xs) h = ap (λ o. match_ordering o (k ∷ x ∷ xs) (x ∷ xs) (x ∷ insert_key nat_cmp xs k)) h.0
 
-equal_self : (k : ℕ) → nat_cmp k k ≡ Equal
+pub equal_self : (k : ℕ) → nat_cmp k k ≡ Equal
 equal_self k = tied_itself nat_cmp_total k
 
 insert_again : (k : ℕ) (xs : List ℕ) → insert_key nat_cmp (k ∷ xs) k ≡ k ∷ xs
 insert_again k xs = ap (λ o. match_ordering o (k ∷ k ∷ xs) (k ∷ xs) (k ∷ insert_key nat_cmp xs k)) (equal_self k)
 
-greater_than : (k x : ℕ) → nat_cmp k x ≡ Less → nat_cmp x k ≡ Greater
+pub greater_than : (k x : ℕ) → nat_cmp k x ≡ Less → nat_cmp x k ≡ Greater
 greater_than k x e = nat_cmp_total.antisymm x k ∙ ap ordering_reverse e
 
 insert_past : (k x : ℕ) (xs : List ℕ) → nat_cmp k x ≡ Less → insert_key nat_cmp (k ∷ xs) x ≡ k ∷ insert_key nat_cmp xs x
 insert_past k x xs e = ap (λ o. match_ordering o (x ∷ k ∷ xs) (k ∷ xs) (k ∷ insert_key nat_cmp xs x)) (greater_than k x e)
 
-below_both : (k : ℕ) (xs ys : List ℕ) → Below k xs → Below k ys → Below k (xs ++ ys)
+pub below_both : (k : ℕ) (xs ys : List ℕ) → Below k xs → Below k ys → Below k (xs ++ ys)
 below_both k [] ys a b = b
 below_both k (x ∷ xs) ys a b = (a.0, below_both k xs ys a.1 b)
 
-least_left : (k : ℕ) (xs ys : List ℕ) → Below k xs → Below k ys → rising (k ∷ xs ++ ys) ≡ k ∷ rising (xs ++ ys)
+pub least_left : (k : ℕ) (xs ys : List ℕ) → Below k xs → Below k ys → rising (k ∷ xs ++ ys) ≡ k ∷ rising (xs ++ ys)
 least_left k xs ys a b = insert_least k (rising (xs ++ ys)) (below_rising k (xs ++ ys) (below_both k xs ys a b))
 
-least_right : (k : ℕ) (xs ys : List ℕ) → Below k xs → Below k ys → rising (xs ++ k ∷ ys) ≡ k ∷ rising (xs ++ ys)
+pub least_right : (k : ℕ) (xs ys : List ℕ) → Below k xs → Below k ys → rising (xs ++ k ∷ ys) ≡ k ∷ rising (xs ++ ys)
 least_right k [] ys a b = insert_least k (rising ys) (below_rising k ys b)
 least_right k (x ∷ xs) ys a b = ap (λ l. insert_key nat_cmp l x) (least_right k xs ys a.1 b) ∙ insert_past k x (rising (xs ++ ys)) a.0
 
-least_twice : (k : ℕ) (xs ys : List ℕ) → Below k xs → Below k ys → rising (k ∷ xs ++ k ∷ ys) ≡ k ∷ rising (xs ++ ys)
+pub least_twice : (k : ℕ) (xs ys : List ℕ) → Below k xs → Below k ys → rising (k ∷ xs ++ k ∷ ys) ≡ k ∷ rising (xs ++ ys)
 least_twice k xs ys a b = ap (λ l. insert_key nat_cmp l k) (least_right k xs ys a b) ∙ insert_again k (rising (xs ++ ys))
 
 -- ---- what is found at an address
 
-different : (k q : ℕ) → nat_cmp k q ≡ Less → (k == q) ≡ false
+pub different : (k q : ℕ) → nat_cmp k q ≡ Less → (k == q) ≡ false
 different k q e = ne_eqb k q (λ same. let t : Equal ≡ Less = sym (equal_self k) ∙ ap (nat_cmp k) same ∙ e in cc)
 
-found_here : (k : ℕ) (t : List ℕ) (l : Lines) → text_at k ((k, t) ∷ l) ≡ Some t
+pub found_here : (k : ℕ) (t : List ℕ) (l : Lines) → text_at k ((k, t) ∷ l) ≡ Some t
 found_here k t l = ap (λ b. cond b (Some t) (text_at k l)) (eq-eqb k k refl)
 
-found_past : (k q : ℕ) (t : List ℕ) (l : Lines) → nat_cmp k q ≡ Less → text_at q ((k, t) ∷ l) ≡ text_at q l
+pub found_past : (k q : ℕ) (t : List ℕ) (l : Lines) → nat_cmp k q ≡ Less → text_at q ((k, t) ∷ l) ≡ text_at q l
 found_past k q t l e = ap (λ b. cond b (Some t) (text_at q l)) (different k q e)
 
-not_found : (k : ℕ) (l : Lines) → Below k (addresses l) → text_at k l ≡ None
+pub not_found : (k : ℕ) (l : Lines) → Below k (addresses l) → text_at k l ≡ None
 not_found k [] h = refl
 not_found k (x ∷ l) h = ap (λ b. cond b (Some x.1) (text_at k l)) (ne_eqb x.0 k (λ same. let t : Equal ≡ Less = sym (equal_self k) ∙ ap (nat_cmp k) (sym same) ∙ h.0 in cc)) ∙ not_found k l h.1
 
@@ -138,7 +138,7 @@ rest_below_first : (x : ℕ × List ℕ) (l m : Lines) → l ≡ x ∷ m → Ris
 unfolding IsStrictlySortedBy
 rest_below_first x l m e h = let r : Rises (x ∷ m) = subst Rises e h in r.0
 
-below_trans : (k x : ℕ) (xs : List ℕ) → nat_cmp k x ≡ Less → Below x xs → Below k xs
+pub below_trans : (k x : ℕ) (xs : List ℕ) → nat_cmp k x ≡ Less → Below x xs → Below k xs
 below_trans k x [] e h = tt
 below_trans k x (y ∷ ys) e h = (nat_cmp_total.trans k x y e h.0, below_trans k x ys e h.1)
 
@@ -154,7 +154,7 @@ less_so : (a : ℕ × List ℕ) (o : Option (ℕ × List ℕ)) → order_of (Som
 less_so a None is b e = cc
 less_so a (Some c) is b e = let d : c ≡ b = cc in ap (λ (x : ℕ × List ℕ). nat_cmp a.0 x.0) (sym d) ∙ is
 
-reversed : (x y : ℕ) → nat_cmp x y ≡ Greater → nat_cmp y x ≡ Less
+pub reversed : (x y : ℕ) → nat_cmp x y ≡ Greater → nat_cmp y x ≡ Less
 reversed x y e = nat_cmp_total.antisymm y x ∙ ap ordering_reverse e
 
 greater_so : (b : ℕ × List ℕ) (o : Option (ℕ × List ℕ)) → order_of o (Some b) ≡ Greater → (a : ℕ × List ℕ) → o ≡ Some a → nat_cmp b.0 a.0 ≡ Less

@@ -2,3 +2,5 @@ pub mod Differences
 pub mod Listed
 pub mod Views
 pub mod Steps
+pub mod Applied
+pub mod Replays

@@ -70,7 +70,7 @@ outcome_follows : (p : ProfileName) (A : State) (t : ℕ) (r : Result Invocation
 outcome_follows p A t (Err refusal) = counted_shows A
 outcome_follows p A t (Ok invocation) = performed_follows p A t invocation
 
-step_follows : (p : ProfileName) (A : State) (call : Call) → OutcomeFollows A (step p A call)
+pub step_follows : (p : ProfileName) (A : State) (call : Call) → OutcomeFollows A (step p A call)
 unfolding step
 step_follows p A call = outcome_follows p A call.thread (decoded_call p (shown A) call)
 

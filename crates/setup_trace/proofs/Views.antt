@@ -62,7 +62,7 @@ rises_lines f (x ∷ xs) h =
       | Some t ↦ (below_lines f x xs h.0, rises_lines f xs h.1)
     ]
 
-rises_at : (f : ℕ → Option (List ℕ)) (xs : List ℕ) (l : Lines) → l ≡ lines_at f xs → IsStrictlySortedBy nat_cmp (addresses l)
+pub rises_at : (f : ℕ → Option (List ℕ)) (xs : List ℕ) (l : Lines) → l ≡ lines_at f xs → IsStrictlySortedBy nat_cmp (addresses l)
 rises_at f xs l is = subst (λ m. IsStrictlySortedBy nat_cmp (addresses m)) (sym is) (rises_lines f (rising xs) (sorted_rising xs))
 
 pub memory_rises : (p : ProfileName) (v : Shown) (m : Memory) → ShowsMemory p v m → HasRisingMemory m

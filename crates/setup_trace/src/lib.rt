@@ -4,6 +4,7 @@
 mod calls;
 mod changes;
 mod head;
+mod laws;
 mod messages;
 mod run;
 mod slots;
@@ -11,4 +12,8 @@ mod state;
 mod text;
 mod words;
 
+pub use laws::{
+    calls_are_those_of_the_report, calls_without_effect_change_nothing,
+    changes_give_the_lines_after,
+};
 pub use run::trace;

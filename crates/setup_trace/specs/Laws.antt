@@ -1,0 +1,157 @@
+-- What the laws of a trace say: its changes as data, a state's lines after them, and the report within it.
+use Rattle.std.specs.Prelude.{ℕ, ◌+◌, Bool, true, false, not, ◌==◌, nat_eq, List, [], ◌∷◌, ◌++◌, map, Option, None, Some}
+use Rattle.std.specs.List.{filter, flat_map}
+use Rattle.std.specs.List.Sorted.{IsStrictlySortedBy}
+use Rattle.std.specs.Ordering.{nat_cmp}
+use Rattle.std.specs.BTreeMap.{insert_entry}
+use lib.Pointwise.{pointwise}
+use Rattle.cap_core.specs.declared.profile.ProfileName.{ProfileName}
+use Rattle.abstract_kernel.specs.declared.call.Call.{Call}
+use Rattle.abstract_kernel.specs.declared.call.Reply.{Reply}
+use Rattle.abstract_kernel.specs.Boot.{boot}
+use Rattle.abstract_kernel.specs.Plan.{Plan}
+use Rattle.abstract_kernel.specs.State.{State, shown}
+use Rattle.abstract_kernel.specs.Step.{step}
+use Rattle.setup_format.specs.Views.{CallView}
+use Rattle.setup_report.specs.Report.{line, rising, call_text}
+use Rattle.setup_trace.specs.Lines.{Lines}
+use Rattle.setup_trace.specs.Changes.{StateLines, state_lines, no_lines, addresses, text_at, removed, added, changes}
+use Rattle.setup_trace.specs.Trace.{words_line}
+
+-- ---- how lines differ
+
+-- an address, the line that it had and the line that it has, where there is one
+pub record Difference : Type 0 where
+  pub address : ℕ
+  pub old : Option (List ℕ)
+  pub new : Option (List ℕ)
+
+abbrev pub difference_at : Lines → Lines → ℕ → Difference
+difference_at old new address = record { address = address; old = text_at address old; new = text_at address new }
+
+-- whether two lines are the same, or neither is there
+abbrev pub is_same : Option (List ℕ) → Option (List ℕ) → Bool
+is_same None None = true
+is_same None (Some new) = false
+is_same (Some old) None = false
+is_same (Some old) (Some new) = pointwise nat_eq old new
+
+abbrev pub is_difference : Difference → Bool
+is_difference d = not (is_same d.old d.new)
+
+-- each address of the old lines or of the new ones, in rising order, where the line differs
+abbrev pub differences : Lines → Lines → List Difference
+differences old new = filter is_difference (map (difference_at old new) (rising (addresses old ++ addresses new)))
+
+-- its text: the old line is removed, and the new one is added
+abbrev pub told : Difference → List ℕ
+told d = removed d.old ++ added d.new
+
+-- ---- differences applied to lines: the line at the address is taken away, and the new one is put in by its address
+
+abbrev pub without : ℕ → Lines → Lines
+without address lines = filter (λ (l : ℕ × List ℕ). not (l.0 == address)) lines
+
+abbrev pub with_line : ℕ → Option (List ℕ) → Lines → Lines
+with_line address None lines = lines
+with_line address (Some text) lines = insert_entry nat_cmp lines address text
+
+abbrev pub apply : Lines → Difference → Lines
+apply lines d = with_line d.address d.new (without d.address lines)
+
+-- one after another
+abbrev pub applied : Lines → List Difference → Lines
+applied lines [] = lines
+applied lines (d ∷ ds) = applied (apply lines d) ds
+
+-- the lines are in the order of their addresses, and no address has two
+abbrev pub Rise : Lines → Type 0
+Rise lines = IsStrictlySortedBy nat_cmp (addresses lines)
+
+-- ---- the same of all that is told of two states
+
+pub record StateDifferences : Type 0 where
+  pub threads : List Difference
+  pub inboxes : List Difference
+  pub endpoints : List Difference
+  pub slots : List Difference
+  pub selfheld : List Difference
+
+abbrev pub state_differences : StateLines → StateLines → StateDifferences
+state_differences old new =
+    record {
+      threads = differences old.threads new.threads;
+      inboxes = differences old.inboxes new.inboxes;
+      endpoints = differences old.endpoints new.endpoints;
+      slots = differences old.slots new.slots;
+      selfheld = differences old.selfheld new.selfheld;
+    }
+
+abbrev pub state_told : StateDifferences → List ℕ
+state_told d =
+    flat_map told d.threads
+    ++ (flat_map told d.inboxes
+    ++ (flat_map told d.endpoints
+    ++ (flat_map told d.slots
+    ++ flat_map told d.selfheld)))
+
+abbrev pub state_applied : StateLines → StateDifferences → StateLines
+state_applied lines d =
+    record {
+      threads = applied lines.threads d.threads;
+      inboxes = applied lines.inboxes d.inboxes;
+      endpoints = applied lines.endpoints d.endpoints;
+      slots = applied lines.slots d.slots;
+      selfheld = applied lines.selfheld d.selfheld;
+    }
+
+-- ---- runs
+
+-- what is told of a state, and of the state after a call
+abbrev pub lines_in : ProfileName → State → StateLines
+lines_in p A = state_lines p (shown A)
+
+abbrev pub lines_after : ProfileName → State → Call → StateLines
+lines_after p A call = lines_in p (step p A call).state
+
+-- what a call changes: its text, and as data
+abbrev pub call_changes : ProfileName → State → Call → List ℕ
+call_changes p A call = changes (lines_in p A) (lines_after p A call)
+
+abbrev pub call_differences : ProfileName → State → Call → StateDifferences
+call_differences p A call = state_differences (lines_in p A) (lines_after p A call)
+
+-- boot changes nothing into its state
+abbrev pub boot_differences : ProfileName → Plan → StateDifferences
+boot_differences p plan = state_differences no_lines (lines_in p (boot p plan))
+
+-- what each call of a run changes
+unfoldable pub run_differences : ProfileName → State → List Call → List StateDifferences
+run_differences p A [] = []
+run_differences p A (call ∷ calls) = call_differences p A call ∷ run_differences p (step p A call).state calls
+
+-- the lines after differences that are applied one after another
+abbrev pub replayed : StateLines → List StateDifferences → StateLines
+replayed lines [] = lines
+replayed lines (d ∷ ds) = replayed (state_applied lines d) ds
+
+-- ---- the report within a trace
+
+-- the report's line of each call
+abbrev pub report_lines : ℕ → List CallView → List Reply → List (List ℕ)
+report_lines number [] replies = []
+report_lines number (call ∷ calls) [] = []
+report_lines number (call ∷ calls) (reply ∷ replies) =
+    line (call_text number call.call reply call.expect) ∷ report_lines (number + 1) calls replies
+
+-- what a trace says of each call below that line: its words and what it changed
+unfoldable pub details : ProfileName → State → List CallView → List (List ℕ)
+details p A [] = []
+details p A (call ∷ calls) =
+    (words_line call.call.op ++ call_changes p A call.call) ∷ details p (step p A call.call).state calls
+
+-- each line, followed by its own of some details while there are any
+abbrev pub followed : List (List ℕ) → List (List ℕ) → List ℕ
+followed [] details = []
+followed (line ∷ lines) [] = line ++ followed lines []
+followed (line ∷ lines) (detail ∷ details) = line ++ (detail ++ followed lines details)
