@@ -1,5 +1,6 @@
 -- What the clients of a settled history made stands in it.
-use Rattle.std.proofs.Common.{◌≡◌, ℕ, zero, suc, ◌+◌, ◌<◌, ◌≤◌, nat_lt, List, [], ◌∷◌, ◌++◌, All, filter, length, take, map, get_or, slice_get, option_map, Some, None, refl, ap, sym, ◌∙◌, subst, arith}
+use Rattle.std.proofs.Common.{◌≡◌, ℕ, zero, suc, ◌+◌, ◌<◌, ◌≤◌, ◌==◌, nat_lt, Bool, true, false, List, [], ◌∷◌, ◌++◌, All, filter, length, take, map, get_or, slice_get, option_map, Option, Some, None, refl, ap, sym, ◌∙◌, subst, arith, length-append}
+use Rattle.std.proofs.lemmas.Bool.Decides.{nat_tests}
 use Rattle.std.proofs.lemmas.List.{append-nil, take_all, length-map}
 use Rattle.std.proofs.lemmas.Option.{slice_get-get_or, slice_get_within, slice_get-map, get_or_from_slice_get}
 use Rattle.std.specs.List.{sum_by}
@@ -7,23 +8,39 @@ use Rattle.abstract_kernel.specs.declared.call.Call.{Call}
 use Rattle.kernel_book.specs.declared.entry.Entry.{Entry}
 use Rattle.kernel_book.specs.Laws.{calls_of}
 use Rattle.kernel_shared.specs.Tokens.{Token, token, is_below, calls_made, lost_calls, newly_lost, made}
-use Rattle.kernel_shared.specs.Driving.{EachThree, IsRun}
+use Rattle.kernel_shared.specs.declared.driving.Stop.{Stop}
+use Rattle.kernel_shared.specs.declared.driving.Stop.TheVariants.{Gate, Fault}
+use Rattle.kernel_shared.specs.declared.fault.SharedFault.TheVariants.{Full, Stray, NameTaken, Memory, NoEntry}
+use Rattle.kernel_shared.specs.Driving.{EachThree, IsRun, IsDriven}
 use Rattle.setup_format.specs.Views.{CallView}
 use Rattle.engine_threads.specs.SharedRuns.{client_calls, calls_by, IsBeginning}
-use Rattle.engine_threads.specs.Private.Settled.{AreSettled}
+use Rattle.engine_threads.specs.Private.Settled.{AreSettled, IsFinished}
 use Rattle.engine_threads.proofs.Counting.{total, total-sum_by}
-use Rattle.engine_threads.proofs.Shares.{HasMade, each_begins, carry_whole, counts_whole}
+use Rattle.engine_threads.proofs.Shares.{HasMade, each_begins, carry_all, carry_whole, counts_whole, no_more}
 
--- the client's own entries in what it saw, below the number of calls that were answered, carry the first of its calls
-pub record IsMade (calls : List CallView) (i : ℕ) (t : Token) : Type 0 where
+-- The client's own entries in what it saw, below the number of calls that were answered, carry the first of its calls. All
+-- were answered where what it saw has fewer entries than the limit.
+pub record IsMade (gated : Bool) (calls : List CallView) (limit i : ℕ) (t : Token) : Type 0 where
   pub id : t.id ≡ i
   pub carry : calls_of (filter (is_below t.id t.done) t.front) ≡ take t.done (client_calls i calls)
   pub within : t.done ≤ length (client_calls i calls)
+  pub finished : gated ≡ false → length t.front < limit → t.done ≡ length (client_calls i calls)
+
+-- where a client finished and saw fewer entries than the limit, all of its calls were answered
+all_answered : {N T : Type 0} (limit : ℕ) (old : Token) (own : List Call) (new : Token) (n : ℕ) (stopped : Option (Stop N T)) (gated : Bool) → IsDriven limit old own new n stopped → IsFinished gated stopped → gated ≡ false → length new.front < limit → n ≡ length own
+all_answered limit old own new n None gated driven finished ungated room = driven.ended.0 refl
+all_answered limit old own new n (Some (Fault Full)) gated driven finished ungated room = absurd (let full : length new.front ≡ limit = driven.told in omega arith)
+all_answered limit old own new n (Some Gate) gated driven finished ungated room = let both : true ≡ false = sym finished ∙ ungated in cc
+all_answered limit old own new n (Some (Fault (Stray front))) gated driven finished ungated room = absurd finished
+all_answered limit old own new n (Some (Fault (NameTaken front))) gated driven finished ungated room = absurd finished
+all_answered limit old own new n (Some (Fault Memory)) gated driven finished ungated room = absurd finished
+all_answered limit old own new n (Some (Fault NoEntry)) gated driven finished ungated room = absurd finished
 
 -- a client that had seen nothing, after its run
-pub made_by : (calls : List CallView) (i : ℕ) (old : Token) (own : List Call) (new : Token) (n : ℕ) → old ≡ token i 0 [] None → own ≡ client_calls i calls → new.stray ≡ None → IsRun old own new n → IsMade calls i new
-made_by calls i old own new n is list whole run =
-    let first : IsRun (token i 0 [] None) own new n = subst (λ (t : Token). IsRun t own new n) is run in
+pub made_by : {N T : Type 0} (calls : List CallView) (limit i : ℕ) (old : Token) (own : List Call) (new : Token) (n : ℕ) (stopped : Option (Stop N T)) (gated : Bool)
+    → old ≡ token i 0 [] None → own ≡ client_calls i calls → new.stray ≡ None → IsDriven limit old own new n stopped → IsFinished gated stopped → IsMade gated calls limit i new
+made_by calls limit i old own new n stopped gated is list whole driven finished =
+    let first : IsRun (token i 0 [] None) own new n = subst (λ (t : Token). IsRun t own new n) is driven.run in
     let done : new.done ≡ n = let d = first.done in omega arith in
     let lost : length (newly_lost None new.stray) ≡ 0 = ap (λ (s : _). length (newly_lost None s)) whole in
     let many : n + length (newly_lost None new.stray) ≡ new.done = omega arith in
@@ -34,9 +51,19 @@ made_by calls i old own new n is list whole run =
       id = first.id;
       carry = sym kept ∙ grown ∙ ap (take new.done) list;
       within = subst (λ l. new.done ≤ length l) list (let w = first.within in omega arith);
+      finished = λ ungated room. done ∙ (all_answered limit old own new n stopped gated driven finished ungated room ∙ ap length list);
     }
 
-module _ (calls : List CallView) (h : List Entry) (clients : List Token) (settled : AreSettled h clients) (each : (i : ℕ) (t : Token) → slice_get clients i ≡ Some t → IsMade calls i t) where
+none_pass : {X : Type 0} (p : X → Bool) (xs : List X) → All (λ x. p x ≡ false) xs → filter p xs ≡ []
+none_pass p [] all = refl
+none_pass p (x ∷ xs) all = rw (all 0 x (omega arith)) (none_pass p xs (λ k d lt. all (suc k) d (omega arith)))
+
+-- where each call's client is below a number, no other client has calls
+none_beyond : (calls : List CallView) (n i : ℕ) → n ≤ i → All (λ (c : CallView). c.client < n) calls → client_calls i calls ≡ []
+none_beyond calls n i le all =
+    ap (map (λ (c : CallView). c.call)) (none_pass (λ (c : CallView). c.client == i) calls (λ k d lt. let below = all k d lt in grind (arith, nat_tests)))
+
+module _ (gated : Bool) (calls : List CallView) (limit : ℕ) (h : List Entry) (clients : List Token) (settled : AreSettled h clients) (each : (i : ℕ) (t : Token) → slice_get clients i ≡ Some t → IsMade gated calls limit i t) where
   client : ℕ → Token
   client i = get_or clients i (token 0 0 [] None)
 
@@ -73,6 +100,29 @@ module _ (calls : List CallView) (h : List Entry) (clients : List Token) (settle
   pub beginnings : (i : ℕ) → IsBeginning (calls_by i h) (client_calls i calls)
   beginnings i = each_begins (λ (e : Entry). e.client) (λ (e : Entry). e.call) h (length clients) done (λ i. client_calls i calls) has_made sums i
 
+  -- what a client made is all of its calls, where the history has fewer entries than the limit
+  all_done : gated ≡ false → length h < limit → (i : ℕ) → i < length clients → length (client_calls i calls) ≤ done i
+  unfolding done client
+  all_done ungated room i lt =
+      let d : Token = token 0 0 [] None in
+      let t : Token = get_or clients i d in
+      let at : slice_get clients i ≡ Some t = slice_get-get_or clients i d lt in
+      let s = settled.fronts i t at in
+      let long = ap length s.is ∙ length-append t.front s.rest in
+      let all : t.done ≡ length (client_calls i calls) = (each i t at).finished ungated (omega arith) in
+      omega arith
+
+  pub unless_full : All (λ (c : CallView). c.client < length clients) calls → gated ≡ false → length h < limit → (i : ℕ) → calls_by i h ≡ client_calls i calls
+  unless_full bounded ungated room i =
+      elim (nat_lt i (length clients)) as (λ t. nat_lt i (length clients) ≡ t → calls_by i h ≡ client_calls i calls) [
+        | true ↦ λ e. (let lt : i < length clients = grind (arith, nat_tests) in
+            carry_all (λ (e : Entry). e.client) (λ (e : Entry). e.call) h (length clients) done (λ i. client_calls i calls) has_made sums i lt
+            ∙ take_all (done i) (client_calls i calls) (all_done ungated room i lt))
+        | false ↦ λ e. (let le : length clients ≤ i = grind (arith, nat_tests) in
+            ap (map (λ (e : Entry). e.call)) (no_more (λ (e : Entry). e.client) (λ (e : Entry). e.call) h (length clients) done (λ i. client_calls i calls) has_made sums i le)
+            ∙ sym (none_beyond calls (length clients) i le bounded))
+      ] refl
+
   pub whole : length h ≡ length calls → (i : ℕ) → calls_by i h ≡ client_calls i calls
   whole same i =
       carry_whole (λ (e : Entry). e.client) (λ (e : Entry). e.call) (λ (c : CallView). c.client) (λ (c : CallView). c.call) h calls (length clients)
@@ -90,19 +140,21 @@ all_at : {A : Type 0} (P : A → Type 0) (xs : List A) (i : ℕ) (x : A) → All
 all_at P xs i x all at = subst P (get_or_from_slice_get xs i x x at) (all i x (slice_get_within xs i x at))
 
 -- what each client made, by what is known of it before and after its run
-pub each_made : {D L : Type 0} (calls : List CallView) (client : D → Token) (many : D → ℕ) (own : L → List Call) (olds : List Token) (lists : List L) (driven : List D)
+pub each_made : {N T D L : Type 0} (calls : List CallView) (limit : ℕ) (client : D → Token) (many : D → ℕ) (stopped : D → Option (Stop N T)) (gated : Bool) (own : L → List Call) (olds : List Token) (lists : List L) (driven : List D)
     → length lists ≡ length olds → length driven ≡ length olds
     → ((i : ℕ) (t : Token) → slice_get olds i ≡ Some t → t ≡ token i 0 [] None)
     → ((i : ℕ) (l : L) → slice_get lists i ≡ Some l → own l ≡ client_calls i calls)
-    → EachThree olds lists driven (λ t l d. IsRun t (own l) (client d) (many d))
+    → EachThree olds lists driven (λ t l d. IsDriven limit t (own l) (client d) (many d) (stopped d))
     → All (λ (t : Token). t.stray ≡ None) (map client driven)
-    → (i : ℕ) (t : Token) → slice_get (map client driven) i ≡ Some t → IsMade calls i t
-each_made calls client many own olds lists driven a b first listed ran stray i t at =
+    → All (λ d. IsFinished gated (stopped d)) driven
+    → (i : ℕ) (t : Token) → slice_get (map client driven) i ≡ Some t → IsMade gated calls limit i t
+each_made calls limit client many stopped gated own olds lists driven a b first listed ran stray finished i t at =
     let lt : i < length driven = let w = slice_get_within (map client driven) i t at in let l = length-map driven client in omega arith in
     let old = some_there olds i (omega arith) in
     let l = some_there lists i (omega arith) in
     let d = some_there driven i lt in
     let same : client d.0 ≡ t = some_same (client d.0) t (sym (slice_get-map client driven i ∙ ap (option_map client) d.1) ∙ at) in
     let run = ran i old.0 l.0 d.0 old.1 l.1 d.1 in
-    made_by calls i old.0 (own l.0) t (many d.0) (first i old.0 old.1) (listed i l.0 l.1) (all_at (λ (t : Token). t.stray ≡ None) (map client driven) i t stray at)
-    (subst (λ (t : Token). IsRun old.0 (own l.0) t (many d.0)) same run)
+    made_by calls limit i old.0 (own l.0) t (many d.0) (stopped d.0) gated (first i old.0 old.1) (listed i l.0 l.1) (all_at (λ (t : Token). t.stray ≡ None) (map client driven) i t stray at)
+    (subst (λ (t : Token). IsDriven limit old.0 (own l.0) t (many d.0) (stopped d.0)) same run)
+    (all_at (λ d. IsFinished gated (stopped d)) driven i d.0 finished d.1)

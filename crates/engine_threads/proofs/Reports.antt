@@ -1,5 +1,6 @@
 -- What a settled book shows, and that its history is a shared run of the set-up.
-use Rattle.std.proofs.Common.{◌≡◌, ℕ, ◌<◌, ◌≤◌, ◌^◌, true, List, [], All, Vec, Global, Result, Ok, Err, IfOk, length, map, slice_get, Some, None, refl, ap, sym, subst, arith}
+use Rattle.std.proofs.Common.{◌≡◌, ℕ, ◌<◌, ◌≤◌, ◌^◌, Bool, true, false, List, [], All, Vec, Global, Option, Result, Ok, Err, IfOk, length, map, slice_get, Some, None, refl, ap, sym, ◌∙◌, subst, arith}
+use Rattle.std.proofs.lemmas.List.{length-map}
 use Rattle.std.proofs.Props.{props}
 use mathlib.Core.Logic.{∥∥₁_elim}
 use Rattle.cap_core.specs.declared.profile.ProfileName.{ProfileName}
@@ -14,15 +15,16 @@ use Rattle.abstract_kernel.specs.State.{shown}
 use Rattle.abstract_kernel.specs.Step.{replies_of, state_after}
 use Rattle.abstract_kernel.proofs.Reached.Simulation.{reached_is}
 use Rattle.kernel_book.specs.declared.entry.Entry.{Entry}
-use Rattle.kernel_shared.specs.Driving.{EachThree, IsRun}
+use Rattle.kernel_shared.specs.declared.driving.Stop.{Stop}
+use Rattle.kernel_shared.specs.Driving.{EachThree, IsDriven}
 use Rattle.kernel_book.specs.Laws.{Lawful, StandsAfter, calls_of, replies_in, is_numbered}
 use Rattle.kernel_shared.specs.Tokens.{Token, token}
-use Rattle.setup_format.specs.Views.{SetupView}
+use Rattle.setup_format.specs.Views.{SetupView, CallView, IsWithinBounds}
 use Rattle.setup_shared_report.specs.SharedReport.{shared_report_of}
 use Rattle.engine.proofs.Runs.{boot_reached}
-use Rattle.engine_threads.specs.Private.Settled.{AreSettled}
+use Rattle.engine_threads.specs.Private.Settled.{AreSettled, IsFinished}
 use Rattle.engine_threads.specs.SharedRuns.{IsSharedRun, client_calls, state_of}
-use Rattle.engine_threads.proofs.Histories.{IsMade, beginnings, each_made, whole}
+use Rattle.engine_threads.proofs.Histories.{IsMade, beginnings, each_made, unless_full, whole}
 
 -- ---- the kernel of a book
 
@@ -67,30 +69,36 @@ numbered p o h b = ∥∥₁_elim b (numbered_set h) (λ l. l.numbered)
 
 -- ---- the whole
 
-pub shared_run_is : (p : ProfileName) (setup : SetupView) (o : Shown) (limit : ℕ) (h : List Entry) (clients : List Token)
+pub shared_run_is : (gated : Bool) (p : ProfileName) (setup : SetupView) (o : Shown) (limit : ℕ) (h : List Entry) (clients : List Token)
     → IsPlan p setup.plan → o ≡ shown (boot p setup.plan) → limit ≡ setup.limit
+    → All (λ (c : CallView). c.client < length clients) setup.calls
     → ∥ Lawful p o h ∥₁ → length h ≤ limit → AreSettled h clients
-    → ((i : ℕ) (t : Token) → slice_get clients i ≡ Some t → IsMade setup.calls i t) → IsSharedRun p setup h
-shared_run_is p setup o limit h clients lawful is bound law short settled each = record {
+    → ((i : ℕ) (t : Token) → slice_get clients i ≡ Some t → IsMade gated setup.calls limit i t) → IsSharedRun gated p setup h
+shared_run_is gated p setup o limit h clients lawful is bound few law short settled each = record {
   replies = answered p setup.plan o h lawful is law;
   numbered = numbered p o h law;
   within = omega arith;
-  beginnings = beginnings setup.calls h clients settled each;
-  whole = whole setup.calls h clients settled each;
+  beginnings = beginnings gated setup.calls limit h clients settled each;
+  unless_full = λ ungated room. unless_full gated setup.calls limit h clients settled each few ungated (omega arith);
+  whole = whole gated setup.calls limit h clients settled each;
 }
 
 -- a history that was settled with the clients of a drive
-pub run_settled : {D : Type 0} (p : ProfileName) (setup : SetupView) (o : Shown) (limit : ℕ) (client : D → Token) (many : D → ℕ) (olds : List Token) (lists : List (Vec Call Global)) (driven : List D) (h : List Entry)
+pub run_settled : {N T D : Type 0} (p : ProfileName) (setup : SetupView) (o : Shown) (limit : ℕ) (client : D → Token) (many : D → ℕ) (stopped : D → Option (Stop N T)) (gated : Bool) (olds : List Token) (lists : List (Vec Call Global)) (driven : List D) (h : List Entry)
     → IsPlan p setup.plan → o ≡ shown (boot p setup.plan) → limit ≡ setup.limit
-    → length lists ≡ length olds → length driven ≡ length olds
+    → IsWithinBounds setup → length olds ≡ setup.clients → length lists ≡ length olds → length driven ≡ length olds
     → ((i : ℕ) (t : Token) → slice_get olds i ≡ Some t → t ≡ token i 0 [] None)
     → ((i : ℕ) (l : Vec Call Global) → slice_get lists i ≡ Some l → l.items ≡ client_calls i setup.calls)
-    → EachThree olds lists driven (λ t l d. IsRun t l.items (client d) (many d))
-    → ∥ Lawful p o h ∥₁ → length h ≤ limit → AreSettled h (map client driven) → IsSharedRun p setup h
-run_settled p setup o limit client many olds lists driven h lawful is bound a b first listed ran law short settled =
-    shared_run_is p setup o limit h (map client driven) lawful is bound law short settled
-    (each_made setup.calls client many (λ (l : Vec Call Global). l.items) olds lists driven a b first listed ran settled.whole)
+    → EachThree olds lists driven (λ t l d. IsDriven limit t l.items (client d) (many d) (stopped d))
+    → All (λ d. IsFinished gated (stopped d)) driven
+    → ∥ Lawful p o h ∥₁ → length h ≤ limit → AreSettled h (map client driven) → IsSharedRun gated p setup h
+run_settled p setup o limit client many stopped gated olds lists driven h lawful is bound within n a b first listed ran finished law short settled =
+    let many_clients : length (map client driven) ≡ setup.clients = length-map driven client ∙ (b ∙ n) in
+    shared_run_is gated p setup o limit h (map client driven) lawful is bound
+    (subst (λ k. All (λ (c : CallView). c.client < k) setup.calls) (sym many_clients) within.each_client)
+    law short settled
+    (each_made setup.calls limit client many stopped gated (λ (l : Vec Call Global). l.items) olds lists driven a b first listed ran settled.whole finished)
 
-pub ok_map : {A F : Type 0} (P Q : A → Type 0) (r : Result A F) → IfOk r P → ((v : A) → P v → Q v) → IfOk r Q
-ok_map P Q (Ok v) p f = f v p
-ok_map P Q (Err e) p f = tt
+pub ok_both : {A F : Type 0} (P Q R : A → Type 0) (r : Result A F) → IfOk r P → IfOk r Q → ((v : A) → P v → Q v → R v) → IfOk r R
+ok_both P Q R (Ok v) p q f = f v p q
+ok_both P Q R (Err e) p q f = tt

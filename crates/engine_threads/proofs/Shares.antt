@@ -70,7 +70,7 @@ module _ {X C : Type 0} (key : X → ℕ) (call : X → C) (h : List X) where
     pub no_more : (i : ℕ) → n ≤ i → of_key key i h ≡ []
     no_more i le = none_pass (λ x. key x == i) h (no_others key n i h le counts_whole)
 
-    carry_all : (i : ℕ) → i < n → map call (of_key key i h) ≡ take (done i) (lists i)
+    pub carry_all : (i : ℕ) → i < n → map call (of_key key i h) ≡ take (done i) (lists i)
     carry_all i lt = carries i (done i) (lists i) (made i lt) (let e = counts i lt in omega arith)
 
     -- each key's elements carry a beginning of its calls

@@ -6,4 +6,4 @@ mod returning;
 mod sharing;
 mod threads;
 
-pub use threads::{OpenGate, threads_run};
+pub use threads::{OpenGate, threads_run, threads_run_open};

@@ -1,5 +1,6 @@
 //! The clients of a drive, once they have ended.
 ghost use Rattle.std.specs.Prelude.{◌≡◌, All, None, IfOk, map};
+ghost use Rattle.engine_threads.specs.Private.Settled.{IsFinished};
 
 use kernel_book::Naming;
 use kernel_shared::client::Client;
@@ -13,47 +14,59 @@ use std::alloc::Global;
 pub enum ReturnFault {
     /// Memory was wanted and not there, by a client's call or by this one.
     Memory,
-    /// A client lost a call.
-    Lost,
+    /// A client ended before its list and with room in the history: it lost a call, its reader gave no entry, or the
+    /// gate ended it.
+    Ended,
 }
 
-/// A client after its calls, unless want of memory stopped it, or it lost one.
-fn client_after<N: Naming, T: Volume<N>>(driven: Driven<N, T>) -> Result<Client<N, T>, ReturnFault>
+/// A client after all of its calls, or after those that the history had room for, or, where `gated`, that the gate let
+/// it make.
+fn client_after<N: Naming, T: Volume<N>>(
+    driven: Driven<N, T>,
+    gated: bool,
+) -> Result<Client<N, T>, ReturnFault>
     ensures same { IfOk result (λ c. c ≡ driven.client) }
     ensures whole { IfOk result (λ c. c.stray ≡ None) }
+    ensures finished { IfOk result (λ _. IsFinished gated driven.stopped) }
 {
     let Driven {
         client,
         stopped,
         ..
     } = driven;
-    if let Some(Stop::Fault(SharedFault::Memory)) = stopped {
-        return Err(ReturnFault::Memory);
+    match stopped {
+        None | Some(Stop::Fault(SharedFault::Full)) => {}
+        Some(Stop::Gate) if gated => {}
+        Some(Stop::Fault(SharedFault::Memory)) => return Err(ReturnFault::Memory),
+        Some(_) => return Err(ReturnFault::Ended),
     }
     match client.stray() {
         None => Ok(client),
-        Some(_) => Err(ReturnFault::Lost),
+        Some(_) => Err(ReturnFault::Ended),
     }
 }
 
-/// The clients of a drive, in their order, where none was stopped by want of memory and none lost a call.
+/// The clients of a drive, in their order, where each made all of its calls, found the history full, or,
+/// where `gated`, was ended by the gate.
 ///
 /// # Errors
 ///
 /// - `Memory` where a client's call wanted memory, or this one;
-/// - `Lost` where a client lost a call.
+/// - `Ended` where another client lost a call, was given no entry by its reader, or was ended by a gate that ends none.
 pub fn clients_after<N: Naming, T: Volume<N>>(
     alloc: Global,
     all: Vec<Driven<N, T>>,
+    gated: bool,
 ) -> Result<Vec<Client<N, T>>, ReturnFault>
     ensures same { IfOk result (λ v. v.items ≡ map (λ d. d.client) all.items) }
     ensures whole { IfOk result (λ v. All (λ c. c.stray ≡ None) v.items) }
+    ensures finished { IfOk result (λ _. All (λ d. IsFinished gated d.stopped) all.items) }
 {
     let Ok(mut clients) = Vec::with_capacity(alloc, all.len()) else {
         return Err(ReturnFault::Memory);
     };
     for driven in all {
-        clients.push_reserved(client_after::<N, T>(driven)?);
+        clients.push_reserved(client_after::<N, T>(driven, gated)?);
     }
     Ok(clients)
 }

@@ -1,9 +1,9 @@
 //! A shared run of a set-up: its clients make their calls of one kernel, each in a thread of its own.
-ghost use Rattle.std.specs.Prelude.{◌≡◌, IfOk, IfErr, map};
+ghost use Rattle.std.specs.Prelude.{◌≡◌, All, IfOk, IfErr, map};
 ghost use Rattle.abstract_kernel.specs.Boot.{boot};
 ghost use Rattle.abstract_kernel.specs.Plan.{IsPlan};
 ghost use Rattle.abstract_kernel.specs.State.{shown};
-ghost use Rattle.engine_threads.specs.Private.Settled.{AreSettled, IsOwnFault};
+ghost use Rattle.engine_threads.specs.Private.Settled.{AreSettled, IsFinished, IsOwnFault};
 ghost use Rattle.engine_threads.specs.SharedRuns.{IsSharedRun};
 
 use crate::client_calls::calls_of_clients;
@@ -58,7 +58,7 @@ fn return_fault(fault: ReturnFault) -> RunFault
 {
     match fault {
         ReturnFault::Memory => RunFault::Memory,
-        ReturnFault::Lost => RunFault::Thread,
+        ReturnFault::Ended => RunFault::Thread,
     }
 }
 
@@ -68,11 +68,13 @@ fn settle_after<N: Naming, P: Profile, S: MakeStore<P>, W: MakeWaiters<P>, R: Wa
     alloc: Global,
     shared: SharedKernel<N, P, S, W>,
     all: Vec<Driven<N, P, S, W>>,
+    gated: bool,
 ) -> Result<Book<N, P, S, W>, RunFault>
     ensures settled { IfOk result (λ b. AreSettled b.history.items (map (λ d. d.client) all.items)) }
+    ensures finished { IfOk result (λ _. All (λ d. IsFinished gated d.stopped) all.items) }
     ensures fault { IfErr result IsOwnFault }
 {
-    let clients = match clients_after(alloc, all) {
+    let clients = match clients_after(alloc, all, gated) {
         Ok(clients) => clients,
         Err(fault) => {
             shared.give_up(rt);
@@ -90,10 +92,11 @@ fn settle_after<N: Naming, P: Profile, S: MakeStore<P>, W: MakeWaiters<P>, R: Wa
 }
 
 /// Boots a kernel from the set-up's plan, shares it among the set-up's clients, and lets each make its calls, in order,
-/// in a thread of its own.
+/// in a thread of its own. `gated` says that the gate may end clients.
 ///
 /// # Errors
-/// `Memory`, and `Thread` where a thread could not be started, or where the shared kernel gave a reader no entry.
+/// `Memory`, and `Thread` where a thread could not be started, where the shared kernel gave a reader no entry, or where
+/// a client was ended by a gate that ends none.
 pub fn shared_run<
     N: Naming + Send + Sync,
     P: Profile + Send + Sync,
@@ -107,6 +110,7 @@ pub fn shared_run<
     blank: Blank,
     setup: &Setup,
     gate: &G,
+    gated: bool,
 ) -> Result<Book<N, P, S, W>, RunFault>
     requires name { blank.name ≡ N.name }
     requires parts { blank.parts ≡ N.parts }
@@ -116,7 +120,7 @@ pub fn shared_run<
     requires start { N.start ≡ boot P.the setup.now.plan }
     requires opening { N.opening ≡ shown (boot P.the setup.now.plan) }
     requires limit { N.limit ≡ setup.now.limit }
-    ensures run { IfOk result (λ b. IsSharedRun P.the setup.now b.history.items) }
+    ensures run { IfOk result (λ b. IsSharedRun gated P.the setup.now b.history.items) }
     ensures fault { IfErr result IsOwnFault }
 {
     let Ok(kernel) = Kernel::<P, S, W>::boot(alloc, setup.plan()) else {
@@ -137,7 +141,7 @@ pub fn shared_run<
         Err(fault) => return Err(start_fault(fault)),
     };
     match drive(rt, alloc, &shared, clients, lists.as_slice(), gate) {
-        Ok(all) => settle_after(rt, alloc, shared, all),
+        Ok(all) => settle_after(rt, alloc, shared, all, gated),
         Err(fault) => {
             shared.give_up(rt);
             Err(drive_fault(fault))

@@ -1,5 +1,5 @@
 //! The run of a set-up's clients, over a source and a sink.
-ghost use Rattle.std.specs.Prelude.{◌≡◌, false, IfOk, IfErr};
+ghost use Rattle.std.specs.Prelude.{◌≡◌, true, false, IfOk, IfErr};
 ghost use Rattle.abstract_kernel.specs.Boot.{boot};
 ghost use Rattle.abstract_kernel.specs.Plan.{IsPlan};
 ghost use Rattle.abstract_kernel.specs.State.{shown};
@@ -47,6 +47,7 @@ fn report_on<
     blank: Blank,
     setup: &Setup,
     gate: &G,
+    gated: bool,
 ) -> Result<(Vec<u8>, Verdict), RunFault>
     requires name { blank.name ≡ N.name }
     requires parts { blank.parts ≡ N.parts }
@@ -56,10 +57,10 @@ fn report_on<
     requires start { N.start ≡ boot P.the setup.now.plan }
     requires opening { N.opening ≡ shown (boot P.the setup.now.plan) }
     requires limit { N.limit ≡ setup.now.limit }
-    ensures made { IfOk result (λ made. IsOutcomeIn P.the setup.now made.0.items made.1) }
+    ensures made { IfOk result (λ made. IsOutcomeIn gated P.the setup.now made.0.items made.1) }
     ensures fault { IfErr result IsOwnFault }
 {
-    let book = shared_run::<N, P, S, W, R, G>(rt, alloc, blank, setup, gate)?;
+    let book = shared_run::<N, P, S, W, R, G>(rt, alloc, blank, setup, gate, gated)?;
     let Ok(text) = shared_report(alloc, setup, &book) else {
         return Err(RunFault::Memory);
     };
@@ -73,13 +74,16 @@ fn report_by_links<P: Profile + Send + Sync, R: Threads + Wait + Sync, G: Gate +
     alloc: Global,
     setup: &Setup,
     gate: &G,
+    gated: bool,
 ) -> Result<(Vec<u8>, Verdict), RunFault>
     requires { IsPlan P.the setup.now.plan }
-    ensures made { IfOk result (λ made. IsOutcomeIn P.the setup.now made.0.items made.1) }
+    ensures made { IfOk result (λ made. IsOutcomeIn gated P.the setup.now made.0.items made.1) }
     ensures fault { IfErr result IsOwnFault }
 {
     let blank = Blank::new(u64::from(setup.clients()));
-    report_on::<Brand, P, LinkedStore<P>, LinkedWaiters<P>, R, G>(rt, alloc, blank, setup, gate)
+    report_on::<Brand, P, LinkedStore<P>, LinkedWaiters<P>, R, G>(
+        rt, alloc, blank, setup, gate, gated,
+    )
 }
 
 /// The same in the profile of the set-up.
@@ -88,14 +92,15 @@ fn report_in_profile<R: Threads + Wait + Sync, G: Gate + Sync>(
     alloc: Global,
     setup: &Setup,
     gate: &G,
+    gated: bool,
 ) -> Result<(Vec<u8>, Verdict), RunFault>
     requires { IsPlan setup.now.profile setup.now.plan }
-    ensures made { IfOk result (λ made. IsOutcomeIn setup.now.profile setup.now made.0.items made.1) }
+    ensures made { IfOk result (λ made. IsOutcomeIn gated setup.now.profile setup.now made.0.items made.1) }
     ensures fault { IfErr result IsOwnFault }
 {
     match setup.profile() {
-        ProfileName::Wide => report_by_links::<Wide, R, G>(rt, alloc, setup, gate),
-        ProfileName::Narrow => report_by_links::<Narrow, R, G>(rt, alloc, setup, gate),
+        ProfileName::Wide => report_by_links::<Wide, R, G>(rt, alloc, setup, gate, gated),
+        ProfileName::Narrow => report_by_links::<Narrow, R, G>(rt, alloc, setup, gate, gated),
     }
 }
 
@@ -106,12 +111,13 @@ fn report_of_input<R: Threads + Wait + Sync, G: Gate + Sync>(
     alloc: Global,
     input: &[u8],
     gate: &G,
+    gated: bool,
 ) -> Result<(Vec<u8>, Verdict), RunFault>
-    ensures made { IfOk result (λ made. IsSharedProgram input.now made.0.items made.1) }
+    ensures made { IfOk result (λ made. IsSharedProgram gated input.now made.0.items made.1) }
     ensures fault { IfErr result IsOwnFault }
 {
     match read_setup(alloc, input) {
-        Ok(setup) => report_in_profile(rt, alloc, &setup, gate),
+        Ok(setup) => report_in_profile(rt, alloc, &setup, gate, gated),
         Err(SetupFault::Memory) => Err(RunFault::Memory),
         Err(fault) => match refusal(alloc, &fault) {
             Ok(text) => Ok((text, Verdict::Refused)),
@@ -122,7 +128,8 @@ fn report_of_input<R: Threads + Wait + Sync, G: Gate + Sync>(
 
 /// Reads the source to its end, lets the clients of the set-up that it holds make their calls of one kernel, each in a
 /// thread of its own, with the gate before and after each call, and writes the report of the history to the sink, or
-/// the line by which the set-up is refused. It waits until the clients have ended.
+/// the line by which the set-up is refused. It waits until the clients have ended. A history may lack calls where it is
+/// full, and where the gate ended a client.
 ///
 /// # Errors
 /// `Reading` where a read failed in this call, or where `INPUT_LIMIT` bytes came without an end; nothing is written
@@ -137,10 +144,31 @@ pub fn threads_run<R: Threads + Wait + Sync, S: Source, K: Sink, G: Gate + Sync>
 ) -> Result<Verdict, RunFault>
     requires source { S.failed source.old ≡ false }
     requires sink { K.failed sink.old ≡ false }
-    ensures run { IsRun IsSharedProgram S.Source K.Sink source.old source.new sink.old sink.new result }
+    ensures run { IsRun (IsSharedProgram true) S.Source K.Sink source.old source.new sink.old sink.new result }
 {
     let input = read_below(alloc, source, INPUT_LIMIT)?;
-    let (text, verdict) = report_of_input(rt, alloc, input.as_slice(), gate)?;
+    let (text, verdict) = report_of_input(rt, alloc, input.as_slice(), gate, true)?;
+    write_all(sink, text.as_slice())?;
+    Ok(verdict)
+}
+
+/// The same with a gate that is always open, as the program's subcommand `threads` has it: a history lacks calls only
+/// where it is full.
+///
+/// # Errors
+/// As `threads_run`.
+pub fn threads_run_open<R: Threads + Wait + Sync, S: Source, K: Sink>(
+    rt: &R,
+    alloc: Global,
+    source: &mut S,
+    sink: &mut K,
+) -> Result<Verdict, RunFault>
+    requires source { S.failed source.old ≡ false }
+    requires sink { K.failed sink.old ≡ false }
+    ensures run { IsRun (IsSharedProgram false) S.Source K.Sink source.old source.new sink.old sink.new result }
+{
+    let input = read_below(alloc, source, INPUT_LIMIT)?;
+    let (text, verdict) = report_of_input(rt, alloc, input.as_slice(), &OpenGate, false)?;
     write_all(sink, text.as_slice())?;
     Ok(verdict)
 }

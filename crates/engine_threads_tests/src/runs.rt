@@ -1,6 +1,7 @@
 //! Runs of small set-ups by their clients.
 use engine::{ReaderSource, WriterSink, status_of};
-use engine_threads::{OpenGate, threads_run};
+use engine_threads::{OpenGate, threads_run, threads_run_open};
+use kernel_shared::Gate;
 use std::alloc::Global;
 use std::sync::Wait;
 use std::test::Fail;
@@ -23,19 +24,31 @@ const RECEIVE: &str =
 const TWICE_EACH: &str =
     "[[call]]\nthread = 2048\nop = \"nbsend\"\ncap = 4\n[[call]]\nthread = 2048\nop = \"nbsend\"\ncap = 4\n[[call]]\nthread = 4096\nop = \"nbsend\"\ncap = 4\nclient = 1\n[[call]]\nthread = 4096\nop = \"nbsend\"\ncap = 4\nclient = 1\n";
 
+/// A gate that ends each client after its first call.
+struct FirstCallOnly;
+
+impl Gate for FirstCallOnly {
+    fn before(&self, _client: u32, number: u32) -> bool {
+        number == 0
+    }
+
+    fn after(&self, _client: u32, _number: u32) {}
+}
+
 /// What is written for a set-up in three parts, and the exit status.
-fn run<R: Threads + Wait + Sync>(
+fn run<R: Threads + Wait + Sync, G: Gate + Sync>(
     rt: &R,
     alloc: Global,
     keys: &str,
     untyped: &str,
     calls: &str,
+    gate: &G,
 ) -> Result<(Vec<u8>, u8), Fail> {
     let setup = format!(in alloc; "{keys}{untyped}{calls}")?;
     let mut out = Vec::new(alloc);
     let mut source = ReaderSource::new(setup.as_bytes());
     let mut sink = WriterSink::new(&mut out);
-    let answer = threads_run(rt, alloc, &mut source, &mut sink, &OpenGate);
+    let answer = threads_run(rt, alloc, &mut source, &mut sink, gate);
     Ok((out, status_of(&answer)))
 }
 
@@ -48,7 +61,7 @@ fn gives<R: Threads + Wait + Sync>(
     status: u8,
 ) -> Result<bool, Fail> {
     let (keys, untyped, calls) = setup;
-    let (text, given) = run(rt, alloc, keys, untyped, calls)?;
+    let (text, given) = run(rt, alloc, keys, untyped, calls, &OpenGate)?;
     let (entries, slots, last) = report;
     let wanted = format!(in alloc; "{entries}{slots}{last}")?;
     Ok(text.as_slice() == wanted.as_bytes() && given == status)
@@ -90,7 +103,14 @@ fn no_more_entries_than_the_limit(rt: HostRuntime) -> Result<(), Fail> {
 #[test]
 fn two_clients_come_to_the_limit(rt: HostRuntime) -> Result<(), Fail> {
     let keys = format!(in rt.alloc(); "{BASE}clients = 2\nlimit = 3\n")?;
-    let (text, status) = run(&rt, rt.alloc(), keys.as_str(), UNTYPED, TWICE_EACH)?;
+    let (text, status) = run(
+        &rt,
+        rt.alloc(),
+        keys.as_str(),
+        UNTYPED,
+        TWICE_EACH,
+        &OpenGate,
+    )?;
     assert!(rt; text.as_slice().ends_with(b"\nentries 3 of 4\n") && status == 1);
     Ok(())
 }
@@ -98,8 +118,40 @@ fn two_clients_come_to_the_limit(rt: HostRuntime) -> Result<(), Fail> {
 #[test]
 fn two_clients_make_all_their_calls(rt: HostRuntime) -> Result<(), Fail> {
     let keys = format!(in rt.alloc(); "{BASE}clients = 2\n")?;
-    let (text, status) = run(&rt, rt.alloc(), keys.as_str(), UNTYPED, TWICE_EACH)?;
+    let (text, status) = run(
+        &rt,
+        rt.alloc(),
+        keys.as_str(),
+        UNTYPED,
+        TWICE_EACH,
+        &OpenGate,
+    )?;
     assert!(rt; text.as_slice().ends_with(b"\nentries 4 of 4\n") && status == 0);
+    Ok(())
+}
+
+#[test]
+fn clients_that_the_gate_ends_make_no_more_calls(rt: HostRuntime) -> Result<(), Fail> {
+    let keys = format!(in rt.alloc(); "{BASE}clients = 2\n")?;
+    let (text, status) = run(
+        &rt,
+        rt.alloc(),
+        keys.as_str(),
+        UNTYPED,
+        TWICE_EACH,
+        &FirstCallOnly,
+    )?;
+    assert!(rt; text.as_slice().ends_with(b"\nentries 2 of 4\n") && status == 1);
+    Ok(())
+}
+
+#[test]
+fn clients_make_all_their_calls_where_no_gate_stands(rt: HostRuntime) -> Result<(), Fail> {
+    let setup = format!(in rt.alloc(); "{BASE}clients = 2\n{TWICE_EACH}")?;
+    let mut out = Vec::new(rt.alloc());
+    let mut source = ReaderSource::new(setup.as_bytes());
+    let answer = threads_run_open(&rt, rt.alloc(), &mut source, &mut WriterSink::new(&mut out));
+    assert!(rt; out.as_slice().ends_with(b"\nentries 4 of 4\n") && status_of(&answer) == 0);
     Ok(())
 }
 

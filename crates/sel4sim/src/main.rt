@@ -16,7 +16,7 @@ use engine::{
     Job, Line, LineFault, ReaderSource, RunFault, Verdict, WriterSink, check, line, migrate_run,
     refused_line_words, status_of, write_all,
 };
-use engine_threads::{OpenGate, threads_run};
+use engine_threads::threads_run_open;
 use engine_trace::trace_run;
 use std::env::{self, Env};
 use std::fs::{self, Files};
@@ -38,7 +38,7 @@ fn run_job<R: AllocGlobal + Threads + Wait + Sync, T: Read, W: Write>(
         Job::Check => check(rt.alloc(), &mut source, &mut sink),
         Job::Trace => trace_run(rt.alloc(), &mut source, &mut sink),
         Job::Migrate => migrate_run(rt.alloc(), &mut source, &mut sink),
-        Job::Threads => threads_run(rt, rt.alloc(), &mut source, &mut sink, &OpenGate),
+        Job::Threads => threads_run_open(rt, rt.alloc(), &mut source, &mut sink),
     }
 }
 

@@ -1,6 +1,9 @@
 -- What is known of a history that was settled with the clients that made it.
-use Rattle.std.specs.Prelude.{◌≡◌, ◌≢◌, List, All, None, length, sum_by}
+use Rattle.std.specs.Prelude.{◌≡◌, ◌≢◌, Bool, true, List, All, Option, Some, None, length, sum_by}
 use Rattle.kernel_book.specs.declared.entry.Entry.{Entry}
+use Rattle.kernel_shared.specs.declared.driving.Stop.{Stop}
+use Rattle.kernel_shared.specs.declared.driving.Stop.TheVariants.{Gate, Fault}
+use Rattle.kernel_shared.specs.declared.fault.SharedFault.TheVariants.{Full}
 use Rattle.kernel_shared.specs.Tokens.{Token, EachBegins, made}
 use Rattle.engine.specs.declared.fault.RunFault.{RunFault}
 use Rattle.engine.specs.declared.fault.RunFault.TheVariants.{Reading, Writing}
@@ -10,6 +13,13 @@ pub record AreSettled (history : List Entry) (clients : List Token) : Type 0 whe
   pub entries : length history ≡ sum_by made clients
   pub fronts : EachBegins history clients
   pub whole : All (λ (t : Token). t.stray ≡ None) clients
+
+-- nothing stopped the client before the end of its calls, or the history was full, or a gate that may do so ended it
+abbrev pub IsFinished : {N T : Type 0} → Bool → Option (Stop N T) → Type 0
+IsFinished gated None = Unit {0}
+IsFinished gated (Some (Fault Full)) = Unit {0}
+IsFinished gated (Some Gate) = gated ≡ true
+IsFinished gated _ = ⊥
 
 -- a fault that is of no device
 abbrev pub IsOwnFault : RunFault → Type 0

@@ -6,6 +6,7 @@ use Rattle.std.proofs.lemmas.Iterator.Consumers.{YieldsList-end}
 use Rattle.std.proofs.lemmas.Iterator.Adapters.{YieldsList-from_vec}
 use Rattle.kernel_shared.specs.declared.driving.Driven.{Driven}
 use Rattle.kernel_shared.specs.Tokens.{Token}
+use Rattle.engine_threads.specs.Private.Settled.{IsFinished}
 use Rattle.engine_threads.proofs.returning.clients_after.Goals as goal
 
 pub loop-driven-preserved : goal.loop-driven-preserved
@@ -24,6 +25,7 @@ loop-driven-preserved g c =
           ∙ (ap (λ (l : List Token). l ++ client ∷ []) before.same
           ∙ (ap (λ (t : Token). map f c.loop-driven.yielded ++ t ∷ []) is ∙ sym (map_push f c.loop-driven.yielded c.in-Some.driven)));
       whole = subst (λ (l : List Token). All (λ (t : Token). t.stray ≡ None) l) (sym pushed) (All-push (λ (t : Token). t.stray ≡ None) c.loop-driven.clients.items client before.whole kept);
+      finished = All-push (λ (d : Driven g.row.N.Denot g.row.T.Denot). IsFinished c.args.gated d.stopped) c.loop-driven.yielded c.in-Some.driven before.finished c.in_ok-client_after.ensures.finished;
     }
 
 pub returns-clause-same : goal.returns-clause-same
@@ -33,3 +35,11 @@ returns-clause-same g c =
     let y = YieldsList-end (YieldsList-from_vec {Z = Global} c.args.all.items into.0 long) c.loop-driven.yielded c.loop-driven.driven-iterator c.loop-driven.yielded_by _ c.next.new.self c.in-None.is c.next.ensures.steps in
     let all : c.loop-driven.yielded ≡ c.args.all.items = sym (map-id c.loop-driven.yielded) ∙ y.0 in
     c.loop-driven.invariant.same ∙ ap (map (λ (d : Driven g.row.N.Denot g.row.T.Denot). d.client)) all
+
+pub returns-clause-finished : goal.returns-clause-finished
+returns-clause-finished g c =
+    let into = c.into_iter-driven-iterator.ensures.into_iter_gives in
+    let long : c.into_iter-driven-iterator.result.rest.len ≡ length c.args.all.items = search rules in
+    let y = YieldsList-end (YieldsList-from_vec {Z = Global} c.args.all.items into.0 long) c.loop-driven.yielded c.loop-driven.driven-iterator c.loop-driven.yielded_by _ c.next.new.self c.in-None.is c.next.ensures.steps in
+    let all : c.loop-driven.yielded ≡ c.args.all.items = sym (map-id c.loop-driven.yielded) ∙ y.0 in
+    subst (All (λ (d : Driven g.row.N.Denot g.row.T.Denot). IsFinished c.args.gated d.stopped)) all c.loop-driven.invariant.finished

@@ -4,7 +4,7 @@ use Rattle.abstract_kernel.specs.Reached.{IsReached}
 use Rattle.abstract_kernel.specs.State.{State, shown}
 use Rattle.kernel_shared.specs.declared.driving.Driven.{Driven}
 use Rattle.engine.proofs.Runs.{boot_reached}
-use Rattle.engine_threads.proofs.Reports.{ok_map, run_settled}
+use Rattle.engine_threads.proofs.Reports.{ok_both, run_settled}
 use Rattle.engine_threads.proofs.sharing.shared_run.Goals as goal
 
 pub start-requires-clause-begins : goal.start-requires-clause-begins
@@ -21,14 +21,18 @@ returns-in-Ok-drive-clause-run g c =
     let all = c.in-Ok-drive.all.items in
     let a : length lists ≡ length olds = search rules in
     let b : length all ≡ length olds = search rules in
-    ok_map _ _ c.settle_after.result c.settle_after.ensures.settled
-    (λ book settled.
+    let limit = g.N.Naming.limit in
+    let n : length olds ≡ setup.clients = search rules in
+    ok_both _ _ _ c.settle_after.result c.settle_after.ensures.settled c.settle_after.ensures.finished
+    (λ book settled finished.
     let counted : length book.history.items ≡ book.history.len = search rules in
     let bound : book.history.len ≤ book.limit = book.short in
-    let short : length book.history.items ≤ book.limit = omega arith in
-    run_settled g.P.Profile.the setup g.N.Naming.opening book.limit (λ (d : Driven _ _). d.client) (λ (d : Driven _ _). d.made) olds lists all book.history.items
-    c.requires.plan c.requires.opening (book.limited ∙ c.requires.limit) a b
+    let limited : book.limit ≡ limit = book.limited in
+    let short : length book.history.items ≤ limit = omega arith in
+    run_settled g.P.Profile.the setup g.N.Naming.opening limit (λ (d : Driven _ _). d.client) (λ (d : Driven _ _). d.made) (λ (d : Driven _ _). d.stopped) c.args.gated olds lists all book.history.items
+    c.requires.plan c.requires.opening c.requires.limit c.clients.ensures.bounds n a b
     c.in-Ok-start.ensures.each
     (λ i l at. c.in-Ok-calls_of_clients.ensures.each i l (ap (λ ls. slice_get ls i) (sym c.as_slice.ensures.value) ∙ at))
-    (λ i x y z p q r. (c.in-Ok-drive.ensures.each i x y z p q r).run)
+    c.in-Ok-drive.ensures.each
+    finished
     book.lawful short settled)
