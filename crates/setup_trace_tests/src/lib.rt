@@ -1,0 +1,7 @@
+//! Tests of traces: whole texts, byte for byte.
+#![tactic(auto)]
+
+#[cfg(test)]
+mod stored;
+#[cfg(test)]
+mod traces;
