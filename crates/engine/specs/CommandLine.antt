@@ -26,7 +26,7 @@ and_subcommand name app = with_subcommand app (with_file name).top
 unfoldable pub command : App
 command =
     and_subcommand (codes "migrate")
-        (and_subcommand (codes "threads") (and_subcommand (codes "trace") (and_subcommand (codes "check") bare_command)))
+    (and_subcommand (codes "threads") (and_subcommand (codes "trace") (and_subcommand (codes "check") bare_command)))
 
 -- the job of a subcommand's name
 abbrev pub job_named : Text → Option Job
