@@ -23,13 +23,7 @@ fn run(alloc: Global, calls: &str) -> Result<(Vec<u8>, u8), Fail> {
 }
 
 /// Whether a set-up of these calls has this trace, but for its head and the changes of its boot, and this exit status.
-fn gives(
-    alloc: Global,
-    calls: &str,
-    count: usize,
-    lines: &str,
-    status: u8,
-) -> Result<bool, Fail> {
+fn gives(alloc: Global, calls: &str, count: usize, lines: &str, status: u8) -> Result<bool, Fail> {
     let (text, given) = run(alloc, calls)?;
     let head = "trace 1 wide memory_bits 16 calls";
     let wanted = format!(in alloc; "{head} {count}\n{BOOTED}{lines}")?;

@@ -281,11 +281,7 @@ pub fn read_table(alloc: Global, table: &Table) -> Result<Setup, SetupFault>
 }
 
 /// The names that a table gives to words, in the order of their bytes; none where the key `names` is not there.
-fn names_of(
-    alloc: Global,
-    profile: ProfileName,
-    table: &Table,
-) -> Result<Vec<Name>, SetupFault>
+fn names_of(alloc: Global, profile: ProfileName, table: &Table) -> Result<Vec<Name>, SetupFault>
     ensures { Gives (λ v. names_view v.items) result (spec.names_of profile (table_view table.now)) }
 {
     match profile {
