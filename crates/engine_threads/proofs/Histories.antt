@@ -15,8 +15,9 @@ use Rattle.kernel_shared.specs.Driving.{EachThree, IsRun, IsDriven}
 use Rattle.setup_format.specs.Views.{CallView}
 use Rattle.engine_threads.specs.SharedRuns.{client_calls, calls_by, IsBeginning}
 use Rattle.engine_threads.specs.Private.Settled.{AreSettled, IsFinished}
-use Rattle.engine_threads.proofs.Counting.{total, total-sum_by}
-use Rattle.engine_threads.proofs.Shares.{HasMade, each_begins, carry_all, carry_whole, counts_whole, no_more}
+use Rattle.shares.specs.Shares.{total, HasMade}
+use Rattle.shares.proofs.Counting.{total-sum_by}
+use Rattle.shares.proofs.Shares.{each_begins, carry_all, carry_whole, counts_whole, no_more}
 
 -- The client's own entries in what it saw, below the number of calls that were answered, carry the first of its calls. All
 -- were answered where what it saw has fewer entries than the limit.

@@ -4,23 +4,8 @@ use Rattle.std.proofs.lemmas.List.{append-nil, length-map, take-append-drop, len
 use Rattle.std.proofs.lemmas.List.Sums.{length-filter}
 use Rattle.std.proofs.lemmas.List.Elements.{filter-append}
 use Rattle.std.proofs.lemmas.Bool.Decides.{nat_tests}
-use Rattle.engine_threads.proofs.Counting.{total, total-same, total-keys-le, total-mono, squeezed, no_others, both_le, both_same, none_pass, no_length}
-
--- the elements with a key, in order
-abbrev pub of_key : {X : Type 0} → (X → ℕ) → ℕ → List X → List X
-of_key key i xs = filter (λ x. key x == i) xs
-
-abbrev pub count_key : {X : Type 0} → (X → ℕ) → ℕ → List X → ℕ
-count_key key i xs = count_by (λ x. key x == i) xs
-
--- a beginning of the list has so many elements with the key that pass a further test, and they carry the first of some calls
-pub record HasMade {X C : Type 0} (key : X → ℕ) (call : X → C) (h : List X) (i done : ℕ) (calls : List C) : Type 0 where
-  pub front : List X
-  pub rest : List X
-  pub passes : X → Bool
-  pub begins : h ≡ front ++ rest
-  pub carry : map call (filter (λ x. (key x == i) && passes x) front) ≡ take done calls
-  pub within : done ≤ length calls
+use Rattle.shares.specs.Shares.{total, of_key, count_key, HasMade}
+use Rattle.shares.proofs.Counting.{total-same, total-keys-le, total-mono, squeezed, no_others, both_le, both_same, none_pass, no_length}
 
 count_more : {X : Type 0} (p : X → Bool) (front rest : List X) → count_by p (front ++ rest) ≡ count_by p front + count_by p rest
 count_more p front rest =
