@@ -1,5 +1,6 @@
 //! Where the untyped regions of a set-up lie, and what they overlap.
 ghost use Rattle.std.specs.Prelude.{◌≤◌, IfSome};
+ghost use Rattle.cap_core.specs.Numbers.{tcb_bits};
 
 use abstract_kernel::plan::Extent;
 use cap_core::limits::{
@@ -50,7 +51,7 @@ struct ObjectBits {
 
 fn object_bits(name: ProfileName) -> ObjectBits
     ensures slot { result.slot ≤ 5 }
-    ensures tcb { result.tcb ≤ 11 }
+    ensures tcb { result.tcb ≤ tcb_bits ProfileName.Wide }
     ensures endpoint { result.endpoint ≤ 4 }
 {
     match name {
@@ -77,7 +78,7 @@ fn number_in(document: &Table, key: &str, low: u32, high: u32) -> Option<u32>
 /// The first of objects of one size that a region overlaps, which stand one behind another from `start` on, and its
 /// address.
 fn first_overlapped(region: Extent, start: u64, bits: u32, count: u32) -> Option<(u32, u128)>
-    requires { bits ≤ 11 }
+    requires { bits ≤ tcb_bits ProfileName.Wide }
 {
     let mut base = start;
     for i in 0..count {
