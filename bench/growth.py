@@ -15,7 +15,7 @@ from measures import counts_of_functions, instructions, least_seconds, output, p
 
 # The functions whose instructions are those of a part; the C compiler puts `text_of` into its only caller.
 WHOLE = ["engine::run::text_of", "engine::checking::CheckerEngine::make"]
-BOOT = "kernel_core::kernel::Kernel::boot"
+BOOT = "engine::run::boot"
 PLAIN_PARTS = {
     "reading": "setup::read_setup",
     "booting": "boot",

@@ -5,8 +5,8 @@ use Rattle.toml.specs.Parse.{parse_document}
 use Rattle.setup_format.specs.Faults.{Fault}
 use Rattle.setup_format.specs.Refusal.{refusal_line}
 use Rattle.setup_migrate.specs.Migration.{migrated_bytes}
-use Rattle.engine.specs.declared.fault.Verdict.{Verdict}
-use Rattle.engine.specs.declared.fault.Verdict.TheVariants.{AllMet, Refused}
+use Rattle.engine_core.specs.declared.fault.Verdict.{Verdict}
+use Rattle.engine_core.specs.declared.fault.Verdict.TheVariants.{AllMet, Refused}
 
 -- a TOML text that is read as the table, or the line of the fault
 abbrev pub IsTextOf : Result Members Fault → List ℕ → Verdict → Type 0

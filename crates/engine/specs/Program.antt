@@ -11,8 +11,8 @@ use Rattle.setup_format.specs.Faults.{Fault}
 use Rattle.setup_format.specs.Setups.{setup_of_bytes}
 use Rattle.setup_format.specs.Refusal.{refusal_line}
 use Rattle.setup_report.specs.Report.{report_of, met_count, expectation_count}
-use Rattle.engine.specs.declared.fault.Verdict.{Verdict}
-use Rattle.engine.specs.declared.fault.Verdict.TheVariants.{AllMet, NotMet, Refused}
+use Rattle.engine_core.specs.declared.fault.Verdict.{Verdict}
+use Rattle.engine_core.specs.declared.fault.Verdict.TheVariants.{AllMet, NotMet, Refused}
 
 -- the calls of a set-up, in order
 abbrev pub calls_of : SetupView → List Call

@@ -1,14 +1,11 @@
 //! The engine that runs a set-up and compares its replies with what it expects.
 ghost use Rattle.std.specs.Prelude.{◌≡◌, ◌≢◌, false};
 ghost use Rattle.engine.specs.Program.{program};
-ghost use Rattle.engine.specs.Runs.{IsRun};
+ghost use Rattle.engine_core.specs.Runs.{IsRun};
 
-use crate::engines::{Engine, run_engine};
-use crate::fault::{RunFault, Verdict};
 use crate::run::text_of;
-use crate::sink::Sink;
-use crate::source::Source;
 use cap_core::{Narrow, Wide};
+use engine_core::{Engine, RunFault, Sink, Source, Verdict, run_engine};
 use ipc_core::LinkedWaiters;
 use slot_core::LinkedStore;
 use std::alloc::Global;

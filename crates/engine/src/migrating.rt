@@ -3,16 +3,13 @@ ghost use Rattle.std.specs.Prelude.{◌≡◌, ◌≢◌, false, IfOk, Some};
 ghost use Rattle.toml.specs.Parse.{parse_document};
 ghost use Rattle.toml.specs.View.{table_view};
 ghost use Rattle.engine.specs.Migrations.{IsMigration};
-ghost use Rattle.engine.specs.Runs.{IsRun};
+ghost use Rattle.engine_core.specs.Runs.{IsRun};
 
-use crate::depth::table_is_within;
-use crate::engines::{Engine, run_engine};
-use crate::fault::{RunFault, Verdict};
 use crate::run::refusal;
-use crate::sink::Sink;
-use crate::source::Source;
+use engine_core::{Engine, RunFault, Sink, Source, Verdict, run_engine};
 use setup_format::SetupFault;
 use setup_migrate::migrate;
+use setup_values::table_is_within;
 use std::alloc::{AllocError, Global};
 use toml::Table;
 

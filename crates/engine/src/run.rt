@@ -1,21 +1,36 @@
 //! The run of a set-up: from the bytes of an input to the text that is written for it.
 ghost use Rattle.std.specs.Prelude.{◌≡◌, IfOk, codes, ◌++◌};
+ghost use Rattle.abstract_kernel.specs.Boot.{boot as boot_state};
 ghost use Rattle.abstract_kernel.specs.Plan.{IsPlan};
 ghost use Rattle.abstract_kernel.specs.Memory.{IsInMemory};
 ghost use Rattle.abstract_kernel.specs.State.{shown};
 ghost use Rattle.setup_format.specs.Refusal.{setup_fault_text};
 ghost use Rattle.engine.specs.Program.{program, outcome_of, replies_to, end_of, verdict_on as verdict_of_counts};
 
-use crate::fault::Verdict;
 use cap_core::{Narrow, Profile, ProfileName, Wide};
+use engine_core::Verdict;
 use ipc_core::MakeWaiters;
-use kernel_core::{Kernel, Reply};
+use kernel_core::{BootPlan, Kernel, Reply};
 use setup_format::{Setup, SetupFault, read_setup};
 use setup_report::{ExpectationCount, counted_report};
 use slot_core::MakeStore;
 use std::alloc::{AllocError, Global};
 
+/// Boots a kernel. Out of line, as are the other parts of a run, so that a profile tells them apart.
+#[inline(never)]
+fn boot<P: Profile, S: MakeStore<P>, W: MakeWaiters<P>>(
+    alloc: Global,
+    plan: &BootPlan,
+) -> Result<Kernel<P, S, W>, AllocError>
+    requires { IsPlan P.the plan.now }
+    ensures shows { IfOk result (λ kernel. kernel ≡ shown (boot_state P.the plan.now)) }
+    ensures within { IfOk result (λ kernel. IsInMemory P.the plan.now.memory_bits kernel) }
+{
+    Kernel::boot(alloc, plan)
+}
+
 /// Boots a kernel from the set-up's plan and makes its calls: the kernel then, and the replies.
+#[inline(never)]
 #[tactic(auto, unfolding(crate::specs::Program::replies_to, crate::specs::Program::end_of))]
 fn run_calls<P: Profile, S: MakeStore<P>, W: MakeWaiters<P>>(
     alloc: Global,
@@ -26,7 +41,7 @@ fn run_calls<P: Profile, S: MakeStore<P>, W: MakeWaiters<P>>(
     ensures replies { IfOk result (λ r. r.1.items ≡ replies_to P.the setup.now) }
     ensures within { IfOk result (λ r. IsInMemory P.the setup.now.plan.memory_bits r.0) }
 {
-    let mut kernel = Kernel::<P, S, W>::boot(alloc, setup.plan())?;
+    let mut kernel = boot::<P, S, W>(alloc, setup.plan())?;
     let calls = setup.calls();
     let mut replies = Vec::with_capacity(alloc, calls.len())?;
     kernel.run(calls, &mut replies);
@@ -34,6 +49,7 @@ fn run_calls<P: Profile, S: MakeStore<P>, W: MakeWaiters<P>>(
 }
 
 /// Runs the set-up in a profile, and reports on it.
+#[inline(never)]
 #[tactic(auto, unfolding(crate::specs::Program::outcome_of), using(crate::proofs::Runs::length_replies_to))]
 fn run_setup<P: Profile, S: MakeStore<P>, W: MakeWaiters<P>>(
     alloc: Global,

@@ -1,9 +1,9 @@
-//! Tests of `engine`: reads and writes that fail, a source without an end, the command line, migrations and the exit
-//! statuses.
+//! Tests of `engine`, `engine_core` and `command_line`: reads and writes that fail, a source without an end, the command
+//! line, migrations and the exit statuses.
 #![tactic(auto)]
 
 #[cfg(test)]
-mod command_line;
+mod command_lines;
 #[cfg(test)]
 mod devices;
 #[cfg(test)]

@@ -13,8 +13,8 @@ use Rattle.setup_format.specs.Setups.{setup_of_bytes}
 use Rattle.setup_format.specs.Refusal.{refusal_line}
 use Rattle.setup_shared_report.specs.SharedReport.{shared_report_of}
 use Rattle.engine.specs.Program.{verdict_on}
-use Rattle.engine.specs.declared.fault.Verdict.{Verdict}
-use Rattle.engine.specs.declared.fault.Verdict.TheVariants.{Refused}
+use Rattle.engine_core.specs.declared.fault.Verdict.{Verdict}
+use Rattle.engine_core.specs.declared.fault.Verdict.TheVariants.{Refused}
 
 -- the calls of a client in a set-up, in order
 abbrev pub client_calls : ℕ → List CallView → List Call

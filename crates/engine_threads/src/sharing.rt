@@ -9,7 +9,7 @@ ghost use Rattle.engine_threads.specs.SharedRuns.{IsSharedRun};
 use crate::client_calls::calls_of_clients;
 use crate::returning::{ReturnFault, clients_after};
 use cap_core::Profile;
-use engine::RunFault;
+use engine_core::RunFault;
 use ipc_core::MakeWaiters;
 use kernel_core::Kernel;
 use kernel_shared::{

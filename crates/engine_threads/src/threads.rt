@@ -4,13 +4,14 @@ ghost use Rattle.abstract_kernel.specs.Boot.{boot};
 ghost use Rattle.abstract_kernel.specs.Plan.{IsPlan};
 ghost use Rattle.abstract_kernel.specs.State.{shown};
 ghost use Rattle.engine.specs.Program.{verdict_on as verdict_of_counts};
-ghost use Rattle.engine.specs.Runs.{IsRun};
+ghost use Rattle.engine_core.specs.Runs.{IsRun};
 ghost use Rattle.engine_threads.specs.Private.Settled.{IsOwnFault};
 ghost use Rattle.engine_threads.specs.SharedRuns.{IsOutcomeIn, IsSharedProgram};
 
 use crate::sharing::shared_run;
 use cap_core::{Narrow, Profile, ProfileName, Wide};
-use engine::{INPUT_LIMIT, RunFault, Sink, Source, Verdict, read_below, refusal, write_all};
+use engine::refusal;
+use engine_core::{INPUT_LIMIT, RunFault, Sink, Source, Verdict, read_below, write_all};
 use ipc_core::{LinkedWaiters, MakeWaiters};
 use kernel_shared::{Gate, Naming};
 use setup_format::{Setup, SetupFault, read_setup};

@@ -8,8 +8,8 @@ use Rattle.setup_format.specs.Setups.{named_setup_of_bytes}
 use Rattle.setup_format.specs.Refusal.{refusal_line}
 use Rattle.setup_trace.specs.Trace.{trace_of, replies_to}
 use Rattle.engine.specs.Program.{verdict_of}
-use Rattle.engine.specs.declared.fault.Verdict.{Verdict}
-use Rattle.engine.specs.declared.fault.Verdict.TheVariants.{Refused}
+use Rattle.engine_core.specs.declared.fault.Verdict.{Verdict}
+use Rattle.engine_core.specs.declared.fault.Verdict.TheVariants.{Refused}
 
 -- the trace of a set-up and of its names, with the verdict on its expectations
 unfoldable pub traced_in : ProfileName → Names → SetupView → List ℕ × Verdict

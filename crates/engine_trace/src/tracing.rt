@@ -3,11 +3,12 @@ ghost use Rattle.std.specs.Prelude.{◌≡◌, ◌≢◌, IfOk, false};
 ghost use Rattle.abstract_kernel.specs.Plan.{IsPlan};
 ghost use Rattle.setup_values.specs.Private.Seen.{names_view};
 ghost use Rattle.engine.specs.Program.{verdict_on as verdict_of_counts};
-ghost use Rattle.engine.specs.Runs.{IsRun};
+ghost use Rattle.engine_core.specs.Runs.{IsRun};
 ghost use Rattle.engine_trace.specs.Traces.{traced_in, trace_of_bytes};
 
 use cap_core::{Narrow, Profile, ProfileName, Wide};
-use engine::{Engine, RunFault, Sink, Source, Verdict, refusal, run_engine};
+use engine::refusal;
+use engine_core::{Engine, RunFault, Sink, Source, Verdict, run_engine};
 use ipc_core::{LinkedWaiters, MakeWaiters};
 use setup_format::{NamedSetup, Setup, SetupFault, read_named_setup};
 use setup_report::ExpectationCount;

@@ -6,7 +6,8 @@
 #![tactic(auto)]
 
 use cap_core::{Narrow, Profile, Wide};
-use engine::{line, text_of};
+use command_line::line;
+use engine::text_of;
 use ipc_core::{LinkedWaiters, MakeWaiters, RowWaiters};
 use kernel_core::{BootPlan, Call, Kernel, Op, ThreadState};
 use setup_read::{SetupFault, read_setup};

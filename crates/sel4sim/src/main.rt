@@ -12,9 +12,9 @@ mod messages;
 
 use crate::kept::{KeptReader, KeptWriter};
 use crate::messages::{complain, complain_of_reading, complain_of_writing, note_on_verdict};
+use command_line::{Job, Line, LineFault, line, refused_line_words};
 use engine::{
-    Job, Line, LineFault, ReaderSource, RunFault, Verdict, WriterSink, check, line, migrate_run,
-    refused_line_words, status_of, write_all,
+    ReaderSource, RunFault, Verdict, WriterSink, check, migrate_run, status_of, write_all,
 };
 use engine_threads::threads_run_open;
 use engine_trace::trace_run;

@@ -1,6 +1,7 @@
 //! What is said on standard error. Where that fails too, nothing more is said.
 use crate::kept::KeptReader;
-use engine::{INPUT_LIMIT, Job, RunFault, Verdict};
+use command_line::Job;
+use engine::{INPUT_LIMIT, RunFault, Verdict};
 use setup_messages::{refusal_words, unmet_warnings};
 use std::fmt::Display;
 use std::io::{self, Eprint};

@@ -11,8 +11,5 @@ pub const NEWEST_FORMAT: u32 = 2;
 /// The most calls of a set-up.
 pub const MAX_CALLS: usize = 65536;
 
-/// A set-up's text has fewer bytes than this.
-pub const MAX_SETUP_BYTES: usize = 67_108_864;
-
 /// The most bytes of a key that the line of a refusal shows.
 pub const MAX_SHOWN_KEY_BYTES: usize = 40;

@@ -1,10 +1,13 @@
-//! What the values of a set-up's keys are read as: the kinds of value, and what is wrong with any other.
+//! What the values of a set-up's keys are read as: the kinds of value, and what is wrong with any other. And how deep they
+//! nest.
 #![tactic(auto)]
 
+mod depth;
 pub mod kinds;
 pub mod limits;
 pub mod names;
 pub mod values;
 
+pub use depth::table_is_within;
 pub use names::Name;
 pub use values::{OpName, Words, Wrong};

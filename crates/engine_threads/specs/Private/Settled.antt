@@ -5,8 +5,8 @@ use Rattle.kernel_shared.specs.declared.driving.Stop.{Stop}
 use Rattle.kernel_shared.specs.declared.driving.Stop.TheVariants.{Gate, Fault}
 use Rattle.kernel_shared.specs.declared.fault.SharedFault.TheVariants.{Full}
 use Rattle.kernel_shared.specs.Tokens.{Token, EachBegins, made}
-use Rattle.engine.specs.declared.fault.RunFault.{RunFault}
-use Rattle.engine.specs.declared.fault.RunFault.TheVariants.{Reading, Writing}
+use Rattle.engine_core.specs.declared.fault.RunFault.{RunFault}
+use Rattle.engine_core.specs.declared.fault.RunFault.TheVariants.{Reading, Writing}
 
 -- it has as many entries as the clients made, it begins with what each of them saw, and no client lost sight of a call
 pub record AreSettled (history : List Entry) (clients : List Token) : Type 0 where

@@ -1,0 +1,84 @@
+-- What the definition of the command says of a parse.
+use Rattle.std.proofs.Common.{◌≡◌, ◌∙◌, List, [], ◌∷◌, Bool, true, false, Option, Some, None, option_map, cond, is_some, find, refl, inl, inr, subst, ap}
+use Rattle.std.specs.Box.{box_value}
+use Rattle.std.specs.List.{list_all}
+use Rattle.clap.specs.Words.{App, HasMatchesOf, Kinds, IsAmong, HasKind, Shape, Text, app_of, is_simple, is_simple_and_free, subcommand_name_of, subcommand_of, subcommand_rows, subcommand_rows_of, takes, fault_of}
+use Rattle.clap.specs.Values.{kind_of}
+use Rattle.clap.specs.Simple.{argument_words, built, entered, label_of, names_of, rows_at}
+use Rattle.clap.specs.Walk.{answers_to, stop_after}
+use Rattle.clap.specs.declared.builder.command.Command.{Command}
+use Rattle.clap.specs.declared.error.Error.{Error}
+use Rattle.clap.specs.declared.error.kind.ErrorKind.{ErrorKind}
+use Rattle.clap.specs.declared.error.kind.ErrorKind.TheVariants.{OutOfMemory, DisplayHelp}
+use Rattle.clap.specs.declared.parser.matches.ArgMatches.{ArgMatches}
+use Rattle.clap.specs.declared.parser.matches.ArgMatches.TheViews.{out-ArgMatches, out-SubCommand}
+use Rattle.clap.proofs.OnLiterals.{clap_on_literals}
+use Rattle.clap.proofs.WalkLemmas.{both}
+use Rattle.command_line.specs.CommandLine.{command, job_named, job_of, Explains, StandsFor}
+use Rattle.command_line.specs.declared.arguments.LineFault.{LineFault}
+use Rattle.command_line.specs.declared.arguments.LineFault.TheVariants.{Help, Refused, Memory}
+
+pub command_is_simple : is_simple command ≡ true
+unfolding command clap_on_literals
+command_is_simple = refl
+
+pub command_is_free : is_simple_and_free command ≡ true
+unfolding command clap_on_literals
+command_is_free = refl
+
+-- ---- the job of what is met
+
+abbrev has_job : Shape → Bool
+has_job s = is_some (job_named s.name)
+
+subcommands_have_jobs : list_all has_job (built command).subs ≡ true
+unfolding command clap_on_literals
+subcommands_have_jobs = refl
+
+job_found : (subs : List Shape) (p : Text × List Text) → list_all has_job subs ≡ true
+    → is_some (job_of (option_map (λ met. met.0) (option_map (λ s. rows_at s p.1) (find (λ s. answers_to p.0 (label_of s)) subs)))) ≡ true
+job_found [] p all = refl
+job_found (s ∷ subs) p all =
+    elim (answers_to p.0 (label_of s)) as (λ here. is_some (job_of (option_map (λ met. met.0) (option_map (λ t. rows_at t p.1) (cond here (Some s) (find (λ t. answers_to p.0 (label_of t)) subs))))) ≡ true) [
+      | true ↦ (both _ _ all).0
+      | false ↦ job_found subs p (both _ _ all).1
+    ]
+
+job_entered : (stop : Option (Text × List Text)) → is_some (job_of (option_map (λ met. met.0) (entered (built command) stop))) ≡ true
+job_entered None = refl
+job_entered (Some p) = job_found (built command).subs p subcommands_have_jobs
+
+-- what the words name as a subcommand has a job
+pub job_is_known : (words : List Text) → is_some (job_of (option_map (λ met. met.0) (subcommand_of command words))) ≡ true
+job_is_known words = job_entered (stop_after (built command).top.rules (names_of (built command)) (argument_words command words))
+
+name-rows : (m : ArgMatches) → subcommand_name_of m ≡ option_map (λ met. met.0) (subcommand_rows_of m)
+name-rows m = elim ((out-ArgMatches m).subcommand) as (λ s. option_map (λ b. (out-SubCommand (box_value b)).name.now) s ≡ option_map (λ met. met.0) (subcommand_rows s)) [ None ↦ refl | Some b ↦ refl ]
+
+-- the subcommand of matches that clap gives for the words, and its name
+pub rows_met : (c : Command) (words : List Text) (m : ArgMatches) → app_of c ≡ command → HasMatchesOf (app_of c) words m → subcommand_rows_of m ≡ subcommand_of command words
+rows_met c words m is has = (has (ap is_simple is ∙ command_is_simple)).1 ∙ ap (λ (a : App). subcommand_of a words) is
+
+pub names_met : (c : Command) (words : List Text) (m : ArgMatches) → app_of c ≡ command → HasMatchesOf (app_of c) words m → subcommand_name_of m ≡ option_map (λ met. met.0) (subcommand_of command words)
+names_met c words m is has = name-rows m ∙ ap (λ met. option_map (λ p. p.0) met) (rows_met c words m is has)
+
+-- ---- faults
+
+not_taken : (b : Bool) (k : ErrorKind) → (b ≡ true → k ≡ OutOfMemory) → (k ≡ OutOfMemory → ⊥) → b ≡ false
+not_taken true k only other = absurd (other (only refl))
+not_taken false k only other = refl
+
+among : (kinds : Kinds) (e : Error) → HasKind kinds e → (kind_of e ≡ OutOfMemory → ⊥) → IsAmong (kind_of e) kinds
+among kinds e (inl memory) other = absurd (other memory)
+among kinds e (inr found) other = found
+
+is_help_no_memory : (k : ErrorKind) → k ≡ DisplayHelp → k ≡ OutOfMemory → ⊥
+is_help_no_memory k help memory = cc
+
+pub explained : (words : List Text) (e : Error) (fault : LineFault) → HasKind (fault_of command words) e → (takes command words ≡ true → kind_of e ≡ OutOfMemory) → StandsFor (kind_of e) fault → Explains words fault
+explained words e (Help text) kinds passes stands =
+    let other = is_help_no_memory (kind_of e) stands in
+    (not_taken _ _ passes other, subst (λ k. IsAmong k (fault_of command words)) stands (among _ e kinds other))
+explained words e Refused kinds passes stands =
+    (not_taken _ _ passes stands.1, (kind_of e, among _ e kinds stands.1, stands.0))
+explained words e Memory kinds passes stands = tt

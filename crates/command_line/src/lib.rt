@@ -1,0 +1,8 @@
+//! The command line of the program `sel4sim`: what its words ask for, or why they are not taken.
+#![tactic(auto)]
+
+mod arguments;
+mod reading;
+
+pub use arguments::{Job, Line, LineFault};
+pub use reading::{line, refused_line_words};

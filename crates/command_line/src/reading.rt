@@ -1,0 +1,120 @@
+//! The words of the command line.
+ghost use Rattle.std.specs.Prelude.{◌≡◌, [], false, option_map, IfOk, IfErr, IsSome, OnOk};
+ghost use Rattle.clap.specs.Words.{app_of, fault_of, subcommand_name_of, subcommand_rows_of};
+ghost use Rattle.clap.specs.declared.builder.command.Command.TheViews.{out-Command};
+ghost use Rattle.clap.specs.Values.{kind_of};
+ghost use Rattle.clap.specs.Walk.{texts};
+ghost use Rattle.command_line.specs.CommandLine.{Explains, StandsFor, command as definition, file_asked, file_of, job_asked, job_of, with_file as with_file_definition};
+
+use crate::arguments::{Job, Line, LineFault};
+use clap::error::ErrorKind;
+use clap::{Arg, ArgMatches, Command, Error};
+use std::alloc::{AllocError, Global};
+
+/// A subcommand, which has the argument FILE.
+fn with_file<'a>(alloc: Global, name: &'a str, about: &'a str) -> Result<Command<'a>, AllocError>
+    ensures app { IfOk result (λ c. app_of c ≡ with_file_definition name.now) }
+    ensures local { IfOk result (λ c. (out-Command c).has_globals ≡ false) }
+{
+    let file = Arg::new(alloc, "FILE").help("The set-up; without it, standard input is read");
+    let command = Command::new(alloc, name).about(about).arg(file)?;
+    Ok(command)
+}
+
+/// The command as clap reads it.
+fn command<'a>(alloc: Global) -> Result<Command<'a>, AllocError>
+    ensures { IfOk result (λ c. app_of c ≡ definition) }
+{
+    let check = with_file(alloc, "check", "Runs a set-up and prints its report")?;
+    let trace = with_file(
+        alloc,
+        "trace",
+        "Runs a set-up and prints what each of its calls changed",
+    )?;
+    let threads = with_file(
+        alloc,
+        "threads",
+        "Runs each client of a set-up in a thread of its own and prints what was done, in order",
+    )?;
+    let migrate = with_file(
+        alloc,
+        "migrate",
+        "Prints a set-up of format 1 as one of format 2",
+    )?;
+    let whole = Command::new(alloc, "sel4sim")
+        .about("Simulates the capability part of the seL4 microkernel")
+        .after_help("Without a command, the set-up on standard input is run as by check.")
+        .disable_help_subcommand(true)
+        .subcommand(check)?
+        .subcommand(trace)?
+        .subcommand(threads)?
+        .subcommand(migrate)?;
+    Ok(whole)
+}
+
+/// What the matches ask for.
+fn line_in<'a>(matches: &ArgMatches<'a>) -> Line<'a>
+    requires { IsSome (job_of (subcommand_name_of matches.now)) }
+    ensures job { job_of (subcommand_name_of matches.now) ≡ Some result.job }
+    ensures file { file_of (option_map (λ met. met.1) (subcommand_rows_of matches.now))
+        ≡ option_map (λ s. s.now) result.file }
+{
+    let Some((name, inner)) = matches.subcommand() else {
+        return Line {
+            job: Job::Check,
+            file: None,
+        };
+    };
+    let Some(job) = Job::named(name) else {
+        unreachable!();
+    };
+    let file = inner.get_str("FILE");
+    Line { job, file }
+}
+
+/// The fault that stands for an error of clap.
+fn fault_for(alloc: Global, error: &Error) -> LineFault
+    ensures { StandsFor (kind_of error.now) result }
+{
+    let kind = error.kind();
+    if kind == ErrorKind::OutOfMemory {
+        return LineFault::Memory;
+    }
+    if kind != ErrorKind::DisplayHelp {
+        return LineFault::Refused;
+    }
+    match format!(in alloc; "{error}") {
+        Ok(text) => LineFault::Help(text),
+        Err(_) => LineFault::Memory,
+    }
+}
+
+/// What clap says of words that the command does not take: why, what looks like them, and the usage. Nothing where it
+/// takes them, or where memory was refused.
+pub fn refused_line_words(alloc: Global, words: &[&str]) -> Option<String> {
+    let error = command(alloc).ok()?.try_get_matches_from(words).err()?;
+    if error.kind() == ErrorKind::OutOfMemory {
+        return None;
+    }
+    format!(in alloc; "{error}").ok()
+}
+
+/// Reads the words of a command line, of which the first is the program's name.
+///
+/// # Errors
+/// `Help` where the words call for help, `Refused` where they are none that the command takes, and `Memory` where
+/// memory ran out.
+pub fn line<'a>(alloc: Global, words: &'a [&'a str]) -> Result<Line<'a>, LineFault>
+    ensures job { IfOk result (λ l. job_asked (texts words.now) ≡ Some l.job) }
+    ensures file { IfOk result (λ l. file_asked (texts words.now) ≡ option_map (λ s. s.now) l.file) }
+    ensures taken { OnOk result (fault_of definition (texts words.now) ≡ []) }
+    ensures fault { IfErr result (Explains (texts words.now)) }
+{
+    let Ok(command) = command(alloc) else {
+        return Err(LineFault::Memory);
+    };
+    match command.try_get_matches_from(words) {
+        Ok(matches) => Ok(line_in(&matches)),
+        Err(error) => Err(fault_for(alloc, &error)),
+    }
+}

@@ -1,0 +1,19 @@
+//! A run from bytes to bytes: the devices that they come from and go to, the engine that makes a text of an input, and
+//! how the run ends.
+#![tactic(auto)]
+
+mod device;
+mod engines;
+mod fault;
+mod limits;
+mod sink;
+mod source;
+mod streams;
+
+pub use device::DeviceFault;
+pub use engines::{Engine, run_engine};
+pub use fault::{RunFault, Verdict, status_of};
+pub use limits::INPUT_LIMIT;
+pub use sink::{Sink, WriterSink};
+pub use source::{ReaderSource, Source};
+pub use streams::{read_below, write_all};
