@@ -1,6 +1,7 @@
 //! The clients of a drive, once they have ended.
-ghost use Rattle.std.specs.Prelude.{◌≡◌, All, None, IfOk, map};
-ghost use Rattle.engine_threads.specs.Private.Settled.{IsFinished};
+ghost use Rattle.std.specs.Prelude.{◌≡◌, All, None, Err, IfOk, map};
+ghost use Rattle.engine_threads.specs.declared.returning.ReturnFault.TheVariants.{Ended};
+ghost use Rattle.engine_threads.specs.Private.Settled.{IsFinished, IsReturnable};
 
 use kernel_book::Naming;
 use kernel_shared::client::Client;
@@ -28,6 +29,7 @@ fn client_after<N: Naming, T: Volume<N>>(
     ensures same { IfOk result (λ c. c ≡ driven.client) }
     ensures whole { IfOk result (λ c. c.stray ≡ None) }
     ensures finished { IfOk result (λ _. IsFinished gated driven.stopped) }
+    ensures ended { result ≡ Err Ended → IsReturnable gated driven → ⊥ }
 {
     let Driven {
         client,
@@ -61,6 +63,7 @@ pub fn clients_after<N: Naming, T: Volume<N>>(
     ensures same { IfOk result (λ v. v.items ≡ map (λ d. d.client) all.items) }
     ensures whole { IfOk result (λ v. All (λ c. c.stray ≡ None) v.items) }
     ensures finished { IfOk result (λ _. All (λ d. IsFinished gated d.stopped) all.items) }
+    ensures ended { result ≡ Err Ended → All (λ d. IsReturnable gated d) all.items → ⊥ }
 {
     let Ok(mut clients) = Vec::with_capacity(alloc, all.len()) else {
         return Err(ReturnFault::Memory);

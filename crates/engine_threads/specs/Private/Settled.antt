@@ -1,6 +1,7 @@
 -- What is known of a history that was settled with the clients that made it.
 use Rattle.std.specs.Prelude.{◌≡◌, ◌≢◌, Bool, true, List, All, Option, Some, None, length, sum_by}
 use Rattle.kernel_book.specs.declared.entry.Entry.{Entry}
+use Rattle.kernel_shared.specs.declared.driving.Driven.{Driven}
 use Rattle.kernel_shared.specs.declared.driving.Stop.{Stop}
 use Rattle.kernel_shared.specs.declared.driving.Stop.TheVariants.{Gate, Fault}
 use Rattle.kernel_shared.specs.declared.fault.SharedFault.TheVariants.{Full}
@@ -20,6 +21,10 @@ IsFinished gated None = Unit {0}
 IsFinished gated (Some (Fault Full)) = Unit {0}
 IsFinished gated (Some Gate) = gated ≡ true
 IsFinished gated _ = ⊥
+
+-- a client that can be handed back after its drive: it finished, and lost sight of no call
+abbrev pub IsReturnable : {N T : Type 0} → Bool → Driven N T → Type 0
+IsReturnable gated d = IsFinished gated d.stopped × (d.client.stray ≡ None)
 
 -- a fault that is of no device
 abbrev pub IsOwnFault : RunFault → Type 0
