@@ -3,7 +3,7 @@ use Rattle.std.specs.Prelude.{◌≡◌, ℕ, Bool, not, ◌+◌, ◌*◌, ◌%�
 use Rattle.std.specs.Option.{option_or}
 use Rattle.std.specs.List.{list_any, range_with_len}
 use Rattle.cap_core.specs.declared.profile.ProfileName.{ProfileName}
-use Rattle.cap_core.specs.declared.limits.TheConstants.{MIN_MEMORY_BITS, MAX_MEMORY_BITS, MIN_ROOT_RADIX, MAX_ROOT_RADIX, MIN_BOOT_THREADS, MAX_BOOT_THREADS, MAX_BOOT_ENDPOINTS, MAX_BOOT_UNTYPEDS}
+use Rattle.cap_core.specs.Limits.{min_memory_bits, max_memory_bits, min_root_radix, max_root_radix, min_boot_threads, max_boot_threads, max_boot_endpoints, max_boot_untypeds}
 use Rattle.cap_core.specs.Numbers.{slot_bits, tcb_bits, endpoint_bits, tcb_size, endpoint_size, min_untyped_bits, max_object_bits}
 use Rattle.mem_core.specs.Plans.{least_multiple}
 use Rattle.abstract_kernel.specs.declared.plan.Extent.{Extent}
@@ -106,14 +106,14 @@ pub record IsUntypedSize (p : ProfileName) (untyped : ℕ × ℕ) : Type 0 where
 
 -- the numbers of a plan lie within the limits of a simulation
 pub record IsWithinLimits (p : ProfileName) (plan : Plan) : Type 0 where
-  pub memory_least : MIN_MEMORY_BITS ≤ plan.memory_bits
-  pub memory_most : plan.memory_bits ≤ MAX_MEMORY_BITS
-  pub radix_least : MIN_ROOT_RADIX ≤ plan.root_radix
-  pub radix_most : plan.root_radix ≤ MAX_ROOT_RADIX
-  pub threads_least : MIN_BOOT_THREADS ≤ plan.threads
-  pub threads_most : plan.threads ≤ MAX_BOOT_THREADS
-  pub endpoints_most : plan.endpoints ≤ MAX_BOOT_ENDPOINTS
-  pub untypeds_most : length plan.untypeds ≤ MAX_BOOT_UNTYPEDS
+  pub memory_least : min_memory_bits ≤ plan.memory_bits
+  pub memory_most : plan.memory_bits ≤ max_memory_bits
+  pub radix_least : min_root_radix ≤ plan.root_radix
+  pub radix_most : plan.root_radix ≤ max_root_radix
+  pub threads_least : min_boot_threads ≤ plan.threads
+  pub threads_most : plan.threads ≤ max_boot_threads
+  pub endpoints_most : plan.endpoints ≤ max_boot_endpoints
+  pub untypeds_most : length plan.untypeds ≤ max_boot_untypeds
   pub untypeds_sized : All (IsUntypedSize p) plan.untypeds
 
 -- a plan that a kernel can be booted from

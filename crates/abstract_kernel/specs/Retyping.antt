@@ -1,7 +1,7 @@
 -- What a retype checks, and the capabilities that it puts (seL4 Reference Manual, on `seL4_Untyped_Retype`).
 use Rattle.std.specs.Prelude.{ℕ, ◌-◌, ◌^◌, Bool, not, cond, ◌==◌, ◌&&◌, nat_le, nat_lt, List, [], ◌∷◌, map, Option, Result, Ok, Err}
 use Rattle.std.specs.List.{list_any, range_with_len, filter_map}
-use Rattle.cap_core.specs.declared.limits.TheConstants.{MAX_RETYPE_COUNT}
+use Rattle.cap_core.specs.Limits.{max_retype_count}
 use Rattle.cap_core.specs.declared.profile.ProfileName.{ProfileName}
 use Rattle.cap_core.specs.declared.capability.Cap.{Cap}
 use Rattle.cap_core.specs.declared.capability.Cap.TheVariants.{CNode}
@@ -32,7 +32,7 @@ node_cap p f root index depth = cond (depth == 0) (Ok root) (held_in f (target_s
 -- from one to the most objects, in slots that a CNode of this radix has
 abbrev pub are_slots : ℕ → ℕ → ℕ → Bool
 are_slots radix offset count =
-    nat_lt offset (2 ^ radix) && (nat_le 1 count && (nat_le count MAX_RETYPE_COUNT && nat_le count (2 ^ radix - offset)))
+    nat_lt offset (2 ^ radix) && (nat_le 1 count && (nat_le count max_retype_count && nat_le count (2 ^ radix - offset)))
 
 -- a slot among those from the first one on is full
 abbrev pub some_full : ProfileName → Forest Entry → ℕ → ℕ → Bool

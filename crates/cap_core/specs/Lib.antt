@@ -1,5 +1,6 @@
 pub mod Checks
 pub mod Numbers
+pub mod Limits
 pub mod Objects
 pub mod Rights
 pub mod Refusals

@@ -1,7 +1,7 @@
 -- When a history is lawful, and what a kernel stands for after it.
 use Rattle.std.specs.Prelude.{◌≡◌, ℕ, ◌<◌, ◌==◌, ◌&&◌, Bool, true, List, [], ◌∷◌, ◌++◌, map, count_by, slice_index}
 use Rattle.cap_core.specs.declared.profile.ProfileName.{ProfileName}
-use Rattle.cap_core.specs.declared.limits.TheConstants.{MAX_CLIENTS}
+use Rattle.cap_core.specs.Limits.{max_clients}
 use Rattle.abstract_kernel.specs.declared.call.Call.{Call}
 use Rattle.abstract_kernel.specs.declared.call.Reply.{Reply}
 use Rattle.abstract_kernel.specs.State.{State, shown}
@@ -44,4 +44,4 @@ pub record Begins (p : ProfileName) (start : State) (opening : Shown) : Type 0 w
 
 -- a table of the counts of the first clients
 abbrev pub AreCounts : List ℕ → List Entry → Type 0
-AreCounts counts h = (client : ℕ) → client < MAX_CLIENTS → slice_index counts client ≡ count_of client h
+AreCounts counts h = (client : ℕ) → client < max_clients → slice_index counts client ≡ count_of client h

@@ -3,7 +3,7 @@ use Rattle.std.specs.Prelude.{◌≡◌, ℕ, ◌+◌, ◌*◌, ◌^◌, ◌≤�
 use Rattle.std.specs.List.{list_any, IsDistinct}
 use Rattle.std.specs.Ordering.{nat_cmp}
 use Rattle.std.specs.FinMap.{FinMap, from_entries, get}
-use Rattle.cap_core.specs.declared.limits.TheConstants.{MIN_MEMORY_BITS, MAX_MEMORY_BITS}
+use Rattle.cap_core.specs.Limits.{min_memory_bits, max_memory_bits}
 use Rattle.cap_core.specs.declared.profile.ProfileName.{ProfileName}
 use Rattle.cap_core.specs.Numbers.{tcb_size}
 use Rattle.cap_core.specs.Objects.{IsLawful}
@@ -65,8 +65,8 @@ IsActive size rows t = IsSomeAnd (get (rows_map size rows) t) (λ (row : ThreadR
 pub record IsKernel (p : ProfileName) (memory store_memory waiters_memory : ℕ) (f : Forest Entry) (rows : List (Option ThreadRow)) (w : Waits) : Type 0 where
   pub store_memory_is : store_memory ≡ memory
   pub waiters_memory_is : waiters_memory ≡ memory
-  pub memory_least : MIN_MEMORY_BITS ≤ memory
-  pub memory_most : memory ≤ MAX_MEMORY_BITS
+  pub memory_least : min_memory_bits ≤ memory
+  pub memory_most : memory ≤ max_memory_bits
   pub rows_fill : length rows * tcb_size p ≡ 2 ^ memory
   pub slots_distinct : IsDistinct (λ (a b : ℕ). a == b) (slots f)
   pub slots_placed : All (IsSlotAddress p memory) (slots f)

@@ -1,7 +1,7 @@
 -- The messages of a set-up's calls.
 use Rattle.std.specs.Prelude.{◌≡◌, ◌<◌, ◌≤◌, ◌-◌, ◌^◌, drop, replicate}
 use Rattle.cap_core.specs.declared.profile.ProfileName.{ProfileName}
-use Rattle.cap_core.specs.declared.limits.TheConstants.{MAX_MESSAGE_WORDS}
+use Rattle.cap_core.specs.Limits.{max_message_words}
 use Rattle.cap_core.specs.declared.message.Message.{Message}
 use Rattle.cap_core.specs.Numbers.{label_bits}
 use Rattle.abstract_kernel.specs.declared.call.Op.{Op}
@@ -11,8 +11,8 @@ use Rattle.setup_format.specs.Views.{CallView}
 -- a label of the profile, no more words than a message has, and zeros past them
 pub record IsMessage (p : ProfileName) (m : Message) : Type 0 where
   pub label_within : m.label < 2 ^ label_bits p
-  pub count_most : m.count ≤ MAX_MESSAGE_WORDS
-  pub zeros : drop m.count m.words ≡ replicate (MAX_MESSAGE_WORDS - m.count) 0
+  pub count_most : m.count ≤ max_message_words
+  pub zeros : drop m.count m.words ≡ replicate (max_message_words - m.count) 0
 
 abbrev pub SendsMessage : ProfileName → Op → Type 0
 SendsMessage p (Retype cap kind size_bits root index depth offset count) = Unit {0}

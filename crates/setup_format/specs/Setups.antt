@@ -5,7 +5,7 @@ use Rattle.toml.specs.Data.{Members}
 use Rattle.toml.specs.Parse.{parse_document}
 use Rattle.cap_core.specs.declared.profile.ProfileName.{ProfileName}
 use Rattle.cap_core.specs.declared.profile.ProfileName.TheVariants.{Wide}
-use Rattle.cap_core.specs.declared.limits.TheConstants.{MIN_MEMORY_BITS, MAX_MEMORY_BITS, MIN_ROOT_RADIX, MAX_ROOT_RADIX, MIN_BOOT_THREADS, MAX_BOOT_THREADS, MAX_BOOT_ENDPOINTS, MAX_BOOT_UNTYPEDS, MAX_CLIENTS, MAX_HISTORY_LIMIT}
+use Rattle.cap_core.specs.Limits.{min_memory_bits, max_memory_bits, min_root_radix, max_root_radix, min_boot_threads, max_boot_threads, max_boot_endpoints, max_boot_untypeds, max_clients, max_history_limit}
 use Rattle.cap_core.specs.Numbers.{min_untyped_bits, max_object_bits}
 use Rattle.abstract_kernel.specs.declared.plan.PlanDefect.{PlanDefect}
 use Rattle.abstract_kernel.specs.Plan.{Plan, planned, first_defect}
@@ -58,10 +58,10 @@ top_keys format = if format == FIRST_FORMAT then first_keys else codes "names" �
 
 unfoldable pub sizes_of : Members → Result Sizes Fault
 sizes_of table = do
-  memory_bits ← required places.Top table (codes "memory_bits") (number MIN_MEMORY_BITS MAX_MEMORY_BITS)
-  root_radix ← required places.Top table (codes "root_radix") (number MIN_ROOT_RADIX MAX_ROOT_RADIX)
-  threads ← required places.Top table (codes "threads") (number MIN_BOOT_THREADS MAX_BOOT_THREADS)
-  endpoints ← required places.Top table (codes "endpoints") (number 0 MAX_BOOT_ENDPOINTS)
+  memory_bits ← required places.Top table (codes "memory_bits") (number min_memory_bits max_memory_bits)
+  root_radix ← required places.Top table (codes "root_radix") (number min_root_radix max_root_radix)
+  threads ← required places.Top table (codes "threads") (number min_boot_threads max_boot_threads)
+  endpoints ← required places.Top table (codes "endpoints") (number 0 max_boot_endpoints)
   Ok (record { memory_bits = memory_bits; root_radix = root_radix; threads = threads; endpoints = endpoints })
 
 -- the plan of a boot, and the fault where it has a defect
@@ -95,10 +95,10 @@ names_of p table = optional places.Top table (codes "names") [] (names p)
 unfoldable pub setup_at : ProfileName → Members → Result SetupView Fault
 setup_at p table = do
   sizes ← sizes_of table
-  clients ← optional places.Top table (codes "clients") 1 (number 1 MAX_CLIENTS)
-  limit ← optional places.Top table (codes "limit") 0 (number 1 MAX_HISTORY_LIMIT)
+  clients ← optional places.Top table (codes "clients") 1 (number 1 max_clients)
+  limit ← optional places.Top table (codes "limit") 0 (number 1 max_history_limit)
   names ← names_of p table
-  untyped ← optional places.Top table (codes "untyped") [] (tables 0 MAX_BOOT_UNTYPEDS)
+  untyped ← optional places.Top table (codes "untyped") [] (tables 0 max_boot_untypeds)
   call ← optional places.Top table (codes "call") [] (tables 0 MAX_CALLS)
   setup_with p names sizes clients limit untyped call
 

@@ -3,7 +3,7 @@ use Rattle.std.specs.Prelude.{ℕ, ◌≤◌, ◌<◌, List, length, All, Option
 use Rattle.cap_core.specs.declared.profile.ProfileName.{ProfileName}
 use Rattle.abstract_kernel.specs.declared.call.Call.{Call}
 use Rattle.abstract_kernel.specs.Plan.{Plan}
-use Rattle.cap_core.specs.declared.limits.TheConstants.{MAX_CLIENTS, MAX_HISTORY_LIMIT}
+use Rattle.cap_core.specs.Limits.{max_clients, max_history_limit}
 use Rattle.setup_format.specs.declared.limits.TheConstants.{MAX_CALLS}
 
 -- a call, the client that makes it, and what its reply is expected to begin with
@@ -22,8 +22,8 @@ pub record SetupView : Type 0 where
 -- the number of clients, the most entries of a history, the number of calls and each call's client lie within their bounds
 pub record IsWithinBounds (s : SetupView) : Type 0 where
   pub clients_least : 1 ≤ s.clients
-  pub clients_most : s.clients ≤ MAX_CLIENTS
+  pub clients_most : s.clients ≤ max_clients
   pub limit_least : 1 ≤ s.limit
-  pub limit_most : s.limit ≤ MAX_HISTORY_LIMIT
+  pub limit_most : s.limit ≤ max_history_limit
   pub calls_most : length s.calls ≤ MAX_CALLS
   pub each_client : All (λ call. call.client < s.clients) s.calls

@@ -5,7 +5,7 @@ use Rattle.std.specs.List.{list_all, filter}
 use Rattle.toml.specs.Data.{Data, as_integer, as_str, as_array, as_table, Items, no_items, item, Members}
 use Rattle.cap_core.specs.declared.profile.ProfileName.{ProfileName}
 use Rattle.cap_core.specs.declared.profile.ProfileName.TheVariants.{Wide, Narrow}
-use Rattle.cap_core.specs.declared.limits.TheConstants.{MAX_MESSAGE_WORDS}
+use Rattle.cap_core.specs.Limits.{max_message_words}
 use Rattle.cap_core.specs.declared.rights.Rights.{Rights}
 use Rattle.cap_core.specs.Checks.{◌>>=◌}
 use Rattle.cap_core.specs.Numbers.{word_bits, label_bits}
@@ -113,10 +113,10 @@ array_in low high (Some ds) = if between low high (length (item_list ds)) then O
 
 -- words: an array of no more words than a message has; the other words of the message are 0
 abbrev pub filled : List ℕ → Words
-filled ws = record { words = ws ++ replicate (MAX_MESSAGE_WORDS - length ws) 0; count = length ws }
+filled ws = record { words = ws ++ replicate (max_message_words - length ws) 0; count = length ws }
 
 abbrev pub words : ProfileName → Names → Data → Result Words Wrong
-words p names d = array_in 0 MAX_MESSAGE_WORDS (as_array d) >>= each (λ _. word p names) 0 >>= λ ws. Ok (filled ws)
+words p names d = array_in 0 max_message_words (as_array d) >>= each (λ _. word p names) 0 >>= λ ws. Ok (filled ws)
 
 -- tables low..high: an array of so many tables
 abbrev pub table_in : Option Members → Result Members Wrong

@@ -1,7 +1,7 @@
 -- These serve the proofs of private functions, no public contract cites them: what the checks show of a call that passes.
 use Rattle.std.specs.Prelude.{◌≡◌, ℕ, ◌≤◌, ◌<◌, ◌==◌, ◌⊎◌, true, false, All, None}
 use Rattle.std.specs.List.{list_any}
-use Rattle.cap_core.specs.declared.limits.TheConstants.{MAX_RETYPE_COUNT}
+use Rattle.cap_core.specs.Limits.{max_retype_count}
 use Rattle.cap_core.specs.declared.profile.ProfileName.{ProfileName}
 use Rattle.cap_core.specs.declared.capability.Cap.TheVariants.{Tcb}
 use Rattle.cap_core.specs.Objects.{is_untyped, badge_of, IsLawful}
@@ -48,7 +48,7 @@ pub record IsRetype (p : ProfileName) (f : Forest Entry) (new : NewObjects) : Ty
   pub untyped : is_untyped (cap_at f new.untyped) ≡ true
   pub shape : IsLawfulShape p new.shape
   pub some : 1 ≤ new.count
-  pub most : new.count ≤ MAX_RETYPE_COUNT
+  pub most : new.count ≤ max_retype_count
   pub placed : LieInUntyped (cap_at f new.untyped) (has_child new.untyped f) new.shape.bits new.count new.placed
   pub empty : (i : ℕ) → i < new.count → is_full (slot_of p new.first_slot i) f ≡ false
   pub slots : (memory : ℕ) → All (IsLawful p memory) (caps f) → (i : ℕ) → i < new.count → IsSlotAddress p memory (slot_of p new.first_slot i)

@@ -1,13 +1,13 @@
 -- The sizes of a boot that the number kinds accept.
 use Rattle.std.specs.Prelude.{◌≤◌}
-use Rattle.cap_core.specs.declared.limits.TheConstants.{MIN_MEMORY_BITS, MAX_MEMORY_BITS, MIN_ROOT_RADIX, MAX_ROOT_RADIX, MIN_BOOT_THREADS, MAX_BOOT_THREADS, MAX_BOOT_ENDPOINTS}
+use Rattle.cap_core.specs.Limits.{min_memory_bits, max_memory_bits, min_root_radix, max_root_radix, min_boot_threads, max_boot_threads, max_boot_endpoints}
 use Rattle.setup_format.specs.declared.setup.Sizes.{Sizes}
 
 pub record IsSizes (s : Sizes) : Type 0 where
-  pub memory_least : MIN_MEMORY_BITS ≤ s.memory_bits
-  pub memory_most : s.memory_bits ≤ MAX_MEMORY_BITS
-  pub radix_least : MIN_ROOT_RADIX ≤ s.root_radix
-  pub radix_most : s.root_radix ≤ MAX_ROOT_RADIX
-  pub threads_least : MIN_BOOT_THREADS ≤ s.threads
-  pub threads_most : s.threads ≤ MAX_BOOT_THREADS
-  pub endpoints_most : s.endpoints ≤ MAX_BOOT_ENDPOINTS
+  pub memory_least : min_memory_bits ≤ s.memory_bits
+  pub memory_most : s.memory_bits ≤ max_memory_bits
+  pub radix_least : min_root_radix ≤ s.root_radix
+  pub radix_most : s.root_radix ≤ max_root_radix
+  pub threads_least : min_boot_threads ≤ s.threads
+  pub threads_most : s.threads ≤ max_boot_threads
+  pub endpoints_most : s.endpoints ≤ max_boot_endpoints
