@@ -1,5 +1,5 @@
 -- What the laws of endpoints and of waiting threads say.
-use Rattle.std.specs.Prelude.{◌≡◌, ◌≤◌, false, List, [], All, filter}
+use Rattle.std.specs.Prelude.{◌≡◌, ◌≤◌, false, true, List, [], All, filter}
 use Rattle.cap_core.specs.declared.profile.ProfileName.{ProfileName}
 use Rattle.ipc_core.specs.Records.{Instance, SendRecord, ReceiveRecord}
 use Rattle.abstract_kernel.specs.declared.call.Call.{Call}
@@ -8,7 +8,7 @@ use Rattle.abstract_kernel.specs.State.{State, sends_to, receives_of, waiting_se
 use Rattle.abstract_kernel.specs.Step.{state_after}
 use Rattle.abstract_kernel.specs.Reached.{IsReached}
 use Rattle.abstract_kernel.specs.Deliveries.{is_live}
-use Rattle.abstract_kernel.specs.Cancelling.{is_open_send, is_open_receive}
+use Rattle.abstract_kernel.specs.Cancelling.{is_open_send, is_open_receive, is_thread_live}
 
 -- on an endpoint that is not live nobody waits
 abbrev pub HasNobodyWaiting : ProfileName → State → Instance → Type 0
@@ -38,3 +38,12 @@ TellsItsSenders p A e =
 abbrev pub TellsItsReceivers : ProfileName → State → Instance → Type 0
 TellsItsReceivers p A e =
     IsReached p A → All (λ (a : ReceiveRecord). state_of A a.thread ≡ Receiving e.base) (waiting_receives A e)
+
+-- the thread of a send that waits is live, and so with receives
+abbrev pub HasLiveSenders : ProfileName → State → Instance → Type 0
+HasLiveSenders p A e =
+    IsReached p A → All (λ (s : SendRecord). is_thread_live A A.derivations s.thread ≡ true) (waiting_sends A e)
+
+abbrev pub HasLiveReceivers : ProfileName → State → Instance → Type 0
+HasLiveReceivers p A e =
+    IsReached p A → All (λ (a : ReceiveRecord). is_thread_live A A.derivations a.thread ≡ true) (waiting_receives A e)

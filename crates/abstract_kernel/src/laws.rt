@@ -8,7 +8,7 @@ ghost use Rattle.abstract_kernel.specs.State.{State};
 ghost use Rattle.abstract_kernel.specs.Step.{replies_of};
 ghost use Rattle.abstract_kernel.specs.Deliveries.{DeliversPairs, IsUnused};
 ghost use Rattle.abstract_kernel.specs.Reached.{IsReached};
-ghost use Rattle.abstract_kernel.specs.Laws.{HasNobodyWaiting, StaysEnded, KeepsItsPairs, WaitsWhereOpen, TellsItsSenders, TellsItsReceivers};
+ghost use Rattle.abstract_kernel.specs.Laws.{HasNobodyWaiting, StaysEnded, KeepsItsPairs, WaitsWhereOpen, TellsItsSenders, TellsItsReceivers, HasLiveSenders, HasLiveReceivers};
 
 /// What an endpoint delivers in a run is one delivery for each pair that it gains of an accepted send and the accepted receive
 /// at its place, in the order of the pairs.
@@ -35,6 +35,8 @@ pub fn waiting_threads_are_told()
     ensures waiting { (p : ProfileName) (A : State) (e : Instance) → WaitsWhereOpen p A e }
     ensures senders { (p : ProfileName) (A : State) (e : Instance) → TellsItsSenders p A e }
     ensures receivers { (p : ProfileName) (A : State) (e : Instance) → TellsItsReceivers p A e }
+    ensures live_senders { (p : ProfileName) (A : State) (e : Instance) → HasLiveSenders p A e }
+    ensures live_receivers { (p : ProfileName) (A : State) (e : Instance) → HasLiveReceivers p A e }
 {}
 
 /// Each full slot is a slot of a live CNode, or the root slot of a live thread.

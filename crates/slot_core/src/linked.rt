@@ -186,6 +186,9 @@ impl<P: Profile> CapStore<P> for LinkedStore<P> {
 }
 
 impl<P: Profile> MakeStore<P> for LinkedStore<P> {
+    ghost use Rattle.std.specs.Prelude.{IfOk};
+    ghost use Rattle.derivation.specs.Marked.{forest_of};
+
     fn new(alloc: Global, memory_bits: u32) -> Result<LinkedStore<P>, AllocError> {
         Ok(LinkedStore {
             links: Vec::from_elem(alloc, EMPTY, 1 << (memory_bits - P::SLOT_BITS))?,
@@ -195,7 +198,11 @@ impl<P: Profile> MakeStore<P> for LinkedStore<P> {
         })
     }
 
-    fn copy(&self, alloc: Global) -> Result<LinkedStore<P>, AllocError> {
+    fn copy(&self, alloc: Global) -> Result<LinkedStore<P>, AllocError>
+        ensures list { IfOk result (λ s. s ≡ self.now) }
+        ensures forest { IfOk result (λ s. forest_of P.the s.0 ≡ forest_of P.the self.now.0) }
+        ensures memory { IfOk result (λ s. s.1 ≡ self.now.1) }
+    {
         // Each field is named and bound at its type, so a field more, of a tree or of further marks, would not
         // compile.
         let LinkedStore {
