@@ -1,6 +1,11 @@
 //! A shared run of a set-up: its clients make their calls of one kernel, each in a thread of its own.
-ghost use Rattle.std.specs.Prelude.{◌≡◌, All, IfOk, IfErr, map};
+ghost use Rattle.std.specs.Prelude.{◌≡◌, ◌↔◌, All, IfOk, IfErr, map};
 ghost use Rattle.abstract_kernel.specs.Boot.{boot};
+ghost use Rattle.engine_core.specs.declared.fault.RunFault.TheVariants as Told;
+ghost use Rattle.kernel_shared.specs.declared.start.StartFault.TheVariants as Start;
+ghost use Rattle.kernel_shared.specs.declared.driving.DriveFault.TheVariants as Drive;
+ghost use Rattle.kernel_shared.specs.declared.settling.SettleFault.TheVariants as Settle;
+ghost use Rattle.engine_threads.specs.declared.returning.ReturnFault.TheVariants as Returns;
 ghost use Rattle.abstract_kernel.specs.Plan.{IsPlan};
 ghost use Rattle.abstract_kernel.specs.State.{shown};
 ghost use Rattle.engine_threads.specs.Private.Settled.{AreSettled, IsFinished, IsOwnFault};
@@ -24,7 +29,8 @@ use std::thread::Threads;
 
 /// The fault that stands for one of a start.
 fn start_fault(fault: StartFault) -> RunFault
-    ensures { IsOwnFault result }
+    ensures own { IsOwnFault result }
+    ensures memory { (result ≡ Told.Memory) ↔ (fault ≡ Start.Memory) }
 {
     match fault {
         StartFault::Memory => RunFault::Memory,
@@ -34,7 +40,8 @@ fn start_fault(fault: StartFault) -> RunFault
 
 /// The fault that stands for one of a drive.
 fn drive_fault(fault: DriveFault) -> RunFault
-    ensures { IsOwnFault result }
+    ensures own { IsOwnFault result }
+    ensures memory { (result ≡ Told.Memory) ↔ (fault ≡ Drive.Memory) }
 {
     match fault {
         DriveFault::Memory => RunFault::Memory,
@@ -44,7 +51,8 @@ fn drive_fault(fault: DriveFault) -> RunFault
 
 /// The fault that stands for one of a settlement.
 fn settle_fault(fault: SettleFault) -> RunFault
-    ensures { IsOwnFault result }
+    ensures own { IsOwnFault result }
+    ensures memory { (result ≡ Told.Memory) ↔ (fault ≡ Settle.Memory) }
 {
     match fault {
         SettleFault::Memory => RunFault::Memory,
@@ -54,7 +62,8 @@ fn settle_fault(fault: SettleFault) -> RunFault
 
 /// The fault that stands for one of the clients of a drive.
 fn return_fault(fault: ReturnFault) -> RunFault
-    ensures { IsOwnFault result }
+    ensures own { IsOwnFault result }
+    ensures memory { (result ≡ Told.Memory) ↔ (fault ≡ Returns.Memory) }
 {
     match fault {
         ReturnFault::Memory => RunFault::Memory,

@@ -1,5 +1,7 @@
 //! The run of a set-up's clients, over a source and a sink.
-ghost use Rattle.std.specs.Prelude.{◌≡◌, true, false, IfOk, IfErr};
+ghost use Rattle.std.specs.Prelude.{◌≡◌, List, ℕ, Err, IsOk, true, false, IfOk, IfErr};
+ghost use Rattle.engine_core.specs.Devices.{Gave};
+ghost use Rattle.setup_format.specs.Setups.{setup_of_bytes};
 ghost use Rattle.abstract_kernel.specs.Boot.{boot};
 ghost use Rattle.abstract_kernel.specs.Plan.{IsPlan};
 ghost use Rattle.abstract_kernel.specs.State.{shown};
@@ -21,7 +23,7 @@ use std::alloc::Global;
 use std::marker::Brand;
 use std::sync::Wait;
 use std::sync::ledger::Blank;
-use std::thread::Threads;
+use std::thread::{self, Threads};
 
 /// Whether all calls of the set-up are made.
 fn verdict_on(entries: usize, calls: usize) -> Verdict
@@ -116,6 +118,7 @@ fn report_of_input<R: Threads + Wait + Sync, G: Gate + Sync>(
 ) -> Result<(Vec<u8>, Verdict), RunFault>
     ensures made { IfOk result (λ made. IsSharedProgram gated input.now made.0.items made.1) }
     ensures fault { IfErr result IsOwnFault }
+    ensures accepted { result ≡ Err RunFault.Thread → IsOk (setup_of_bytes input.now) }
 {
     match read_setup(alloc, input) {
         Ok(setup) => report_in_profile(rt, alloc, &setup, gate, gated),
@@ -146,6 +149,7 @@ pub fn threads_run<R: Threads + Wait + Sync, S: Source, K: Sink, G: Gate + Sync>
     requires source { S.failed source.old ≡ false }
     requires sink { K.failed sink.old ≡ false }
     ensures run { IsRun (IsSharedProgram true) S.Source K.Sink source.old source.new sink.old sink.new result }
+    ensures accepted { result ≡ Err RunFault.Thread → (input : List ℕ) × Gave S.left S.given source.old source.new input × IsOk (setup_of_bytes input) }
 {
     let input = read_below(alloc, source, INPUT_LIMIT)?;
     let (text, verdict) = report_of_input(rt, alloc, input.as_slice(), gate, true)?;
@@ -167,6 +171,7 @@ pub fn threads_run_open<R: Threads + Wait + Sync, S: Source, K: Sink>(
     requires source { S.failed source.old ≡ false }
     requires sink { K.failed sink.old ≡ false }
     ensures run { IsRun (IsSharedProgram false) S.Source K.Sink source.old source.new sink.old sink.new result }
+    ensures accepted { result ≡ Err RunFault.Thread → (input : List ℕ) × Gave S.left S.given source.old source.new input × IsOk (setup_of_bytes input) }
 {
     let input = read_below(alloc, source, INPUT_LIMIT)?;
     let (text, verdict) = report_of_input(rt, alloc, input.as_slice(), &OpenGate, false)?;
@@ -183,5 +188,7 @@ impl Gate for OpenGate {
         true
     }
 
-    fn after(&self, _client: u32, _number: u32) {}
+    fn after(&self, _client: u32, _number: u32) {
+        thread::yield_now();
+    }
 }

@@ -47,10 +47,10 @@ module _ (old now new : Token) (calls : List Call) (i : ℕ) (call : Call) where
   grown_at m lt at (Some l) is unmade or stuck = ap calls_made (stuck l (m.stray ∙ is)) ∙ (m.grown ∙ ap (λ k. calls_made old ++ take k calls) (omega arith))
 
   -- a call that was not
-  pub ran_to : (limit : ℕ) (end : End) → IsMade old calls i now → i < length calls → call ≡ get_or calls i call → new.id ≡ now.id → new.done ≡ now.done → StartsWith new.front now.front → end ≢ E.Done → Ended limit new end
+  pub ran_to : (ends : ℕ → ℕ → Type 0) (limit : ℕ) (end : End) → IsMade old calls i now → i < length calls → call ≡ get_or calls i call → new.id ≡ now.id → new.done ≡ now.done → StartsWith new.front now.front → end ≢ E.Done → Ended ends limit new end
       → (now.stray ≡ None → calls_made new ≡ calls_made now ++ lost_calls new.stray) → (now.stray ≡ None → (new.stray ≡ None) ⊎ (new.stray ≡ Some (lost call new.front))) → ((l : Lost) → now.stray ≡ Some l → new ≡ now)
-      → IsRan limit old calls new i end
-  ran_to limit end m lt at id done later stops told unmade or stuck = record {
+      → IsRan ends limit old calls new i end
+  ran_to ends limit end m lt at id done later stops told unmade or stuck = record {
     run = record {
       id = id ∙ m.id;
       done = let d = m.done in omega arith;
@@ -62,12 +62,12 @@ module _ (old now new : Token) (calls : List Call) (i : ℕ) (call : Call) where
     told = told;
   }
 
-pub ran_by : (limit : ℕ) (old : Token) (calls : List Call) (new new' : Token) (made made' : ℕ) (end end' : End) → new' ≡ new → made' ≡ made → end' ≡ end → IsRan limit old calls new made end → IsRan limit old calls new' made' end'
-ran_by limit old calls new new' made made' end end' p q r d =
-    subst (λ (t : Token). IsRan limit old calls t made' end') (sym p) (subst (λ (n : ℕ). IsRan limit old calls new n end') (sym q) (subst (λ (s : End). IsRan limit old calls new made s) (sym r) d))
+pub ran_by : (ends : ℕ → ℕ → Type 0) (limit : ℕ) (old : Token) (calls : List Call) (new new' : Token) (made made' : ℕ) (end end' : End) → new' ≡ new → made' ≡ made → end' ≡ end → IsRan ends limit old calls new made end → IsRan ends limit old calls new' made' end'
+ran_by ends limit old calls new new' made made' end end' p q r d =
+    subst (λ (t : Token). IsRan ends limit old calls t made' end') (sym p) (subst (λ (n : ℕ). IsRan ends limit old calls new n end') (sym q) (subst (λ (s : End). IsRan ends limit old calls new made s) (sym r) d))
 
-pub finished_run : {N T : Type 0} (limit : ℕ) (old : Token) (calls : List Call) (mid new : Token) (made new_made : ℕ) (end : End) (stopped : Option (Stop N T)) → IsRan limit old calls mid made end → IsFinish limit mid made end new new_made stopped → IsDriven limit old calls new new_made stopped
-finished_run limit old calls mid new made new_made end stopped r f = record {
+pub finished_run : {N T : Type 0} (ends : ℕ → ℕ → Type 0) (limit : ℕ) (old : Token) (calls : List Call) (mid new : Token) (made new_made : ℕ) (end : End) (stopped : Option (Stop N T)) → IsRan ends limit old calls mid made end → IsFinish ends limit mid made end new new_made stopped → IsDriven ends limit old calls new new_made stopped
+finished_run ends limit old calls mid new made new_made end stopped r f = record {
   run = subst (λ (t : Token). IsRun old calls t new_made) (sym f.client_is) (subst (λ (n : ℕ). IsRun old calls mid n) (sym f.made_is) r.run);
   ended = ((λ e. f.made_is ∙ r.ended.0 (f.ended.1 e)), (λ e. f.ended.0 (r.ended.1 (sym f.made_is ∙ e))));
   told = f.told r.told;

@@ -13,6 +13,7 @@ use crate::volume::Volume;
 use abstract_kernel::Call;
 use kernel_book::Naming;
 use std::alloc::Global;
+use std::marker::PhantomData;
 use std::snapshot::Snapshot;
 use std::sync::Wait;
 use std::thread;
@@ -20,8 +21,14 @@ use std::thread::{Promise, PromisedHandle, Scope, Threads};
 
 /// What stands round each call of a drive.
 pub trait Gate {
+    ghost use Rattle.std.specs.Prelude.{◌≡◌, ℕ, false};
+
+    /// Which clients it may end, before which of their calls.
+    ghost ends: { ℕ → ℕ → Type 0 } = { λ _ _. Unit {0} };
+
     /// Before a client's call with this number: false ends the client.
-    fn before(&self, client: u32, number: u32) -> bool;
+    fn before(&self, client: u32, number: u32) -> bool
+        ensures { result ≡ false → ends client number };
 
     /// After that call, whatever it was answered.
     fn after(&self, client: u32, number: u32);
@@ -63,13 +70,14 @@ struct Ran<N: Naming, T: Volume<N>> {
 
 /// What a client's thread owes: the client as it was, and its calls.
 #[derive(Drop)]
-struct Owes<N: Naming, T: Volume<N>> {
+struct Owes<N: Naming, T: Volume<N>, G: Gate> {
     client: Snapshot<Client<N, T>>,
     calls: Snapshot<Vec<Call>>,
+    gate: PhantomData<G>,
 }
 
-impl<N: Naming, T: Volume<N>> Promise<Ran<N, T>> for Owes<N, T> {
-    ghost kept_by = { λ p r. IsRan N.limit p.client.value p.calls.value.items r.client r.made r.end };
+impl<N: Naming, T: Volume<N>, G: Gate> Promise<Ran<N, T>> for Owes<N, T, G> {
+    ghost kept_by = { λ p r. IsRan G.ends N.limit p.client.value p.calls.value.items r.client r.made r.end };
 }
 
 /// A client's end.
@@ -82,9 +90,9 @@ fn make_ran<N: Naming, T: Volume<N>>(client: Client<N, T>, made: u32, end: End) 
 }
 
 /// Why a call was not answered, without the front.
-fn end_of<N: Naming, T: Volume<N>>(fault: &SharedFault<N, T>) -> End
+fn end_of<N: Naming, T: Volume<N>, G: Gate>(fault: &SharedFault<N, T>) -> End
     ensures stops { result ≢ E.Done }
-    ensures told { (t : Token) → Told N.limit t fault.now → Ended N.limit t result }
+    ensures told { (t : Token) → Told N.limit t fault.now → Ended G.ends N.limit t result }
 {
     match fault {
         SharedFault::Full => End::Full,
@@ -103,7 +111,7 @@ fn work<N: Naming, T: Volume<N>, R: Wait, G: Gate>(
     calls: &[Call],
     gate: &G,
 ) -> Ran<N, T>
-    ensures { IsRan N.limit client calls.now result.client result.made result.end }
+    ensures { IsRan G.ends N.limit client calls.now result.client result.made result.end }
 {
     let first = client.done();
     let mut client = client;
@@ -117,7 +125,7 @@ fn work<N: Naming, T: Volume<N>, R: Wait, G: Gate>(
         gate.after(client.id(), number);
         if let Err(fault) = reply {
             let made = client.done() - first;
-            let end = end_of::<N, T>(&fault);
+            let end = end_of::<N, T, G>(&fault);
             return make_ran(client, made, end);
         }
     }
@@ -126,11 +134,11 @@ fn work<N: Naming, T: Volume<N>, R: Wait, G: Gate>(
 }
 
 /// What stopped a client, with its front.
-fn finish<N: Naming, T: Volume<N>>(ran: Ran<N, T>) -> Driven<N, T>
+fn finish<N: Naming, T: Volume<N>, G: Gate>(ran: Ran<N, T>) -> Driven<N, T>
     ensures client { result.client ≡ ran.client }
     ensures made { result.made ≡ ran.made }
     ensures ended { (ran.end ≡ E.Done) ↔ (result.stopped ≡ None) }
-    ensures told { Ended N.limit ran.client ran.end → Stopped N.limit result.client result.stopped }
+    ensures told { Ended G.ends N.limit ran.client ran.end → Stopped G.ends N.limit result.client result.stopped }
 {
     let Ran { client, made, end } = ran;
     let stopped = match end {
@@ -168,7 +176,7 @@ fn start_all<
     clients: Vec<Client<N, T>>,
     lists: &'e [Vec<Call>],
     gate: &'e G,
-) -> Result<Vec<PromisedHandle<Ran<N, T>, Owes<N, T>>>, DriveFault>
+) -> Result<Vec<PromisedHandle<Ran<N, T>, Owes<N, T, G>>>, DriveFault>
     requires { vec_len clients ≤ length lists.now }
     ensures len { IfOk result (λ v. vec_len v ≡ vec_len clients) }
     ensures each { IfOk result (λ v. EachThree clients.items lists.now v.items (λ c l h. (h.promise.client.value ≡ c) × (h.promise.calls.value ≡ l))) }
@@ -179,9 +187,10 @@ fn start_all<
     let mut place = 0usize;
     for client in clients {
         let list = &lists[place];
-        let owes = Owes {
+        let owes = Owes::<N, T, G> {
             client: Snapshot::of(&client),
             calls: Snapshot::of(list),
+            gate: PhantomData,
         };
         let calls = list.as_slice();
         let job = move || work(rt, shared, client, calls, gate);
@@ -213,7 +222,7 @@ fn drive_in<
 ) -> Result<Vec<Ran<N, T>>, DriveFault>
     requires { vec_len clients ≤ length lists.now }
     ensures len { IfOk result (λ v. vec_len v ≡ vec_len clients) }
-    ensures each { IfOk result (λ v. EachThree clients.items lists.now v.items (λ c l d. IsRan N.limit c l.items d.client d.made d.end)) }
+    ensures each { IfOk result (λ v. EachThree clients.items lists.now v.items (λ c l d. IsRan G.ends N.limit c l.items d.client d.made d.end)) }
 {
     let handles = start_all(scope, rt, alloc, shared, clients, lists, gate)?;
     match thread::join_promised(rt, handles) {
@@ -223,18 +232,18 @@ fn drive_in<
 }
 
 /// Gives each fault its front.
-fn finish_all<N: Naming, T: Volume<N>>(
+fn finish_all<N: Naming, T: Volume<N>, G: Gate>(
     alloc: Global,
     all: Vec<Ran<N, T>>,
 ) -> Result<Vec<Driven<N, T>>, DriveFault>
     ensures len { IfOk result (λ v. vec_len v ≡ vec_len all) }
-    ensures each { IfOk result (λ v. (i : ℕ) (r : _) (d : _) → slice_get all.items i ≡ Some r → slice_get v.items i ≡ Some d → IsFinish N.limit r.client r.made r.end d.client d.made d.stopped) }
+    ensures each { IfOk result (λ v. (i : ℕ) (r : _) (d : _) → slice_get all.items i ≡ Some r → slice_get v.items i ≡ Some d → IsFinish G.ends N.limit r.client r.made r.end d.client d.made d.stopped) }
 {
     let Ok(mut done) = Vec::with_capacity(alloc, all.len()) else {
         return Err(DriveFault::Memory);
     };
     for ran in all {
-        done.push_reserved(finish::<N, T>(ran));
+        done.push_reserved(finish::<N, T, G>(ran));
     }
     Ok(done)
 }
@@ -263,7 +272,7 @@ pub fn drive<
 ) -> Result<Vec<Driven<N, T>>, DriveFault>
     requires { vec_len clients ≤ length lists.now }
     ensures len { IfOk result (λ v. vec_len v ≡ vec_len clients) }
-    ensures each { IfOk result (λ v. EachThree clients.items lists.now v.items (λ c l d. IsDriven N.limit c l.items d.client d.made d.stopped)) }
+    ensures each { IfOk result (λ v. EachThree clients.items lists.now v.items (λ c l d. IsDriven G.ends N.limit c l.items d.client d.made d.stopped)) }
 {
     let all = thread::scope(
         thread::scope_env(),
@@ -271,8 +280,8 @@ pub fn drive<
         |scope| -> Result<Vec<Ran<N, T>>, DriveFault>
             requires { vec_len clients ≤ length lists.now }
             ensures len { IfOk result (λ v. vec_len v ≡ vec_len clients) }
-            ensures each { IfOk result (λ v. EachThree clients.items lists.entry.now v.items (λ c l d. IsRan N.limit c l.items d.client d.made d.end)) }
+            ensures each { IfOk result (λ v. EachThree clients.items lists.entry.now v.items (λ c l d. IsRan G.ends N.limit c l.items d.client d.made d.end)) }
         { drive_in(scope, rt, alloc, shared, clients, lists, gate) },
     )?;
-    finish_all(alloc, all)
+    finish_all::<N, T, G>(alloc, all)
 }

@@ -19,7 +19,7 @@ loop-client-preserved g c = record {
   len = grind (arith, common_steps);
   room = grind (arith, common_steps);
   each =
-      three_pushed_at (λ (x : Token) (y : Vec Call Global) (h : PromisedHandle (Ran g.row.N.Denot g.row.T.Denot) (Owes g.row.N.Denot g.row.T.Denot)). (h.promise.client.value ≡ x) × (h.promise.calls.value ≡ y)) _ _ _ _ _ _ c.push_reserved.ensures.items c.loop-client.invariant.len c.loop-client.invariant.each
+      three_pushed_at (λ (x : Token) (y : Vec Call Global) (h : PromisedHandle (Ran g.row.N.Denot g.row.T.Denot) (Owes g.row.N.Denot g.row.T.Denot g.row.G.Denot)). (h.promise.client.value ≡ x) × (h.promise.calls.value ≡ y)) _ _ _ _ _ _ c.push_reserved.ensures.items c.loop-client.invariant.len c.loop-client.invariant.each
       (λ y e. let h = c.in-Ok-spawn_with.ensures.ok in
       let at : c.index-lists-place.result ≡ y = c.index-lists-place.is ∙ (ap (λ i. get_or c.args.lists.now i c.index-lists-place.result) c.loop-client.invariant.place ∙ get_or_from_slice_get c.args.lists.now (length c.loop-client.yielded) y c.index-lists-place.result e) in
       (ap (λ p. p.client.value) h ∙ c.of.ensures, ap (λ p. p.calls.value) h ∙ (c.of-in-loop-client.ensures ∙ at)));
