@@ -1,7 +1,7 @@
 //! The engine that writes a set-up of format 1 as one of format 2.
-ghost use Rattle.std.specs.Prelude.{◌≡◌, ◌≢◌, false, IfOk, Some};
-ghost use Rattle.toml.specs.Parse.{parse_document};
+ghost use Rattle.std.specs.Prelude.{◌≡◌, ◌≢◌, false, IfOk, Ok};
 ghost use Rattle.toml.specs.View.{table_view};
+ghost use Rattle.setup_format.specs.Setups.{document_of};
 ghost use Rattle.engine.specs.Migrations.{IsMigration};
 ghost use Rattle.engine_core.specs.Runs.{IsRun};
 
@@ -17,8 +17,9 @@ use toml::Table;
 const TOML_LEVELS: usize = 80;
 
 /// The text that `toml` prints of a table that a set-up is migrated to, and that it reads as that table.
+#[tactic(auto, using(crate::proofs::Texts::document_of_string))]
 fn table_text(alloc: Global, table: &Table) -> Result<Vec<u8>, AllocError>
-    ensures { IfOk result (λ text. parse_document text.items ≡ Some (table_view table.now)) }
+    ensures { IfOk result (λ text. document_of text.items ≡ Ok (table_view table.now)) }
 {
     // The tables of a set-up have four levels and no dates. So only memory can be lacking.
     if !table_is_within(table, TOML_LEVELS) {
@@ -31,6 +32,7 @@ fn table_text(alloc: Global, table: &Table) -> Result<Vec<u8>, AllocError>
 }
 
 /// The text that is written for the bytes of a set-up of format 1, and the verdict.
+#[tactic(auto, using(crate::proofs::Texts::same_program))]
 fn migration_of(alloc: Global, bytes: &[u8]) -> Result<(Vec<u8>, Verdict), AllocError>
     ensures { IfOk result (λ made. IsMigration bytes.now made.0.items made.1) }
 {

@@ -38,6 +38,8 @@ impl<T> KeptReader<T> {
 }
 
 impl<T: Read> Read for KeptReader<T> {
+    ghost remaining = { λ k. T.remaining k.reader };
+
     fn read(&mut self, buffer: &mut [u8]) -> io::Result<usize> {
         match self.reader.read(buffer) {
             Ok(n) => {
@@ -78,6 +80,8 @@ impl<T> KeptWriter<T> {
 }
 
 impl<T: Write> Write for KeptWriter<T> {
+    ghost contents = { λ k. T.contents k.writer };
+
     fn write(&mut self, buffer: &[u8]) -> io::Result<usize> {
         match self.writer.write(buffer) {
             Ok(n) => Ok(n),

@@ -3,7 +3,7 @@ ghost use Rattle.std.specs.Prelude.{◌≡◌, IfOk, IfErr};
 ghost use Rattle.toml.specs.View.{table_view};
 ghost use Rattle.abstract_kernel.specs.Plan.{IsPlan};
 ghost use Rattle.setup_format.specs.Faults.{Fails, Gives};
-ghost use Rattle.setup_format.specs.Setups.{setup_of, first_format_setup_of_bytes};
+ghost use Rattle.setup_format.specs.Setups.{setup_of, setup_of_bytes, first_format_setup_of_bytes};
 ghost use Rattle.setup_migrate.specs.Migration as spec;
 
 use crate::calls::name_threads;
@@ -45,6 +45,7 @@ pub fn migrate(alloc: Global, bytes: &[u8]) -> Result<Table, SetupFault>
     ensures table { Gives table_view result (spec.migrated_bytes bytes.now) }
     ensures refused { IfErr result (λ e. Fails e (first_format_setup_of_bytes bytes.now)) }
     ensures same_setup { IfOk result (λ t. setup_of (table_view t) ≡ first_format_setup_of_bytes bytes.now) }
+    ensures same_as_read { IfOk result (λ t. setup_of (table_view t) ≡ setup_of_bytes bytes.now) }
 {
     let mut table = read_document(alloc, bytes)?;
     let setup = read_first_format(alloc, &table)?;

@@ -1,11 +1,18 @@
 -- The table that bytes are migrated to, where they are a set-up of the first format, and what it is read as.
-use Rattle.std.proofs.Common.{◌≡◌, ℕ, List, Ok, sym, ap, ◌∙◌}
+use Rattle.std.proofs.Common.{◌≡◌, ℕ, ℤ, pos, negsuc, true, List, Option, Some, None, Ok, refl, sym, ap, ◌∙◌, inl, inr, arith}
+use Rattle.std.proofs.lemmas.Bool.{cases_Bool}
+use Rattle.std.proofs.lemmas.Bool.Decides.{nat_tests}
+use Rattle.toml.specs.Data.{Data, as_integer}
+use Rattle.setup_values.specs.Kinds.{between, number, number_in}
+use Rattle.setup_format.specs.declared.limits.TheConstants.{FIRST_FORMAT, NEWEST_FORMAT}
+use Rattle.setup_format.specs.declared.fault.Place.TheVariants as places
+use Rattle.std.specs.Prelude.{codes}
 use Rattle.toml.specs.Data.{Members}
 use Rattle.abstract_kernel.specs.Plan.{IsPlan}
-use Rattle.setup_format.specs.Setups.{document_of, first_format_setup_of, first_format_setup_of_bytes, setup_of}
+use Rattle.setup_format.specs.Setups.{document_of, first_format_setup_of, first_format_setup_of_bytes, setup_of, setup_of_bytes, setup_up_to}
 use Rattle.setup_format.specs.Views.{SetupView}
 use Rattle.setup_migrate.specs.Migration.{migrated, migrated_bytes}
-use Rattle.setup_migrate.proofs.Law.Follows.{together}
+use Rattle.setup_migrate.proofs.Law.Follows.{Follows, same, after, no_answer, required_follows, together}
 use Rattle.setup_migrate.proofs.Law.Setups.{same_setup}
 
 -- a table that was rewritten by the profile and the plan of the set-up that it was read as
@@ -21,3 +28,30 @@ table_of_bytes bytes t u s h = together _ _ t u h.document (together _ _ s u h.r
 pub setup_of_table : (bytes : List ℕ) (t u : Members) (s : SetupView) → IsRewritten bytes t u s → IsPlan s.profile s.plan → setup_of u ≡ first_format_setup_of_bytes bytes
 unfolding first_format_setup_of_bytes
 setup_of_table bytes t u s h plan = ap setup_of h.rewritten ∙ (same_setup t s h.read plan ∙ sym (together _ _ t s h.document h.read))
+
+-- ---- a set-up of the first format is read as the same by the reader of all formats
+
+first_in : (o : Option ℤ) → Follows (number_in FIRST_FORMAT FIRST_FORMAT o) (number_in FIRST_FORMAT NEWEST_FORMAT o)
+first_in None = same _
+first_in (Some (negsuc n)) = same _
+first_in (Some (pos n)) =
+    elim (cases_Bool (between FIRST_FORMAT FIRST_FORMAT n)) [
+      | inl first ↦ let newest : between FIRST_FORMAT NEWEST_FORMAT n ≡ true = grind (arith, nat_tests) in rw (first, newest) (same _)
+      | inr other ↦ rw other (record { follows = λ x e. no_answer _ x e })
+    ]
+
+first_is_read : (t : Members) → Follows (first_format_setup_of t) (setup_of t)
+unfolding setup_up_to
+first_is_read t =
+    after (required_follows places.Top t t (codes "format") (number FIRST_FORMAT FIRST_FORMAT) (number FIRST_FORMAT NEWEST_FORMAT) refl (λ d. first_in (as_integer d)))
+    (λ format. same _)
+
+first_bytes : (bytes : List ℕ) → Follows (first_format_setup_of_bytes bytes) (setup_of_bytes bytes)
+unfolding first_format_setup_of_bytes setup_of_bytes
+first_bytes bytes = after (same _) first_is_read
+
+pub setup_as_read : (bytes : List ℕ) (t u : Members) (s : SetupView) → IsRewritten bytes t u s → IsPlan s.profile s.plan → setup_of u ≡ setup_of_bytes bytes
+unfolding first_format_setup_of_bytes
+setup_as_read bytes t u s h plan =
+    let read : first_format_setup_of_bytes bytes ≡ Ok s = together _ _ t s h.document h.read in
+    setup_of_table bytes t u s h plan ∙ (read ∙ sym ((first_bytes bytes).follows s read))

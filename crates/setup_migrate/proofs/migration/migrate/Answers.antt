@@ -1,7 +1,7 @@
 use Rattle.std.proofs.Common.{◌≡◌, sym, ap, ◌∙◌}
 use Rattle.toml.specs.View.{table_view}
 use Rattle.setup_migrate.specs.Migration.{migrated}
-use Rattle.setup_migrate.proofs.Law.Bytes.{IsRewritten, table_of_bytes, setup_of_table}
+use Rattle.setup_migrate.proofs.Law.Bytes.{IsRewritten, table_of_bytes, setup_of_table, setup_as_read}
 use Rattle.setup_migrate.proofs.migration.migrate.Goals.{in-Wide+in_ok-rewrite-in-Wide, in-Narrow+in_ok-rewrite-in-Narrow}
 use Rattle.setup_migrate.proofs.migration.migrate.Goals as goal
 
@@ -28,3 +28,6 @@ returns-clause-table c = table_of_bytes _ _ _ _ (is_rewritten c)
 
 pub returns-clause-same_setup : goal.returns-clause-same_setup
 returns-clause-same_setup c = setup_of_table _ _ _ _ (is_rewritten c) c.in_ok-setup.ensures.plan
+
+pub returns-clause-same_as_read : goal.returns-clause-same_as_read
+returns-clause-same_as_read c = setup_as_read _ _ _ _ (is_rewritten c) c.in_ok-setup.ensures.plan
