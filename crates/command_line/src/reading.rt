@@ -4,7 +4,7 @@ ghost use Rattle.clap.specs.Words.{app_of, fault_of, subcommand_name_of, subcomm
 ghost use Rattle.clap.specs.declared.builder.command.Command.TheViews.{out-Command};
 ghost use Rattle.clap.specs.Values.{kind_of};
 ghost use Rattle.clap.specs.Walk.{texts};
-ghost use Rattle.command_line.specs.CommandLine.{Explains, StandsFor, command as definition, file_asked, file_of, job_asked, job_of, with_file as with_file_definition};
+ghost use Rattle.command_line.specs.CommandLine.{Explains, StandsFor, and_subcommand, bare_command, command as definition, file_asked, file_of, job_asked, job_of, with_file as with_file_definition};
 
 use crate::arguments::{Job, Line, LineFault};
 use clap::error::ErrorKind;
@@ -21,35 +21,59 @@ fn with_file<'a>(alloc: Global, name: &'a str, about: &'a str) -> Result<Command
     Ok(command)
 }
 
+/// The command without the subcommands, and without clap's own `help`.
+fn bare<'a>(alloc: Global) -> Command<'a>
+    ensures { app_of result ≡ bare_command }
+{
+    Command::new(alloc, "sel4sim")
+        .about("Simulates the capability part of the seL4 microkernel")
+        .after_help("Without a command, the set-up on standard input is run as by check.")
+        .disable_help_subcommand(true)
+}
+
+/// A command with one more subcommand, which has the argument FILE.
+fn and_with_file<'a>(
+    alloc: Global,
+    command: Command<'a>,
+    name: &'a str,
+    about: &'a str,
+) -> Result<Command<'a>, AllocError>
+    ensures { IfOk result (λ c. app_of c ≡ and_subcommand name.now (app_of command.entry)) }
+{
+    let made = with_file(alloc, name, about)?;
+    let whole = command.subcommand(made)?;
+    Ok(whole)
+}
+
 /// The command as clap reads it.
 fn command<'a>(alloc: Global) -> Result<Command<'a>, AllocError>
     ensures { IfOk result (λ c. app_of c ≡ definition) }
 {
-    let check = with_file(alloc, "check", "Runs a set-up and prints its report")?;
-    let trace = with_file(
+    let check = and_with_file(
         alloc,
+        bare(alloc),
+        "check",
+        "Runs a set-up and prints its report",
+    )?;
+    let trace = and_with_file(
+        alloc,
+        check,
         "trace",
         "Runs a set-up and prints what each of its calls changed",
     )?;
-    let threads = with_file(
+    let threads = and_with_file(
         alloc,
+        trace,
         "threads",
         "Runs each client of a set-up in a thread of its own and prints what was done, in order",
     )?;
-    let migrate = with_file(
+    let migrate = and_with_file(
         alloc,
+        threads,
         "migrate",
         "Prints a set-up of format 1 as one of format 2",
     )?;
-    let whole = Command::new(alloc, "sel4sim")
-        .about("Simulates the capability part of the seL4 microkernel")
-        .after_help("Without a command, the set-up on standard input is run as by check.")
-        .disable_help_subcommand(true)
-        .subcommand(check)?
-        .subcommand(trace)?
-        .subcommand(threads)?
-        .subcommand(migrate)?;
-    Ok(whole)
+    Ok(migrate)
 }
 
 /// What the matches ask for.
@@ -89,10 +113,15 @@ fn fault_for(alloc: Global, error: &Error) -> LineFault
     }
 }
 
+/// The error of clap for words that the command does not take.
+fn refusal(alloc: Global, words: &[&str]) -> Option<Error> {
+    command(alloc).ok()?.try_get_matches_from(words).err()
+}
+
 /// What clap says of words that the command does not take: why, what looks like them, and the usage. Nothing where it
 /// takes them, or where memory was refused.
 pub fn refused_line_words(alloc: Global, words: &[&str]) -> Option<String> {
-    let error = command(alloc).ok()?.try_get_matches_from(words).err()?;
+    let error = refusal(alloc, words)?;
     if error.kind() == ErrorKind::OutOfMemory {
         return None;
     }

@@ -8,10 +8,11 @@
 //! calls reached too little.
 #![tactic(auto)]
 
-use cap_core::{Narrow, Profile, Wide};
+use cap_core::{Narrow, Profile, ProfileName, Wide};
 use ipc_core::{LinkedWaiters, MakeWaiters, RowWaiters};
 use run::{CALLS, Difference, agree};
 use slot_core::{LinkedStore, MakeStore, RowStore};
+use std::io;
 use std::process::ExitCode;
 use tally::Tally;
 
@@ -23,21 +24,50 @@ mod run;
 mod shown;
 mod tally;
 
+/// Says that a pair agrees with the linked forms.
+fn say_agrees<R: Print>(rt: &R, profile: ProfileName, pair: &str) -> io::Result<()> {
+    println!(rt; "{profile:?}, {pair}: {CALLS} calls as with LinkedStore, LinkedWaiters")
+}
+
+/// Says where a pair differs.
+fn say_differs<R: Print>(
+    rt: &R,
+    profile: ProfileName,
+    pair: &str,
+    difference: &Difference,
+) -> io::Result<()> {
+    let Difference { place, call } = difference;
+    println!(rt; "{profile:?}, {pair}: call {place} differs: {call:?}")
+}
+
 /// Runs the calls over one pair, and says whether it agrees with the linked forms: what the calls reached, where it
 /// does.
 fn run_pair<P: Profile, S: MakeStore<P>, W: MakeWaiters<P>, R: Print + AllocGlobal>(
     rt: &R,
     pair: &str,
 ) -> anyhow::Result<Option<Tally>> {
-    let profile = P::name();
     match agree::<P, S, W>(rt.alloc())? {
         Ok(tally) => {
-            println!(rt; "{profile:?}, {pair}: {CALLS} calls as with LinkedStore, LinkedWaiters")?;
+            say_agrees(rt, P::name(), pair)?;
             Ok(Some(tally))
         }
-        Err(Difference { place, call }) => {
-            println!(rt; "{profile:?}, {pair}: call {place} differs: {call:?}")?;
+        Err(difference) => {
+            say_differs(rt, P::name(), pair, &difference)?;
             Ok(None)
+        }
+    }
+}
+
+/// Says whether the calls reached what they have to, and what they did not.
+fn say_reached<R: Print>(rt: &R, profile: ProfileName, tally: &Tally) -> io::Result<bool> {
+    match tally.missing() {
+        None => {
+            println!(rt; "{profile:?}: the calls reach all that they have to")?;
+            Ok(true)
+        }
+        Some(missing) => {
+            println!(rt; "{profile:?}: {missing}: {tally:?}")?;
+            Ok(false)
         }
     }
 }
@@ -47,15 +77,14 @@ fn run_profile<P: Profile, R: Print + AllocGlobal>(rt: &R) -> anyhow::Result<boo
     let rows = run_pair::<P, RowStore<P>, RowWaiters<P>, R>(rt, "RowStore, RowWaiters")?;
     let links = run_pair::<P, LinkedStore<P>, RowWaiters<P>, R>(rt, "LinkedStore, RowWaiters")?;
     let queues = run_pair::<P, RowStore<P>, LinkedWaiters<P>, R>(rt, "RowStore, LinkedWaiters")?;
-    let (Some(tally), Some(_), Some(_)) = (rows, links, queues) else {
-        return Ok(false);
-    };
-    let profile = P::name();
-    match tally.missing() {
-        None => println!(rt; "{profile:?}: the calls reach all that they have to")?,
-        Some(missing) => println!(rt; "{profile:?}: {missing}: {tally:?}")?,
+    match rows {
+        Some(tally) if links.is_some() && queues.is_some() => Ok(say_reached(
+            rt,
+            P::name(),
+            &tally,
+        )?),
+        _ => Ok(false),
     }
-    Ok(tally.missing().is_none())
 }
 
 fn main(rt: HostRuntime) -> anyhow::Result<ExitCode> {

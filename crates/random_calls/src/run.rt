@@ -58,31 +58,69 @@ impl<P: Profile, S: MakeStore<P>, W: MakeWaiters<P>> Both<P, S, W> {
     }
 }
 
+/// The calls so far: the kernels after them, the numbers that draw the next one, what they reached, and how many were
+/// refused since one was not.
+#[derive(Drop)]
+struct Run<P: Profile, S: MakeStore<P>, W: MakeWaiters<P>> {
+    kernels: Both<P, S, W>,
+    drawn: Drawn,
+    tally: Tally,
+    refused: u32,
+}
+
+impl<P: Profile, S: MakeStore<P>, W: MakeWaiters<P>> Run<P, S, W> {
+    /// Makes one more call: the call, where the kernels differ after it.
+    fn step(&mut self) -> Option<Call> {
+        let call = self.drawn.call(&self.kernels.linked);
+        let Some(reply) = self.kernels.step(call) else {
+            return Some(call);
+        };
+        self.drawn.note(&call, &reply);
+        self.tally.add(&call, &reply, self.drawn.chain);
+        self.refused = match reply {
+            Reply::Refused(_) => self.refused.saturating_add(1),
+            _ => 0,
+        };
+        None
+    }
+
+    /// Both kernels boot anew.
+    fn boot_anew(&mut self, alloc: Global) -> Result<()> {
+        self.kernels = Both::<P, S, W>::boot(alloc)?;
+        self.tally.boot_anew();
+        self.refused = 0;
+        Ok(())
+    }
+
+    /// Makes all calls: where the kernels differ, if they do.
+    fn make_all(&mut self, alloc: Global) -> Result<Option<Difference>> {
+        for place in 1..=CALLS {
+            if let Some(call) = self.step() {
+                return Ok(Some(Difference { place, call }));
+            }
+            if self.refused == MOST_REFUSED {
+                self.boot_anew(alloc)?;
+            }
+        }
+        Ok(None)
+    }
+}
+
 /// Makes the calls on a kernel over the linked forms and on one over other stores: what they reached, or where the two
 /// differ.
 pub fn agree<P: Profile, S: MakeStore<P>, W: MakeWaiters<P>>(
     alloc: Global,
 ) -> Result<std::result::Result<Tally, Difference>> {
-    let mut kernels = Both::<P, S, W>::boot(alloc)?;
-    let mut drawn = Drawn::new(SEED);
-    let mut tally = Tally::new();
-    let mut refused = 0u32;
-    for place in 1..=CALLS {
-        let call = drawn.call(&kernels.linked);
-        let Some(reply) = kernels.step(call) else {
-            return Ok(Err(Difference { place, call }));
-        };
-        drawn.note(&call, &reply);
-        tally.add(&call, &reply, drawn.chain);
-        refused = match reply {
-            Reply::Refused(_) => refused.saturating_add(1),
-            _ => 0,
-        };
-        if refused == MOST_REFUSED {
-            kernels = Both::<P, S, W>::boot(alloc)?;
-            tally.boot_anew();
-            refused = 0;
-        }
-    }
-    Ok(Ok(tally))
+    let mut run = Run {
+        kernels: Both::<P, S, W>::boot(alloc)?,
+        drawn: Drawn::new(SEED),
+        tally: Tally::new(),
+        refused: 0,
+    };
+    let difference = run.make_all(alloc)?;
+    let Run { tally, .. } = run;
+    Ok(match difference {
+        None => Ok(tally),
+        Some(difference) => Err(difference),
+    })
 }
