@@ -1,5 +1,5 @@
 //! Laws of the abstract kernel, for each state that runs reach. Nothing is done.
-ghost use Rattle.std.specs.Prelude.{◌<◌, List};
+ghost use Rattle.std.specs.Prelude.{◌≤◌, List};
 ghost use Rattle.cap_core.specs.declared.profile.ProfileName.{ProfileName};
 ghost use Rattle.clearing.specs.Housed.{IsHoused};
 ghost use Rattle.ipc_core.specs.Records.{Instance};
@@ -16,9 +16,10 @@ pub fn each_pair_is_delivered_once()
     ensures { (p : ProfileName) (A : State) (calls : List Call) → IsReached p A → DeliversPairs p A calls (replies_of p A calls) }
 {}
 
-/// An endpoint that is made later starts with no sends and no receives, whatever stood at its address before.
+/// An endpoint that is made by the last call, or later, starts with no sends and no receives, whatever stood at its
+/// address before.
 pub fn new_endpoint_starts_empty()
-    ensures { (p : ProfileName) (A : State) (e : Instance) → IsReached p A → A.count < e.birth → IsUnused A e }
+    ensures { (p : ProfileName) (A : State) (e : Instance) → IsReached p A → A.count ≤ e.birth → IsUnused A e }
 {}
 
 /// On an endpoint that is not live nobody waits. One that was made at some time is never live again, and its pairs stay as

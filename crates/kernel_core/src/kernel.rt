@@ -132,8 +132,9 @@ impl<P: Profile, S: CapStore<P> + Drop, W: Waiters<P> + Drop> Kernel<P, S, W> {
         self.keeps_objects();
     }
 
-    /// Nothing is done: a caller learns what each kernel keeps of its objects and its slots.
-    fn keeps_objects(&self)
+    /// What each kernel keeps: its objects lie apart, and each of its full slots lies in a live CNode or thread. Nothing is
+    /// done; a caller of `step` learns it by this call.
+    pub fn keeps_objects(&self)
         ensures apart { AreObjectsApart P.the self.now.derivations }
         ensures housed { IsHoused P.the self.now.derivations }
     {

@@ -67,6 +67,8 @@ module _ (A : State) (S : SendRecord → Bool) (Q : ReceiveRecord → Bool) (inv
       thread_births = inv.thread_births;
       born = inv.born;
       sends_born = inv.sends_born;
+      younger = inv.younger;
+      sends_younger = inv.sends_younger;
       receives_open = λ e. subst (AllByRecursion (ReceiveIsOpen after)) (sym (receives_waiting e))
           (all_weaker _ (ReceiveIsOpen after) (λ a w. receives_stay a w.0 (unnamed (Q a) w.1)) _ (all_passing (ReceiveIsOpen A) (λ (a : ReceiveRecord). not (Q a)) (waiting_receives A e) (inv.receives_open e)));
       sends_open = λ e. subst (AllByRecursion (SendIsOpen after)) (sym (sends_waiting e))

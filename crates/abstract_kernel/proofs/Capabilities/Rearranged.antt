@@ -71,6 +71,8 @@ module _ (A : State) (f : Forest Entry) (inv : Invariant A)
     thread_births = λ b. let le = inv.thread_births b in omega arith;
     born = receives_born_later A.count A.receives inv.born;
     sends_born = sends_born_later A.count A.sends inv.sends_born;
+    younger = inv.younger;
+    sends_younger = inv.sends_younger;
     sends_rising = inv.sends_rising;
     unshared = inv.unshared;
     receives_open = λ e. all_weaker (ReceiveIsOpen A) (ReceiveIsOpen after_rearranged) (λ a o. still_open a.endpoint a.thread o) (waiting_receives A e) (inv.receives_open e);

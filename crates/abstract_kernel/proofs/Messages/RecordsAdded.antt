@@ -185,6 +185,8 @@ inv_sent A t service message inv ready thread_live endpoint_live = record {
   endpoint_births = λ b. let le = inv.endpoint_births b in omega arith;
   thread_births = λ b. let le = inv.thread_births b in omega arith;
   born = receives_born_later A.count A.receives inv.born;
+  younger = inv.younger;
+  sends_younger = all_push _ A.sends (send_record A t service message) inv.sends_younger (let e = inv.endpoint_births service.endpoint in omega arith);
   sends_born = all_push _ A.sends (send_record A t service message) (sends_born_later A.count A.sends inv.sends_born) (let e = inv.endpoint_births service.endpoint in omega arith, let b = inv.thread_births t in omega arith);
   sends_rising = rises_push send_number A.count A.sends (send_record A t service message) inv.sends_rising inv.sends_numbered (omega arith);
   unshared = λ n there. by_last (has_number send_number A.sends n) (A.count + 1 == n) n (sym (has_number_push send_number A.sends (send_record A t service message) n) ∙ there) refl refl;
@@ -248,6 +250,8 @@ inv_received A t service inv ready thread_live endpoint_live = record {
   thread_births = λ b. let le = inv.thread_births b in omega arith;
   born = all_push _ A.receives (receive_record A t service) (receives_born_later A.count A.receives inv.born) (let e = inv.endpoint_births service.endpoint in omega arith, let b = inv.thread_births t in omega arith);
   sends_born = sends_born_later A.count A.sends inv.sends_born;
+  younger = all_push _ A.receives (receive_record A t service) inv.younger (let e = inv.endpoint_births service.endpoint in omega arith);
+  sends_younger = inv.sends_younger;
   sends_rising = inv.sends_rising;
   unshared = λ n there. has_number_push receive_number A.receives (receive_record A t service) n ∙ by_last n there (A.count + 1 == n) refl;
   receives_open = receives_still_open;

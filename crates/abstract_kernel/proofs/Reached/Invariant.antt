@@ -55,6 +55,8 @@ pub record Invariant (A : State) : Type 0 where
   pub thread_births : (b : ℕ) → A.thread_birth b ≤ A.count
   pub born : AllByRecursion (λ (a : ReceiveRecord). (a.endpoint.birth ≤ A.count) × (a.thread.birth ≤ A.count)) A.receives
   pub sends_born : AllByRecursion (λ (s : SendRecord). (s.endpoint.birth ≤ A.count) × (s.thread.birth ≤ A.count)) A.sends
+  pub younger : AllByRecursion (λ (a : ReceiveRecord). a.endpoint.birth < a.number) A.receives
+  pub sends_younger : AllByRecursion (λ (s : SendRecord). s.endpoint.birth < s.number) A.sends
   pub receives_open : (e : Instance) → AllByRecursion (ReceiveIsOpen A) (waiting_receives A e)
   pub sends_open : (e : Instance) → AllByRecursion (SendIsOpen A) (waiting_sends A e)
   pub once : (m : Instance) (b : ℕ) → list_any (λ k. b == k) (endpoints_of A.derivations) ≡ true → pending A m b ≤ 1
@@ -113,6 +115,8 @@ inv_boot p plan = record {
   thread_births = λ b. omega arith;
   born = tt;
   sends_born = tt;
+  younger = tt;
+  sends_younger = tt;
   receives_open = λ e. tt;
   sends_open = λ e. tt;
   once = λ m b live. omega arith;
@@ -160,6 +164,8 @@ inv_refused A inv = record {
   thread_births = λ b. let le = inv.thread_births b in omega arith;
   born = receives_born_later A.count A.receives inv.born;
   sends_born = sends_born_later A.count A.sends inv.sends_born;
+  younger = inv.younger;
+  sends_younger = inv.sends_younger;
   receives_open = λ e. all_weaker (ReceiveIsOpen A) (ReceiveIsOpen (counted A)) (λ a o. open_counted A a.endpoint a.thread o) (waiting_receives A e) (inv.receives_open e);
   sends_open = λ e. all_weaker (SendIsOpen A) (SendIsOpen (counted A)) (λ s o. open_counted A s.endpoint s.thread o) (waiting_sends A e) (inv.sends_open e);
   once = inv.once;

@@ -259,6 +259,8 @@ module _ (p : ProfileName) (A : State) (new : NewObjects) (inv : Invariant A) (f
     thread_births = λ b. born_by A.thread_birth (new_bases tcb_base p new) b (inv.thread_births b);
     born = receives_born_later A.count A.receives inv.born;
     sends_born = sends_born_later A.count A.sends inv.sends_born;
+    younger = inv.younger;
+    sends_younger = inv.sends_younger;
     sends_rising = inv.sends_rising;
     unshared = inv.unshared;
     receives_open = λ e. all_weaker (ReceiveIsOpen A) (ReceiveIsOpen after_made) (λ a o. still_open a.endpoint a.thread o) (waiting_receives A e) (inv.receives_open e);
