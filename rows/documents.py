@@ -8,7 +8,7 @@ A page's blocks are taken in order, in a folder of the page's own that has `crat
                     error as a terminal shows both;
 - ```report         stands in what the last command wrote, behind the reports that came before;
 - ```sh             builds or proves: it is not run, and each `make` has to name a target of the Makefile;
-- ```rust FILE      stands in that file, line for line;
+- ```rust FILE      stands in that file, line for line, and so does ```antt FILE;
 - ```text           is not run.
 
 A line of three dots stands for any lines. A block of another kind is a fault, so that none is forgotten.
@@ -93,12 +93,14 @@ class Runner:
         stands = "\n".join(lines) in (ROOT / words[0]).read_text()
         return [] if stands else [f"these lines do not stand in {words[0]}"]
 
+    antt = rust
+
     def text(self, *_):
         return []
 
 
 # The kinds of block, and whether a file is named behind the kind.
-KINDS = {"toml": True, "console": False, "report": False, "sh": False, "rust": True, "text": False}
+KINDS = {"toml": True, "console": False, "report": False, "sh": False, "rust": True, "antt": True, "text": False}
 
 
 def faults(page, program):
