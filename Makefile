@@ -7,8 +7,10 @@
 # chromium and compares what they show (traces=FOLDER: pages of the traces in a folder instead); it says first what it needs
 # and does not find;
 # make bench: how the cost of check, the kernel and the linked forms grows, beside plain Rust, measured and drawn
-# (docs/performance.md); it says first what it needs and does not find.
-.PHONY: run test try rows page page-test needs bench
+# (docs/performance.md); it says first what it needs and does not find;
+# make wrong-bodies: each wrong body of each crate, in copies; CRATE=NAME: those of one crate, JOBS=N: N crates side by side
+# (docs/wrong-bodies.md). It is no part of the gate, which tries those of must-fail/ alone.
+.PHONY: run test try rows page page-test needs bench wrong-bodies
 
 program = crates/sel4sim/out/sel4sim
 calls = crates/refused_memory/out/refused_memory
@@ -55,3 +57,6 @@ bench: needs run
 	python3 bench/same_reports.py $(plain) $(setups)
 	python3 bench/growth.py $(program) $(plain)
 	python3 bench/draw.py
+
+wrong-bodies:
+	python3 tools/wrong_bodies.py --jobs $(or $(JOBS),1) $(CRATE)

@@ -1,0 +1,460 @@
+#!/usr/bin/env python3
+"""Tries the wrong bodies of the crates: each edit of must-fail/ and of wrong-bodies/ has to be refused.
+
+usage, anywhere in the repository:
+  tools/wrong_bodies.py [CRATE [NAME..]]   all crates, one crate, or some of its edits by name
+  tools/wrong_bodies.py --dry [CRATE ..]   proves nothing: says whether each edit can be applied, and what its first line names
+  --jobs N    so many crates side by side (1)
+  --room DIR  keeps the copies, with what was proved and what rt said, in DIR
+
+The checkout is not touched: each crate is tried in a copy, over copies of the crates below it and of their kept work, so
+build those first (rt lib). Edits stand in one check only where each is in a function of its own and none of these functions
+names another one. There an edit counts as refused only by a goal of its own function: callers are proved against contracts,
+so such a goal is false, or no longer proved, because of that edit alone. What has no such error is tried by itself, by the
+rule of `rt must-fail`: the crate is refused. docs/wrong-bodies.md says more."""
+import argparse
+import concurrent.futures
+import dataclasses
+import os
+import re
+import resource
+import shutil
+import subprocess
+import sys
+import tempfile
+import time
+
+PARTS = ("src", "specs", "proofs")
+FOLDERS = ("must-fail", "wrong-bodies")
+# What a proof file says where it names what the edit took away: it says nothing of the contract.
+GONE = re.compile(r"is not in scope|has no field|was not admitted|is no name|depends on|has no `")
+WHY = re.compile(r"why: the (clause|invariant)(?: '(\w+)')? of (\w+(?:::\w+)?)(?:: .+)?$")
+SIGNATURE = re.compile(r"( *)(?:pub(?:\([a-z]+\))? )?(?:const )?fn (\w+)")
+
+
+@dataclasses.dataclass(frozen=True)
+class Function:
+    """A function with a body: its file, its type or "", its name, its first and last line from 1, its text."""
+
+    file: str
+    owner: str
+    name: str
+    first: int
+    last: int
+    text: str = dataclasses.field(compare=False, default="")
+
+    @property
+    def path(self):
+        return f"{self.owner}::{self.name}" if self.owner else self.name
+
+    def same_as(self, other):
+        return (self.file, self.owner, self.name) == (other.file, other.owner, other.name)
+
+
+@dataclasses.dataclass
+class Edit:
+    """An edit: its file, the kind, clause and function that its first line names, its pairs, and where they stand."""
+
+    path: str
+    why: tuple = ()
+    pairs: list = dataclasses.field(default_factory=list)
+    places: list = dataclasses.field(default_factory=list)
+    bad: str = ""
+
+    @property
+    def name(self):
+        return os.path.basename(self.path).removesuffix(".edit")
+
+
+def text_of(path):
+    with open(path, encoding="utf-8") as file:
+        return file.read()
+
+
+def owner_of(lines, at):
+    """The type whose impl a line stands in, or the trait."""
+    top = next((k for k in range(at, -1, -1) if re.match(r"impl\b|pub trait|trait|mod ", lines[k])), None)
+    if top is None:
+        return ""
+    head = " ".join(lines[top : at + 1]).split("{")[0]
+    found = re.search(r"\sfor (?:[\w:]*::)?(\w+)", head) or re.match(r"impl(?:<.*?>)? (\w+)|(?:pub )?trait (\w+)", head)
+    return next((it for it in found.groups() if it), "") if found else ""
+
+
+def functions_of(file, text):
+    """The functions of a file that have a body."""
+    lines, found = text.split("\n"), []
+    for n, line in enumerate(lines):
+        at = SIGNATURE.match(line)
+        if not at:
+            continue
+        ends = (at[1] + "}", at[1] + "{}")
+        end = next((k for k in range(n, len(lines)) if lines[k] in ends or lines[k].endswith(";") and k == n), None)
+        if end is not None:
+            owner = owner_of(lines, n) if at[1] else ""
+            found.append(Function(file, owner, at[2], n + 1, end + 1, "\n".join(lines[n : end + 1])))
+    return found
+
+
+def read_edit(path, folder):
+    """Reads an edit, and finds the functions that it changes."""
+    edit, file, old = Edit(path), "", None
+    lines = text_of(path).split("\n")
+    edit.why = WHY.match(lines[0]).groups() if WHY.match(lines[0]) else ()
+    for line in lines:
+        if line.startswith("file: "):
+            file = line.removeprefix("file: ").strip()
+        elif line.startswith("old: "):
+            old = line.removeprefix("old: ")
+        elif line.startswith("new:") and old:
+            edit.pairs.append((file, old, line.removeprefix("new:").removeprefix(" ")))
+            old = None
+    if not edit.pairs:
+        edit.bad = "it has no pair of lines 'old:' and 'new:'"
+    for file, old, _ in edit.pairs:
+        edit.bad = edit.bad or place_pair(edit, folder, file, old)
+    edit.bad = edit.bad or bad_why(edit, folder)
+    return edit
+
+
+def place_pair(edit, folder, file, old):
+    """Adds the function in which the old text stands, or says why it cannot be replaced."""
+    if not os.path.isfile(f"{folder}/{file}"):
+        return f"there is no file {file}"
+    text = text_of(f"{folder}/{file}")
+    if text.count(old) != 1:
+        return f"its 'old:' text stands {text.count(old)} times in {file}, and not once: {old}"
+    line = text[: text.index(old)].count("\n") + 1
+    here = [it for it in functions_of(file, text) if it.first <= line <= it.last]
+    edit.places += [it for it in here if it not in edit.places] or [None]
+    return ""
+
+
+def bad_why(edit, folder):
+    """Says whether the first line names what is not there."""
+    if not edit.why:
+        return "its first line is not: why: the clause 'NAME' of FUNCTION: SENTENCE"
+    kind, clause, path = edit.why
+    name = path.split("::")[-1]
+    here = "\n".join(text_of(it) for it in sources(folder))
+    if not re.search(rf"\b(fn|struct|enum|trait) {name}\b", here):
+        return f"its first line names {path}, which is not in the crate"
+    if not clause:
+        return ""
+    wanted = re.compile(rf"fn {name}\b(?:(?!\n *\{{|\n *fn |;\n\n).)*?ensures {clause} \{{", re.S)
+    below = os.path.dirname(folder)
+    traits = [] if wanted.search(here) else [text_of(it) for crate in crates_of(below) for it in sources(f"{below}/{crate}")]
+    if kind == "clause" and not wanted.search(here) and not any(wanted.search(it) for it in traits):
+        return f"its first line names the clause '{clause}' of {path}, which has none of that name"
+    return ""
+
+
+def crates_of(folder):
+    return sorted(it for it in os.listdir(folder) if os.path.isdir(f"{folder}/{it}/src"))
+
+
+def sources(folder):
+    found = [f"{at}/{name}" for at, _, names in os.walk(f"{folder}/src") for name in sorted(names)]
+    return [it for it in found if it.endswith(".rt")]
+
+
+def edits_of(folder, names):
+    """The edits of a crate, those of one function next to one another."""
+    paths = [f"{folder}/{kind}/{it}" for kind in FOLDERS if os.path.isdir(f"{folder}/{kind}")
+             for it in sorted(os.listdir(f"{folder}/{kind}")) if it.endswith(".edit")]
+    edits = [read_edit(it, folder) for it in paths]
+    return [it for it in edits if not names or it.name in names]
+
+
+def can_stand_together(edit, other):
+    """Whether no function of the one is, or names, a function of the other."""
+    return not any(
+        a.same_as(b) or a.name == b.name or re.search(rf"\b{a.name}\b", b.text) or re.search(rf"\b{b.name}\b", a.text)
+        for a in edit.places for b in other.places)
+
+
+def groups_of(edits):
+    """Groups of edits for one check each, and those that have to be tried alone."""
+    groups, alone = [], []
+    for edit in edits:
+        if len(edit.places) != 1 or None in edit.places:
+            alone.append(edit)
+            continue
+        group = next((g for g in groups if all(can_stand_together(edit, it) for it in g)), None)
+        groups.append([edit]) if group is None else group.append(edit)
+    return groups, alone
+
+
+def lines_of_list(root):
+    """The lines of crates.txt, by the crate that each names."""
+    lines = [it.split("#")[0].strip() for it in text_of(f"{root}/crates.txt").split("\n")]
+    return {it.split(":")[0].split()[0]: it for it in lines if it}
+
+
+def crates_below(listed, crate):
+    """A crate with all those of the repository that it stands on."""
+    found, left = [], [crate]
+    while left:
+        name = left.pop()
+        if name not in found:
+            found.append(name)
+            left += [it for it in listed[name].split(":")[1].split() if it in listed]
+    return found
+
+
+def make_room(root, crate, room):
+    """Copies a crate and those below it, with their kept work, and gives the copy's folder."""
+    listed = lines_of_list(root)
+    names = crates_below(listed, crate)
+    os.makedirs(f"{room}/crates", exist_ok=True)
+    for name in names:
+        for part in (*PARTS, "out"):
+            source, target = f"{root}/crates/{name}/{part}", f"{room}/crates/{name}/{part}"
+            shutil.rmtree(target, ignore_errors=True)
+            if os.path.isdir(source):
+                os.makedirs(os.path.dirname(target), exist_ok=True)
+                subprocess.run(["cp", "-a", "--reflink=auto", source, target], check=True)
+    with open(f"{room}/crates.txt", "w", encoding="utf-8") as file:
+        file.write("".join(f"{line}\n" for name, line in listed.items() if name in names))
+    if os.path.isfile(f"{root}/HANDLES"):
+        shutil.copy(f"{root}/HANDLES", f"{room}/HANDLES")
+    os.makedirs(f"{room}/.git", exist_ok=True)
+    return f"{room}/crates/{crate}"
+
+
+@dataclasses.dataclass
+class Ran:
+    """What one check said, with its status, and the functions that it saw."""
+
+    status: int
+    lines: list
+    seen: list
+
+
+def check(folder, edits):
+    """Checks the copy with these edits, and puts its files back."""
+    kept = {file: text_of(f"{folder}/{file}") for edit in edits for file, _, _ in edit.pairs}
+    texts = dict(kept)
+    for edit in edits:
+        for file, old, new in edit.pairs:
+            texts[file] = texts[file].replace(old, new)
+    write_all(folder, texts)
+    ran = subprocess.run(["rt", "check", "--jobs", "1"], cwd=folder, stdin=subprocess.DEVNULL, stdout=subprocess.PIPE,
+                         stderr=subprocess.STDOUT, encoding="utf-8", errors="replace")
+    write_all(folder, kept)
+    seen = [it for file, text in texts.items() for it in functions_of(file, text)]
+    return Ran(ran.returncode, ran.stdout.rstrip("\n").split("\n"), seen)
+
+
+def write_all(folder, texts):
+    for file, text in texts.items():
+        with open(f"{folder}/{file}", "w", encoding="utf-8") as out:
+            out.write(text)
+
+
+def goals_of(ran, crate):
+    """By the path of each function that is not proved: the goals that are open or that an answer does not meet. A function
+    that waits for one that it calls has none."""
+    goals = {}
+    for line in ran.lines:
+        at = re.match(rf"fn {crate}::(\S+): no proof: expected answers in \S+; `search` did not prove (.*)", line)
+        if at:
+            goals.setdefault(at[1], []).extend(re.findall(r"`([^`]+)`", at[2]))
+        at = re.match(r"(?:\./)?proofs/(\S+)/Answers\.antt:\d+:\d+: error: `([^`]+)`: (.*)", line)
+        if at and not GONE.search(at[3]):
+            goals.setdefault(at[1].replace("/", "::"), []).append(at[2])
+    return goals
+
+
+def is_of(path, function):
+    """Whether a path that rt prints is that of a function, or of a closure in it."""
+    module = re.sub(r"^src/|(/mod)?\.rt$", "", function.file).replace("/", "::")
+    prefix = "" if module in ("lib", "main") else f"{module}::"
+    owner = rf"{function.owner}[^:]*::" if function.owner else ""
+    return re.fullmatch(rf"{prefix}(?:{owner}{function.name}|(?:{owner})?fn::(?:{owner})?{function.name}(?:::.*)?)", path)
+
+
+def own_goals(edit, goals):
+    """The goals that failed in the edit's own functions, those of the function that its first line names before others."""
+    places = [it for it in edit.places if it is not None]
+    named = edit.why[2] if edit.why else ""
+    places.sort(key=lambda it: it.path != named and it.name != named)
+    return [goal for place in places for path in goals if is_of(path, place) for goal in dict.fromkeys(goals[path])]
+
+
+def told_of(edit, goals):
+    """Where an edit is refused, beside what its first line names."""
+    kind, clause, _ = edit.why
+    mine = [it for it in goals if "-requires" not in it]
+    if kind == "invariant":
+        found = [it for it in mine if it.startswith("invariant_of")]
+    elif clause:
+        found = [it for it in mine if re.search(rf"clause-{clause}(?:-|$)", it)]
+    else:
+        found = [it for it in mine if it.startswith("returns") and "clause-" not in it]
+    if found:
+        return "at what it names", found
+    loops = [it for it in mine if it.startswith("loop")]
+    return ("at a loop's invariant", loops) if loops else ("elsewhere", goals)
+
+
+def said(crate, edit, where, goals):
+    shown = ", ".join(goals[:4]) + (", .." if len(goals) > 4 else "")
+    print(f"{crate}/{edit.name}: refused {where}{f' ({shown})' if shown else ''}", flush=True)
+    return where
+
+
+def try_group(crate, folder, group):
+    """Tries several edits in one check, and gives where each was refused; none where it has no goal of its own."""
+    ran = check(folder, group)
+    keep_output(folder, group[0], ran)
+    goals = goals_of(ran, crate)
+    found = {}
+    for edit in group:
+        mine = own_goals(edit, goals) if ran.status == 1 else []
+        if mine:
+            found[edit.name] = said(crate, edit, *told_of(edit, mine))
+    return found
+
+
+def keep_output(folder, edit, ran):
+    """Keeps what rt said beside the copy."""
+    with open(f"{folder}/said-{edit.name}.txt", "w", encoding="utf-8") as out:
+        out.write("\n".join(ran.lines) + "\n")
+
+
+def try_alone(crate, folder, edit):
+    """Tries one edit by the rule of the gate: the prover reads it, and does not prove the crate."""
+    ran = check(folder, [edit])
+    keep_output(folder, edit, ran)
+    label = f"{crate}/{edit.name}"
+    if ran.status == 0:
+        print(f"{label}: NOT REFUSED: the crate is still proved with it", flush=True)
+        return "NOT REFUSED"
+    unread = next((it for it in ran.lines if re.match(r"(?:\./)?src/\S+:\d+:\d+: error", it)), "")
+    if ran.status != 1 or "logic=not-proved" not in "\n".join(it[:16] for it in ran.lines) or unread:
+        print(f"{label}: BAD EDIT: it did not reach the prover: {(unread or ran.lines[0])[:160]}", flush=True)
+        return "BAD EDIT"
+    goals = goals_of(ran, crate)
+    mine = own_goals(edit, goals)
+    if mine:
+        return said(crate, edit, *told_of(edit, mine))
+    others = [f"{path}: {it}" for path in goals for it in goals[path]] + not_admitted(ran)
+    if others:
+        return said(crate, edit, "at another function", others)
+    return said(crate, edit, "by names alone, which says little of the contract", [])
+
+
+def not_admitted(ran):
+    """What is no function and is refused, as a constant's or a trait's promise."""
+    return [it[:120] for it in ran.lines if re.match(r"(?:\./)?(?:specs|proofs)/\S+:\d+:\d+: error", it) and not GONE.search(it)]
+
+
+@dataclasses.dataclass
+class Tried:
+    """What came of a crate: how many edits were refused where, what they cost, and what is wrong."""
+
+    crate: str
+    counts: dict = dataclasses.field(default_factory=dict)
+    wrong: list = dataclasses.field(default_factory=list)
+    seconds: float = 0.0
+    checks: int = 0
+
+
+def spent():
+    used = resource.getrusage(resource.RUSAGE_CHILDREN)
+    return used.ru_utime + used.ru_stime
+
+
+def try_crate(root, crate, names, rooms):
+    """Tries the edits of a crate in a copy."""
+    tried, before = Tried(crate), spent()
+    edits = edits_of(f"{root}/crates/{crate}", names)
+    tried.wrong += [f"{crate}/{it.name}: BAD EDIT: {it.bad}" for it in edits if it.bad]
+    edits = [it for it in edits if not it.bad]
+    folder = make_room(root, crate, f"{rooms}/{crate}")
+    if check(folder, []).status != 0:
+        tried.wrong.append(f"{crate}: the crate itself is not proved, or a library below it is not built: run rt lib there first")
+        return tried
+    groups, alone = groups_of(edits)
+    found = {}
+    for group in groups:
+        found |= try_group(crate, folder, group) if len(group) > 1 else {group[0].name: try_alone(crate, folder, group[0])}
+        alone += [it for it in group if it.name not in found]
+    for edit in alone:
+        found[edit.name] = try_alone(crate, folder, edit)
+    for name, where in found.items():
+        tried.counts[where] = tried.counts.get(where, 0) + 1
+        if where.isupper():
+            tried.wrong.append(f"{crate}/{name}: {where}")
+    tried.seconds, tried.checks = spent() - before, 1 + len(groups) + len(alone)
+    return tried
+
+
+def dry(root, crates, names):
+    """Says of each edit that cannot be applied, or whose first line names what is not there."""
+    edits = [(crate, it) for crate in crates for it in edits_of(f"{root}/crates/{crate}", names)]
+    bad = [f"{crate}/{it.name}: BAD EDIT: {it.bad}" for crate, it in edits if it.bad]
+    print("\n".join([*bad, f"{len(edits)} edits, {len(bad)} of them bad"]))
+    return 1 if bad else 0
+
+
+def tell(tried):
+    counts = "; ".join(f"{n} {where}" for where, n in sorted(tried.counts.items()))
+    print(f"== {tried.crate}: {sum(tried.counts.values())} edits: {counts}; {tried.checks} checks, {tried.seconds:.0f} processor s", flush=True)
+
+
+def root_above():
+    folder = os.path.dirname(os.path.dirname(os.path.abspath(__file__)))
+    if not os.path.isfile(f"{folder}/crates.txt"):
+        sys.exit(f"{folder} has no crates.txt: the script stands in tools/ of the repository")
+    return folder
+
+
+def chosen(root, crate):
+    """The crates to be tried, in the order of crates.txt."""
+    listed = list(lines_of_list(root))
+    if crate and crate not in listed:
+        sys.exit(f"there is no crate {crate} in crates.txt")
+    has_edits = lambda it: any(os.path.isdir(f"{root}/crates/{it}/{kind}") for kind in FOLDERS)
+    return [it for it in listed if (it == crate if crate else has_edits(it))]
+
+
+def main():
+    parser = argparse.ArgumentParser(description="Tries the wrong bodies of the crates, in copies.")
+    parser.add_argument("crate", nargs="?", default="", help="one crate; else all")
+    parser.add_argument("names", nargs="*", help="some edits of it by name; else all")
+    parser.add_argument("--dry", action="store_true", help="only look whether each edit can be applied")
+    parser.add_argument("--jobs", type=int, default=1, help="crates side by side")
+    parser.add_argument("--room", help="a folder for the copies, which is kept")
+    asked, root = parser.parse_args(), root_above()
+    crates = chosen(root, asked.crate)
+    if asked.dry:
+        return dry(root, crates, asked.names)
+    rooms = asked.room or tempfile.mkdtemp(prefix="wrong-bodies-")
+    try:
+        return try_all(root, crates, asked, os.path.abspath(rooms))
+    finally:
+        if not asked.room:
+            shutil.rmtree(rooms, ignore_errors=True)
+
+
+def try_all(root, crates, asked, rooms):
+    """Tries the edits of the crates, so many side by side as asked for, and tells what came of it."""
+    before = spent()
+    with concurrent.futures.ThreadPoolExecutor(max(1, asked.jobs)) as pool:
+        all_tried = [*pool.map(lambda it: tried_and_told(root, it, asked.names, rooms), crates)]
+    wrong = [line for it in all_tried for line in it.wrong]
+    edits = sum(sum(it.counts.values()) for it in all_tried)
+    print("\n".join([*wrong, f"{edits} wrong bodies tried, {len(wrong)} not refused or bad; {spent() - before:.0f} processor s"]))
+    return 1 if wrong else 0
+
+
+def tried_and_told(root, crate, names, rooms):
+    tried = try_crate(root, crate, names, rooms)
+    tell(tried)
+    return tried
+
+
+if __name__ == "__main__":
+    sys.exit(main())
