@@ -9,7 +9,7 @@ usage, anywhere in the repository:
 
 The checkout is not touched: each crate is tried in a copy, over copies of the crates below it and of their kept work, so
 build those first (rt lib). Edits stand in one check only where each is in a function of its own and none of these functions
-names another one. There an edit counts as refused only by a goal of its own function: callers are proved against contracts,
+calls another one. There an edit counts as refused only by a goal of its own function: callers are proved against contracts,
 so such a goal is false, or no longer proved, because of that edit alone. What has no such error is tried by itself, by the
 rule of `rt must-fail`: the crate is refused. docs/wrong-bodies.md says more."""
 import argparse
@@ -81,15 +81,25 @@ def owner_of(lines, at):
     return next((it for it in found.groups() if it), "") if found else ""
 
 
+def end_of(lines, first, indent):
+    """The last line of a function's body, or None where the function has none."""
+    for n in range(first, len(lines)):
+        line = lines[n]
+        if line == indent + "{" or line.endswith("{") and not re.match(r" *(requires|ensures) ", line):
+            return next((k for k in range(n, len(lines)) if lines[k] == indent + "}"), None)
+        if line == indent + "{}" or line.endswith(" {}"):
+            return n
+        if line.endswith(";"):
+            return None
+    return None
+
+
 def functions_of(file, text):
     """The functions of a file that have a body."""
     lines, found = text.split("\n"), []
     for n, line in enumerate(lines):
         at = SIGNATURE.match(line)
-        if not at:
-            continue
-        ends = (at[1] + "}", at[1] + "{}")
-        end = next((k for k in range(n, len(lines)) if lines[k] in ends or lines[k].endswith(";") and k == n), None)
+        end = end_of(lines, n, at[1]) if at else None
         if end is not None:
             owner = owner_of(lines, n) if at[1] else ""
             found.append(Function(file, owner, at[2], n + 1, end + 1, "\n".join(lines[n : end + 1])))
@@ -126,7 +136,7 @@ def place_pair(edit, folder, file, old):
         return f"its 'old:' text stands {text.count(old)} times in {file}, and not once: {old}"
     line = text[: text.index(old)].count("\n") + 1
     here = [it for it in functions_of(file, text) if it.first <= line <= it.last]
-    edit.places += [it for it in here if it not in edit.places] or [None]
+    edit.places += [it for it in here or [None] if it not in edit.places]
     return ""
 
 
@@ -166,11 +176,15 @@ def edits_of(folder, names):
     return [it for it in edits if not names or it.name in names]
 
 
+def calls(function, other):
+    """Whether a function's body may call another one, by its name; so also where it only has that name as a value."""
+    body = function.text.replace(f"fn {function.name}", "", 1)
+    return re.search(rf"\b{other.name}(?:\(|::<)|[(,] *(?:\w+::)*{other.name} *[,)]", body)
+
+
 def can_stand_together(edit, other):
-    """Whether no function of the one is, or names, a function of the other."""
-    return not any(
-        a.same_as(b) or a.name == b.name or re.search(rf"\b{a.name}\b", b.text) or re.search(rf"\b{b.name}\b", a.text)
-        for a in edit.places for b in other.places)
+    """Whether no function of the one is, or calls, a function of the other."""
+    return not any(a.same_as(b) or calls(a, b) or calls(b, a) for a in edit.places for b in other.places)
 
 
 def groups_of(edits):
@@ -282,6 +296,12 @@ def own_goals(edit, goals):
     return [goal for place in places for path in goals if is_of(path, place) for goal in dict.fromkeys(goals[path])]
 
 
+def named_goals(edit, goals):
+    """The goals that failed in the function that the first line names, as the law that holds a constant."""
+    name = edit.why[2].split("::")[-1]
+    return [goal for path in goals if path.split("::")[-1] == name for goal in dict.fromkeys(goals[path])]
+
+
 def told_of(edit, goals):
     """Where an edit is refused, beside what its first line names."""
     kind, clause, _ = edit.why
@@ -336,7 +356,7 @@ def try_alone(crate, folder, edit):
         print(f"{label}: BAD EDIT: it did not reach the prover: {(unread or ran.lines[0])[:160]}", flush=True)
         return "BAD EDIT"
     goals = goals_of(ran, crate)
-    mine = own_goals(edit, goals)
+    mine = own_goals(edit, goals) or named_goals(edit, goals)
     if mine:
         return said(crate, edit, *told_of(edit, mine))
     others = [f"{path}: {it}" for path in goals for it in goals[path]] + not_admitted(ran)
