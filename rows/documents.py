@@ -85,8 +85,8 @@ class Runner:
             self.written = self.written[met.end() :]
 
     def sh(self, _, lines):
-        targets = re.findall(r"^(\w+):", (ROOT / "Makefile").read_text(), re.M)
-        named = [word for line in lines for word in re.findall(r"^make (\w+)", line)]
+        targets = re.findall(r"^([\w-]+):", (ROOT / "Makefile").read_text(), re.M)
+        named = [word for line in lines for word in re.findall(r"^make ([\w-]+)", line)]
         return [f"the Makefile has no target {word}" for word in named if word not in targets]
 
     def rust(self, words, lines):
