@@ -1,7 +1,7 @@
 //! The trace of a set-up's run, from the bytes of an input to the text that is written for it.
 ghost use Rattle.std.specs.Prelude.{◌≡◌, ◌≢◌, IfOk, false};
 ghost use Rattle.abstract_kernel.specs.Plan.{IsPlan};
-ghost use Rattle.setup_values.specs.Private.Seen.{names_view};
+ghost use Rattle.setup_values.specs.Names.{names_view};
 ghost use Rattle.engine.specs.Program.{verdict_on as verdict_of_counts};
 ghost use Rattle.engine_core.specs.Runs.{IsRun};
 ghost use Rattle.engine_trace.specs.Traces.{traced_in, trace_of_bytes};

@@ -1,6 +1,5 @@
 -- What a set-up with its names is: each name with its word, and the set-up.
-use Rattle.setup_values.specs.Names.{Names}
-use Rattle.setup_values.specs.Private.Seen.{names_view}
+use Rattle.setup_values.specs.Names.{Names, names_view}
 use Rattle.setup_format.specs.declared.setup.NamedSetup.{NamedSetup}
 use Rattle.setup_format.specs.Views.{SetupView}
 

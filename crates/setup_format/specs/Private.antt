@@ -1,3 +1,2 @@
 -- What only private contracts cite, in proofs of the public ones: nobody has to believe it.
-pub mod Seen
 pub mod Sizes

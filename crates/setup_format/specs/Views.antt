@@ -1,10 +1,12 @@
 -- What is seen of a set-up.
-use Rattle.std.specs.Prelude.{ℕ, ◌≤◌, ◌<◌, List, length, All, Option}
+use Rattle.std.specs.Prelude.{ℕ, ◌≤◌, ◌<◌, List, [], ◌∷◌, length, All, Option, option_map, string_bytes}
 use Rattle.cap_core.specs.declared.profile.ProfileName.{ProfileName}
 use Rattle.abstract_kernel.specs.declared.call.Call.{Call}
 use Rattle.abstract_kernel.specs.Plan.{Plan}
 use Rattle.cap_core.specs.Limits.{max_clients, max_history_limit}
 use Rattle.setup_format.specs.declared.limits.TheConstants.{MAX_CALLS}
+use Rattle.setup_format.specs.declared.setup.Caller.{Caller}
+use Rattle.setup_format.specs.declared.setup.SetupCall.{SetupCall}
 
 -- a call, the client that makes it, and what its reply is expected to begin with
 pub record CallView : Type 0 where
@@ -18,6 +20,25 @@ pub record SetupView : Type 0 where
   pub clients : ℕ
   pub limit : ℕ
   pub calls : List CallView
+
+-- ---- what a set-up is, as the code keeps it
+
+-- a call that is read, and then all of them: the calls, each beside its caller
+abbrev pub call_view : SetupCall → CallView
+call_view r = record { call = r.call; client = r.client; expect = option_map string_bytes r.expect }
+
+abbrev pub call_views : List Call → List Caller → List CallView
+call_views [] callers = []
+call_views (call ∷ calls) [] = []
+call_views (call ∷ calls) (caller ∷ callers) =
+    record { call = call; client = caller.client; expect = option_map string_bytes caller.expect } ∷ call_views calls callers
+
+-- its parts together
+abbrev pub setup_view : ProfileName → Plan → ℕ → ℕ → List CallView → SetupView
+setup_view profile plan clients limit calls =
+    record { profile = profile; plan = plan; clients = clients; limit = limit; calls = calls }
+
+-- ---- bounds
 
 -- the number of clients, the most entries of a history, the number of calls and each call's client lie within their bounds
 pub record IsWithinBounds (s : SetupView) : Type 0 where

@@ -1,7 +1,7 @@
 //! The operations that a call may name: the keys of each, and what they are read as.
 ghost use Rattle.std.specs.Prelude.{◌≡◌, map};
 ghost use Rattle.toml.specs.View.{table_view};
-ghost use Rattle.setup_values.specs.Private.Seen.{names_view};
+ghost use Rattle.setup_values.specs.Names.{names_view};
 ghost use Rattle.setup_format.specs.Faults.{Gives};
 ghost use Rattle.setup_values.specs.declared.values.OpName.TheVariants as op_names;
 ghost use Rattle.setup_format.specs.Operations as spec;

@@ -2,14 +2,13 @@
 ghost use Rattle.std.specs.Prelude.{◌≡◌, ◌≢◌, ◌≤◌, ◌<◌, map, length, All, IfOk, IfErr};
 ghost use Rattle.toml.specs.View.{table_view};
 ghost use Rattle.abstract_kernel.specs.Plan.{IsUntypedSize, IsWithinLimits, IsPlan};
-ghost use Rattle.setup_values.specs.Private.Seen.{names_view};
+ghost use Rattle.setup_values.specs.Names.{names_view};
 ghost use Rattle.setup_format.specs.Faults.{Gives};
 ghost use Rattle.setup_values.specs.Kinds.{each};
 ghost use Rattle.setup_format.specs.Messages.{HasMessage};
 ghost use Rattle.setup_format.specs.Named.{named_view};
-ghost use Rattle.setup_format.specs.Private.Seen.{call_view};
+ghost use Rattle.setup_format.specs.Views.{call_view, IsWithinBounds};
 ghost use Rattle.setup_format.specs.Private.Sizes.{IsSizes};
-ghost use Rattle.setup_format.specs.Views.{IsWithinBounds};
 ghost use Rattle.setup_format.specs.Setups as spec;
 
 use crate::fault::{Place, SetupFault};

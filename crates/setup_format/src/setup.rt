@@ -44,7 +44,7 @@ pub struct SetupCalls {
 impl Model for SetupCalls {
     ghost use Rattle.std.specs.Prelude.{◌≡◌, List, length};
     ghost use Rattle.setup_format.specs.Views.{CallView};
-    ghost use Rattle.setup_format.specs.Private.Seen.{call_views};
+    ghost use Rattle.setup_format.specs.Views.{call_views};
 
     ghost Value = { List CallView };
 
@@ -55,7 +55,7 @@ impl Model for SetupCalls {
 
 impl SetupCalls {
     ghost use Rattle.std.specs.Prelude.{[], ◌∷◌, ◌++◌, OnOk};
-    ghost use Rattle.setup_format.specs.Private.Seen.{call_view};
+    ghost use Rattle.setup_format.specs.Views.{call_view};
 
     pub fn new(alloc: Global) -> SetupCalls
         ensures { result ≡ [] }
@@ -133,7 +133,7 @@ impl Model for Setup {
     ghost use Rattle.std.specs.Prelude.{◌≤◌};
     ghost use Rattle.cap_core.specs.declared.limits.TheConstants.{MIN_MEMORY_BITS, MAX_MEMORY_BITS};
     ghost use Rattle.setup_format.specs.Views.{SetupView, IsWithinBounds};
-    ghost use Rattle.setup_format.specs.Private.Seen.{setup_view};
+    ghost use Rattle.setup_format.specs.Views.{setup_view};
 
     ghost Value = { SetupView };
 
@@ -144,7 +144,7 @@ impl Model for Setup {
 
 impl Setup {
     ghost use Rattle.setup_format.specs.Views.{IsWithinBounds};
-    ghost use Rattle.setup_format.specs.Private.Seen.{setup_view};
+    ghost use Rattle.setup_format.specs.Views.{setup_view};
 
     pub(crate) fn new(
         profile: ProfileName,

@@ -7,7 +7,7 @@ ghost use Rattle.toml.specs.View.{view, table_view};
 ghost use Rattle.toml.specs.Data.{get_member, as_table};
 ghost use Rattle.cap_core.specs.declared.profile.ProfileName.TheVariants.{Wide};
 ghost use Rattle.cap_core.specs.Rights.{all_rights};
-ghost use Rattle.setup_values.specs.Private.Seen.{names_view};
+ghost use Rattle.setup_values.specs.Names.{names_view};
 ghost use Rattle.setup_values.specs.Keys.{entries_of};
 ghost use Rattle.setup_values.specs.Kinds as kind;
 ghost use Rattle.setup_format.specs.Faults.{Gives};

@@ -1,7 +1,7 @@
 //! The first lines of a trace: what machine the set-up is of, and how it is spelt.
 ghost use Rattle.std.specs.Prelude.{◌≡◌, ◌++◌, OnOk, string_bytes};
 ghost use Rattle.std.specs.List.{flat_map};
-ghost use Rattle.setup_values.specs.Private.Seen.{names_view};
+ghost use Rattle.setup_values.specs.Names.{names_view};
 ghost use Rattle.setup_trace.specs.Private.Listed.{name_view};
 ghost use Rattle.setup_trace.specs.Trace as spec;
 

@@ -2,7 +2,7 @@
 ghost use Rattle.std.specs.Prelude.{◌≡◌, ◌++◌, IfOk, OnOk, codes, string_bytes};
 ghost use Rattle.abstract_kernel.specs.Boot.{boot};
 ghost use Rattle.abstract_kernel.specs.Plan.{IsPlan};
-ghost use Rattle.setup_values.specs.Private.Seen.{names_view};
+ghost use Rattle.setup_values.specs.Names.{names_view};
 ghost use Rattle.setup_report.specs.Report.{line, met_count, expectation_count};
 ghost use Rattle.setup_trace.specs.Trace as spec;
 

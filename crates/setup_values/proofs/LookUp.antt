@@ -2,8 +2,7 @@
 use Rattle.std.proofs.Common.{◌≡◌, ℕ, Bool, cond, List, [], ◌∷◌, map, find, Option, Some, None, option_map, string_bytes, refl, sym, ap, ◌∙◌, true, false}
 use Rattle.std.specs.Str.{bytes_eq}
 use Rattle.setup_values.specs.declared.names.Name.{Name}
-use Rattle.setup_values.specs.Names.{word_named}
-use Rattle.setup_values.specs.Private.Seen.{names_view}
+use Rattle.setup_values.specs.Names.{word_named, names_view}
 
 found_or : {A B : Type 0} (f : A → B) (b : Bool) (x : A) (rest : Option A) (d : Option B) → d ≡ option_map f rest → cond b (Some (f x)) d ≡ option_map f (cond b (Some x) rest)
 found_or f true x rest d e = refl

@@ -29,6 +29,12 @@ wrong_code OtherValue = 204
 
 -- ---- what is read
 
+-- what a function returned, where its value is seen by a view: a function that reads by a kind promises of this
+-- that it is what the kind says of the value
+abbrev pub seen : {X A E : Type 0} → (X → A) → Result X E → Result A E
+seen view (Ok x) = Ok (view x)
+seen view (Err e) = Err e
+
 abbrev pub between : ℕ → ℕ → ℕ → Bool
 between low high n = nat_le low n && nat_le n high
 

@@ -1,5 +1,4 @@
--- What the values of a set-up's keys are read as; Private has what serves the proofs alone.
+-- What the values of a set-up's keys are read as.
 pub mod Names
 pub mod Keys
 pub mod Kinds
-pub mod Private

@@ -1,10 +1,15 @@
 -- Names that stand for words.
-use Rattle.std.specs.Prelude.{ℕ, List, find, Option, option_map}
+use Rattle.std.specs.Prelude.{ℕ, List, map, find, Option, option_map, string_bytes}
 use Rattle.std.specs.Str.{bytes_eq}
+use Rattle.setup_values.specs.declared.names.Name.{Name}
 
 -- each name's text, and its word
 abbrev pub Names : Type 0
 Names = List (List ℕ × ℕ)
+
+-- what names are, as the code keeps them: the bytes of each one's text, and its word
+abbrev pub names_view : List Name → Names
+names_view = map (λ n. (string_bytes n.text, n.word))
 
 -- the word of the first name with a text
 abbrev pub word_named : Names → List ℕ → Option ℕ

@@ -4,7 +4,8 @@ ghost use Rattle.std.specs.List.{list_all};
 ghost use Rattle.toml.specs.View.{view, table_view};
 ghost use Rattle.toml.specs.Data.{as_array, as_integer, as_str, as_table};
 ghost use Rattle.cap_core.specs.Numbers.{word_bits, label_bits};
-ghost use Rattle.setup_values.specs.Private.Seen.{names_view, seen};
+ghost use Rattle.setup_values.specs.Names.{names_view};
+ghost use Rattle.setup_values.specs.Kinds.{seen};
 ghost use Rattle.setup_values.specs.Kinds as kind;
 
 use crate::limits::MAX_EXPECT_BYTES;

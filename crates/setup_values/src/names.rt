@@ -2,9 +2,8 @@
 ghost use Rattle.std.specs.Prelude.{◌≡◌, find, option_copied, string_bytes};
 ghost use Rattle.std.specs.Str.{bytes_eq};
 ghost use Rattle.std.specs.List.{list_all};
-ghost use Rattle.setup_values.specs.Names.{word_named};
+ghost use Rattle.setup_values.specs.Names.{word_named, names_view};
 ghost use Rattle.setup_values.specs.Kinds as kind;
-ghost use Rattle.setup_values.specs.Private.Seen.{names_view};
 
 use crate::limits::MAX_NAME_BYTES;
 

@@ -2,8 +2,7 @@
 use Rattle.std.proofs.Common.{◌≡◌, ℕ, zero, suc, ◌<◌, List, [], ◌∷◌, ◌++◌, length, map, slice_get, get_or, Some, option_map, string_bytes, refl, ap, arith}
 use Rattle.abstract_kernel.specs.declared.call.Call.{Call}
 use Rattle.setup_format.specs.declared.setup.Caller.{Caller}
-use Rattle.setup_format.specs.Views.{CallView}
-use Rattle.setup_format.specs.Private.Seen.{call_views}
+use Rattle.setup_format.specs.Views.{CallView, call_views}
 
 pub calls_seen : (cs : List Call) (ks : List Caller) → length cs ≡ length ks → map (λ (c : CallView). c.call) (call_views cs ks) ≡ cs
 calls_seen [] ks e = refl

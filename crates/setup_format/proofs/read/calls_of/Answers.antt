@@ -5,9 +5,8 @@ use Rattle.std.proofs.lemmas.List.Elements.{All-push}
 use Rattle.toml.specs.View.{table_view}
 use Rattle.setup_values.specs.Kinds.{each}
 use Rattle.setup_format.specs.Faults.{Fails}
-use Rattle.setup_format.specs.Private.Seen.{call_view}
-use Rattle.setup_values.specs.Private.Seen.{names_view}
-use Rattle.setup_format.specs.Views.{CallView}
+use Rattle.setup_format.specs.Views.{call_view, CallView}
+use Rattle.setup_values.specs.Names.{names_view}
 use Rattle.setup_format.specs.Setups.{call_at}
 use Rattle.setup_values.proofs.Loops.{goes_on, is_done}
 use Rattle.setup_format.proofs.Grammar.Ends.{fails}

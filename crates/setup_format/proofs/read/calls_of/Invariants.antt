@@ -1,7 +1,7 @@
 use Rattle.std.proofs.Common.{◌≡◌, ◌+◌, ◌<◌, All, map, length, drop}
 use Rattle.toml.specs.View.{table_view}
 use Rattle.setup_values.specs.Kinds.{each}
-use Rattle.setup_values.specs.Private.Seen.{names_view}
+use Rattle.setup_values.specs.Names.{names_view}
 use Rattle.setup_format.specs.Views.{CallView}
 use Rattle.setup_format.specs.Setups.{call_at}
 use Rattle.setup_values.proofs.Loops.{with_front}

@@ -3,8 +3,8 @@ use Rattle.std.proofs.lemmas.List.{map_push}
 use Rattle.std.proofs.lemmas.Result.{err_from_is_err_and}
 use Rattle.toml.specs.View.{view}
 use Rattle.setup_values.specs.declared.names.Name.{Name}
-use Rattle.setup_values.specs.Private.Seen.{names_view, seen as seen_result}
-use Rattle.setup_values.specs.Kinds.{entry}
+use Rattle.setup_values.specs.Names.{names_view}
+use Rattle.setup_values.specs.Kinds.{seen as seen_result, entry}
 use Rattle.setup_format.specs.Tables.{at_key}
 use Rattle.setup_format.proofs.Grammar.Entries.{Entry, seen, so_far, names_in_turn, one_more, at_fault, all_read, fails_at}
 use Rattle.setup_format.proofs.tables.names_of.Goals as goal

@@ -1,5 +1,5 @@
 use Rattle.std.proofs.Common.{◌≡◌, []}
-use Rattle.setup_values.specs.Private.Seen.{names_view}
+use Rattle.setup_values.specs.Names.{names_view}
 use Rattle.setup_format.proofs.Grammar.Entries.{so_far}
 use Rattle.setup_format.proofs.tables.names_of.Given as goal
 

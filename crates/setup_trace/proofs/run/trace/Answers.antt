@@ -3,7 +3,7 @@ use Rattle.std.proofs.lemmas.List.{length-map}
 use Rattle.abstract_kernel.specs.Boot.{boot}
 use Rattle.abstract_kernel.specs.State.{shown}
 use Rattle.setup_format.specs.Views.{CallView}
-use Rattle.setup_values.specs.Private.Seen.{names_view}
+use Rattle.setup_values.specs.Names.{names_view}
 use Rattle.setup_report.specs.Report.{line, met_count, expectation_count}
 use Rattle.setup_trace.specs.Changes.{changes, state_lines}
 use Rattle.setup_trace.specs.Trace.{head_line, name_lines, calls_lines, count_line, replies_to, trace_of}

@@ -5,7 +5,7 @@ use Rattle.toml.specs.View.{view}
 use Rattle.cap_core.specs.declared.limits.TheConstants.{MAX_MESSAGE_WORDS}
 use Rattle.cap_core.specs.Checks.{◌>>=◌}
 use Rattle.setup_values.specs.Kinds.{word, each, filled}
-use Rattle.setup_values.specs.Private.Seen.{names_view}
+use Rattle.setup_values.specs.Names.{names_view}
 use Rattle.setup_values.proofs.Loops.{goes_on, ends, is_done, words_are}
 use Rattle.setup_values.proofs.Padding.{rest_after, filled_is, words_record}
 use Rattle.setup_values.proofs.kinds.words.Goals as goal

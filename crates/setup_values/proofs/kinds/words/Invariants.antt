@@ -2,7 +2,7 @@ use Rattle.std.proofs.Common.{◌≡◌, ◌+◌, ◌-◌, map, take, drop, repl
 use Rattle.toml.specs.View.{view}
 use Rattle.cap_core.specs.declared.limits.TheConstants.{MAX_MESSAGE_WORDS}
 use Rattle.setup_values.specs.Kinds.{each, word}
-use Rattle.setup_values.specs.Private.Seen.{names_view}
+use Rattle.setup_values.specs.Names.{names_view}
 use Rattle.setup_values.proofs.Loops.{with_front}
 use Rattle.setup_values.proofs.kinds.words.Given as goal
 
