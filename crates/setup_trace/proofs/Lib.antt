@@ -4,3 +4,5 @@ pub mod Views
 pub mod Steps
 pub mod Applied
 pub mod Replays
+pub mod Reported
+pub mod Backwards

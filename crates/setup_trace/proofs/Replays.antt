@@ -32,14 +32,14 @@ states_told a b =
     ++ (all_told a.slots b.slots i
     ++ all_told a.selfheld b.selfheld i)))
 
-record AllRise (s : StateLines) : Type 0 where
-  threads : Rise s.threads
-  inboxes : Rise s.inboxes
-  endpoints : Rise s.endpoints
-  slots : Rise s.slots
-  selfheld : Rise s.selfheld
+pub record AllRise (s : StateLines) : Type 0 where
+  pub threads : Rise s.threads
+  pub inboxes : Rise s.inboxes
+  pub endpoints : Rise s.endpoints
+  pub slots : Rise s.slots
+  pub selfheld : Rise s.selfheld
 
-lines_rise : (p : ProfileName) (v : Shown) → AllRise (state_lines p v)
+pub lines_rise : (p : ProfileName) (v : Shown) → AllRise (state_lines p v)
 lines_rise p v =
     let list = derivations_of v.derivations in
     record {
@@ -54,10 +54,10 @@ nil_rises : Rise []
 unfolding IsStrictlySortedBy
 nil_rises = tt
 
-none_rise : AllRise no_lines
+pub none_rise : AllRise no_lines
 none_rise = record { threads = nil_rises; inboxes = nil_rises; endpoints = nil_rises; slots = nil_rises; selfheld = nil_rises }
 
-rising_applied : (a b : StateLines) → AllRise a → AllRise b → state_applied a (state_differences a b) ≡ b
+pub rising_applied : (a b : StateLines) → AllRise a → AllRise b → state_applied a (state_differences a b) ≡ b
 rising_applied a b h k =
     λ i. record {
       threads = all_applied a.threads b.threads h.threads k.threads i;

@@ -1,20 +1,23 @@
 -- What the laws of a trace say: its changes as data, a state's lines after them, and the report within it.
-use Rattle.std.specs.Prelude.{ℕ, ◌+◌, Bool, true, false, not, ◌==◌, nat_eq, List, [], ◌∷◌, ◌++◌, map, Option, None, Some}
+use Rattle.std.specs.Prelude.{◌≡◌, ℕ, ◌+◌, Bool, true, false, not, ◌==◌, nat_eq, List, [], ◌∷◌, ◌++◌, map, Option, None, Some}
 use Rattle.std.specs.List.{filter, flat_map}
 use Rattle.std.specs.List.Sorted.{IsStrictlySortedBy}
 use Rattle.std.specs.Ordering.{nat_cmp}
 use Rattle.std.specs.BTreeMap.{insert_entry}
 use lib.Pointwise.{pointwise}
 use Rattle.cap_core.specs.declared.profile.ProfileName.{ProfileName}
+use Rattle.derivation.specs.Entries.{derivations_of}
 use Rattle.abstract_kernel.specs.declared.call.Call.{Call}
 use Rattle.abstract_kernel.specs.declared.call.Reply.{Reply}
 use Rattle.abstract_kernel.specs.Boot.{boot}
 use Rattle.abstract_kernel.specs.Plan.{Plan}
+use Rattle.abstract_kernel.specs.Shown.{Shown}
 use Rattle.abstract_kernel.specs.State.{State, shown}
 use Rattle.abstract_kernel.specs.Step.{step}
 use Rattle.setup_format.specs.Views.{CallView}
-use Rattle.setup_report.specs.Report.{line, rising, call_text}
-use Rattle.setup_trace.specs.Lines.{Lines}
+use Rattle.setup_report.specs.Report.{line, rising, call_text, full_slots, thread_line}
+use Rattle.setup_report.specs.Report as report
+use Rattle.setup_trace.specs.Lines.{Lines, thread_lines, endpoint_lines, slot_lines, selfheld_lines}
 use Rattle.setup_trace.specs.Changes.{StateLines, state_lines, no_lines, addresses, text_at, removed, added, changes}
 use Rattle.setup_trace.specs.Trace.{words_line}
 
@@ -68,6 +71,10 @@ applied lines (d ∷ ds) = applied (apply lines d) ds
 abbrev pub Rise : Lines → Type 0
 Rise lines = IsStrictlySortedBy nat_cmp (addresses lines)
 
+-- the difference that leads back: the new line is taken away, and the old one is put in
+abbrev pub flipped : Difference → Difference
+flipped d = record { address = d.address; old = d.new; new = d.old }
+
 -- ---- the same of all that is told of two states
 
 pub record StateDifferences : Type 0 where
@@ -105,6 +112,16 @@ state_applied lines d =
       selfheld = applied lines.selfheld d.selfheld;
     }
 
+abbrev pub state_flipped : StateDifferences → StateDifferences
+state_flipped d =
+    record {
+      threads = map flipped d.threads;
+      inboxes = map flipped d.inboxes;
+      endpoints = map flipped d.endpoints;
+      slots = map flipped d.slots;
+      selfheld = map flipped d.selfheld;
+    }
+
 -- ---- runs
 
 -- what is told of a state, and of the state after a call
@@ -134,6 +151,33 @@ run_differences p A (call ∷ calls) = call_differences p A call ∷ run_differe
 abbrev pub replayed : StateLines → List StateDifferences → StateLines
 replayed lines [] = lines
 replayed lines (d ∷ ds) = replayed (state_applied lines d) ds
+
+-- the differences that lead back, the last one first
+abbrev pub backwards : List StateDifferences → List StateDifferences
+backwards [] = []
+backwards (d ∷ ds) = backwards ds ++ state_flipped d ∷ []
+
+-- ---- a state's lines, and the report's
+
+-- the lines of the same kind one below another, as the report has them
+abbrev pub lines_text : Lines → List ℕ
+lines_text lines = flat_map (λ (l : ℕ × List ℕ). line l.1) lines
+
+-- The report's lines of threads are of the threads that the trace has lines of, in that order. The two lines of a thread
+-- differ in what follows its state: the trace tells what it waits to send, and the report what it received last.
+abbrev pub TellsTheThreads : ProfileName → Shown → Type 0
+TellsTheThreads p v = flat_map (thread_line v) (addresses (thread_lines p v)) ≡ report.thread_lines p v
+
+-- the lines of endpoints, and those of CNodes that hold themselves, are the report's
+abbrev pub TellsTheEndpoints : ProfileName → Shown → Type 0
+TellsTheEndpoints p v = lines_text (endpoint_lines p v) ≡ report.endpoint_lines p v
+
+abbrev pub TellsTheSelfheld : ProfileName → Shown → Type 0
+TellsTheSelfheld p v = lines_text (selfheld_lines p (derivations_of v.derivations)) ≡ report.selfheld_lines p v
+
+-- the slots that have a line are the full ones, of which the report has lines
+abbrev pub TellsTheSlots : Shown → Type 0
+TellsTheSlots v = addresses (slot_lines (derivations_of v.derivations)) ≡ rising (full_slots v)
 
 -- ---- the report within a trace
 

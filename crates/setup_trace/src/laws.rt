@@ -8,15 +8,16 @@ ghost use Rattle.abstract_kernel.specs.declared.call.Reply.{Reply};
 ghost use Rattle.abstract_kernel.specs.declared.call.Reply.TheVariants.{Dropped, Empty, Refused};
 ghost use Rattle.abstract_kernel.specs.Boot.{boot};
 ghost use Rattle.abstract_kernel.specs.Plan.{Plan};
+ghost use Rattle.abstract_kernel.specs.Reached.{IsReached};
 ghost use Rattle.abstract_kernel.specs.Shown.{Shown};
-ghost use Rattle.abstract_kernel.specs.State.{State};
+ghost use Rattle.abstract_kernel.specs.State.{State, shown};
 ghost use Rattle.abstract_kernel.specs.Step.{replies_of, state_after, step};
 ghost use Rattle.setup_format.specs.Views.{CallView};
 ghost use Rattle.setup_report.specs.Report.{call_lines, expectation_line, met_count, expectation_count};
 ghost use Rattle.setup_trace.specs.Lines.{Lines};
 ghost use Rattle.setup_trace.specs.Changes.{StateLines, changes, line_changes, no_lines, state_lines};
 ghost use Rattle.setup_trace.specs.Trace.{calls_lines, count_line};
-ghost use Rattle.setup_trace.specs.Laws.{Rise, applied, boot_differences, call_changes, details, differences, followed, lines_in, replayed, report_lines, run_differences, state_applied, state_differences, state_told, told};
+ghost use Rattle.setup_trace.specs.Laws.{Rise, applied, backwards, boot_differences, call_changes, details, differences, flipped, followed, lines_in, replayed, report_lines, run_differences, state_applied, state_differences, state_flipped, state_told, told, TellsTheThreads, TellsTheEndpoints, TellsTheSlots, TellsTheSelfheld};
 
 /// The changes that are told of lines, applied to the old ones, give the new ones; and so with all lines of two states.
 /// The changes of boot and of any calls behind it, applied one after another to nothing, give the lines of the state
@@ -30,6 +31,29 @@ pub fn changes_give_the_lines_after()
     ensures replayed { (p : ProfileName) (plan : Plan) (calls : List Call)
         → replayed no_lines (boot_differences p plan ∷ run_differences p (boot p plan) calls)
         ≡ lines_in p (state_after p (boot p plan) calls) }
+{}
+
+/// The changes lead back as well: turned round, and applied to the new lines, they give the old ones; and so with all lines
+/// of two states. Those of any calls and of the boot before them, turned round and applied one after another, the last
+/// one first, to the lines of the state after the calls, leave no lines.
+pub fn changes_lead_back()
+    ensures applied { (old new : Lines) → Rise old → Rise new → applied new (map flipped (differences old new)) ≡ old }
+    ensures applied_to_states { (p : ProfileName) (v w : Shown)
+        → state_applied (state_lines p w) (state_flipped (state_differences (state_lines p v) (state_lines p w)))
+        ≡ state_lines p v }
+    ensures replayed { (p : ProfileName) (plan : Plan) (calls : List Call)
+        → replayed (lines_in p (state_after p (boot p plan) calls))
+        (backwards (boot_differences p plan ∷ run_differences p (boot p plan) calls))
+        ≡ no_lines }
+{}
+
+/// What a trace tells of a state that a run reaches is what the report tells of it: the lines of endpoints and of CNodes
+/// that hold themselves are the report's, and the lines of threads and of slots are of the same threads and slots.
+pub fn lines_are_those_of_the_report()
+    ensures threads { (p : ProfileName) (A : State) → IsReached p A → TellsTheThreads p (shown A) }
+    ensures endpoints { (p : ProfileName) (A : State) → IsReached p A → TellsTheEndpoints p (shown A) }
+    ensures slots { (p : ProfileName) (A : State) → IsReached p A → TellsTheSlots (shown A) }
+    ensures selfheld { (p : ProfileName) (A : State) → IsReached p A → TellsTheSelfheld p (shown A) }
 {}
 
 /// The lines of calls are those of the report, each followed by details of its own; and the last line is the report's.

@@ -14,6 +14,6 @@ mod words;
 
 pub use laws::{
     calls_are_those_of_the_report, calls_without_effect_change_nothing,
-    changes_give_the_lines_after,
+    changes_give_the_lines_after, changes_lead_back, lines_are_those_of_the_report,
 };
 pub use run::trace;

@@ -61,6 +61,11 @@ all_insert P k (x ∷ xs) p h =
       | Greater ↦ (h.0, all_insert P k xs p h.1)
     ]
 
+-- what holds of each of some addresses holds of each of them in rising order
+pub all_rising : (P : ℕ → Type 0) (xs : List ℕ) → AllByRecursion P xs → AllByRecursion P (rising xs)
+all_rising P [] h = tt
+all_rising P (x ∷ xs) h = all_insert P x (rising xs) h.0 (all_rising P xs h.1)
+
 below_all : (k x : ℕ) (xs : List ℕ) → nat_cmp k x ≡ Less → AllByRecursion (λ y. nat_cmp x y ≡ Less) xs → AllByRecursion (λ y. nat_cmp k y ≡ Less) xs
 below_all k x [] e h = tt
 below_all k x (y ∷ ys) e h = (nat_cmp_total.trans k x y e h.0, below_all k x ys e h.1)

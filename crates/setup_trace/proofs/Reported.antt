@@ -1,0 +1,205 @@
+-- What a trace tells of a state and what the report tells of it are of the same threads, endpoints, slots and CNodes.
+use Rattle.std.proofs.Common.{◌≡◌, ℕ, zero, suc, ◌<◌, ◌==◌, Bool, true, false, cond, not, is_some, List, [], ◌∷◌, ◌++◌, map, length, get_or, All, Option, None, Some, option_map, refl, sym, ap, subst, ◌∙◌, eq-eqb, arith}
+use Rattle.std.specs.List.{AllByRecursion as Each, IsDistinct, filter, filter_map, find, flat_map, cons_option}
+use Rattle.std.proofs.lemmas.List.{map-append}
+use Rattle.cap_core.specs.declared.profile.ProfileName.{ProfileName}
+use Rattle.cap_core.specs.declared.capability.Cap.{Cap}
+use Rattle.cap_core.specs.declared.capability.Cap.TheVariants.{Null, Untyped, Endpoint, CNode, Tcb}
+use Rattle.cap_core.specs.Objects.{IsLawful, is_null}
+use Rattle.derivation.specs.Forest.{Forest, preorder, parented}
+use Rattle.derivation.specs.Forest.Forest.{none, tree}
+use Rattle.derivation.specs.Entries.{Entry, slots, caps, cap_at, cap_in, slot_of as entry_slot, derivations_of}
+use Rattle.abstract_kernel.specs.Reached.{IsReached}
+use Rattle.abstract_kernel.specs.Shown.{Shown, state_at, inbox_at}
+use Rattle.abstract_kernel.specs.State.{State, shown}
+use Rattle.abstract_kernel.specs.Waiting.{offer_at}
+use Rattle.abstract_kernel.specs.declared.call.ThreadState.{ThreadState}
+use Rattle.abstract_kernel.proofs.Reached.Simulation.{reached_is}
+use Rattle.setup_report.specs.declared.naming.Naming.{Naming}
+use Rattle.setup_report.specs.Report.{is_in, rising, is_full, full_slots, base_named, base_at, bases_named, thread_line, thread_line_with, endpoint_line, selfheld_line, selfheld as report_selfheld}
+use Rattle.setup_report.proofs.Addresses.Rising.{all_rising}
+use Rattle.setup_trace.specs.Lines.{Derived, slot_of, slot_text, slot_at, slot_lines, line_of, line_at, named_by, named, thread_at, thread_text, endpoint_at, selfheld, selfheld_at}
+use Rattle.setup_trace.specs.Changes.{addresses}
+use Rattle.setup_trace.specs.Laws.{lines_text, TellsTheThreads, TellsTheEndpoints, TellsTheSlots, TellsTheSelfheld}
+
+-- ---- the entries of the derivations are those of the forest
+
+abbrev viewed : Entry × Option Entry → Derived
+viewed x = (x.0, option_map entry_slot x.1)
+
+entries_parented : (above : Option Entry) (f : Forest Entry) → map (λ (d : Derived). d.0) (map viewed (parented above f)) ≡ preorder f
+entries_parented above none = refl
+entries_parented above (tree a under others) =
+    ap (λ l. a ∷ l)
+    (ap (map (λ (d : Derived). d.0)) (map-append viewed (parented (Some a) under) (parented above others))
+    ∙ map-append (λ (d : Derived). d.0) (map viewed (parented (Some a) under)) (map viewed (parented above others))
+    ∙ (λ i. entries_parented (Some a) under i ++ entries_parented above others i))
+
+entries_are : (f : Forest Entry) → map (λ (d : Derived). d.0) (derivations_of f) ≡ preorder f
+entries_are f = entries_parented None f
+
+slots_mapped : (list : List Derived) → map slot_of list ≡ map (λ (e : Entry). e.slot) (map (λ (d : Derived). d.0) list)
+slots_mapped [] = refl
+slots_mapped (d ∷ list) = ap (λ l. slot_of d ∷ l) (slots_mapped list)
+
+slots_are : (f : Forest Entry) → map slot_of (derivations_of f) ≡ slots f
+slots_are f = slots_mapped (derivations_of f) ∙ ap (map (λ (e : Entry). e.slot)) (entries_are f)
+
+-- ---- each slot holds the capability of its entry
+
+held_past : (e : Entry) (all es : List Entry) → Each (λ (n : ℕ). (e.slot == n) ≡ false) (map (λ (a : Entry). a.slot) es) → Each (λ (a : Entry). cap_in a.slot all ≡ a.cap) es →
+    Each (λ (a : Entry). cap_in a.slot (e ∷ all) ≡ a.cap) es
+held_past e all [] h k = tt
+held_past e all (a ∷ es) h k = (ap (λ b. cond b e.cap (cap_in a.slot all)) h.0 ∙ k.0, held_past e all es h.1 k.1)
+
+each_held : (es : List Entry) → IsDistinct (λ (a b : ℕ). a == b) (map (λ (e : Entry). e.slot) es) → Each (λ (e : Entry). cap_in e.slot es ≡ e.cap) es
+unfolding IsDistinct
+each_held [] apart = tt
+each_held (e ∷ es) apart =
+    (ap (λ b. cond b e.cap (cap_in e.slot es)) (eq-eqb e.slot e.slot refl), held_past e es es apart.0 (each_held es apart.1))
+
+-- ---- what the slots name
+
+abbrev names : ProfileName → Naming → Entry → Option ℕ
+names p naming e = base_named p naming e.slot e.cap
+
+entries_named : (p : ProfileName) (naming : Naming) (list : List Derived) → named p naming list ≡ filter_map (names p naming) (map (λ (d : Derived). d.0) list)
+entries_named p naming [] = refl
+entries_named p naming (d ∷ list) = ap (cons_option (named_by p naming d)) (entries_named p naming list)
+
+slots_named : (p : ProfileName) (naming : Naming) (held : ℕ → Cap) (es : List Entry) → Each (λ (e : Entry). held e.slot ≡ e.cap) es →
+    filter_map (λ slot. base_named p naming slot (held slot)) (map (λ (e : Entry). e.slot) es) ≡ filter_map (names p naming) es
+slots_named p naming held [] h = refl
+slots_named p naming held (e ∷ es) h = λ i. cons_option (base_named p naming e.slot (h.0 i)) (slots_named p naming held es h.1 i)
+
+null_names : (p : ProfileName) (naming : Naming) (slot : ℕ) (cap : Cap) → not (is_null cap) ≡ false → base_named p naming slot cap ≡ None
+null_names p Naming.Thread slot Null h = refl
+null_names p Naming.Endpoint slot Null h = refl
+null_names p Naming.OwnNode slot Null h = refl
+null_names p Naming.OtherNode slot Null h = refl
+null_names p naming slot (Untyped base bits free) h = cc
+null_names p naming slot (Endpoint base badge rights) h = cc
+null_names p naming slot (CNode base radix guard) h = cc
+null_names p naming slot (Tcb base) h = cc
+
+full_named : (h : ℕ → Option ℕ) (full : ℕ → Bool) (xs : List ℕ) → ((x : ℕ) → full x ≡ false → h x ≡ None) → filter_map h (filter full xs) ≡ filter_map h xs
+full_named h full [] empty = refl
+full_named h full (x ∷ xs) empty =
+    elim (full x) as (λ b. full x ≡ b → filter_map h (cond b (x ∷ filter full xs) (filter full xs)) ≡ cons_option (h x) (filter_map h xs)) [
+      | true ↦ λ e. ap (cons_option (h x)) (full_named h full xs empty)
+      | false ↦ λ e. full_named h full xs empty ∙ ap (λ o. cons_option o (filter_map h xs)) (sym (empty x e))
+    ] refl
+
+pub named_alike : (p : ProfileName) (naming : Naming) (v : Shown) → IsDistinct (λ (a b : ℕ). a == b) (slots v.derivations) →
+    named p naming (derivations_of v.derivations) ≡ bases_named p naming v
+named_alike p naming v apart =
+    let es = preorder v.derivations in
+    entries_named p naming (derivations_of v.derivations)
+    ∙ ap (filter_map (names p naming)) (entries_are v.derivations)
+    ∙ sym (slots_named p naming (cap_at v.derivations) es (each_held es apart))
+    ∙ sym (full_named (base_at p naming v) (is_full v) (slots v.derivations) (λ x e. null_names p naming x (cap_at v.derivations x) e))
+
+-- ---- threads
+
+threads_told : (v : Shown) (xs : List ℕ) → flat_map (thread_line v) (addresses (flat_map (line_at (thread_at v)) xs)) ≡ flat_map (thread_line v) xs
+threads_told v [] = refl
+threads_told v (x ∷ xs) =
+    elim (state_at v x) as (λ o. state_at v x ≡ o →
+    flat_map (thread_line v) (addresses (line_of x (option_map (λ (s : ThreadState). thread_text x s (offer_at v x)) o) ++ flat_map (line_at (thread_at v)) xs))
+    ≡ thread_line v x ++ flat_map (thread_line v) xs) [
+      | None ↦ λ e. threads_told v xs ∙ ap (λ o. thread_line_with x o (inbox_at v x) ++ flat_map (thread_line v) xs) (sym e)
+      | Some s ↦ λ e. ap (λ l. thread_line v x ++ l) (threads_told v xs)
+    ] refl
+
+-- ---- endpoints
+
+endpoints_told : (v : Shown) (xs : List ℕ) → lines_text (flat_map (line_at (endpoint_at v)) xs) ≡ flat_map (endpoint_line v) xs
+endpoints_told v [] = refl
+endpoints_told v (x ∷ xs) = ap (λ l. endpoint_line v x ++ l) (endpoints_told v xs)
+
+-- ---- selfheld CNodes
+
+selfheld_told : (xs : List ℕ) → lines_text (flat_map (line_at selfheld_at) xs) ≡ flat_map selfheld_line xs
+selfheld_told [] = refl
+selfheld_told (x ∷ xs) = ap (λ l. selfheld_line x ++ l) (selfheld_told xs)
+
+selfheld_alike : (p : ProfileName) (v : Shown) → IsDistinct (λ (a b : ℕ). a == b) (slots v.derivations) → selfheld p (derivations_of v.derivations) ≡ report_selfheld p v
+selfheld_alike p v apart =
+    λ i. filter (λ base. not (is_in base (named_alike p Naming.OtherNode v apart i))) (named_alike p Naming.OwnNode v apart i)
+
+-- ---- slots
+
+-- each slot of some derivations has a line
+abbrev HasLine : List Derived → ℕ → Type 0
+HasLine list slot = is_some (slot_at list slot) ≡ true
+
+still_found : (d : Derived) (list : List Derived) (xs : List ℕ) → Each (HasLine list) xs → Each (HasLine (d ∷ list)) xs
+still_found d list [] h = tt
+still_found d list (x ∷ xs) h = (
+  elim (slot_of d == x) as (λ b. is_some (option_map slot_text (cond b (Some d) (find (λ (e : Derived). slot_of e == x) list))) ≡ true) [
+    | true ↦ refl
+    | false ↦ h.0
+  ],
+  still_found d list xs h.1,
+)
+
+each_found : (list : List Derived) → Each (HasLine list) (map slot_of list)
+each_found [] = tt
+each_found (d ∷ list) = (
+  ap (λ b. is_some (option_map slot_text (cond b (Some d) (find (λ (e : Derived). slot_of e == slot_of d) list)))) (eq-eqb (slot_of d) (slot_of d) refl),
+  still_found d list (map slot_of list) (each_found list),
+)
+
+addresses_of : (f : ℕ → Option (List ℕ)) (xs : List ℕ) → Each (λ x. is_some (f x) ≡ true) xs → addresses (flat_map (line_at f) xs) ≡ xs
+addresses_of f [] h = refl
+addresses_of f (x ∷ xs) h =
+    elim (f x) as (λ o. is_some o ≡ true → addresses (line_of x o ++ flat_map (line_at f) xs) ≡ x ∷ xs) [
+      | None ↦ λ e. cc
+      | Some t ↦ λ e. ap (λ l. x ∷ l) (addresses_of f xs h.1)
+    ] h.0
+
+slots_told : (list : List Derived) → addresses (slot_lines list) ≡ rising (map slot_of list)
+slots_told list = addresses_of (slot_at list) (rising (map slot_of list)) (all_rising (HasLine list) (map slot_of list) (each_found list))
+
+-- where no entry is one of Null, each slot is full
+each_full : (p : ProfileName) (memory : ℕ) (held : ℕ → Cap) (es : List Entry) → Each (λ (e : Entry). held e.slot ≡ e.cap) es → All (IsLawful p memory) (map (λ (e : Entry). e.cap) es) →
+    filter (λ slot. not (is_null (held slot))) (map (λ (e : Entry). e.slot) es) ≡ map (λ (e : Entry). e.slot) es
+each_full p memory held [] h lawful = refl
+each_full p memory held (e ∷ es) h lawful =
+    let full : is_null (held e.slot) ≡ false = ap is_null h.0 ∙ (lawful 0 Null (omega arith)).full in
+    let others = filter (λ slot. not (is_null (held slot))) (map (λ (e : Entry). e.slot) es) in
+    ap (λ b. cond (not b) (e.slot ∷ others) others) full
+    ∙ ap (λ l. e.slot ∷ l) (each_full p memory held es h.1 (λ i d lt. lawful (suc i) d (omega (arith, lt))))
+
+-- ---- of each state that runs reach
+
+module _ (p : ProfileName) (A : State) (reached : IsReached p A) where
+  apart : IsDistinct (λ (a b : ℕ). a == b) (slots (shown A).derivations)
+  unfolding shown
+  apart = (reached_is p A reached).store.slots_distinct
+
+  lawful : All (IsLawful p reached.plan.memory_bits) (caps (shown A).derivations)
+  unfolding shown
+  lawful = (reached_is p A reached).store.lawful
+
+  pub same_threads : TellsTheThreads p (shown A)
+  same_threads =
+      threads_told (shown A) (rising (named p Naming.Thread (derivations_of (shown A).derivations)))
+      ∙ ap (λ xs. flat_map (thread_line (shown A)) (rising xs)) (named_alike p Naming.Thread (shown A) apart)
+
+  pub same_endpoints : TellsTheEndpoints p (shown A)
+  same_endpoints =
+      endpoints_told (shown A) (rising (named p Naming.Endpoint (derivations_of (shown A).derivations)))
+      ∙ ap (λ xs. flat_map (endpoint_line (shown A)) (rising xs)) (named_alike p Naming.Endpoint (shown A) apart)
+
+  pub same_slots : TellsTheSlots (shown A)
+  same_slots =
+      let es = preorder (shown A).derivations in
+      slots_told (derivations_of (shown A).derivations)
+      ∙ ap rising (slots_are (shown A).derivations
+      ∙ sym (each_full p reached.plan.memory_bits (cap_at (shown A).derivations) es (each_held es apart) lawful))
+
+  pub same_selfheld : TellsTheSelfheld p (shown A)
+  same_selfheld =
+      selfheld_told (rising (selfheld p (derivations_of (shown A).derivations)))
+      ∙ ap (λ xs. flat_map selfheld_line (rising xs)) (selfheld_alike p (shown A) apart)
