@@ -4,5 +4,6 @@ pub mod Views
 pub mod Steps
 pub mod Applied
 pub mod Replays
+pub mod Children
 pub mod Reported
 pub mod Backwards

@@ -8,6 +8,7 @@ use Rattle.cap_core.specs.declared.capability.Cap.TheVariants.{Null, Untyped, En
 use Rattle.cap_core.specs.Objects.{IsLawful, is_null}
 use Rattle.derivation.specs.Forest.{Forest, preorder, parented}
 use Rattle.derivation.specs.Forest.Forest.{none, tree}
+use Rattle.derivation.proofs.Trees.Forests.{each-weaker}
 use Rattle.derivation.specs.Entries.{Entry, slots, caps, cap_at, cap_in, slot_of as entry_slot, derivations_of}
 use Rattle.abstract_kernel.specs.Reached.{IsReached}
 use Rattle.abstract_kernel.specs.Shown.{Shown, state_at, inbox_at}
@@ -16,11 +17,12 @@ use Rattle.abstract_kernel.specs.Waiting.{offer_at}
 use Rattle.abstract_kernel.specs.declared.call.ThreadState.{ThreadState}
 use Rattle.abstract_kernel.proofs.Reached.Simulation.{reached_is}
 use Rattle.setup_report.specs.declared.naming.Naming.{Naming}
-use Rattle.setup_report.specs.Report.{is_in, rising, is_full, full_slots, base_named, base_at, bases_named, thread_line, thread_line_with, endpoint_line, selfheld_line, selfheld as report_selfheld}
+use Rattle.setup_report.specs.Report.{is_in, rising, is_full, full_slots, base_named, base_at, bases_named, thread_line, thread_line_with, endpoint_line, slot_line, slot_text as report_slot_text, line, selfheld_line, selfheld as report_selfheld}
 use Rattle.setup_report.proofs.Addresses.Rising.{all_rising}
 use Rattle.setup_trace.specs.Lines.{Derived, slot_of, slot_text, slot_at, slot_lines, line_of, line_at, named_by, named, thread_at, thread_text, endpoint_at, selfheld, selfheld_at}
 use Rattle.setup_trace.specs.Changes.{addresses}
-use Rattle.setup_trace.specs.Laws.{lines_text, TellsTheThreads, TellsTheEndpoints, TellsTheSlots, TellsTheSelfheld}
+use Rattle.setup_trace.specs.Laws.{lines_text, TellsTheThreads, TellsTheEndpoints, TellsTheSlots, TellsTheSlotLines, TellsTheSelfheld, slot_line_of, report_slot_line}
+use Rattle.setup_trace.proofs.Children.{child_is_under, held_there}
 
 -- ---- the entries of the derivations are those of the forest
 
@@ -161,6 +163,19 @@ addresses_of f (x ∷ xs) h =
 slots_told : (list : List Derived) → addresses (slot_lines list) ≡ rising (map slot_of list)
 slots_told list = addresses_of (slot_at list) (rising (map slot_of list)) (all_rising (HasLine list) (map slot_of list) (each_found list))
 
+-- the report's line of a slot that has a line
+slot_alike : (v : Shown) → IsDistinct (λ (a b : ℕ). a == b) (slots v.derivations) → (slot : ℕ) → HasLine (derivations_of v.derivations) slot → report_slot_line (derivations_of v.derivations) slot ≡ slot_line v slot
+slot_alike v apart slot has =
+    let list = derivations_of v.derivations in
+    elim (find (λ (d : Derived). slot_of d == slot) list) as (λ o. find (λ (d : Derived). slot_of d == slot) list ≡ o → is_some (option_map slot_text o) ≡ true → slot_line_of list slot o ≡ slot_line v slot) [
+      | None ↦ λ there some. cc
+      | Some d ↦ λ there some. λ i. line (report_slot_text slot ((sym (held_there list slot d there) ∙ ap (cap_in slot) (entries_are v.derivations)) i) (child_is_under slot v.derivations apart i))
+    ] refl has
+
+flat_alike : (f g : ℕ → List ℕ) (xs : List ℕ) → Each (λ x. f x ≡ g x) xs → flat_map f xs ≡ flat_map g xs
+flat_alike f g [] h = refl
+flat_alike f g (x ∷ xs) h = λ i. h.0 i ++ flat_alike f g xs h.1 i
+
 -- where no entry is one of Null, each slot is full
 each_full : (p : ProfileName) (memory : ℕ) (held : ℕ → Cap) (es : List Entry) → Each (λ (e : Entry). held e.slot ≡ e.cap) es → All (IsLawful p memory) (map (λ (e : Entry). e.cap) es) →
     filter (λ slot. not (is_null (held slot))) (map (λ (e : Entry). e.slot) es) ≡ map (λ (e : Entry). e.slot) es
@@ -198,6 +213,15 @@ module _ (p : ProfileName) (A : State) (reached : IsReached p A) where
       slots_told (derivations_of (shown A).derivations)
       ∙ ap rising (slots_are (shown A).derivations
       ∙ sym (each_full p reached.plan.memory_bits (cap_at (shown A).derivations) es (each_held es apart) lawful))
+
+  pub same_slot_lines : TellsTheSlotLines (shown A)
+  same_slot_lines =
+      let v = shown A in
+      let list = derivations_of v.derivations in
+      let each = each-weaker (HasLine list) (λ slot. report_slot_line list slot ≡ slot_line v slot) (slot_alike v apart) (rising (map slot_of list)) (all_rising (HasLine list) (map slot_of list) (each_found list)) in
+      ap (flat_map (report_slot_line list)) (slots_told list)
+      ∙ flat_alike (report_slot_line list) (slot_line v) (rising (map slot_of list)) each
+      ∙ ap (flat_map (slot_line v)) (sym (slots_told list) ∙ same_slots)
 
   pub same_selfheld : TellsTheSelfheld p (shown A)
   same_selfheld =

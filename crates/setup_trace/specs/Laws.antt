@@ -1,6 +1,6 @@
 -- What the laws of a trace say: its changes as data, a state's lines after them, and the report within it.
 use Rattle.std.specs.Prelude.{◌≡◌, ℕ, ◌+◌, Bool, true, false, not, ◌==◌, nat_eq, List, [], ◌∷◌, ◌++◌, map, Option, None, Some}
-use Rattle.std.specs.List.{filter, flat_map}
+use Rattle.std.specs.List.{filter, find, flat_map, list_any}
 use Rattle.std.specs.List.Sorted.{IsStrictlySortedBy}
 use Rattle.std.specs.Ordering.{nat_cmp}
 use Rattle.std.specs.BTreeMap.{insert_entry}
@@ -17,7 +17,7 @@ use Rattle.abstract_kernel.specs.Step.{step}
 use Rattle.setup_format.specs.Views.{CallView}
 use Rattle.setup_report.specs.Report.{line, rising, call_text, full_slots, thread_line}
 use Rattle.setup_report.specs.Report as report
-use Rattle.setup_trace.specs.Lines.{Lines, thread_lines, endpoint_lines, slot_lines, selfheld_lines}
+use Rattle.setup_trace.specs.Lines.{Lines, Derived, slot_of, thread_lines, endpoint_lines, slot_lines, selfheld_lines}
 use Rattle.setup_trace.specs.Changes.{StateLines, state_lines, no_lines, addresses, text_at, removed, added, changes}
 use Rattle.setup_trace.specs.Trace.{words_line}
 
@@ -175,9 +175,30 @@ TellsTheEndpoints p v = lines_text (endpoint_lines p v) ≡ report.endpoint_line
 abbrev pub TellsTheSelfheld : ProfileName → Shown → Type 0
 TellsTheSelfheld p v = lines_text (selfheld_lines p (derivations_of v.derivations)) ≡ report.selfheld_lines p v
 
--- the slots that have a line are the full ones, of which the report has lines
+-- the slots that have a line are the full ones
 abbrev pub TellsTheSlots : Shown → Type 0
 TellsTheSlots v = addresses (slot_lines (derivations_of v.derivations)) ≡ rising (full_slots v)
+
+-- whether some slot stands right below one, which the trace tells by `under`
+abbrev pub is_under : ℕ → Option ℕ → Bool
+is_under slot None = false
+is_under slot (Some parent) = parent == slot
+
+abbrev pub has_slot_under : ℕ → List Derived → Bool
+has_slot_under slot list = list_any (λ (d : Derived). is_under slot d.1) list
+
+-- the report's line of a slot, by what the trace tells of it: its capability, and `children` where some slot is under it
+abbrev pub slot_line_of : List Derived → ℕ → Option Derived → List ℕ
+slot_line_of list slot None = []
+slot_line_of list slot (Some d) = line (report.slot_text slot d.0.cap (has_slot_under slot list))
+
+abbrev pub report_slot_line : List Derived → ℕ → List ℕ
+report_slot_line list slot = slot_line_of list slot (find (λ (d : Derived). slot_of d == slot) list)
+
+-- the report's lines of slots are those, of the slots that have a line
+abbrev pub TellsTheSlotLines : Shown → Type 0
+TellsTheSlotLines v =
+    flat_map (report_slot_line (derivations_of v.derivations)) (addresses (slot_lines (derivations_of v.derivations))) ≡ report.slot_lines v
 
 -- ---- the report within a trace
 
