@@ -4,8 +4,8 @@
 A page's blocks are taken in order, in a folder of the page's own that has `crates` in it:
 
 - ```toml NAME      is written to the file NAME; with the word `more` behind the name it is added to its end;
-- ```console        has commands, each behind `$ `, and below each what it writes: standard output alone, or with standard
-                    error as a terminal shows both;
+- ```console        has commands, each behind `$ `, and below each what it writes: standard output alone, or with
+                    standard error as a terminal shows both;
 - ```report         stands in what the last command wrote, behind the reports that came before;
 - ```sh             builds or proves: it is not run, and each `make` has to name a target of the Makefile;
 - ```rust FILE      stands in that file, line for line, and so does ```antt FILE;
