@@ -2,27 +2,25 @@
 """Tries the wrong bodies of the crates: each edit of must-fail/ and of wrong-bodies/ has to be refused.
 
 usage, anywhere in the repository:
-  tools/wrong_bodies.py [CRATE [NAME..]]   all crates, one crate, or some of its edits by name
-  tools/wrong_bodies.py --dry [CRATE ..]   proves nothing: says whether each edit can be applied, and what its first line names
+  tools/wrong_bodies.py [CRATE [NAME..]]        all crates, one crate, or some of its edits by name
+  tools/wrong_bodies.py --dry [CRATE [NAME..]]  proves nothing: is each edit's text there, and its clause?
   --jobs N    so many crates side by side (1)
   --room DIR  keeps the copies, with what was proved and what rt said, in DIR
 
-The checkout is not touched: each crate is tried in a copy, over copies of the crates below it and of their kept work, so
-build those first (rt lib). Edits stand in one check only where each is in a function of its own and none of these functions
-calls another one. There an edit counts as refused only by a goal of its own function: callers are proved against contracts,
-so such a goal is false, or no longer proved, because of that edit alone. What has no such error is tried by itself, by the
-rule of `rt must-fail`: the crate is refused. docs/wrong-bodies.md says more."""
+The checkout is not touched: each crate is tried in a copy, over copies of the crates below it and of their kept work,
+so build those first (rt lib). Edits stand in one check only where each is in a function of its own and none of these
+functions calls another one. There an edit counts as refused only by a goal of its own function: callers are proved
+against contracts, so such a goal is false, or no longer proved, because of that edit alone. What has no such error is
+tried by itself, by the rule of `rt must-fail`: the crate is refused. docs/wrong-bodies.md says more."""
 import argparse
 import concurrent.futures
 import dataclasses
 import os
 import re
-import resource
 import shutil
 import subprocess
 import sys
 import tempfile
-import time
 
 PARTS = ("src", "specs", "proofs")
 FOLDERS = ("must-fail", "wrong-bodies")
@@ -153,8 +151,8 @@ def bad_why(edit, folder):
         return ""
     wanted = re.compile(rf"fn {name}\b(?:(?!\n *\{{|\n *fn |;\n\n).)*?ensures {clause} \{{", re.S)
     below = os.path.dirname(folder)
-    traits = [] if wanted.search(here) else [text_of(it) for crate in crates_of(below) for it in sources(f"{below}/{crate}")]
-    if kind == "clause" and not wanted.search(here) and not any(wanted.search(it) for it in traits):
+    others = (it for crate in crates_of(below) for it in sources(f"{below}/{crate}"))
+    if kind == "clause" and not wanted.search(here) and not any(wanted.search(text_of(it)) for it in others):
         return f"its first line names the clause '{clause}' of {path}, which has none of that name"
     return ""
 
@@ -237,27 +235,53 @@ def make_room(root, crate, room):
 
 
 @dataclasses.dataclass
+class Tried:
+    """What came of a crate: how many edits were refused where, what they cost, and what is wrong."""
+
+    crate: str
+    folder: str = ""
+    counts: dict = dataclasses.field(default_factory=dict)
+    wrong: list = dataclasses.field(default_factory=list)
+    seconds: float = 0.0
+    checks: int = 0
+
+
+@dataclasses.dataclass
 class Ran:
-    """What one check said, with its status, and the functions that it saw."""
+    """What one check said, with its status."""
 
     status: int
     lines: list
-    seen: list
 
 
-def check(folder, edits):
+def check(tried, edits):
     """Checks the copy with these edits, and puts its files back."""
+    folder = tried.folder
     kept = {file: text_of(f"{folder}/{file}") for edit in edits for file, _, _ in edit.pairs}
     texts = dict(kept)
     for edit in edits:
         for file, old, new in edit.pairs:
             texts[file] = texts[file].replace(old, new)
     write_all(folder, texts)
-    ran = subprocess.run(["rt", "check", "--jobs", "1"], cwd=folder, stdin=subprocess.DEVNULL, stdout=subprocess.PIPE,
-                         stderr=subprocess.STDOUT, encoding="utf-8", errors="replace")
-    write_all(folder, kept)
-    seen = [it for file, text in texts.items() for it in functions_of(file, text)]
-    return Ran(ran.returncode, ran.stdout.rstrip("\n").split("\n"), seen)
+    try:
+        ran, seconds = ran_with_seconds(folder)
+    finally:
+        write_all(folder, kept)
+    tried.seconds, tried.checks = tried.seconds + seconds, tried.checks + 1
+    if edits:
+        write_all(folder, {f"said-{edits[0].name}.txt": "\n".join(ran.lines) + "\n"})
+    return ran
+
+
+def ran_with_seconds(folder):
+    """Runs the check, and gives the processor seconds that it took with all that it started."""
+    words = {"stdin": subprocess.DEVNULL, "stdout": subprocess.PIPE, "stderr": subprocess.STDOUT}
+    ran = subprocess.Popen(["rt", "check", "--jobs", "1"], cwd=folder, encoding="utf-8", errors="replace", **words)
+    said = ran.stdout.read()
+    ran.stdout.close()
+    _, status, used = os.wait4(ran.pid, 0)
+    ran.returncode = os.waitstatus_to_exitcode(status)
+    return Ran(ran.returncode, said.rstrip("\n").split("\n")), used.ru_utime + used.ru_stime
 
 
 def write_all(folder, texts):
@@ -267,8 +291,8 @@ def write_all(folder, texts):
 
 
 def goals_of(ran, crate):
-    """By the path of each function that is not proved: the goals that are open or that an answer does not meet. A function
-    that waits for one that it calls has none."""
+    """By the path of each function that is not proved: the goals that are open or that an answer does not meet. A
+    function that waits for one that it calls has none."""
     goals = {}
     for line in ran.lines:
         at = re.match(rf"fn {crate}::(\S+): no proof: expected answers in \S+; `search` did not prove (.*)", line)
@@ -285,11 +309,12 @@ def is_of(path, function):
     module = re.sub(r"^src/|(/mod)?\.rt$", "", function.file).replace("/", "::")
     prefix = "" if module in ("lib", "main") else f"{module}::"
     owner = rf"{function.owner}[^:]*::" if function.owner else ""
-    return re.fullmatch(rf"{prefix}(?:{owner}{function.name}|(?:{owner})?fn::(?:{owner})?{function.name}(?:::.*)?)", path)
+    closure = rf"(?:{owner})?fn::(?:{owner})?{function.name}(?:::.*)?"
+    return re.fullmatch(rf"{prefix}(?:{owner}{function.name}|{closure})", path)
 
 
 def own_goals(edit, goals):
-    """The goals that failed in the edit's own functions, those of the function that its first line names before others."""
+    """The goals that failed in the edit's own functions, first those of the function that its first line names."""
     places = [it for it in edit.places if it is not None]
     named = edit.why[2] if edit.why else ""
     places.sort(key=lambda it: it.path != named and it.name != named)
@@ -306,14 +331,17 @@ def told_of(edit, goals):
     """Where an edit is refused, beside what its first line names."""
     kind, clause, _ = edit.why
     mine = [it for it in goals if "-requires" not in it]
+    whole = [it for it in mine if it.startswith("returns") and "clause-" not in it]
     if kind == "invariant":
         found = [it for it in mine if it.startswith("invariant_of")]
     elif clause:
         found = [it for it in mine if re.search(rf"clause-{clause}(?:-|$)", it)]
     else:
-        found = [it for it in mine if it.startswith("returns") and "clause-" not in it]
+        found = whole
     if found:
         return "at what it names", found
+    if clause and whole:
+        return "at all clauses, which are proved together", whole
     loops = [it for it in mine if it.startswith("loop")]
     return ("at a loop's invariant", loops) if loops else ("elsewhere", goals)
 
@@ -324,35 +352,27 @@ def said(crate, edit, where, goals):
     return where
 
 
-def try_group(crate, folder, group):
+def try_group(tried, group):
     """Tries several edits in one check, and gives where each was refused; none where it has no goal of its own."""
-    ran = check(folder, group)
-    keep_output(folder, group[0], ran)
-    goals = goals_of(ran, crate)
+    ran = check(tried, group)
+    goals = goals_of(ran, tried.crate)
     found = {}
     for edit in group:
         mine = own_goals(edit, goals) if ran.status == 1 else []
         if mine:
-            found[edit.name] = said(crate, edit, *told_of(edit, mine))
+            found[edit.name] = said(tried.crate, edit, *told_of(edit, mine))
     return found
 
 
-def keep_output(folder, edit, ran):
-    """Keeps what rt said beside the copy."""
-    with open(f"{folder}/said-{edit.name}.txt", "w", encoding="utf-8") as out:
-        out.write("\n".join(ran.lines) + "\n")
-
-
-def try_alone(crate, folder, edit):
+def try_alone(tried, edit):
     """Tries one edit by the rule of the gate: the prover reads it, and does not prove the crate."""
-    ran = check(folder, [edit])
-    keep_output(folder, edit, ran)
+    ran, crate = check(tried, [edit]), tried.crate
     label = f"{crate}/{edit.name}"
     if ran.status == 0:
         print(f"{label}: NOT REFUSED: the crate is still proved with it", flush=True)
         return "NOT REFUSED"
     unread = next((it for it in ran.lines if re.match(r"(?:\./)?src/\S+:\d+:\d+: error", it)), "")
-    if ran.status != 1 or "logic=not-proved" not in "\n".join(it[:16] for it in ran.lines) or unread:
+    if ran.status != 1 or not any(it.startswith("logic=not-proved") for it in ran.lines) or unread:
         print(f"{label}: BAD EDIT: it did not reach the prover: {(unread or ran.lines[0])[:160]}", flush=True)
         return "BAD EDIT"
     goals = goals_of(ran, crate)
@@ -367,48 +387,35 @@ def try_alone(crate, folder, edit):
 
 def not_admitted(ran):
     """What is no function and is refused, as a constant's or a trait's promise."""
-    return [it[:120] for it in ran.lines if re.match(r"(?:\./)?(?:specs|proofs)/\S+:\d+:\d+: error", it) and not GONE.search(it)]
-
-
-@dataclasses.dataclass
-class Tried:
-    """What came of a crate: how many edits were refused where, what they cost, and what is wrong."""
-
-    crate: str
-    counts: dict = dataclasses.field(default_factory=dict)
-    wrong: list = dataclasses.field(default_factory=list)
-    seconds: float = 0.0
-    checks: int = 0
-
-
-def spent():
-    used = resource.getrusage(resource.RUSAGE_CHILDREN)
-    return used.ru_utime + used.ru_stime
+    errors = [it for it in ran.lines if re.match(r"(?:\./)?(?:specs|proofs)/\S+:\d+:\d+: error", it)]
+    return [it[:120] for it in errors if not GONE.search(it)]
 
 
 def try_crate(root, crate, names, rooms):
     """Tries the edits of a crate in a copy."""
-    tried, before = Tried(crate), spent()
+    tried = Tried(crate)
     edits = edits_of(f"{root}/crates/{crate}", names)
     tried.wrong += [f"{crate}/{it.name}: BAD EDIT: {it.bad}" for it in edits if it.bad]
     edits = [it for it in edits if not it.bad]
-    folder = make_room(root, crate, f"{rooms}/{crate}")
-    if check(folder, []).status != 0:
-        tried.wrong.append(f"{crate}: the crate itself is not proved, or a library below it is not built: run rt lib there first")
+    tried.folder = make_room(root, crate, f"{rooms}/{crate}")
+    if check(tried, []).status != 0:
+        tried.wrong.append(f"{crate}: not proved itself, or a crate below it is not built: run rt lib there first")
         return tried
-    groups, alone = groups_of(edits)
-    found = {}
-    for group in groups:
-        found |= try_group(crate, folder, group) if len(group) > 1 else {group[0].name: try_alone(crate, folder, group[0])}
-        alone += [it for it in group if it.name not in found]
-    for edit in alone:
-        found[edit.name] = try_alone(crate, folder, edit)
-    for name, where in found.items():
+    for name, where in refusals(tried, edits).items():
         tried.counts[where] = tried.counts.get(where, 0) + 1
         if where.isupper():
             tried.wrong.append(f"{crate}/{name}: {where}")
-    tried.seconds, tried.checks = spent() - before, 1 + len(groups) + len(alone)
     return tried
+
+
+def refusals(tried, edits):
+    """Where each edit was refused, in as few checks as can tell."""
+    groups, alone = groups_of(edits)
+    found = {}
+    for group in groups:
+        found |= try_group(tried, group) if len(group) > 1 else {group[0].name: try_alone(tried, group[0])}
+        alone += [it for it in group if it.name not in found]
+    return found | {it.name: try_alone(tried, it) for it in alone}
 
 
 def dry(root, crates, names):
@@ -421,7 +428,8 @@ def dry(root, crates, names):
 
 def tell(tried):
     counts = "; ".join(f"{n} {where}" for where, n in sorted(tried.counts.items()))
-    print(f"== {tried.crate}: {sum(tried.counts.values())} edits: {counts}; {tried.checks} checks, {tried.seconds:.0f} processor s", flush=True)
+    cost = f"{tried.checks} checks, {tried.seconds:.0f} processor s"
+    print(f"== {tried.crate}: {sum(tried.counts.values())} edits: {counts}; {cost}", flush=True)
 
 
 def root_above():
@@ -461,12 +469,12 @@ def main():
 
 def try_all(root, crates, asked, rooms):
     """Tries the edits of the crates, so many side by side as asked for, and tells what came of it."""
-    before = spent()
     with concurrent.futures.ThreadPoolExecutor(max(1, asked.jobs)) as pool:
         all_tried = [*pool.map(lambda it: tried_and_told(root, it, asked.names, rooms), crates)]
     wrong = [line for it in all_tried for line in it.wrong]
-    edits = sum(sum(it.counts.values()) for it in all_tried)
-    print("\n".join([*wrong, f"{edits} wrong bodies tried, {len(wrong)} not refused or bad; {spent() - before:.0f} processor s"]))
+    edits, seconds = sum(sum(it.counts.values()) for it in all_tried), sum(it.seconds for it in all_tried)
+    print("\n".join(wrong))
+    print(f"{edits} wrong bodies tried, {len(wrong)} not refused or bad; {seconds:.0f} processor s")
     return 1 if wrong else 0
 
 
