@@ -1,4 +1,8 @@
-# make run: the proved program on the stored set-up; make test: the gate; make try: the stored set-up before any proof;
+# make try: FILE=my.toml, a set-up before any proof, by the program compiled without its proofs; DO=check, trace,
+# threads or migrate; without FILE the stored set-up. It compiles the first time, and where a source has changed;
+# make run: the proved program on the stored set-up; its crates are proved in the order of crates.txt, as many side
+# by side as make -j N says, or as there are processors, and as memory allows; after an interrupt it goes on;
+# make test: the gate;
 # make rows: the built program: each worked set-up, as it is, migrated and traced, what it says of wrong command lines, files and
 # set-ups, an address used again a thousand times, each request for memory refused in turn, by each subcommand and by
 # calls of the libraries, inputs and outputs that fail, texts that are broken, deep or long, three clients in whatever
@@ -16,19 +20,22 @@ program = crates/sel4sim/out/sel4sim
 calls = crates/refused_memory/out/refused_memory
 setups = crates/worked_setups/data
 plain = bench/check_plain/out/target/release/check_plain
+given = crates/sel4sim/stdin
 stored = $(setups)/examples/send_then_receive.toml
 first_format = $(setups)/messages/receive_then_send.toml
 
 run:
-	cd crates/sel4sim && rt run < stdin
+	@python3 build/prove.py < $(given)
 
 test:
 	rt ci
 
 try:
-	cd crates/sel4sim && rt try < stdin
+	@test -z "$$FILE" || test -e "$$FILE" || { echo "make try: there is no file $$FILE" >&2; exit 3; }
+	@python3 build/unproved.py $(if $(FILE),$(or $(DO),check) "$$FILE",$(DO) < $(given))
 
 rows: run
+	python3 build/test_build.py
 	python3 rows/run.py $(program) $(setups)
 	python3 rows/migrate.py $(program) $(setups)
 	python3 rows/traces.py $(program) $(setups)

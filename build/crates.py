@@ -1,0 +1,38 @@
+"""What crates.txt says: which crates there are, and what each stands on."""
+import os
+import shutil
+
+TOP = os.path.dirname(os.path.dirname(os.path.abspath(__file__)))
+
+
+def listed(top=TOP):
+    """Returns a dict from each crate of crates.txt to the crates of that file that it names, and its line."""
+    lines = {}
+    with open(os.path.join(top, "crates.txt"), encoding="utf-8") as text:
+        for line in text:
+            line = line.split("#")[0].strip()
+            if line:
+                head, _, uses = line.partition(":")
+                lines[head.split()[0]] = (uses.split(), line)
+    return {name: ([it for it in uses if it in lines], line) for name, (uses, line) in lines.items()}
+
+
+def in_order(goal, uses):
+    """Returns the crates that the goal stands on, each after those that it names, and then the goal."""
+    order = []
+
+    def add(name):
+        if name not in order:
+            for below in uses[name]:
+                add(below)
+            order.append(name)
+
+    add(goal)
+    return order
+
+
+def toolchain():
+    """Returns what tells this toolchain from another one: the files beside the command `rt`, with sizes and times."""
+    folder = os.path.dirname(os.path.realpath(shutil.which("rt")))
+    files = [(it.name, it.stat()) for it in os.scandir(folder) if it.is_file()]
+    return repr(sorted((name, it.st_size, it.st_mtime_ns) for name, it in files)).encode()
