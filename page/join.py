@@ -1,12 +1,13 @@
 #!/usr/bin/env python3
-"""join.py [--check]: makes head.html, tail.html and viewer.html out of the files in source/.
+"""join.py [--check]: makes viewer.html out of the files in source/.
 
-A page is head.html, the escaped trace, and tail.html; viewer.html is the same without a trace, and opens one from a
-file. The modules become one script, in the order in which they need one another: each is a function that gives what the
-module exports, and an import takes it from there. The page's policy lets the browser run just this script and use just
-this style, by their hashes, and load nothing.
+viewer.html opens a trace from a file. page.sh makes a page of a run of it: it writes another title and the trace into
+the lines that begin with <title> and <pre id="trace">, which stand once each. The modules become one script, in the
+order in which they need one another: each is a function that gives what the module exports, and an import takes it from
+there. The page's policy lets the browser run just this script and use just this style, by their hashes, and load
+nothing.
 
-With --check nothing is written, and the status is 1 where a file is not what would be written.
+With --check nothing is written, and the status is 1 where the file is not what would be written.
 """
 import base64
 import hashlib
@@ -71,8 +72,8 @@ def policy_of(style, script):
             "form-action 'none'; require-trusted-types-for 'script'; trusted-types 'none'")
 
 
-def pages():
-    """The files to be written, by their names."""
+def viewer():
+    """The text of viewer.html."""
     modules = in_order(FIRST_MODULE, {})
     faults = list(faults_of(modules))
     if faults:
@@ -85,21 +86,20 @@ def pages():
     for mark, text in (("{policy}", policy_of(style, script)), ("{style}", style), ("{script}", script)):
         assert page.count(mark) == 1, mark
         page = page.replace(mark, text)
-    head, tail = page.split("{trace}")
-    return {"head.html": head, "tail.html": tail, "viewer.html": head + tail}
+    for line in ("<title>", '<pre id="trace">'):
+        assert len(re.findall(f"^{line}", page, re.M)) == 1, line
+    return page
 
 
 def main():
-    wrong = 0
-    for name, text in pages().items():
-        path = FOLDER / name
-        if sys.argv[1:] == ["--check"]:
-            if not path.exists() or path.read_text() != text:
-                print(f"{path} is not what join.py makes")
-                wrong += 1
-        else:
-            path.write_text(text)
-    return 1 if wrong else 0
+    path = FOLDER / "viewer.html"
+    text = viewer()
+    if sys.argv[1:] != ["--check"]:
+        path.write_text(text)
+    elif not path.exists() or path.read_text() != text:
+        print(f"{path} is not what join.py makes")
+        return 1
+    return 0
 
 
 sys.exit(main())

@@ -23,6 +23,9 @@ export function hasText(step, text) {
 /** Whether a step's expectation is not met. */
 export const isMissed = ({ expectation }) => expectation.startsWith("not met");
 
+/** Whether a step is a revoke. */
+export const isRevoke = ({ operation }) => operation === "revoke";
+
 /** A call's words in short, as they stand in the trace. */
 function gistOf(words) {
   if (words.src_index !== undefined) return `${words.src_index} → ${words.index}`;

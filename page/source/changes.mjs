@@ -43,12 +43,18 @@ function readyAgain(old, now) {
     .map((line) => [line, now.get(keyOf(line))]).filter(([, line]) => line?.state === "ready");
 }
 
+/** The CNodes that no thread leads to any more, each with those in a circle with it. */
+function newlyLost(before, after) {
+  const already = before.lostNodes();
+  return new Map([...after.lostNodes()].filter(([base]) => !already.has(base)));
+}
+
 /** What a step changed. Boot makes all that there is, so nothing is marked as changed by it. */
 export function changesOf(step, before, after) {
   if (step.number === 0) {
     const none = new Map();
     const slots = { emptied: none, filled: none, altered: none };
-    return { old: none, now: none, ...slots, ended: none, born: none, ready: [], moved: null };
+    return { old: none, now: none, ...slots, ended: none, born: none, lost: none, ready: [], moved: null };
   }
   const { old, now } = linesOf(step);
   const slots = slotChanges(old, now);
@@ -57,6 +63,7 @@ export function changesOf(step, before, after) {
     old, now, ...slots,
     ended: objectsNotIn(after, [...slots.emptied.values(), ...pairs.map(([line]) => line)]),
     born: objectsNotIn(before, [...slots.filled.values(), ...pairs.map(([, line]) => line)]),
+    lost: newlyLost(before, after),
     ready: readyAgain(old, now),
     moved: movedBy(step, slots),
   };

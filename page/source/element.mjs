@@ -26,7 +26,7 @@ export const heading = (title, ...remark) => element("h2", {}, title, " ", eleme
 
 /** Rows that are drawn only when they are asked for. */
 export function fold(count, what, draw) {
-  const summary = element("summary", {}, `${count} more, ${what}`);
+  const summary = element("summary", {}, `${count} more ${what}`);
   const folded = element("details", { class: "fold" }, summary);
   folded.addEventListener("toggle", () => folded.append(element("div", { class: "unfolded" }, draw())), { once: true });
   return folded;

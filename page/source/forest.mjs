@@ -1,5 +1,6 @@
-// The derivation forest as nested lists: below each slot stands what was derived from it. Slots that a call emptied
-// stay in their old place for that one step, struck out.
+// The derivation forest as nested lists: below each slot stands what was derived from it. A trace does not tell the
+// order of siblings: they stand by rising address. Slots that a call emptied stay in their old place for that one step,
+// struck out.
 import { dim, element, fold, heading, sign } from "./element.mjs";
 import { capabilityName, signOf, slotName } from "./names.mjs";
 import { markOf } from "./changes.mjs";
@@ -9,6 +10,8 @@ const MOST_UNCHANGED = 10;
 const FEW_UNCHANGED = 6;
 const MOST_CHANGED = 40;
 const FEW_CHANGED = 20;
+// What is scrolled to stands at least so many pixels from the edge.
+const LEAST_ABOVE = 40;
 
 /** The rows to draw: all full slots, and those that the call emptied. */
 function rowsOf(view) {
@@ -69,7 +72,7 @@ function drawList(view, rows, children, shown) {
   const more = (hidden, what) => (hidden.size === 0 ? null
     : element("li", {}, fold(hidden.size, what, () => element("ul", {}, [...hidden].map(draw)))));
   const told = rows.filter((row) => !unchanged.has(row) && !changed.has(row)).map(draw);
-  return element("ul", {}, told, more(unchanged, "unchanged"), more(changed, "changed"));
+  return element("ul", {}, told, more(unchanged, "(unchanged)"), more(changed, "(changed)"));
 }
 
 /** The derivation forest of the state behind a step. */
@@ -78,6 +81,23 @@ export function drawForest(view) {
   const children = childrenOf(rows);
   const list = drawList(view, children.get(null) ?? [], children, shownAddresses(view, rows));
   list.className = "forest";
-  const remark = `${view.after.slots.length} full slots; below each slot stands what was derived from it`;
-  return [heading("Derivation forest", remark), list];
+  const remark = `${view.after.slots.length} full slots; below each slot stands what was derived from it, in order of `
+    + "address";
+  const attributes = { class: "forest-scroll", tabindex: "0", role: "region", "aria-label": "Derivation forest, tree" };
+  return [heading("Derivation forest", remark), element("div", attributes, list)];
+}
+
+/** Scrolls the forest so that what a step changed or names is in sight: the first of it, or from there on as much as
+    there is room for. `top` is how far it was scrolled before. */
+export function showChange(scroller, top) {
+  scroller.scrollTop = top;
+  const nodes = [...scroller.querySelectorAll(".node:is(.named, .filled, .emptied, .altered, .moved)")];
+  if (nodes.length === 0) return;
+  const places = nodes.map((node) => node.getBoundingClientRect());
+  const window = scroller.getBoundingClientRect();
+  const first = places[0].top - window.top;
+  const last = places.at(-1).bottom - window.top;
+  if (first >= 0 && last <= window.height) return;
+  const isAbove = first < 0 || last - first + LEAST_ABOVE > window.height;
+  scroller.scrollTop += isAbove ? first - LEAST_ABOVE : last - window.height + LEAST_ABOVE;
 }

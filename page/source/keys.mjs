@@ -1,5 +1,6 @@
 // The keys. Left and right, j and k step wherever the focus is, but for fields that use them themselves; the keys that
-// also scroll step only where the focus is on the list of calls or on nothing.
+// also scroll or press a button do so only where the focus is on the list of calls or on nothing.
+import { isMissed, isRevoke } from "./calls.mjs";
 
 const FAR = 10;
 
@@ -14,26 +15,32 @@ const STEPS_IN_LIST = {
   Home: () => 0, End: (_, last) => last,
 };
 
-/** The step that a key leads to from another, or null. */
-function stepOfKey(event, list, number, last) {
-  const inList = event.target === list || event.target === document.body;
-  const step = STEPS[event.key] ?? (inList ? STEPS_IN_LIST[event.key] : undefined);
-  return step ? step(number, last) : null;
+/** What a key does, or null: `page` has `number`, `last`, `show`, `showNext` and `player`. */
+function actionOf(event, page, { list, main, find, keys }) {
+  const { key, target } = event;
+  const inList = target === list || target === document.body;
+  const step = STEPS[key] ?? (inList ? STEPS_IN_LIST[key] : undefined);
+  if (step) return () => page.show(step(page.number, page.last));
+  if (key === " ") return inList || target === main ? () => page.player.toggle() : null;
+  const actions = {
+    n: () => page.showNext(isMissed), r: () => page.showNext(isRevoke), "/": () => find.focus(),
+    "?": () => keys.showModal(),
+  };
+  return actions[key] ?? null;
 }
 
-/** Lets the keys step through a run; `page` has `number`, `last`, `show`, `showNextMissed` and `find`. */
-export function listenToKeys(page, list, find) {
+/** Lets the keys step through a run; any key that does something stops its playing. */
+export function listenToKeys(page, parts) {
   document.addEventListener("keydown", (event) => {
     const { ctrlKey, metaKey, altKey, target } = event;
-    if (ctrlKey || metaKey || altKey || target.matches("input, select, textarea")) return;
-    const number = stepOfKey(event, list, page.number, page.last);
-    if (number !== null) page.show(number);
-    else if (event.key === "n") page.showNextMissed();
-    else if (event.key === "/") find.focus();
-    else return;
+    if (ctrlKey || metaKey || altKey || parts.keys.open || target.matches("input, select, textarea")) return;
+    const action = actionOf(event, page, parts);
+    if (action === null) return;
+    if (event.key !== " ") page.player.stop();
+    action();
     event.preventDefault();
   });
-  find.addEventListener("keydown", (event) => {
-    if (event.key === "Enter" && find.value) page.find(find.value, event.shiftKey ? -1 : 1);
+  parts.find.addEventListener("keydown", (event) => {
+    if (event.key === "Enter" && parts.find.value) page.find(parts.find.value, event.shiftKey ? -1 : 1);
   });
 }

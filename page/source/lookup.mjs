@@ -1,5 +1,6 @@
 // Lookups of words in capability spaces, by the rules of docs/behaviour.md. The trace does not tell which slots a call
-// named, nor who can reach what: the page works these out here. They are not proved, and they never say what happened.
+// named, nor what a thread can invoke: the page works these out here. They are not proved, and they never say what
+// happened.
 
 const lowBits = (word, bits) => BigInt(word) & ((1n << BigInt(bits)) - 1n);
 
@@ -24,7 +25,7 @@ function resolve(state, machine, root, word, bits) {
 
 /** The address of the slot that a thread names by a word, or null. Bits that are left over are ignored. */
 export function slotOfWord(state, machine, thread, word) {
-  const root = state.slot.get(thread)?.capability;
+  const root = state.thread.has(thread) ? state.slot.get(thread)?.capability : undefined;
   return resolve(state, machine, root, word, machine.wordBits)?.address ?? null;
 }
 
@@ -86,4 +87,23 @@ export function wordsOfThread(places, thread) {
   const root = state.slot.get(thread);
   if (root?.capability.kind === "cnode") walk(root, 0n, machine.wordBits);
   return words;
+}
+
+/** The full slots that some index and depth name from a CNode's capability: those from which a copy through it can be
+    made. */
+export function slotsFrom(places, root) {
+  const found = new Map();
+  const seen = new Set();
+  function walk({ base, radix, guardSize }, bits) {
+    const left = bits - guardSize - radix;
+    const key = `${base} ${left}`;
+    if (left < 0 || seen.has(key)) return;
+    seen.add(key);
+    for (const inner of places.slotsIn(base)) {
+      found.set(inner.address, inner);
+      if (inner.capability.kind === "cnode") walk(inner.capability, left);
+    }
+  }
+  walk(root, places.machine.wordBits);
+  return [...found.values()];
 }

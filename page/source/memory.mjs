@@ -23,6 +23,9 @@ function objectsOf(view) {
 
 const end = ({ base, size }) => base + size;
 
+/** What is said of an object that has no capability any more: of an untyped region nothing ends with the last one. */
+const lossOf = ({ kind, fate }) => (fate !== "ended" ? "" : kind === "untyped" ? "its capability is gone" : "ended");
+
 /** Tells each object how many untyped regions are around it, `depth`, and the outermost of them or itself, `top`. */
 function nest(objects) {
   const around = [];
@@ -51,9 +54,9 @@ function joined(objects, span) {
 function drawBox(object, start, span, row, least) {
   const { kind, base, size, fate, count = 1 } = object;
   const several = count > 1 ? `${count} × ` : "";
-  const ended = fate === "ended" ? ", ended" : "";
-  const title = `${several}${kindWord(kind)} ${base}, ${size} bytes${ended}`;
-  const label = size / span > least ? `${ended && "✕ "}${several}${kindLetter(kind)} ${base}` : "";
+  const loss = lossOf(object);
+  const title = `${several}${kindWord(kind)} ${base}, ${size} bytes${loss && ", "}${loss}`;
+  const label = size / span > least ? `${loss && "✕ "}${several}${kindLetter(kind)} ${base}` : "";
   const box = element("div", { class: `box ${kind} ${fate}`, title, "data-object": object.object }, label);
   box.style.top = `${1 + row * ROW_HEIGHT}px`;
   return place(box, (base - start) / span, size / span);
@@ -86,9 +89,11 @@ function isUnusedAgain(view, region, parents) {
 }
 
 /** What is said of a region beside its bar. */
-function remarkOf(view, { base, size, free, fate }, span, isUnused) {
+function remarkOf(region, span, isUnused) {
+  const { base, size, free } = region;
+  const loss = lossOf(region);
   return [`${size} B, used ${free}`, free > 0 ? ` (up to ${base + free})` : "",
-    span < size ? `; drawn: the first 1/${size / span}` : "", fate === "ended" ? "; ended" : "",
+    span < size ? `; drawn: the first 1/${size / span}` : "", loss && `; ${loss}`,
     isUnused ? ". Nothing is derived from it: the next retype starts at its beginning" : ""].join("");
 }
 
@@ -96,7 +101,7 @@ function drawRegion(view, region, inside, parents) {
   const { base, size, free, fate } = region;
   const span = spanOf(region, inside);
   const name = objectName(view, region);
-  const remark = remarkOf(view, region, span, isUnusedAgain(view, region, parents));
+  const remark = remarkOf(region, span, isUnusedAgain(view, region, parents));
   const used = place(element("div", { class: "used" }), 0, Math.min(free, span) / span);
   const boxes = joined(inside, span).map((object) => drawBox(object, base, span, object.depth - 1, LEAST_LABELLED));
   const live = inside.filter((object) => object.fate !== "ended").length;

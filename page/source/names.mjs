@@ -25,10 +25,13 @@ export function kindMark(kind) {
   return element("span", { class: `mark ${kind}`, role: "img", "aria-label": word, title: word }, KIND_LETTERS[kind]);
 }
 
-/** The name that the set-up has for a word, behind a space. Of several names nothing tells which one was meant. */
-export function nameOfWord(view, word) {
+/** The name that the set-up has for a word, behind a space, where the word led to a slot of the root CNode: names of
+    slots are names of its slots, and the same number read in another CNode means another slot. Of several names nothing
+    tells which one was meant. */
+export function nameOfWord(view, word, slot) {
   const names = view.trace.names.get(String(word)) ?? [];
-  return names.length === 1 ? [" ", dim(names[0])] : null;
+  const isInRoot = slot !== null && slot !== undefined && view.before.nodeAround(slot)?.base === 0;
+  return isInRoot && names.length === 1 ? [" ", element("span", { class: "dim name" }, names[0])] : null;
 }
 
 /** All names of a thread, behind a space. */
@@ -56,6 +59,8 @@ export function slotName(view, address) {
   return element("b", { class: "code", title: `slot at address ${address}` }, name);
 }
 
+/** What is said of a capability behind its object: a CNode's slots are left out in a short text, and its guard where
+    it is the usual one. */
 function detailsOf(capability, machine, short) {
   const { kind, size, free, badge, rights, slots, radix, guard, guardSize } = capability;
   if (kind === "untyped") return `${size} B, used ${free}`;
@@ -64,6 +69,14 @@ function detailsOf(capability, machine, short) {
   // A guard of all bits above the radix makes a CNode of one level; it is the usual one, and is not told.
   const guarded = guardSize > 0 && guardSize + radix !== machine.wordBits || guard !== "0";
   return [short ? "" : `${slots} slots`, guarded ? `guard ${guard}/${guardSize} bits` : ""].filter(Boolean).join(" ");
+}
+
+/** All that tells a capability from others of its object. */
+export function wholeDetailsOf(capability, machine) {
+  const { kind, slots, guard, guardSize } = capability;
+  if (kind === "tcb") return "thread";
+  if (kind === "cnode") return `${slots} slots${guardSize > 0 ? ` guard ${guard}/${guardSize} bits` : ""}`;
+  return detailsOf(capability, machine, false);
 }
 
 /** A capability: its object, then its badge and rights, its guard, or how much is used. */

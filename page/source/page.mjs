@@ -1,12 +1,13 @@
 // The page: it reads the trace that stands in it, and draws the state behind the step that one chooses.
 import { CallList, hasText, isMissed, nextStep } from "./calls.mjs";
 import { Places } from "./places.mjs";
+import { Player } from "./player.mjs";
 import { Run, firstMisfit } from "./state.mjs";
 import { changesOf } from "./changes.mjs";
 import { drawChanges, drawSentence } from "./summary.mjs";
-import { drawForest } from "./forest.mjs";
+import { drawForest, showChange } from "./forest.mjs";
 import { drawMemory } from "./memory.mjs";
-import { drawReachTable } from "./reach.mjs";
+import { drawReachTable } from "./reach_table.mjs";
 import { drawSpaces } from "./spaces.mjs";
 import { drawThreadsAndEndpoints } from "./threads.mjs";
 import { listenToFiles } from "./files.mjs";
@@ -15,6 +16,7 @@ import { namedSlots } from "./lookup.mjs";
 import { readTrace } from "./trace.mjs";
 
 const byId = (id) => document.getElementById(id);
+const TITLE = "sel4sim run";
 
 /** The trace without the steps that do not fit the state before them, and what is to be said of it. */
 function fitting(trace) {
@@ -39,6 +41,7 @@ class Page {
     this.seer = null;
     this.run = null;
     this.trace = { steps: [] };
+    this.player = new Player(byId("play"), this);
   }
 
   get last() {
@@ -49,8 +52,9 @@ class Page {
     return this.run?.number ?? 0;
   }
 
-  /** Reads a trace and shows one of its steps; a text that is none is refused with its fault. */
-  open(text, number) {
+  /** Reads a trace and shows one of its steps; a text that is none is refused with its fault. The name is that of the
+      set-up, or of the file. */
+  open(text, number, name) {
     try {
       const [trace, notice] = fitting(readTrace(text));
       if (trace.steps.length === 0) throw new Error(notice);
@@ -62,6 +66,9 @@ class Page {
       return;
     }
     document.body.dataset.shows = "run";
+    document.title = name ? `${name} · ${TITLE}` : TITLE;
+    byId("name").textContent = name || TITLE;
+    byId("name").title = document.title;
     this.drawFrame();
     this.show(number);
   }
@@ -92,7 +99,7 @@ class Page {
     run.go(number);
     const after = new Places(run.state, machine);
     const ring = new Set([named.invoked, named.source, named.target]);
-    return { trace, step: steps[number], state: run.state, before, after, named, held,
+    return { trace, step: steps[number], state: run.state, before, after, named, held, lost: after.lostNodes(),
       changes: changesOf(steps[number], before, after), isNamed: (address) => ring.has(address) };
   }
 
@@ -104,7 +111,7 @@ class Page {
     this.view = view;
     byId("said").replaceChildren(...drawSentence(view).flat(Infinity));
     this.put("changed", drawChanges(view));
-    this.put("forest", drawForest(view));
+    this.drawForest(view);
     this.put("memory", drawMemory(view));
     this.put("threads", drawThreadsAndEndpoints(view));
     this.put("reach", drawReachTable(view));
@@ -112,6 +119,14 @@ class Page {
     this.drawLines();
     this.drawPosition(number);
     this.calls.show(this.trace, number);
+  }
+
+  /** The forest keeps its place from step to step, but for what is not in sight of that which changed. */
+  drawForest(view) {
+    const scroller = () => document.querySelector("#forest .forest-scroll");
+    const top = scroller()?.scrollTop ?? 0;
+    this.put("forest", drawForest(view));
+    showChange(scroller(), top);
   }
 
   put(id, children) {
@@ -148,8 +163,9 @@ class Page {
     }
   }
 
-  showNextMissed() {
-    const number = nextStep(this.trace.steps, this.number, 1, isMissed);
+  /** Shows the next step that a test holds for, if there is one. */
+  showNext(holds) {
+    const number = nextStep(this.trace.steps, this.number, 1, holds);
     if (number >= 0) this.show(number);
   }
 
@@ -180,20 +196,24 @@ function listenToControls(page) {
   byId("on").addEventListener("click", () => page.show(page.number + 1));
   byId("last").addEventListener("click", () => page.show(page.last));
   byId("range").addEventListener("input", ({ target }) => page.show(Number(target.value)));
-  byId("next-missed").addEventListener("click", () => page.showNextMissed());
+  byId("next-missed").addEventListener("click", () => page.showNext(isMissed));
+  byId("play").addEventListener("click", () => page.player.toggle());
   byId("state-lines").addEventListener("toggle", () => page.drawLines());
   window.addEventListener("hashchange", () => page.show(Number(location.hash.slice(1))));
-  listenToKeys(page, byId("list"), byId("find"));
-  listenToFiles([byId("open"), byId("open-first")], (text) => page.open(text, 0));
+  byId("show-keys").addEventListener("click", () => byId("keys").showModal());
+  byId("close-keys").addEventListener("click", () => byId("keys").close());
+  listenToKeys(page, { list: byId("list"), main: byId("main"), find: byId("find"), keys: byId("keys") });
+  listenToFiles([byId("open"), byId("open-first")], (text, name) => page.open(text, 0, name));
   listenToPointer();
 }
 
 function start() {
   const page = new Page();
   const text = byId("trace").textContent;
+  const name = document.title.replace(TITLE, "").replace(/ · $/, "");
   listenToControls(page);
   if (text === "") document.body.dataset.shows = "start";
-  else page.open(text, Number(location.hash.slice(1)));
+  else page.open(text, Number(location.hash.slice(1)), name);
 }
 
 start();

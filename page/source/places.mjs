@@ -6,6 +6,9 @@ export class Places {
     this.state = state;
     this.machine = machine;
     this.slots = state.sorted("slot");
+    // Taken at once, since the state goes on.
+    const roots = state.sorted("thread").map(({ address }) => state.slot.get(address)?.capability);
+    this.roots = roots.filter((capability) => capability !== undefined);
     this.holders = new Map();
     const nodes = new Map();
     for (const { capability } of this.slots) {
@@ -38,6 +41,34 @@ export class Places {
     }
     const node = this.nodes[low - 1];
     return node && address < node.base + node.size ? node : undefined;
+  }
+
+  /** The CNodes that some capabilities lead to, directly or through other CNodes: their addresses. Guards and depths do
+      not count here. */
+  nodesFrom(capabilities) {
+    const found = new Set();
+    const todo = [...capabilities];
+    while (todo.length > 0) {
+      const { kind, base } = todo.pop();
+      if (kind !== "cnode" || found.has(base)) continue;
+      found.add(base);
+      todo.push(...this.capabilitiesIn(base));
+    }
+    return found;
+  }
+
+  capabilitiesIn(base) {
+    return this.slotsIn(base).map(({ capability }) => capability);
+  }
+
+  /** The CNodes that no root slot of a thread leads to, each with those others in a circle with it: CNodes that hold
+      one another. No thread can name a slot of them any more. */
+  lostNodes() {
+    const reached = this.nodesFrom(this.roots);
+    const lost = this.nodes.map(({ base }) => base).filter((base) => !reached.has(base));
+    const below = new Map(lost.map((base) => [base, this.nodesFrom(this.capabilitiesIn(base))]));
+    const together = (one, other) => one !== other && below.get(one).has(other) && below.get(other).has(one);
+    return new Map(lost.map((base) => [base, lost.filter((other) => together(base, other))]));
   }
 
   /** How a slot of a CNode is called: `root[8]` or `16384[1]`; or null for one that lies in no CNode. */

@@ -1,76 +1,91 @@
-// Who can reach what: for each object that some word of some thread leads to, the rights, the badges and the words.
-// The page works this out from the state by its own lookups.
-import { code, dim, element, heading } from "./element.mjs";
-import { objectName } from "./names.mjs";
-import { wordsOfThread } from "./lookup.mjs";
+// What each thread can invoke: the capabilities that its words lead to, and those that one copy or move from a CNode
+// among them would give besides. The page works this out from the state by its own lookups.
+import { slotsFrom, wordsOfThread } from "./lookup.mjs";
 
-const MOST_OBJECTS = 120;
-const MOST_WORDS = 3;
-const MOST_BADGES = 4;
-const MOST_THREADS = 6;
 const KIND_ORDER = ["endpoint", "tcb", "cnode", "untyped"];
 
-const some = (texts, most) => texts.slice(0, most).join(", ") + (texts.length > most ? " .." : "");
+/** What tells capabilities apart: the object, and the badge and rights, the guard, or how much is used. */
+const keyOf = ({ object, badge, rights, guard, guardSize, free }) =>
+  [object, badge, rights, guard, guardSize, free].join(" ");
 
-/** The objects in reach, each with the slots and words of each thread. */
-function reachedObjects(view, threads) {
-  const objects = new Map();
-  for (const thread of threads) {
-    for (const [address, word] of wordsOfThread(view.after, thread)) {
-      const { capability } = view.state.slot.get(address);
-      if (!objects.has(capability.object)) objects.set(capability.object, { capability, by: new Map() });
-      const { by } = objects.get(capability.object);
-      if (!by.has(thread)) by.set(thread, []);
-      by.get(thread).push({ capability, word });
+/** The capabilities that some word of a thread leads to, by their keys; equal ones are one, with all their words. */
+function waysOf(places, thread) {
+  const ways = new Map();
+  for (const [address, word] of wordsOfThread(places, thread)) {
+    const { capability } = places.state.slot.get(address);
+    const key = keyOf(capability);
+    if (!ways.has(key)) ways.set(key, { capability, words: [] });
+    ways.get(key).words.push(word);
+  }
+  return ways;
+}
+
+/** The capabilities that a copy or move through the CNodes among some ways would give besides, by their keys; each with
+    the CNodes that it stands in reach of. */
+function copiesOf(places, ways) {
+  const copies = new Map();
+  const nodes = [...ways.values()].map(({ capability }) => capability).filter(({ kind }) => kind === "cnode");
+  for (const node of nodes) {
+    for (const { capability } of slotsFrom(places, node)) {
+      const key = keyOf(capability);
+      if (ways.has(key)) continue;
+      if (!copies.has(key)) copies.set(key, { capability, from: new Set() });
+      copies.get(key).from.add(node.object);
     }
   }
-  const rank = ({ capability }) => [KIND_ORDER.indexOf(capability.kind), capability.base];
-  return [...objects.values()].sort((one, other) => {
-    const [[kind, base], [otherKind, otherBase]] = [rank(one), rank(other)];
-    return kind - otherKind || base - otherBase;
-  });
+  return copies;
 }
 
-/** Threads that reach the same by the same words share a column. */
-function columnsOf(threads, rows) {
-  const columns = new Map();
+/** What a thread can invoke, `ways`, and could by a copy, `copies`, with one text that says all of it. */
+function sightOf(places, thread) {
+  const ways = waysOf(places, thread);
+  const copies = copiesOf(places, ways);
+  const text = JSON.stringify([[...ways].map(([key, { words }]) => [key, words]),
+    [...copies].map(([key, { from }]) => [key, [...from]])]);
+  return { text, ways: [...ways.values()], copies: [...copies.values()] };
+}
+
+/** The sights of all threads, each with the threads that have it: these share a column. A sight depends on nothing but
+    the capability in the thread's root slot. */
+function sightsOf(places, threads) {
+  const byRoot = new Map();
+  const sights = new Map();
   for (const thread of threads) {
-    const sight = rows.map(({ by }) => (by.get(thread) ?? []).map(({ word }) => word).join()).join("|");
-    columns.set(sight, [...(columns.get(sight) ?? []), thread]);
+    const root = places.state.slot.get(thread)?.capability;
+    const key = root === undefined ? "" : keyOf(root);
+    if (!byRoot.has(key)) byRoot.set(key, sightOf(places, thread));
+    const sight = byRoot.get(key);
+    if (!sights.has(sight.text)) sights.set(sight.text, { ...sight, threads: [] });
+    sights.get(sight.text).threads.push(thread);
   }
-  return [...columns.values()];
+  return [...sights.values()];
 }
 
-function drawReach(ways) {
-  if (!ways) return element("td", {}, dim("–"));
-  const words = [" ", dim("by ", element("span", { class: "code" }, some(ways.map(({ word }) => word), MOST_WORDS)))];
-  if (ways[0].capability.kind !== "endpoint") return element("td", {}, "●", words);
-  const has = (right) => ways.some(({ capability }) => capability.rights.includes(right));
-  const rights = [..."wrgp"].map((right) => (has(right) ? right : "-"));
-  const badges = [...new Set(ways.map(({ capability }) => capability.badge))];
-  return element("td", {}, code(rights.join("")), " ", dim(`badge ${some(badges, MOST_BADGES)}`), words);
+/** Each object that some capability of the sights is of, with such a capability: by kind and address. */
+function objectsOf(sights) {
+  const objects = new Map();
+  for (const { ways, copies } of sights) {
+    for (const { capability } of [...ways, ...copies]) objects.set(capability.object, capability);
+  }
+  return [...objects.values()].sort((one, other) =>
+    KIND_ORDER.indexOf(one.kind) - KIND_ORDER.indexOf(other.kind) || one.base - other.base || other.size - one.size);
 }
 
-/** The head of a column: the threads that share it. */
-function drawColumnName(column) {
-  const more = column.length > MOST_THREADS ? ` +${column.length - MOST_THREADS}` : "";
-  const name = column.slice(0, MOST_THREADS).join(", ") + more;
-  return element("th", { scope: "col", class: "code", title: column.join(", ") }, name);
+/** What a sight has of one object: the ways to invoke it, the copies that would give it, and, of a CNode, the copies
+    from it. */
+function cellOf({ ways, copies }, object) {
+  return {
+    ways: ways.filter(({ capability }) => capability.object === object),
+    copies: copies.filter(({ capability }) => capability.object === object),
+    given: copies.filter(({ from }) => from.has(object)),
+  };
 }
 
-/** The table of who can reach what in the state behind a step. */
-export function drawReachTable(view) {
-  const threads = view.state.sorted("thread").map(({ address }) => address);
-  const rows = reachedObjects(view, threads);
-  const columns = columnsOf(threads, rows);
-  const draw = ({ capability, by }) => element("tr", {}, element("th", { scope: "row" }, objectName(view, capability)),
-    columns.map(([thread]) => drawReach(by.get(thread))));
-  const table = element("table", {}, element("caption", { class: "unseen" }, "Objects that threads can reach"),
-    element("thead", {}, element("tr", {}, element("th", { scope: "col" }, "object"), columns.map(drawColumnName))),
-    element("tbody", {}, rows.slice(0, MOST_OBJECTS).map(draw)));
-  const rest = rows.length - MOST_OBJECTS;
-  const remark = "by any word; threads that reach the same share a column. Worked out by this page, not proved.";
-  const attributes = { class: "scroll", tabindex: "0", role: "region", "aria-label": "Who can reach what, table" };
-  return [heading("Who can reach what", remark), element("div", attributes, table),
-    rest > 0 ? element("p", { class: "dim" }, `and ${rest} more objects`) : null];
+/** The columns, each the threads that share it, and the rows, each an object with a cell for each column. */
+export function reachOf(places) {
+  const sights = sightsOf(places, places.state.sorted("thread").map(({ address }) => address));
+  const columns = sights.map(({ threads }) => threads);
+  const rows = objectsOf(sights).map((capability) =>
+    ({ capability, cells: sights.map((sight) => cellOf(sight, capability.object)) }));
+  return { columns, rows };
 }

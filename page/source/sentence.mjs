@@ -37,7 +37,7 @@ function rightsOf(bits) {
 function slotNamed(view, address, index, depth, capability) {
   if (address === null || address === undefined) return dim(`no slot (index ${index} of ${depth} bits leads to none)`);
   const held = capability ? [" ", capabilityName(view, capability, true)] : null;
-  return [slotName(view, address), nameOfWord(view, index), held];
+  return [slotName(view, address), nameOfWord(view, index, address), held];
 }
 
 const target = (view, words) => slotNamed(view, view.named.target, words.index, words.depth, view.held.target);
@@ -46,7 +46,8 @@ const source = (view, words) => slotNamed(view, view.named.source, words.src_ind
 function invoked(view, words) {
   const held = view.held.invoked ? [" ", capabilityName(view, view.held.invoked, true)] : null;
   const slot = slotName(view, view.named.invoked);
-  return ["its capability ", code(words.cap), nameOfWord(view, words.cap), " (", slot, held, ")"];
+  const name = nameOfWord(view, words.cap, view.named.invoked);
+  return ["its capability ", code(words.cap), name, " (", slot, held, ")"];
 }
 
 /** The power of two with an exponent that is written out: in full where it fits the memory. */
@@ -79,7 +80,7 @@ function copy(view, words) {
 /** The data that a mint or a mutate sets: a CNode's guard, or else a badge. */
 function dataOf(view, { word }) {
   if (view.held.source?.kind === "cnode") return [", with ", guardOf(word, view.trace.machine)];
-  return [", with the badge ", code(word), nameOfWord(view, word)];
+  return [", with the badge ", code(word)];
 }
 
 const send = (view, words) => ["label ", code(words.label), words.words ? [", words ", code(words.words)] : null,

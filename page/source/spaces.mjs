@@ -77,9 +77,18 @@ class Cells {
     if (rows.length === 0) return;
     const drawRow = (row) => drawCell(this.view, this.node, row, this.words);
     const draw = () => element("ul", { class: "cells" }, rows.map(drawRow));
-    this.cells.push(element("li", { class: "cell empty wide" }, fold(rows.length, "full", draw)));
+    this.cells.push(element("li", { class: "cell empty wide" }, fold(rows.length, "full slots", draw)));
     this.hidden = [];
   }
+}
+
+/** What is said of a CNode that no thread leads to. */
+function lossOf(view, { base, ended }) {
+  const circle = ended ? undefined : view.lost.get(base);
+  const own = view.state.selfheld.has(base) ? ["held only by its own slots"] : [];
+  if (circle === undefined) return own;
+  const others = circle.length > 0 ? [`held in a circle with ${circle.join(", ")}`] : [];
+  return ["no thread leads here", ...own, ...others];
 }
 
 function drawNode(view, node, words) {
@@ -88,10 +97,9 @@ function drawNode(view, node, words) {
   for (const row of rows) cells.add(row, rows.length > MOST_FULL);
   cells.unhide();
   const name = objectName(view, node);
-  const held = view.state.selfheld.has(node.base) ? " held only by its own slots" : "";
-  const title = element("h3", {}, node.ended ? [element("s", {}, name), " ended"] : name,
-    node.base === 0 ? " the root CNode" : "", " ", dim(`${node.slots} slots`),
-    held && element("span", { class: "tag missed" }, held));
+  const title = element("h3", { "data-node": node.ended ? undefined : node.base },
+    node.ended ? [element("s", {}, name), " ended"] : name, node.base === 0 ? " the root CNode" : "", " ", dim(`${node.slots} slots`), " ",
+    lossOf(view, node).map((text) => [element("span", { class: "tag missed" }, text), " "]));
   return [title, element("ul", { class: "cells" }, cells.cells, drawGap(node, cells.next, node.slots))];
 }
 

@@ -86,24 +86,47 @@ function slotItems(view) {
   return [items(emptied.values(), emptiedItem), items(filled.values(), filledItem), alteredItems(view)];
 }
 
+/** An object that ended. With the last capability of an untyped region nothing ends. */
+function endedItem(view, object) {
+  if (object.kind !== "untyped") return item("emptied", "ended", ...objectWords(object), " ended");
+  const { base, size } = object;
+  const isInside = ({ capability: { base: start, size: length } }) => start >= base && start + length <= base + size;
+  const stays = view.after.slots.some(isInside) ? "; what was made of it stays" : "";
+  return item("emptied", "ended", "capability of ", ...objectWords(object), ` gone${stays}`);
+}
+
+/** CNodes that no thread leads to any more; of those that hold one another, one line. */
+function lostItems(view) {
+  const { lost, now } = view.changes;
+  const isTold = ([base, circle]) => !now.has(`selfheld ${base}`) && circle.every((other) => other > base);
+  return items([...lost].filter(isTold), ([base, circle]) => {
+    const bases = code([base, ...circle].join(", "));
+    if (circle.length === 0) return item("emptied", "warning", "no thread leads to CNode ", bases, " any more");
+    return item("emptied", "warning", "CNodes ", bases, " hold one another, and no thread leads to them any more");
+  });
+}
+
 /** One line for each thing that changed: first objects and threads, then slots. */
 function changeItems(view) {
   const { ended, born, now } = view.changes;
   const selfHeld = [...now.values()].filter((line) => line.kind === "selfheld");
   return [
-    items(ended.values(), (object) => item("emptied", "ended", ...objectWords(object), " ended")),
+    items(ended.values(), (object) => endedItem(view, object)),
     items(born.values(), (object) => item("filled", "born", "new ", ...objectWords(object))),
     threadItems(view),
     items(selfHeld, ({ address }) =>
       item("emptied", "warning", "CNode ", code(String(address)), " is now held by its own slots alone")),
+    lostItems(view),
     slotItems(view),
   ].flat(Infinity);
 }
 
 /** How much changed, in one line. */
 function countedChanges({ ended, born, ready, emptied, filled, altered, moved }) {
+  const untyped = [...ended.values()].filter(({ kind }) => kind === "untyped").length;
   const counts = [
-    [ended.size, "object", " ended"], [born.size, "new object", ""], [ready.length, "thread", " ready again"],
+    [ended.size - untyped, "object", " ended"], [untyped, "untyped", " gone"],
+    [born.size, "new object", ""], [ready.length, "thread", " ready again"],
     [moved ? 0 : emptied.size, "slot", " emptied"], [moved ? 0 : filled.size, "slot", " filled"],
     [moved ? 1 : 0, "capability", " moved"], [altered.size, "slot", " altered"],
   ];

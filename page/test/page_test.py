@@ -1,10 +1,12 @@
 #!/usr/bin/env python3
 """page_test.py PROGRAM FOLDER: makes a page of each set-up in FOLDER and steps through it in chromium.
-page_test.py --traces FOLDER: the same with traces that are there already, the files NAME.trace in FOLDER.
+page_test.py --traces FOLDER: the same with traces that are there already, the files NAME.trace in FOLDER; without the
+set-ups of its own and the planted faults, which need the program.
 
 Each page is stepped through forward and back (a long run for its first 60 calls) and by jumps; behind each step what it
 shows is compared with a replay of the trace that is made here. Nothing that a page does may leave it: its policy has to
-hold, and no request may reach the proxy. Then: the modules by themselves, the viewer, page.sh, texts and files that
+hold, and no request may reach the proxy. The same is done for the set-ups in the folder `setups`, and faults that are
+planted in the page have to be found by it. Then: the modules by themselves, the viewer, page.sh, texts and files that
 mean harm, the keys, what a screen reader is told, and the colours.
 """
 import pathlib
@@ -15,11 +17,13 @@ import sys
 import tempfile
 
 import chromium
+import planted
 import special
-from replay import states_of, steps_of
+from replay import Replay
 from shown import READ, wrong_page
 
 PAGE = pathlib.Path(__file__).resolve().parent.parent
+SETUPS = PAGE / "test" / "setups"
 SEED = 7
 MOST_STEPS = 60
 JUMPS = 12
@@ -33,9 +37,9 @@ def needs():
         yield "node (apt-get install nodejs)"
 
 
-def make_page(program, setup, folder):
+def make_page(program, setup, folder, page=PAGE):
     """Makes a page by page.sh and gives its path; a refused set-up has none."""
-    made = subprocess.run([PAGE / "page.sh", program, setup], capture_output=True, timeout=120)
+    made = subprocess.run([page / "page.sh", program, setup], capture_output=True, timeout=120)
     if made.returncode > 1:
         return None
     path = folder / f"{setup.stem}.html"
@@ -47,16 +51,14 @@ class Stepper:
     """Steps through one page, and keeps what is wrong."""
 
     def __init__(self, browser, trace):
-        self.browser, self.head = browser, trace.splitlines()[0]
-        self.steps = steps_of(trace)
-        self.states = states_of(self.steps)
-        self.last = len(self.steps) - 1
+        self.browser, self.replay = browser, Replay(trace)
+        self.last = self.replay.last
         self.compared, self.faults = 0, []
 
     def compare(self, number, way):
         shown = self.browser.value(READ)
         self.compared += 1
-        for fault in wrong_page(shown, self.head, self.steps[number], self.states[number], number, self.last):
+        for fault in wrong_page(shown, self.replay, number):
             self.faults.append(f"step {number}, {way}: {fault}")
 
     def forward(self):
@@ -100,15 +102,20 @@ class Stepper:
             number = wanted
             self.compare(number, way)
 
-    def run(self, path):
+    def open(self, path):
         self.browser.open(path.as_uri())
         self.browser.value("document.getElementById('state-lines').open = true")
         self.browser.value("new Promise((done) => setTimeout(done, 20))")
+
+    def run(self, path):
+        self.open(path)
         self.forward()
         self.back()
         self.jumps()
         if self.browser.asked != [path.as_uri()] or self.browser.recorder.asked:
             self.faults.append(f"it asked for {self.browser.asked}, {self.browser.recorder.asked}")
+        if self.browser.value("document.title") != f"{path.stem} · sel4sim run":
+            self.faults.append(f"the title is {self.browser.value('document.title')!r}")
         self.faults += self.browser.complaints
 
 
@@ -119,14 +126,27 @@ def step_through(browser, program, setups, folder):
         path = make_page(program, setup, folder)
         if path is None:
             continue
-        trace = subprocess.run([program, "trace", setup], capture_output=True, text=True, timeout=120).stdout
-        stepper = Stepper(browser, trace)
+        stepper = Stepper(browser, trace_of(program, setup))
         stepper.run(path)
         for fault in stepper.faults[:5]:
             print(f"{setup.stem}: {fault}")
         pages, compared, wrong = pages + 1, compared + stepper.compared, wrong + bool(stepper.faults)
     print(f"{pages} pages, {compared} times compared, {wrong} pages with faults")
     return pages > 0 and wrong == 0
+
+
+def trace_of(program, setup):
+    return subprocess.run([program, "trace", setup], capture_output=True, text=True, timeout=120).stdout
+
+
+def faults_of_planted(browser, program, folder):
+    """A function of a page's folder and a set-up that gives the faults which stepping forward finds."""
+    def found(page, setup):
+        stepper = Stepper(browser, trace_of(program, setup))
+        stepper.open(make_page(program, setup, folder, page))
+        stepper.forward()
+        return stepper.faults
+    return found
 
 
 def stand_in(folder):
@@ -149,6 +169,9 @@ def main():
     browser = chromium.Chromium()
     try:
         right = step_through(browser, program, setups, folder)
+        if not traces:
+            right &= step_through(browser, program, sorted(SETUPS.glob("*.toml")), folder)
+            right &= planted.run(faults_of_planted(browser, program, folder), PAGE, SETUPS, folder)
         (folder / "harm.trace").write_text(special.RUN)
         right &= step_through(browser, stand_in(folder), [folder / "harm.trace"], folder)
         right &= special.run(browser, PAGE, folder)

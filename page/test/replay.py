@@ -1,4 +1,6 @@
-"""Reads a trace by itself, apart from the page: its steps, the state behind each, and where words lead in a state."""
+"""Reads a trace by itself, apart from the page: its names and steps, the state behind each, where words lead in a
+state, and which CNodes no thread leads to."""
+import bisect
 import re
 
 KINDS = ("thread", "inbox", "endpoint", "slot", "selfheld")
@@ -63,6 +65,25 @@ class Slot:
     def number(self, key):
         return int(self.words[self.words.index(key) + 1])
 
+    @property
+    def object(self):
+        """What tells the object apart: two untyped regions may begin at one address."""
+        return f"{self.kind} {self.base}" + (f"/{self.number('bits')}" if self.kind == "untyped" else "")
+
+    @property
+    def size(self):
+        """The bytes of an untyped region."""
+        return 1 << self.number("bits")
+
+    def whole_details(self):
+        """All that tells the capability from others of its object."""
+        if self.kind == "tcb":
+            return "thread"
+        if self.kind != "cnode":
+            return self.details(0)
+        size = self.number("size")
+        return f"{1 << self.number('radix')} slots" + (f" guard {self.number('guard')}/{size} bits" if size else "")
+
     def details(self, word_bits):
         """What the page says of the capability behind its object's address."""
         if self.kind == "untyped":
@@ -82,17 +103,114 @@ def slots_of(state):
     return {address: Slot(line) for (kind, address), line in state.items() if KINDS[kind] == "slot"}
 
 
-def slot_of_word(slots, thread, word, profile):
-    """The address of the slot that a word leads to from a thread's root, or None; by the rules of docs/behaviour.md."""
-    left, slot_bits = (64, 5) if profile == "wide" else (32, 4)
-    slot = slots.get(thread)
+def sizes_of(profile):
+    """The bits of a word and of a slot's size."""
+    return (64, 5) if profile == "wide" else (32, 4)
+
+
+def resolve(slots, root, word, bits, profile):
+    """The address of the slot that some bits of a word lead to from a capability, and how many bits are left, or None;
+    by the rules of docs/behaviour.md."""
+    left, slot = bits, root
     while slot is not None and slot.kind == "cnode":
         radix, guard, size = slot.number("radix"), slot.number("guard"), slot.number("size")
         if size + radix > left or word >> (left - size) & ((1 << size) - 1) != guard:
             return None
         left -= size + radix
-        address = slot.base + ((word >> left & ((1 << radix) - 1)) << slot_bits)
+        address = slot.base + ((word >> left & ((1 << radix) - 1)) << sizes_of(profile)[1])
         slot = slots.get(address)
         if left == 0 or slot is None or slot.kind != "cnode":
-            return address
+            return address, left
     return None
+
+
+def slot_of_word(slots, thread, word, profile):
+    """The address of the slot that a word leads to from a thread's root, or None."""
+    found = resolve(slots, slots.get(thread), word, sizes_of(profile)[0], profile)
+    return found and found[0]
+
+
+def slot_of_index(slots, root, index, depth, profile):
+    """The address of the slot that an index and a depth name from a CNode's capability, or None."""
+    found = resolve(slots, root, index, depth, profile) if 0 < depth <= sizes_of(profile)[0] else None
+    return found[0] if found and found[1] == 0 else None
+
+
+class Walks:
+    """Where all words of a state lead, level by level."""
+
+    def __init__(self, slots, profile):
+        self.slots, self.addresses = slots, sorted(slots)
+        self.word_bits, self.slot_bits = sizes_of(profile)
+
+    def inside(self, node):
+        """The full slots of a CNode."""
+        end = node.base + (1 << node.number("radix") << self.slot_bits)
+        first, last = (bisect.bisect_left(self.addresses, address) for address in (node.base, end))
+        return [self.slots[address] for address in self.addresses[first:last]]
+
+    def levels(self, root):
+        """Each full slot that bits lead to from a capability, with how many are left there: the slot may be one on the
+        way."""
+        todo, seen = [(root, self.word_bits)], set()
+        while todo:
+            node, bits = todo.pop()
+            left = bits - node.number("size") - node.number("radix") if node.kind == "cnode" else -1
+            for slot in self.inside(node) if left >= 0 else []:
+                if (slot.address, left) not in seen:
+                    seen.add((slot.address, left))
+                    todo.append((slot, left))
+        return seen
+
+    def invoked(self, thread):
+        """The addresses of the full slots that some word of a thread leads to: with bits left, a lookup goes on at a
+        CNode."""
+        root = self.slots.get(thread)
+        return {address for address, left in (self.levels(root) if root else ())
+                if left == 0 or self.slots[address].kind != "cnode"}
+
+    def named_from(self, node):
+        """The addresses of the full slots that some index and depth name from a CNode's capability."""
+        return {address for address, _ in self.levels(node)}
+
+
+def lost_nodes(state, profile):
+    """The CNodes that no thread's root slot leads to through CNodes, each with the others in a circle with it."""
+    slots = slots_of(state)
+    walks = Walks(slots, profile)
+    nodes = {slot.base: slot for slot in slots.values() if slot.kind == "cnode"}
+    held = {base: {slot.base for slot in walks.inside(node) if slot.kind == "cnode"} for base, node in nodes.items()}
+
+    def below(bases):
+        found, todo = set(), list(bases)
+        while todo:
+            base = todo.pop()
+            if base not in found:
+                found.add(base)
+                todo += held[base]
+        return found
+
+    threads = [address for kind, address in state if KINDS[kind] == "thread"]
+    roots = [slots[thread].base for thread in threads if thread in slots and slots[thread].kind == "cnode"]
+    lost = sorted(set(nodes) - below(roots))
+    under = {base: below(held[base]) for base in lost}
+    return {base: [other for other in lost if other != base and other in under[base] and base in under[other]]
+            for base in lost}
+
+
+class Replay:
+    """A trace: its profile, the names of each word, its steps, and the state behind each."""
+
+    def __init__(self, trace):
+        self.profile = trace.splitlines()[0].split(" ")[2]
+        self.names = {}
+        for name, word in re.findall(r"^name (\w+) (\d+)$", trace, re.M):
+            self.names.setdefault(int(word), []).append(name)
+        self.steps = steps_of(trace)
+        self.states = states_of(self.steps)
+        self.last = len(self.steps) - 1
+
+    def words(self, number):
+        """The words of a call by their keys, without those of a message."""
+        words = self.steps[number].lines[1].partition(" words")[0].split()[1:]
+        return dict(zip(words[::2], map(int, words[1::2])))

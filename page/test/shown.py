@@ -1,11 +1,16 @@
 """What a page shows, read from its elements, and what is wrong with it beside the state that the replay has."""
 import re
 
-from replay import KINDS, slot_of_word, slots_of
+from invoked import READ_TABLE, wrong_table
+from replay import KINDS, lost_nodes, slot_of_index, slot_of_word, slots_of
 
-# Opens what is folded, until nothing is, and reads the page.
+# Looks whether the forest was scrolled to what changed; opens what is folded, until nothing is, and reads the page.
 READ = r"""
 (async () => {
+  const box = (element) => element?.getBoundingClientRect();
+  const forest = box(document.querySelector(".forest-scroll"));
+  const first = box(document.querySelector("#forest .node:is(.named, .filled, .emptied, .altered, .moved)"));
+  const inSight = !first || (first.top >= forest.top && first.bottom <= forest.bottom);
   const closed = () => [...document.querySelectorAll("details.fold:not([open])")];
   while (closed().length > 0) {
     for (const folded of closed()) folded.open = true;
@@ -15,6 +20,9 @@ READ = r"""
   const text = (id) => document.getElementById(id).textContent;
   const around = (element) => element.parentElement.closest("li[data-slot]")?.dataset.slot ?? null;
   return {
+    inSight, title: document.title, table: """ + READ_TABLE + r""",
+    names: all("#sentence .name", (name) => name.textContent), changed: text("changed"),
+    nodes: all("#spaces h3[data-node]", (node) => [Number(node.dataset.node), node.textContent]),
     state: text("state-text"), step: text("step-text"), position: text("position"), sentence: text("said"),
     everything: document.getElementById("run").textContent,
     forest: all("#forest li[data-slot]", (row) => [Number(row.dataset.slot), around(row) && Number(around(row)),
@@ -135,9 +143,75 @@ def wrong_words(shown, state, profile):
             yield f"the word {value} leads to a slot that is called out of reach"
 
 
-def wrong_page(shown, trace_head, step, state, number, count):
+def slots_named(replay, number):
+    """The words of a call that its sentence has, each with the slot that it led to before the call, or None."""
+    words, slots = replay.words(number), slots_of(replay.states[number - 1])
+    _, thread, operation, *_ = CALL.fullmatch(replay.steps[number].lines[0]).groups()
+    is_live = int(thread) in lines_of(replay.states[number - 1], "thread")
+
+    def by_word(word):
+        return slot_of_word(slots, int(thread), words[word], replay.profile) if is_live else None
+
+    def by_index(root, index, depth):
+        return slot_of_index(slots, slots.get(by_word(root)), words[index], words[depth], replay.profile)
+
+    if "index" not in words or operation == "retype":
+        return [(words["cap"], by_word("cap"))]
+    target = (words["index"], by_index("cap", "index", "depth"))
+    source = (words["src_index"], by_index("src_root", "src_index", "src_depth")) if "src_index" in words else None
+    return [target, source] if source else [target]
+
+
+def wrong_names(shown, replay, number):
+    """The sentence has the name of a word just where the word led to a slot of the root CNode, and has one name."""
+    if number == 0:
+        return
+    before = slots_of(replay.states[number - 1]).values()
+    ends = [slot.number("radix") for slot in before if slot.kind == "cnode" and slot.base == 0]
+    end = 1 << ends[0] << (5 if replay.profile == "wide" else 4) if ends else 0
+    wanted = [replay.names[word][0] for word, slot in slots_named(replay, number)
+              if slot is not None and slot < end and len(replay.names.get(word, ())) == 1]
+    if sorted(shown) != sorted(wanted):
+        yield f"the sentence has the names {shown}, and not {wanted}"
+
+
+def wrong_losses(shown, replay, number):
+    """CNodes that no thread leads to are marked, with those in a circle with them, and are told when they are lost; and
+    where the last capability of an untyped region goes, it is told whether something that was made of it stays."""
+    state, lost = replay.states[number], lost_nodes(replay.states[number], replay.profile)
+    for base, text in shown["nodes"]:
+        circle = f"held in a circle with {', '.join(map(str, lost.get(base, ())))}"
+        marks = {"no thread leads here": base in lost, circle: bool(lost.get(base)),
+                 "held only by its own slots": base in lines_of(state, "selfheld")}
+        for mark, wanted in marks.items():
+            if wanted != (mark in text):
+                yield f"CNode {base} is told as {text!r}; lost are {lost}"
+    if number == 0:
+        return
+    already = lost_nodes(replay.states[number - 1], replay.profile)
+    for base, circle in lost.items():
+        told = f"CNodes {', '.join(map(str, sorted([base, *circle])))} hold one another"
+        if circle and base not in already and told not in shown["changed"]:
+            yield f"{told!r} is not told: {shown['changed']!r}"
+    yield from wrong_untypeds(shown["changed"], replay, number)
+
+
+def wrong_untypeds(changed, replay, number):
+    """What is said of the untyped regions whose last capability goes at a step."""
+    before, after = (slots_of(replay.states[place]).values() for place in (number - 1, number))
+    held = {slot.object for slot in after}
+    gone = {slot.object: slot for slot in before if slot.kind == "untyped" and slot.object not in held}
+    for slot in gone.values() if len(gone) < 12 else ():
+        stays = any(slot.base <= other.base < slot.base + slot.size and not (
+            other.kind == "untyped" and other.size > slot.size) for other in after)
+        told = f"capability of untyped {slot.base} ({slot.size} B) gone"
+        if told not in changed or stays != (f"{told}; what was made of it stays" in changed):
+            yield f"{told!r} and {stays} are not told: {changed!r}"
+
+
+def wrong_page(shown, replay, number):
     """What is wrong with what a page shows behind a step."""
-    profile = trace_head.split(" ")[2]
+    profile, step, state, count = replay.profile, replay.steps[number], replay.states[number], replay.last
     if shown["state"] != "\n".join(state.values()):
         yield f"the state is\n{shown['state']}"
     if shown["step"] != "\n".join(step.lines):
@@ -155,3 +229,8 @@ def wrong_page(shown, trace_head, step, state, number, count):
     yield from wrong_forest(shown["forest"], state, step, number, 64 if profile == "wide" else 32)
     yield from wrong_threads(shown, state)
     yield from wrong_words(shown, state, profile)
+    yield from wrong_table(shown["table"], replay, state)
+    yield from wrong_names(shown["names"], replay, number)
+    yield from wrong_losses(shown, replay, number)
+    if not shown["inSight"]:
+        yield "the forest is not scrolled to what changed"

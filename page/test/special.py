@@ -18,7 +18,7 @@ HARM = ("</pre></body><script>document.title = 'taken'</script>",
         "&lt;b&gt; & &amp; <img src=http://page-test.invalid/a>", "done] [met]",
         "' onmouseover='document.title = 1",
         "{script} {trace} \\")
-COUNT = len(HARM) + 3
+COUNT = len(HARM) + 4
 # A run with these texts, and with a guard that its thread has to name.
 RUN = f"""trace 1 wide memory_bits 16 calls {COUNT}
 name sender 2048
@@ -26,7 +26,9 @@ name endpoint 3
 0 boot
 {BOOT}""" + "".join(f"""{number} 2048 nbsend: dropped [not met: {harm}]
   with cap 3 label 0 words
-""" for number, harm in enumerate(HARM, 1)) + f"""{COUNT - 2} 2048 copy: done
+""" for number, harm in enumerate(HARM, 1)) + f"""{COUNT - 3} 2048 revoke: done
+  with cap 1 index 4 depth 64
+{COUNT - 2} 2048 copy: done
   with cap 1 index 5 depth 64 src_root 1 src_index 3 src_depth 64 rights 1
   + slot 160 endpoint 4096 badge 0 rights w--- under 96
 {COUNT - 1} 2048 set_space: done
@@ -49,6 +51,9 @@ LOADS = """<img src="http://page-test.invalid/1"><script src="http://page-test.i
 <style>body { background: url(http://page-test.invalid/7) }</style><script>document.title = "taken"</script>
 <img src="data:," onerror="document.title = 'taken'"><base href="http://page-test.invalid/8">"""
 
+# The title of the page of a set-up that is called x.
+TITLE = "x · sel4sim run"
+
 CONTROLS = {"button", "textbox", "searchbox", "slider", "combobox", "listbox", "option", "region", "navigation", "main",
             "DisclosureTriangle", "image"}
 
@@ -68,18 +73,23 @@ def text(browser, name):
     return browser.value(f"document.getElementById('{name}').textContent")
 
 
+# A set-up's name that means something to a shell, to sed and to a browser.
+ODD_NAME = "a&b<i>$(c)|\\1%s"
+
+
 def page_sh(_, page, folder):
-    """The statuses of page.sh, and what it writes where."""
+    """The statuses of page.sh, and what it writes where; also where it is called by a link from another folder."""
+    (folder / "linked").symlink_to(page / "page.sh")
     trace = folder / "run.trace"
     trace.write_text(RUN)
-    head, tail = ((page / name).read_bytes() for name in ("head.html", "tail.html"))
-    escaped = RUN.replace("&", "&amp;").replace("<", "&lt;").encode()
-    whole = head + escaped + tail
+    escaped, name = (told.replace("&", "&amp;").replace("<", "&lt;") for told in (RUN, ODD_NAME))
+    whole = (page / "viewer.html").read_text().replace("<title>sel4sim run<", f"<title>{name} · sel4sim run<")
+    whole = whole.replace('<pre id="trace"></pre>', f'<pre id="trace">{escaped}</pre>').encode()
     ways = ((0, f"cat {trace}", whole), (1, f"cat {trace}; exit 1", whole),
             (2, "echo set-up refused 200 at text; exit 2", b""), (3, f"head -c 99 {trace}; exit 3", b""))
     for status, lines, wanted in ways:
         program = script_of(folder, f"ends_with_{status}", lines)
-        made = subprocess.run([page / "page.sh", program, "setup.toml"], capture_output=True, timeout=60)
+        made = subprocess.run([page / "page.sh", program, f"x/{ODD_NAME}.toml"], capture_output=True, timeout=60)
         if made.returncode != status or made.stdout != wanted:
             yield f"page.sh ended with {made.returncode}, the program with {status}; {len(made.stdout)} bytes"
         if (status > 1) != (f"ended with status {status}".encode() in made.stderr):
@@ -89,6 +99,10 @@ def page_sh(_, page, folder):
     full = f"{page / 'page.sh'} {folder / 'ends_with_0'} x > /dev/full"
     if subprocess.run(["sh", "-c", full], stderr=subprocess.DEVNULL, timeout=60).returncode != 3:
         yield "page.sh does not say that its page could not be written"
+    words = [folder / "linked", folder / "ends_with_0", f"{ODD_NAME}.toml"]
+    linked = subprocess.run(words, capture_output=True, timeout=60)
+    if linked.stdout != whole:
+        yield f"page.sh by a link: {linked.stderr}"
     if subprocess.run([page / "page.sh", folder / "none", "x"], capture_output=True, timeout=60).returncode != 127:
         yield "page.sh does not say that there is no program"
 
@@ -110,8 +124,8 @@ def harmless(browser, page, folder):
             yield f"the expectation {harm} is told as {text(browser, 'said')}"
         if browser.value("document.querySelectorAll('#run script, #run img').length") != 0:
             yield f"the expectation {harm} made elements"
-    if browser.value("document.title") != "sel4sim run":
-        yield "a text of the trace ran"
+    if browser.value("document.title") != TITLE or text(browser, "name") != "x":
+        yield "a text of the trace ran, or the page has another title"
     if browser.complaints or browser.recorder.asked or len(browser.asked) != 1:
         yield f"complaints {browser.complaints}, requests {browser.asked} {browser.recorder.asked}"
 
@@ -123,7 +137,7 @@ def nothing_leaves(browser, _, folder):
     with_policy.write_text(made.replace('<p id="notice"', LOADS + '<p id="notice"'))
     browser.open(with_policy.as_uri())
     wait(browser, 500)
-    if browser.recorder.asked or browser.value("document.title") != "sel4sim run":
+    if browser.recorder.asked or browser.value("document.title") != TITLE:
         yield f"under the policy {browser.recorder.asked} was asked for; the title is {browser.value('document.title')}"
     if browser.value("document.body.dataset.shows") != "run":
         yield "the page's own script does not run under the policy"
@@ -174,7 +188,7 @@ ODD_TEXTS = {
 def viewer(browser, page, folder):
     """The viewer opens a trace by its picker and by dropping, and says of another text why it is none."""
     browser.open((page / "viewer.html").as_uri())
-    if browser.value("document.body.dataset.shows") != "start":
+    if browser.value("document.body.dataset.shows") != "start" or browser.value("document.title") != "sel4sim run":
         yield "the viewer does not invite to open a trace"
     choose(browser, folder / "run.trace", "open-first")
     browser.value("document.getElementById('state-lines').open = true")
@@ -203,7 +217,8 @@ def keys(browser, _, folder):
     open_run(browser, folder)
     last = COUNT
     for pressed, number in (("ArrowDown", 1), ("j", 2), ("k", 1), ("End", last), ("ArrowUp", last - 1), ("n", 1),
-                            ("n", 2), ("PageUp", 0), ("PageDown", last), ("ArrowRight", last), ("Home", 0),
+                            ("n", 2), ("PageUp", 0), ("r", last - 3), ("Home", 0), ("PageDown", last),
+                            ("ArrowRight", last), ("Home", 0),
                             ("ArrowLeft", 0)):
         browser.press(pressed)
         wanted = f"call {number} of {last}" if number else f"boot, {last} calls"
@@ -228,6 +243,33 @@ def keys(browser, _, folder):
     for name in ("first", "back", "on", "range", "find", "next-missed", "open", "list", "seer", "SUMMARY"):
         if name not in reached and browser.value(f"document.getElementById('{name}')?.disabled !== true"):
             yield f"the key Tab does not reach {name}"
+
+
+def playing(browser, _, folder):
+    """Space plays and stops, and so does its button; the question mark shows the keys, and Escape closes them."""
+    open_run(browser, folder)
+    browser.press(" ")
+    wait(browser, 3300)
+    browser.press(" ")
+    wait(browser, 1700)
+    if f"call 2 of {COUNT}" != text(browser, "position"):
+        yield f"two steps of playing lead to {text(browser, 'position')}"
+    browser.value("document.getElementById('play').click()")
+    browser.press("Home")
+    wait(browser, 1700)
+    if f"boot, {COUNT} calls" != text(browser, "position"):
+        yield "a key does not stop the playing"
+    browser.press("End")
+    browser.press(" ")
+    if browser.value("document.getElementById('play').getAttribute('aria-label')") != "Play the calls":
+        yield "it plays behind the last call"
+    is_open = "document.getElementById('keys').open"
+    browser.press("?")
+    opened = browser.value(is_open)
+    browser.press("Escape")
+    wait(browser)
+    if not opened or browser.value(is_open):
+        yield "the question mark does not show the keys, or Escape does not close them"
 
 
 def screen_reader(browser, _, folder):
@@ -324,7 +366,7 @@ def modules(_, page, __):
         yield tested.stdout + tested.stderr
 
 
-CHECKS = (made_by_join, modules, page_sh, harmless, nothing_leaves, viewer, keys, screen_reader, colours,
+CHECKS = (made_by_join, modules, page_sh, harmless, nothing_leaves, viewer, keys, playing, screen_reader, colours,
           themes_and_print, without_scripts)
 
 

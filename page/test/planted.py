@@ -1,0 +1,51 @@
+"""Faults that are planted in the page's modules, one at a time: stepping through a set-up has to find each of them."""
+import shutil
+import subprocess
+
+# What is wrong, the set-up that shows it, the module, the text that stands there once, and what is planted.
+FAULTS = (
+    ("threads share a column by their words alone", "five_components", "reach.mjs",
+     "[...ways].map(([key, { words }]) => [key, words])", "[...ways].map(([, { words }]) => words)"),
+    ("capabilities of one object are one line", "five_components", "reach.mjs",
+     "  [object, badge, rights, guard, guardSize, free].join", "  [object].join"),
+    ("a badge is left out", "five_components", "names.mjs",
+     'return badge === "0" ? rights : `badge ${badge} ${rights}`', "return rights"),
+    ("what a copy would give is left out", "five_components", "reach.mjs",
+     "if (ways.has(key)) continue;", "continue;"),
+    ("a copy is taken from the first CNode alone", "cnode_in_cnode", "lookup.mjs",
+     'if (inner.capability.kind === "cnode") walk(inner.capability, left);', ""),
+    ("names are told wherever the number stands", "five_components", "names.mjs",
+     "view.before.nodeAround(slot)?.base === 0", "true"),
+    ("CNodes that hold one another are not marked", "cnodes_that_hold_one_another", "places.mjs",
+     "const together = (one, other) => one !== other &&", "const together = (one, other) => one === other &&"),
+    ("all CNodes count as reached", "cnodes_that_hold_one_another", "places.mjs",
+     ".filter((base) => !reached.has(base))", ".filter(() => false)"),
+    ("what was made of an untyped region counts as gone", "revoke_of_untyped", "summary.mjs",
+     'view.after.slots.some(isInside) ? "; what was made of it stays" : ""', '""'),
+    ("the forest is not scrolled", "five_components", "forest.mjs",
+     "scroller.scrollTop += isAbove", "scroller.scrollTop += 0 * isAbove"),
+)
+
+
+def plant(page, folder, place, fault):
+    """A copy of the page's folder with one fault in it."""
+    _, _, module, old, new = fault
+    copied = folder / f"planted_{place}"
+    shutil.copytree(page, copied, ignore=shutil.ignore_patterns("out", "test"))
+    path = copied / "source" / module
+    text = path.read_text()
+    assert text.count(old) == 1, f"{old} stands {text.count(old)} times in {module}"
+    path.write_text(text.replace(old, new))
+    subprocess.run([copied / "join.py"], check=True, timeout=60)
+    return copied
+
+
+def run(faults_of, page, setups, folder):
+    """Whether each planted fault is found: `faults_of` gives the faults of the page that a folder makes of a set-up."""
+    missed = 0
+    for place, fault in enumerate(FAULTS):
+        if not faults_of(plant(page, folder, place, fault), setups / f"{fault[1]}.toml"):
+            print(f"planted and not found: {fault[0]}")
+            missed += 1
+    print(f"{len(FAULTS)} planted faults, {missed} not found")
+    return missed == 0
