@@ -291,26 +291,31 @@ def write_all(folder, texts):
 
 
 def goals_of(ran, crate):
-    """By the path of each function that is not proved: the goals that are open or that an answer does not meet. A
-    function that waits for one that it calls has none."""
+    """The goals that are open, or that an answer does not meet, by the path of their function, or by its file and a
+    line in it. A function that waits for one that it calls has none."""
     goals = {}
     for line in ran.lines:
         at = re.match(rf"fn {crate}::(\S+): no proof: expected answers in \S+; `search` did not prove (.*)", line)
         if at:
             goals.setdefault(at[1], []).extend(re.findall(r"`([^`]+)`", at[2]))
+        at = re.match(r"note: (?:\./)?(src/\S+?):(\d+):\d+: .*\(`([^`]+)`\)", line)
+        if at:
+            goals.setdefault((at[1], int(at[2])), []).append(at[3])
         at = re.match(r"(?:\./)?proofs/(\S+)/Answers\.antt:\d+:\d+: error: `([^`]+)`: (.*)", line)
         if at and not GONE.search(at[3]):
             goals.setdefault(at[1].replace("/", "::"), []).append(at[2])
     return goals
 
 
-def is_of(path, function):
-    """Whether a path that rt prints is that of a function, or of a closure in it."""
+def is_of(place, function):
+    """Whether a path that rt prints is that of a function, or of a closure in it, or a line is one of its lines."""
+    if isinstance(place, tuple):
+        return place[0] == function.file and function.first <= place[1] <= function.last
     module = re.sub(r"^src/|(/mod)?\.rt$", "", function.file).replace("/", "::")
     prefix = "" if module in ("lib", "main") else f"{module}::"
     owner = rf"{function.owner}[^:]*::" if function.owner else ""
     closure = rf"(?:{owner})?fn::(?:{owner})?{function.name}(?:::.*)?"
-    return re.fullmatch(rf"{prefix}(?:{owner}{function.name}|{closure})", path)
+    return re.fullmatch(rf"{prefix}(?:{owner}{function.name}|{closure})", place)
 
 
 def own_goals(edit, goals):
@@ -318,13 +323,14 @@ def own_goals(edit, goals):
     places = [it for it in edit.places if it is not None]
     named = edit.why[2] if edit.why else ""
     places.sort(key=lambda it: it.path != named and it.name != named)
-    return [goal for place in places for path in goals if is_of(path, place) for goal in dict.fromkeys(goals[path])]
+    return [*dict.fromkeys(goal for place in places for at in goals if is_of(at, place) for goal in goals[at])]
 
 
 def named_goals(edit, goals):
     """The goals that failed in the function that the first line names, as the law that holds a constant."""
     name = edit.why[2].split("::")[-1]
-    return [goal for path in goals if path.split("::")[-1] == name for goal in dict.fromkeys(goals[path])]
+    paths = [it for it in goals if isinstance(it, str) and it.split("::")[-1] == name]
+    return [*dict.fromkeys(goal for path in paths for goal in goals[path])]
 
 
 def told_of(edit, goals):
@@ -379,7 +385,7 @@ def try_alone(tried, edit):
     mine = own_goals(edit, goals) or named_goals(edit, goals)
     if mine:
         return said(crate, edit, *told_of(edit, mine))
-    others = [f"{path}: {it}" for path in goals for it in goals[path]] + not_admitted(ran)
+    others = [f"{at}: {it}" for at in goals if isinstance(at, str) for it in goals[at]] + not_admitted(ran)
     if others:
         return said(crate, edit, "at another function", others)
     return said(crate, edit, "by names alone, which says little of the contract", [])
