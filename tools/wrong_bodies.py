@@ -214,6 +214,11 @@ def crates_below(listed, crate):
     return found
 
 
+def is_built(folder):
+    """Whether a crate's library stands there; else rt would build it in each copy."""
+    return os.path.isdir(f"{folder}/out/rlib")
+
+
 def make_room(root, crate, room):
     """Copies a crate and those below it, with their kept work, and gives the copy's folder."""
     listed = lines_of_list(root)
@@ -403,9 +408,13 @@ def try_crate(root, crate, names, rooms):
     edits = edits_of(f"{root}/crates/{crate}", names)
     tried.wrong += [f"{crate}/{it.name}: BAD EDIT: {it.bad}" for it in edits if it.bad]
     edits = [it for it in edits if not it.bad]
+    missing = [it for it in crates_below(lines_of_list(root), crate)[1:] if not is_built(f"{root}/crates/{it}")]
+    if missing:
+        tried.wrong.append(f"{crate}: not tried, for want of {', '.join(missing)}: run rt lib there first")
+        return tried
     tried.folder = make_room(root, crate, f"{rooms}/{crate}")
     if check(tried, []).status != 0:
-        tried.wrong.append(f"{crate}: not proved itself, or a crate below it is not built: run rt lib there first")
+        tried.wrong.append(f"{crate}: not tried, since it is not proved itself")
         return tried
     for name, where in refusals(tried, edits).items():
         tried.counts[where] = tried.counts.get(where, 0) + 1
