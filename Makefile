@@ -2,6 +2,9 @@
 # threads or migrate; without FILE the stored set-up. It compiles the first time, and where a source has changed;
 # make run: the proved program on the stored set-up; its crates are proved in the order of crates.txt, as many side
 # by side as make -j N says, or as there are processors, and as memory allows; after an interrupt it goes on;
+# make dist: dist/sel4sim-COMMIT-x86_64-linux.tar.gz: the program, proved as by make run, with examples, pages and man page;
+# make dist-test tries what goes into it, on the program that is built, also where there is no toolchain;
+# make install: the program that make run built, and the same files, below PREFIX (/usr/local) and DESTDIR;
 # make test: the gate;
 # make rows: the built program: each worked set-up, as it is, migrated and traced, what it says of wrong command lines, files and
 # set-ups, an address used again a thousand times, each request for memory refused in turn, by each subcommand and by
@@ -14,7 +17,7 @@
 # (docs/performance.md); it says first what it needs and does not find;
 # make wrong-bodies: each wrong body of each crate, in copies; CRATE=NAME: those of one crate, JOBS=N: N crates side by side
 # (docs/wrong-bodies.md). It is no part of the gate, which tries those of must-fail/ alone.
-.PHONY: run test try rows page page-test needs bench wrong-bodies
+.PHONY: run dist dist-test install test try rows page page-test needs bench wrong-bodies
 
 program = crates/sel4sim/out/sel4sim
 calls = crates/refused_memory/out/refused_memory
@@ -26,6 +29,15 @@ first_format = $(setups)/messages/receive_then_send.toml
 
 run:
 	@python3 build/prove.py < $(given)
+
+dist:
+	@python3 build/archive.py dist < $(given)
+
+dist-test:
+	python3 build/archive_test.py
+
+install:
+	@python3 build/archive.py install
 
 test:
 	rt ci

@@ -171,7 +171,7 @@ class Build:
         return len(self.done)
 
     def jobs_of(self, name, free):
-        """Returns how many places a library gets: two where the end waits for it and its like, and not for processors."""
+        """Returns how many places a library gets: two where the end waits for what is above it, not for processors."""
         left = sum(self.cost[it] for it in self.names if it not in self.done)
         return 2 if free > 1 and self.ahead[name] * self.places > left else 1
 
@@ -303,11 +303,16 @@ def interrupted(number, _):
     raise KeyboardInterrupt(number)
 
 
-if __name__ == "__main__":
+def status_of(work):
+    """Does the work and returns its status, also where it is told to stop."""
     for it in (signal.SIGTERM, signal.SIGHUP):
         signal.signal(it, interrupted)
     try:
-        sys.exit(main())
+        return work()
     except KeyboardInterrupt:
         tell("stopped; make run goes on from here")
-        sys.exit(130)
+        return 130
+
+
+if __name__ == "__main__":
+    sys.exit(status_of(main))
