@@ -17,7 +17,6 @@ import prove
 from crates import TOP
 
 PROGRAM = "crates/sel4sim/out/sel4sim"
-PAGE = ("page.sh", "pages.sh", "head.html", "tail.html", "viewer.html")
 PROVED = """sel4sim, commit {commit}{changed}
 of {when}
 
@@ -46,7 +45,8 @@ def below(folder):
 def contents():
     """Returns a dict from each path below the prefix to the file of the repository that goes there."""
     files = {"bin/sel4sim": PROGRAM, "share/man/man1/sel4sim.1": "build/sel4sim.1"}
-    files.update((f"share/sel4sim/page/{it}", f"page/{it}") for it in PAGE)
+    scripts = sorted(it for it in os.listdir(os.path.join(TOP, "page")) if it.endswith((".sh", ".html")))
+    files.update((f"share/sel4sim/page/{it}", f"page/{it}") for it in scripts)
     examples = "crates/worked_setups/data/examples"
     files.update((f"share/sel4sim/examples/{it}", f"{examples}/{it}") for it in below(examples))
     files.update((f"share/doc/sel4sim/docs/{it}", f"docs/{it}") for it in below("docs"))

@@ -58,13 +58,14 @@ class Archive(unittest.TestCase):
         for path in re.findall(r"(/\S+) \(0x", output("ldd", self.program)):
             os.makedirs(self.below(os.path.dirname(path)[1:]), exist_ok=True)
             shutil.copy(path, self.below(path[1:]))
+        env = {"PATH": os.environ["PATH"]}
         enter = ["chroot"] if os.geteuid() == 0 else ["unshare", "--map-root-user", "chroot"]
         examples = sorted(it for it in os.listdir(self.below("share/sel4sim/examples")) if it.endswith(".toml"))
         self.assertTrue(examples)
         for it in examples:
             path = f"share/sel4sim/examples/{it[:-5]}"
             words = [*enter, self.root, "/bin/sel4sim", "check", f"/{path}.toml"]
-            ran = subprocess.run(words, stdout=subprocess.PIPE, stderr=subprocess.PIPE, env={}, check=False)
+            ran = subprocess.run(words, stdout=subprocess.PIPE, stderr=subprocess.PIPE, env=env, check=False)
             wanted = 0
             if os.path.exists(self.below(f"{path}.status")):
                 with open(self.below(f"{path}.status"), encoding="utf-8") as file:
@@ -79,7 +80,7 @@ class Archive(unittest.TestCase):
 
     def test_installs_the_same(self):
         to = os.path.join(self.folder, "a place")
-        env = {**os.environ, "DESTDIR": to, "PREFIX": "/opt/seL4 tools"}
+        env = {**os.environ, "DESTDIR": to, "PREFIX": "/opt/seL4 tools", "MAKEFLAGS": ""}
         for _ in range(2):
             output("make", "--no-print-directory", "-C", TOP, "install", env=env)
         there = os.path.join(to, "opt/seL4 tools")
