@@ -1,59 +1,60 @@
 #!/usr/bin/env python3
-"""No clause that a user of a crate reads rests on a definition in `specs/Private`: what stands there serves the proofs
-of private functions alone, and nobody has to believe it.
+"""private_definitions.py CRATES PAGE: what the clauses of public functions rest on can be found.
 
-Of each crate it looks at what stands on a public path: the functions, the methods of types and traits, and what an
-`impl` says of a type (`ghost view`, `ghost invariant`, ..). Their clauses name no definition that is imported from
-`specs/Private`, of whatever crate; and no other file of `specs/` imports one.
-
-    rows/private_definitions.py CRATES
+It looks at what stands on a public path of each crate in CRATES: the functions, the methods of types and traits, and what an
+`impl` says of a type (`ghost view`, `ghost invariant`, ..). Their clauses name no definition that is imported from `specs/Private`,
+of whatever crate, and no other file of `specs/` imports one: what stands there serves the proofs of private functions alone.
+Each definition that they do name is in PAGE, docs/definitions.md, and each one in a row of PAGE is there.
 """
-
 import re
 import sys
 from pathlib import Path
 
-IMPORT = re.compile(r"use (Rattle\.[\w.]+)(?:\.\{([^}]*)\}| as (\w+))?;?$")
+IMPORT = re.compile(r"use Rattle\.(\w+)\.specs\.([\w.]+?)(?:\.\{([^}]*)\}| as (\w+))?;?$")
 MODULE = re.compile(r"pub mod (\w+);")
 EXPORT = re.compile(r"pub use (\w+)::(?:\{([^}]*)\}|(\w+));")
 FUNCTION = re.compile(r"(pub )?(?:const )?fn (\w+)")
-TYPE = re.compile(r"pub (?:struct|enum|trait) (\w+)")
-IMPL = re.compile(r"impl(?:<[^>]*>)? (?:(.+) for )?(\w+)")
 TRAIT = re.compile(r"pub trait (\w+)")
-WORD = re.compile(r"[\w◌]+(?:\.[\w◌]+)*")
+WORD = re.compile(r"[\w◌>=]+(?:\.\w+)*")
+DEFINITION = re.compile(r"^ *(?:(?:abbrev|unfoldable|opaque) )?pub (?:(?:record|data) )?([\w◌>=-]+)", re.MULTILINE)
+CASE = re.compile(r"^  ([\w]+) : ", re.MULTILINE)
 
 
-class Names:
-    """The names by which a file has definitions of `specs/Private`."""
-
-    def __init__(self, lines):
-        self.names = set()
-        for line in lines:
-            found = IMPORT.search(line.strip())
-            if found and ".specs.Private" in found[1]:
-                self.names |= set(bound(found))
-
-    def cited(self, text):
-        """Those of them that a text cites, by themselves or as what is in a module."""
-        for word in WORD.findall(text):
-            if word in self.names or word.split(".")[0] in self.names:
-                yield word
-
-
-def bound(found):
-    """The names that an import binds."""
-    path, members, alias = found.groups()
+def imported(line, crates):
+    """What a line imports from the definitions of these crates: by the name that it binds, the module, and the definition's own
+    name, or none where the name stands for the whole module."""
+    found = IMPORT.search(line.strip())
+    if not found or found[1] not in crates or found[2].startswith("declared"):
+        return {}
+    crate, module, members, alias = found.groups()
     if members is None:
-        return [alias or path.split(".")[-1]]
-    return [member.split(" as ")[-1].strip() for member in members.split(",") if member.strip()]
+        return {alias or module.split(".")[-1]: (module, None)}
+    pairs = [member.strip().split(" as ") for member in members.split(",") if member.strip()]
+    return {pair[-1].strip(): (module, pair[0].strip()) for pair in pairs}
+
+
+def cited(text, names):
+    """The module and the name of each definition that a text cites by one of these names."""
+    for word in WORD.findall(text):
+        first, *rest = word.split(".")
+        if first in names:
+            module, name = names[first]
+            yield module, name or (rest[0] if rest else first)
 
 
 def indentation(line):
     return len(line) - len(line.lstrip(" "))
 
 
+def without_generics(line):
+    """A line without what stands in angle brackets."""
+    while re.search(r"<[^<>]*>", line):
+        line = re.sub(r"<[^<>]*>", "", line)
+    return line
+
+
 def head(lines, start):
-    """A function from its first line to the one before its body, signature and clauses."""
+    """A function from its first line to the one on which its body opens: signature and clauses."""
     depth = indentation(lines[start])
     end = start
     while not lines[end].endswith(";") and (indentation(lines[end]) != depth or not lines[end].endswith(("{", "}"))):
@@ -63,81 +64,100 @@ def head(lines, start):
 
 def member(lines, start):
     """A ghost member of an `impl` or a trait."""
-    end = start + 1
-    while end < len(lines) and not lines[end - 1].rstrip().endswith(";"):
+    end = start
+    while not lines[end].endswith(";"):
         end += 1
-    return "\n".join(lines[start:end])
+    return "\n".join(lines[start : end + 1])
 
 
 def public_clauses(lines, is_public):
-    """What a reader of the public items has before them: each item's name and its text."""
-    inside = None  # the type or trait in whose block the line stands, and whether all of its functions are public
+    """The name and the text of each public function of a file, and of each ghost member of a public type or trait."""
+    inside = None  # the type or trait in whose block a line stands, and whether all of its functions are public
     for number, line in enumerate(lines):
         text = line.strip()
         if line == "}":
             inside = None
         elif line.startswith("impl"):
-            found = IMPL.match(line)
-            inside = (found[2], found[1] is not None) if found else None
+            words = without_generics(line).split()
+            inside = words[3 if "for" in words else 1], "for" in words
         elif TRAIT.match(line):
-            inside = (TRAIT.match(line)[1], True)
+            inside = TRAIT.match(line)[1], True
         elif FUNCTION.match(text):
-            pub, name = FUNCTION.match(text).groups()
-            if inside is None and indentation(line) == 0:
-                if pub and is_public(name):
-                    yield name, head(lines, number)
-            elif inside and is_public(inside[0]) and (pub or inside[1]):
+            public, name = FUNCTION.match(text).groups()
+            if inside is None and indentation(line) == 0 and public and is_public(name):
+                yield name, head(lines, number)
+            elif inside and is_public(inside[0]) and (public or inside[1]):
                 yield f"{inside[0]}::{name}", head(lines, number)
-        elif text.startswith("ghost ") and not text.startswith("ghost use") and inside and is_public(inside[0]):
+        elif inside and is_public(inside[0]) and text.startswith("ghost ") and not text.startswith("ghost use"):
             yield f"{inside[0]}, {text.split()[1]}", member(lines, number)
 
 
 def exported(library):
-    """The modules of a crate that are public as a whole, and of the others the names that are handed on."""
-    modules = set(MODULE.findall(library)) | {"lib"}
+    """The modules of a crate that are public as a whole, and the names that are handed on from others."""
     names = {}
     for module, members, one in EXPORT.findall(library):
-        listed = [name.strip() for name in members.split(",") if name.strip()] or [one]
-        names.setdefault(module, set()).update(listed)
-    return modules, names
+        names.setdefault(module, set()).update(name.strip() for name in (members or one).split(","))
+    return set(MODULE.findall(library)) | {"lib"}, names
 
 
-def of_crate(crate):
-    """The public items of a crate, each with what it cites of `specs/Private`, and how many items there are."""
-    library = (crate / "src/lib.rt").read_text()
-    modules, names = exported(library)
-    count, wrong = 0, []
+def citations(crate, crates):
+    """Each public function or ghost member of a crate, with the definitions that it cites."""
+    modules, names = exported((crate / "src/lib.rt").read_text())
     for file in sorted((crate / "src").rglob("*.rt")):
         lines = file.read_text().split("\n")
-        private = Names(lines)
-        is_public = lambda name: file.stem in modules or name in names.get(file.stem, ())
-        for name, text in public_clauses(lines, is_public):
-            count += 1
-            wrong += [f"{file}: {name} cites {word}, which is private" for word in sorted(set(private.cited(text)))]
-    return count, wrong
+        known = {}
+        for line in lines:
+            known.update(imported(line, crates))
+        handed_on = names.get(file.stem, set())
+        for name, text in public_clauses(lines, lambda item: file.stem in modules or item in handed_on):
+            yield f"{crate.name}, {name}", set(cited(text, known))
 
 
-def of_specs(crate):
-    """The public files of definitions that import a private one."""
+def private_imports(crate, crates):
+    """What a file of definitions imports from a private one, without being private itself."""
     for file in sorted((crate / "specs").rglob("*.antt")):
-        if "Private" in file.parts or file.name == "Private.antt":
-            continue
-        for line in file.read_text().split("\n"):
-            found = IMPORT.search(line.strip())
-            if found and ".specs.Private" in found[1]:
-                yield f"{file}: imports {', '.join(bound(found))}, which is private"
+        if "Private" not in file.parts and file.name != "Private.antt":
+            for line in file.read_text().split("\n"):
+                for module, name in imported(line, crates).values():
+                    if module.startswith("Private"):
+                        yield f"{file} imports {name or module}, which is private"
+
+
+def defined(crates):
+    """The names that the files of definitions define."""
+    names = set()
+    for crate in crates:
+        for file in (crate / "specs").rglob("*.antt"):
+            text = file.read_text()
+            names |= set(DEFINITION.findall(text)) | set(CASE.findall(text))
+    return names
+
+
+def rows(page):
+    """The names in the first column of a page's tables."""
+    for line in page.split("\n"):
+        if line.startswith("| `"):
+            yield from re.findall(r"`([^`]+)`", line.split(" | ")[0])
 
 
 def main():
-    crates = sorted(path for path in Path(sys.argv[1]).iterdir() if (path / "src/lib.rt").exists())
-    count, wrong = 0, []
+    folder, page = Path(sys.argv[1]), Path(sys.argv[2]).read_text()
+    crates = [path for path in sorted(folder.iterdir()) if (path / "src/lib.rt").exists()]
+    names = {crate.name for crate in crates}
+    wrong, count, listed = [], 0, set(re.findall(r"`([^`\s]+)`", page))
     for crate in crates:
-        items, cited = of_crate(crate)
-        count += items
-        wrong += cited + list(of_specs(crate))
+        wrong += private_imports(crate, names)
+        for item, found in citations(crate, names):
+            count += 1
+            for module, name in sorted(found):
+                if module.startswith("Private"):
+                    wrong.append(f"{item}: cites {name}, which is private")
+                if name not in listed:
+                    wrong.append(f"{item}: cites {name} of {module}, which the page does not have")
+    wrong += [f"the page has {name}, which no crate defines" for name in sorted(set(rows(page)) - defined(crates))]
     if count < 300:
-        wrong.append(f"only {count} public items were found in {len(crates)} crates")
-    print("\n".join(wrong + [f"{count} public items of {len(crates)} crates: {len(wrong)} cite a private definition"]))
+        wrong.append(f"only {count} public functions and ghost members were found")
+    print("\n".join(wrong + [f"{count} public functions and ghost members, {len(wrong)} faults"]))
     sys.exit(1 if wrong else 0)
 
 
