@@ -1,10 +1,11 @@
 #!/usr/bin/env python3
 """private_definitions.py CRATES PAGE: what the clauses of public functions rest on can be found.
 
-It looks at what stands on a public path of each crate in CRATES: the functions, the methods of types and traits, and what an
-`impl` says of a type (`ghost view`, `ghost invariant`, ..). Their clauses name no definition that is imported from `specs/Private`,
-of whatever crate, and no other file of `specs/` imports one: what stands there serves the proofs of private functions alone.
-Each definition that they do name is in PAGE, docs/definitions.md, and each one in a row of PAGE is there.
+It looks at what stands on a public path of each crate in CRATES: the functions, the methods of types and traits, and
+what an `impl` says of a type (`ghost view`, `ghost invariant`, ..). Their clauses name no definition that is imported
+from `specs/Private`, of whatever crate, and no other file of `specs/` imports one: what stands there serves the proofs
+of private functions alone. Each definition that they do name is in PAGE, docs/definitions.md, and each definition in a
+row of PAGE is in some crate.
 """
 import re
 import sys
@@ -21,8 +22,8 @@ CASE = re.compile(r"^  ([\w]+) : ", re.MULTILINE)
 
 
 def imported(line, crates):
-    """What a line imports from the definitions of these crates: by the name that it binds, the module, and the definition's own
-    name, or none where the name stands for the whole module."""
+    """What a line imports from the definitions of these crates: by the name that it binds, the module, and the
+    definition's own name, or none where the name stands for the whole module."""
     found = IMPORT.search(line.strip())
     if not found or found[1] not in crates or found[2].startswith("declared"):
         return {}
