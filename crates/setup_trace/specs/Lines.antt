@@ -31,7 +31,7 @@ lines_at text addresses = flat_map (line_at text) (rising addresses)
 
 -- ---- what the full slots are, and what they name
 
--- a full slot with the slot that it is derived from
+-- a full slot with the slot that it stands right below
 abbrev pub Derived : Type 0
 Derived = Entry × Option ℕ
 
@@ -80,7 +80,7 @@ endpoint_at v address = Some (endpoint_text address (first_sends (waiting_at v a
 abbrev pub endpoint_lines : ProfileName → Shown → Lines
 endpoint_lines p v = lines_at (endpoint_at v) (named p Naming.Endpoint (derivations_of v.derivations))
 
--- ---- slots: the capability of each full slot, the slot that it is derived from, and whether it is original
+-- ---- slots: the capability of each full slot, the slot that it stands right below, and whether it is original
 
 abbrev pub parent_text : Option ℕ → List ℕ
 parent_text None = []

@@ -64,7 +64,7 @@ impl fmt::Display for InboxText {
     }
 }
 
-/// The slot that a capability is derived from, where there is one.
+/// The slot right above a full one in the derivation forest, where there is one.
 #[derive(Clone, Copy)]
 struct ParentText(Option<u64>);
 
@@ -79,7 +79,7 @@ impl fmt::Display for ParentText {
     }
 }
 
-/// A full slot: its capability, the slot that this is derived from, and whether it is original.
+/// A full slot: its capability, the slot right above it in the derivation forest, and whether it is original.
 #[derive(Clone, Copy)]
 pub struct SlotText {
     pub address: u64,
