@@ -163,8 +163,8 @@ backwards (d ∷ ds) = backwards ds ++ state_flipped d ∷ []
 abbrev pub lines_text : Lines → List ℕ
 lines_text lines = flat_map (λ (l : ℕ × List ℕ). line l.1) lines
 
--- The report's lines of threads are of the threads that the trace has lines of, in that order. The two lines of a thread
--- differ in what follows its state: the trace tells what it waits to send, and the report what it received last.
+-- The report's lines of threads are of the threads that the trace has lines of, in that order. The two lines of a
+-- thread differ in what follows its state: the trace tells what it waits to send, and the report what it received last.
 abbrev pub TellsTheThreads : ProfileName → Shown → Type 0
 TellsTheThreads p v = flat_map (thread_line v) (addresses (thread_lines p v)) ≡ report.thread_lines p v
 
@@ -187,7 +187,8 @@ is_under slot (Some parent) = parent == slot
 abbrev pub has_slot_under : ℕ → List Derived → Bool
 has_slot_under slot list = list_any (λ (d : Derived). is_under slot d.1) list
 
--- the report's line of a slot, by what the trace tells of it: its capability, and `children` where some slot is under it
+-- the report's line of a slot, by what the trace tells of it: its capability, and `children` where some slot is under
+-- it
 abbrev pub slot_line_of : List Derived → ℕ → Option Derived → List ℕ
 slot_line_of list slot None = []
 slot_line_of list slot (Some d) = line (report.slot_text slot d.0.cap (has_slot_under slot list))

@@ -33,9 +33,9 @@ pub fn changes_give_the_lines_after()
         ≡ lines_in p (state_after p (boot p plan) calls) }
 {}
 
-/// The changes lead back as well: turned round, and applied to the new lines, they give the old ones; and so with all lines
-/// of two states. Those of any calls and of the boot before them, turned round and applied one after another, the last
-/// one first, to the lines of the state after the calls, leave no lines.
+/// The changes lead back as well: turned round, and applied to the new lines, they give the old ones; and so with all
+/// lines of two states. Those of any calls and of the boot before them, turned round and applied one after another, the
+/// last one first, to the lines of the state after the calls, leave no lines.
 pub fn changes_lead_back()
     ensures applied { (old new : Lines) → Rise old → Rise new → applied new (map flipped (differences old new)) ≡ old }
     ensures applied_to_states { (p : ProfileName) (v w : Shown)
@@ -47,9 +47,10 @@ pub fn changes_lead_back()
         ≡ no_lines }
 {}
 
-/// What a trace tells of a state that a run reaches is what the report tells of it: the lines of endpoints and of CNodes
-/// that hold themselves are the report's, and the lines of threads and of slots are of the same threads and slots. The
-/// report's line of a slot tells no more of it than the trace's: its `children` stands where some slot is under it.
+/// What a trace tells of a state that a run reaches is what the report tells of it: the lines of endpoints and of
+/// CNodes that hold themselves are the report's, and the lines of threads and of slots are of the same threads and
+/// slots. The report's line of a slot tells no more of it than the trace's: its `children` stands where some slot is
+/// under it.
 pub fn lines_are_those_of_the_report()
     ensures threads { (p : ProfileName) (A : State) → IsReached p A → TellsTheThreads p (shown A) }
     ensures endpoints { (p : ProfileName) (A : State) → IsReached p A → TellsTheEndpoints p (shown A) }

@@ -37,8 +37,8 @@ fn add_expectations(out: &mut String, count: ExpectationCount) -> Result<(), All
 /// The trace of a set-up's run, in the profile of its plan: the names by which it was spelt, what the boot gives, and
 /// for each call the report's own line, its words, and what it changed: each line of the state that is gone and each
 /// that is new; and how many of the expectations are met. A line tells of a thread, of the last message delivered to
-/// one, of an endpoint, of a full slot with the slot that it stands right below, or of a CNode that only slots of its own
-/// name.
+/// one, of an endpoint, of a full slot with the slot that it stands right below, or of a CNode that only slots of its
+/// own name.
 ///
 /// The lines are this project's profile.
 ///
