@@ -1,5 +1,5 @@
 -- What a run of reads gave, and what a run of writes took: counted for every device, and byte for byte where a device tells its bytes.
-use Rattle.std.specs.Prelude.{◌≡◌, ◌+◌, ◌≤◌, ℕ, List, ◌++◌, Option, length, IfSome}
+use Rattle.std.specs.Prelude.{◌≡◌, ◌+◌, ◌≤◌, ℕ, Bool, List, ◌++◌, Option, length, IfSome}
 use Rattle.std.specs.Io.KnownBytes.{Appends}
 
 -- the source gave as many bytes as the input has, and had just the input to give, where it tells what it has
@@ -17,3 +17,9 @@ Took taken written old new text = (written new ≡ written old + length text) ×
 -- the sink took a front of the text
 abbrev pub TookFront : {K : Type 0} → (K → Option (List ℕ)) → (K → ℕ) → K → K → List ℕ → Type 0
 TookFront taken written old new text = (front rest : List ℕ) × (text ≡ front ++ rest) × Took taken written old new front
+
+-- a reader or a writer of std, how many bytes went through it, and whether one of its reads or writes has failed
+pub record Counted (T : Type 0) : Type 0 where
+  pub device : T
+  pub count : ℕ
+  pub failed : Bool

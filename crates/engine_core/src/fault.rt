@@ -1,8 +1,9 @@
 //! How a run of the program ends.
-ghost use Rattle.std.specs.Prelude.{◌≡◌};
+ghost use Rattle.std.specs.Prelude.{◌≡◌, Some};
 ghost use Rattle.engine_core.specs.Statuses.{run_status};
 
-use thiserror::Error;
+use std::error::Error;
+use std::fmt;
 
 /// What a run found.
 #[derive(Clone, Copy, Drop)]
@@ -16,21 +17,46 @@ pub enum Verdict {
 }
 
 /// Why a run came to no verdict.
-#[derive(Clone, Copy, Debug, Drop, Error)]
+#[derive(Clone, Copy, Debug, Drop)]
 pub enum RunFault {
     /// A read failed, or the input has too many bytes.
-    #[error("reading failed")]
     Reading,
     /// A write failed, or took no byte.
-    #[error("writing failed")]
     Writing,
     /// Memory ran out.
-    #[error("out of memory")]
     Memory,
     /// A thread could not be started, or a client that shares a kernel came to no end of its calls.
-    #[error("thread not started")]
     Thread,
 }
+
+impl RunFault {
+    ghost use Rattle.engine_core.specs.Statuses.{run_fault_text};
+
+    /// What the program says of the fault.
+    pub fn text(self) -> &'static str
+        ensures { result.now ≡ run_fault_text self }
+    {
+        match self {
+            RunFault::Reading => "reading failed",
+            RunFault::Writing => "writing failed",
+            RunFault::Memory => "out of memory",
+            RunFault::Thread => "thread not started",
+        }
+    }
+}
+
+impl fmt::Display for RunFault {
+    ghost use Rattle.engine_core.specs.Statuses.{run_fault_text};
+
+    ghost output = { λ fault. Some (run_fault_text fault) };
+
+    fn fmt<W: fmt::Write>(&self, f: &mut fmt::Formatter<W>) -> fmt::Result {
+        let text = self.text();
+        write!(f, "{text}")
+    }
+}
+
+impl Error for RunFault {}
 
 /// The program's exit status: 0 where all expectations are met, 1 where one is not, 2 where the set-up is refused, 3
 /// after a fault.

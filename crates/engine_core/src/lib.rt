@@ -5,6 +5,7 @@
 mod device;
 mod engines;
 mod fault;
+mod kept;
 mod limits;
 mod sink;
 mod source;
@@ -13,6 +14,7 @@ mod streams;
 pub use device::DeviceFault;
 pub use engines::{Engine, run_engine};
 pub use fault::{RunFault, Verdict, status_of};
+pub use kept::{KeptReader, KeptWriter};
 pub use limits::INPUT_LIMIT;
 pub use sink::{Sink, WriterSink};
 pub use source::{ReaderSource, Source};

@@ -1,9 +1,11 @@
 //! Devices that take bytes.
 ghost use Rattle.std.specs.Prelude.{◌≡◌, ◌+◌, ◌<◌, ◌≤◌, ℕ, List, Bool, true, false, Option, length, take, IfOk, OnOk, OnErr};
 ghost use Rattle.std.specs.Io.KnownBytes.{Appends, Keeps};
+ghost use Rattle.engine_core.specs.Devices.{Counted};
 
 use crate::device::DeviceFault;
 use std::io::Write;
+use std::marker::Model;
 
 /// A device that takes bytes.
 pub trait Sink {
@@ -36,11 +38,17 @@ pub struct WriterSink<W> {
     failed: bool,
 }
 
+impl<W> Model for WriterSink<W> {
+    ghost Value = { Counted W };
+
+    ghost view = { λ s. record { device = s.writer; count = s.written; failed = s.failed } };
+}
+
 impl<W> WriterSink<W> {
     /// The writer, to which nothing was written yet.
     pub fn new(writer: W) -> WriterSink<W>
-        ensures writer { result.writer ≡ writer }
-        ensures written { result.written ≡ 0 }
+        ensures writer { result.device ≡ writer }
+        ensures written { result.count ≡ 0 }
         ensures failed { result.failed ≡ false }
     {
         WriterSink {
@@ -49,12 +57,19 @@ impl<W> WriterSink<W> {
             failed: false,
         }
     }
+
+    /// The writer.
+    pub fn writer(&self) -> &W
+        ensures { result.now ≡ self.now.device }
+    {
+        &self.writer
+    }
 }
 
 impl<W: Write> Sink for WriterSink<W> {
-    ghost taken = { λ s. W.contents s.writer };
+    ghost taken = { λ s. W.contents s.device };
 
-    ghost written = { λ s. s.written };
+    ghost written = { λ s. s.count };
 
     ghost failed = { λ s. s.failed };
 

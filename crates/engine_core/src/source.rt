@@ -1,9 +1,11 @@
 //! Devices that give bytes.
 ghost use Rattle.std.specs.Prelude.{◌≡◌, ◌+◌, ◌<◌, ◌≤◌, ℕ, List, Bool, true, false, Option, length, take, IfOk, OnOk, OnErr};
 ghost use Rattle.std.specs.Io.KnownBytes.{Consumes, IsAtEnd};
+ghost use Rattle.engine_core.specs.Devices.{Counted};
 
 use crate::device::DeviceFault;
 use std::io::Read;
+use std::marker::Model;
 
 /// A device that gives bytes.
 pub trait Source {
@@ -34,11 +36,17 @@ pub struct ReaderSource<R> {
     failed: bool,
 }
 
+impl<R> Model for ReaderSource<R> {
+    ghost Value = { Counted R };
+
+    ghost view = { λ s. record { device = s.reader; count = s.given; failed = s.failed } };
+}
+
 impl<R> ReaderSource<R> {
     /// The reader, of which nothing was read yet.
     pub fn new(reader: R) -> ReaderSource<R>
-        ensures reader { result.reader ≡ reader }
-        ensures given { result.given ≡ 0 }
+        ensures reader { result.device ≡ reader }
+        ensures given { result.count ≡ 0 }
         ensures failed { result.failed ≡ false }
     {
         ReaderSource {
@@ -47,12 +55,19 @@ impl<R> ReaderSource<R> {
             failed: false,
         }
     }
+
+    /// The reader.
+    pub fn reader(&self) -> &R
+        ensures { result.now ≡ self.now.device }
+    {
+        &self.reader
+    }
 }
 
 impl<R: Read> Source for ReaderSource<R> {
-    ghost left = { λ s. R.remaining s.reader };
+    ghost left = { λ s. R.remaining s.device };
 
-    ghost given = { λ s. s.given };
+    ghost given = { λ s. s.count };
 
     ghost failed = { λ s. s.failed };
 
