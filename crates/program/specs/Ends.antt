@@ -1,0 +1,76 @@
+-- What the program does with the words of its command line, its exit status, and what it says of a fault.
+use Rattle.std.specs.Prelude.{◌≡◌, ℕ, List, [], codes, Option, Some, None, Result, Ok, Err, false, IfErr, OnOk, OnErr}
+use Rattle.clap.specs.Words.{Text, takes, fault_of, IsAmong}
+use Rattle.clap.specs.declared.error.kind.ErrorKind.TheVariants.{DisplayHelp}
+use Rattle.command_line.specs.CommandLine.{command, file_asked, job_asked, HasOtherFault}
+use Rattle.command_line.specs.declared.arguments.Job.{Job}
+use Rattle.engine_core.specs.Devices.{Took, TookFront}
+use Rattle.engine_core.specs.Runs.{IsRun}
+use Rattle.engine_core.specs.Statuses.{run_status, run_fault_text}
+use Rattle.engine_core.specs.declared.fault.Verdict.{Verdict}
+use Rattle.engine_core.specs.declared.fault.RunFault.{RunFault}
+use Rattle.engine_core.specs.declared.fault.RunFault.TheVariants.{Reading, Writing}
+use Rattle.engine_core.specs.declared.sink.Sink.{Ghosts as SinkGhosts}
+use Rattle.engine_core.specs.declared.source.Source.{Ghosts as SourceGhosts}
+use Rattle.program.specs.Jobs.{meaning}
+use Rattle.program.specs.declared.ended.Used.{Used}
+use Rattle.program.specs.declared.ended.Used.TheVariants.{Standard, File, Unopened}
+use Rattle.program.specs.declared.ended.Ended.{Ended}
+use Rattle.program.specs.declared.ended.Ended.TheVariants.{Did, Helped, Refused, NoMemory}
+
+-- the job's run over standard input, where no file is named, and else over the file of that name; where this can't be
+-- opened, a failed read, and nothing is written
+abbrev pub IsDone : {S F E K : Type 0} → (S → Type 0) → (Text → F → Type 0) → (Text → E → Type 0)
+    → SourceGhosts S → SourceGhosts F → SinkGhosts K
+    → Job → Option Text → Used S F E → Result Verdict RunFault → K → K → Type 0
+IsDone is_standard is_file is_fault from_standard from_file to job name (Standard source) answer old new =
+    (name ≡ None) × (unread : _) × is_standard unread
+    × IsRun (meaning job) from_standard to unread source old new answer
+IsDone is_standard is_file is_fault from_standard from_file to job name (File source) answer old new =
+    (named : Text) × (name ≡ Some named) × (unread : _) × is_file named unread
+    × IsRun (meaning job) from_file to unread source old new answer
+IsDone is_standard is_file is_fault from_standard from_file to job name (Unopened fault) answer old new =
+    (named : Text) × (name ≡ Some named) × is_fault named fault × (answer ≡ Err Reading) × (new ≡ old)
+
+-- a text was written, or a front of it where a write failed
+abbrev pub IsWritten : {K : Type 0} → SinkGhosts K → Result Unit RunFault → K → K → Type 0
+IsWritten to result old new = (text : List ℕ)
+    × OnOk result (Took to.taken to.written old new text)
+    × IfErr result (λ fault. fault ≡ Writing)
+    × OnErr result (TookFront to.taken to.written old new text)
+
+-- Did: clap takes the words, and their job was done with the input that they name. Helped: their fault can be a call for
+-- help. Refused: they have another fault, and nothing is written. NoMemory: nothing is written.
+abbrev pub IsEnd : {S F E K : Type 0} → (S → Type 0) → (Text → F → Type 0) → (Text → E → Type 0)
+    → SourceGhosts S → SourceGhosts F → SinkGhosts K → List Text → Ended S F E → K → K → Type 0
+IsEnd is_standard is_file is_fault from_standard from_file to words (Did done) old new =
+    (fault_of command words ≡ [])
+    × (job_asked words ≡ Some done.line.job)
+    × IsDone is_standard is_file is_fault from_standard from_file to
+    done.line.job (file_asked words) done.input done.answer old new
+IsEnd is_standard is_file is_fault from_standard from_file to words (Helped answer) old new =
+    (takes command words ≡ false) × IsAmong DisplayHelp (fault_of command words) × IsWritten to answer old new
+IsEnd is_standard is_file is_fault from_standard from_file to words Refused old new =
+    (takes command words ≡ false) × HasOtherFault (fault_of command words) × (new ≡ old)
+IsEnd is_standard is_file is_fault from_standard from_file to words NoMemory old new = new ≡ old
+
+-- the exit status
+abbrev pub end_status : {S F E : Type 0} → Ended S F E → ℕ
+end_status (Did done) = run_status done.answer
+end_status (Helped (Ok done)) = 0
+end_status (Helped (Err fault)) = 3
+end_status Refused = 4
+end_status NoMemory = 3
+
+-- what is said of a fault of a run
+abbrev pub answer_text : Result Verdict RunFault → Option (List ℕ)
+answer_text (Ok verdict) = None
+answer_text (Err fault) = Some (run_fault_text fault)
+
+-- what is said first on standard error
+abbrev pub end_text : {S F E : Type 0} → Ended S F E → Option (List ℕ)
+end_text (Did done) = answer_text done.answer
+end_text (Helped (Ok done)) = None
+end_text (Helped (Err fault)) = Some (run_fault_text fault)
+end_text Refused = Some (codes "command line refused")
+end_text NoMemory = Some (codes "out of memory")

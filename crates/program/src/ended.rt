@@ -1,0 +1,76 @@
+//! How the program ends: its exit status, and what it says of a fault.
+ghost use Rattle.std.specs.Prelude.{◌≡◌, option_map};
+
+use command_line::Line;
+use engine_core::{RunFault, Verdict, status_of};
+
+/// The input with which a job was done.
+#[derive(Drop)]
+pub enum Used<S, F, E> {
+    /// Standard input.
+    Standard(S),
+    /// The file that the line names.
+    File(F),
+    /// None, since the file that the line names could not be opened.
+    Unopened(E),
+}
+
+/// A line that was taken, and what came of it.
+#[derive(Drop)]
+pub struct Done<'a, S, F, E> {
+    /// What was asked for.
+    pub line: Line<'a>,
+    /// The input, after the job.
+    pub input: Used<S, F, E>,
+    /// What the job found.
+    pub answer: Result<Verdict, RunFault>,
+}
+
+/// How the program ends.
+#[derive(Drop)]
+pub enum Ended<'a, S, F, E> {
+    /// The line was taken, and its job done.
+    Did(Done<'a, S, F, E>),
+    /// The line calls for help, whose text was written, or a front of it.
+    Helped(Result<(), RunFault>),
+    /// The line is none that the program takes.
+    Refused,
+    /// Memory ran out while the line was read.
+    NoMemory,
+}
+
+impl<S, F, E> Ended<'_, S, F, E> {
+    ghost use Rattle.program.specs.Ends.{end_status, end_text};
+
+    /// The exit status: that of the job, 0 after help, 4 after a refusal, 3 where a write failed or memory ran out.
+    pub fn status(&self) -> u8
+        ensures { result ≡ end_status self.now }
+    {
+        match self {
+            Ended::Did(done) => status_of(&done.answer),
+            Ended::Helped(Ok(())) => 0,
+            Ended::Helped(Err(_)) => 3,
+            Ended::Refused => 4,
+            Ended::NoMemory => 3,
+        }
+    }
+
+    /// What the first line of standard error says, where there is a fault.
+    pub fn fault_text(&self) -> Option<&'static str>
+        ensures { option_map (λ s. s.now) result ≡ end_text self.now }
+    {
+        match self {
+            Ended::Did(Done { answer: Ok(_), .. }) => None,
+            Ended::Did(
+                Done {
+                    answer: Err(fault),
+                    ..
+                },
+            ) => Some(fault.text()),
+            Ended::Helped(Ok(())) => None,
+            Ended::Helped(Err(fault)) => Some(fault.text()),
+            Ended::Refused => Some("command line refused"),
+            Ended::NoMemory => Some("out of memory"),
+        }
+    }
+}

@@ -1,0 +1,89 @@
+//! The program over the process that it runs in: its words, its standard streams and its files.
+ghost use Rattle.std.specs.Prelude.{⊤};
+
+use crate::inputs::Inputs;
+use crate::lines::run_words;
+use crate::messages::{complain, tell};
+use command_line::LineFault;
+use engine_core::{KeptReader, KeptWriter, ReaderSource, WriterSink};
+use std::env::{self, Env};
+use std::fs::{self, Files};
+use std::io::{self, Eprint, ErrorKind, Input};
+use std::sync::Wait;
+use std::thread::Threads;
+
+/// The inputs of a process, whose bytes nobody can name.
+#[derive(Clone, Copy)]
+struct HostInputs<'a, R> {
+    rt: &'a R,
+}
+
+impl<R: Files + Input + AllocGlobal> Inputs for HostInputs<'_, R> {
+    type Standard = ReaderSource<KeptReader<R::Reader>>;
+
+    type File = ReaderSource<KeptReader<R::File>>;
+
+    type Fault = io::Error;
+
+    ghost is_standard = { λ host source. ⊤ };
+
+    ghost is_file = { λ host name source. ⊤ };
+
+    ghost is_fault = { λ host name fault. ⊤ };
+
+    fn standard(&self) -> ReaderSource<KeptReader<R::Reader>> {
+        ReaderSource::new(KeptReader::new(self.rt.alloc(), self.rt.reader()))
+    }
+
+    fn open(&self, name: &str) -> io::Result<ReaderSource<KeptReader<R::File>>> {
+        let file = fs::open(self.rt, name)?;
+        Ok(ReaderSource::new(KeptReader::new(self.rt.alloc(), file)))
+    }
+}
+
+/// The words that the program was started with, its name first. A word that is no text is refused.
+fn words_of<R: Env + AllocGlobal>(rt: &R) -> Result<Vec<String>, LineFault> {
+    let words = env::args(rt).map_err(|error| {
+        if error.kind() == ErrorKind::OutOfMemory {
+            LineFault::Memory
+        } else {
+            LineFault::Refused
+        }
+    })?;
+    words.collect(rt.alloc()).map_err(|_| LineFault::Memory)
+}
+
+/// Says why there are no words, and answers the exit status.
+fn refuse<R: Eprint>(rt: &R, fault: LineFault) -> u8 {
+    complain(rt, &fault);
+    fault.status()
+}
+
+/// Does what the words ask for, says on standard error what there is to say, and answers the exit status.
+fn run_texts<R: Files + Input + Print + Eprint + AllocGlobal + Threads + Wait + Sync>(
+    rt: &R,
+    words: &[&str],
+) -> u8 {
+    let mut sink = WriterSink::new(KeptWriter::new(io::writer(rt)));
+    let ended = run_words(rt, rt.alloc(), &HostInputs { rt }, words, &mut sink);
+    tell(rt, words, &ended, sink.writer());
+    ended.status()
+}
+
+/// Does what the words of the process ask for, and answers the exit status.
+pub fn run<R: Env + Files + Input + Print + Eprint + AllocGlobal + Threads + Wait + Sync>(
+    rt: &R,
+) -> u8 {
+    let words = match words_of(rt) {
+        Ok(words) => words,
+        Err(fault) => return refuse(rt, fault),
+    };
+    let texts = words
+        .iter()
+        .map(|word| word.as_str())
+        .collect::<Vec<&str>>(rt.alloc());
+    match texts {
+        Ok(texts) => run_texts(rt, texts.as_slice()),
+        Err(_) => refuse(rt, LineFault::Memory),
+    }
+}

@@ -1,0 +1,15 @@
+//! What the program does with the words of its command line, with the inputs that they name and with standard output.
+#![tactic(auto)]
+
+mod ended;
+mod host;
+mod inputs;
+mod jobs;
+mod lines;
+mod messages;
+
+pub use ended::{Done, Ended, Used};
+pub use host::run;
+pub use inputs::Inputs;
+pub use jobs::run_job;
+pub use lines::run_words;

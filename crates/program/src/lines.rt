@@ -1,0 +1,109 @@
+//! A command line, from its words to its end.
+ghost use Rattle.std.specs.Prelude.{◌≡◌, false, Some, None, option_map};
+ghost use Rattle.clap.specs.Walk.{texts};
+ghost use Rattle.program.specs.Ends.{IsDone, IsEnd};
+
+use crate::ended::{Done, Ended, Used};
+use crate::inputs::Inputs;
+use crate::jobs::run_job;
+use command_line::{Line, LineFault, line};
+use engine_core::{RunFault, Sink, write_all};
+use std::alloc::Global;
+use std::sync::Wait;
+use std::thread::Threads;
+
+/// Does the job of a line with standard input.
+fn run_standard<'a, R: Threads + Wait + Sync, I: Inputs, K: Sink>(
+    rt: &R,
+    alloc: Global,
+    inputs: &I,
+    line: Line<'a>,
+    sink: &mut K,
+) -> Done<'a, I::Standard, I::File, I::Fault>
+    requires none { line.file ≡ None }
+    requires sink { K.failed sink.old ≡ false }
+    ensures line { result.line ≡ line.entry }
+    ensures done { IsDone (I.is_standard inputs.now) (I.is_file inputs.now) (I.is_fault inputs.now)
+        I.Standard.Source I.File.Source K.Sink line.entry.job None result.input result.answer sink.old sink.new }
+{
+    let mut source = inputs.standard();
+    let answer = run_job(rt, alloc, line.job, &mut source, sink);
+    Done {
+        line,
+        input: Used::Standard(source),
+        answer,
+    }
+}
+
+/// Does the job of a line with the file of that name. A file that cannot be opened is a failed read.
+fn run_file<'a, R: Threads + Wait + Sync, I: Inputs, K: Sink>(
+    rt: &R,
+    alloc: Global,
+    inputs: &I,
+    line: Line<'a>,
+    name: &str,
+    sink: &mut K,
+) -> Done<'a, I::Standard, I::File, I::Fault>
+    requires sink { K.failed sink.old ≡ false }
+    ensures line { result.line ≡ line.entry }
+    ensures done { IsDone (I.is_standard inputs.now) (I.is_file inputs.now) (I.is_fault inputs.now)
+        I.Standard.Source I.File.Source K.Sink line.entry.job (Some name.now) result.input result.answer sink.old sink.new }
+{
+    match inputs.open(name) {
+        Ok(file) => {
+            let mut source = file;
+            let answer = run_job(rt, alloc, line.job, &mut source, sink);
+            Done {
+                line,
+                input: Used::File(source),
+                answer,
+            }
+        }
+        Err(fault) => Done {
+            line,
+            input: Used::Unopened(fault),
+            answer: Err(RunFault::Reading),
+        },
+    }
+}
+
+/// Does what a line asks for.
+fn run_line<'a, R: Threads + Wait + Sync, I: Inputs, K: Sink>(
+    rt: &R,
+    alloc: Global,
+    inputs: &I,
+    line: Line<'a>,
+    sink: &mut K,
+) -> Done<'a, I::Standard, I::File, I::Fault>
+    requires sink { K.failed sink.old ≡ false }
+    ensures line { result.line ≡ line.entry }
+    ensures done { IsDone (I.is_standard inputs.now) (I.is_file inputs.now) (I.is_fault inputs.now)
+        I.Standard.Source I.File.Source K.Sink
+        line.entry.job (option_map (λ s. s.now) line.entry.file) result.input result.answer sink.old sink.new }
+{
+    match line.file {
+        None => run_standard(rt, alloc, inputs, line, sink),
+        Some(name) => run_file(rt, alloc, inputs, line, name, sink),
+    }
+}
+
+/// Does what the words of a command line ask for, of which the first is the program's name: the job, with the file that
+/// they name or with standard input, or the help text. Nothing is written where they are not taken.
+pub fn run_words<'a, R: Threads + Wait + Sync, I: Inputs, K: Sink>(
+    rt: &R,
+    alloc: Global,
+    inputs: &I,
+    words: &'a [&'a str],
+    sink: &mut K,
+) -> Ended<'a, I::Standard, I::File, I::Fault>
+    requires sink { K.failed sink.old ≡ false }
+    ensures { IsEnd (I.is_standard inputs.now) (I.is_file inputs.now) (I.is_fault inputs.now)
+        I.Standard.Source I.File.Source K.Sink (texts words.now) result sink.old sink.new }
+{
+    match line(alloc, words) {
+        Ok(line) => Ended::Did(run_line(rt, alloc, inputs, line, sink)),
+        Err(LineFault::Help(text)) => Ended::Helped(write_all(sink, text.as_bytes())),
+        Err(LineFault::Refused) => Ended::Refused,
+        Err(LineFault::Memory) => Ended::NoMemory,
+    }
+}

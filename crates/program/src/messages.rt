@@ -1,0 +1,136 @@
+//! What is said on standard error. Where that fails too, nothing more is said.
+use crate::ended::{Done, Ended, Used};
+use command_line::{Job, refused_line_words};
+use engine_core::{INPUT_LIMIT, KeptReader, KeptWriter, ReaderSource, RunFault, Verdict};
+use setup_messages::{refusal_words, unmet_warnings};
+use std::fmt::Display;
+use std::io::{self, Eprint};
+
+/// An input of a process.
+type HostUsed<S, F> = Used<ReaderSource<KeptReader<S>>, ReaderSource<KeptReader<F>>, io::Error>;
+
+/// A line that was done with an input of a process.
+type HostDone<'a, S, F> = Done<
+    'a,
+    ReaderSource<KeptReader<S>>,
+    ReaderSource<KeptReader<F>>,
+    io::Error,
+>;
+
+/// The end of a program over the inputs of a process.
+type HostEnded<'a, S, F> = Ended<
+    'a,
+    ReaderSource<KeptReader<S>>,
+    ReaderSource<KeptReader<F>>,
+    io::Error,
+>;
+
+/// Why a read failed, or why the file could not be opened.
+fn failure_of<S, F>(input: &HostUsed<S, F>) -> Option<&io::Error> {
+    match input {
+        Used::Standard(source) => source.reader().failure(),
+        Used::File(source) => source.reader().failure(),
+        Used::Unopened(error) => Some(error),
+    }
+}
+
+/// What the input gave; nothing where it was not opened, or where memory for it was refused.
+fn bytes_of<S, F>(input: &HostUsed<S, F>) -> Option<&[u8]> {
+    match input {
+        Used::Standard(source) => source.reader().bytes(),
+        Used::File(source) => source.reader().bytes(),
+        Used::Unopened(_) => None,
+    }
+}
+
+/// Says what went wrong.
+pub fn complain(rt: &impl Eprint, fault: impl Display + Drop) {
+    let _ = eprintln!(rt; "sel4sim: {fault}");
+}
+
+/// Says of what name a read failed, and why; with no error the input is too long.
+fn explain_reading(rt: &impl Eprint, name: &str, failure: Option<&io::Error>) {
+    match failure {
+        Some(error) => complain(rt, format_args!("{name}: {error}")),
+        None => complain(
+            rt,
+            format_args!("{name}: {INPUT_LIMIT} bytes or more; a set-up has to be shorter"),
+        ),
+    }
+}
+
+/// Says why a write to standard output failed; with no error it took no byte.
+fn explain_writing(rt: &impl Eprint, failure: Option<&io::Error>) {
+    match failure {
+        Some(error) => complain(rt, format_args!("standard output: {error}")),
+        None => complain(rt, "standard output: a write took no byte"),
+    }
+}
+
+/// Says something that helps to understand an answer, each line of a text in a line of its own.
+fn note(rt: &impl Eprint, text: &str) {
+    for line in text.lines() {
+        complain(rt, line);
+    }
+}
+
+/// Says why a set-up is refused, or which of its expectations no reply can meet where it was checked or traced.
+fn note_on_verdict<R: Eprint + AllocGlobal>(rt: &R, job: Job, verdict: Verdict, bytes: &[u8]) {
+    match (job, verdict) {
+        (Job::Check | Job::Trace, Verdict::NotMet) => {
+            if let Ok(warnings) = unmet_warnings(rt.alloc(), bytes) {
+                note(rt, warnings.as_str());
+            }
+        }
+        (_, Verdict::Refused) => match refusal_words(rt.alloc(), bytes) {
+            Ok(Some(words)) => note(rt, words.as_str()),
+            Ok(None) => complain(rt, "only a set-up of format 1 is migrated"),
+            Err(_) => {}
+        },
+        _ => {}
+    }
+}
+
+/// Says what there is to say of a line that was done.
+fn tell_of_line<R: Eprint + AllocGlobal, S, F, W>(
+    rt: &R,
+    done: &HostDone<'_, S, F>,
+    writer: &KeptWriter<W>,
+) {
+    match done.answer {
+        Ok(verdict) => {
+            if let Some(bytes) = bytes_of(&done.input) {
+                note_on_verdict(rt, done.line.job, verdict, bytes);
+            }
+        }
+        Err(RunFault::Reading) => {
+            let name = done.line.file.unwrap_or("standard input");
+            explain_reading(rt, name, failure_of(&done.input));
+        }
+        Err(RunFault::Writing) => explain_writing(rt, writer.failure()),
+        Err(RunFault::Memory | RunFault::Thread) => {}
+    }
+}
+
+/// Says what there is to say of an end: first the fault, if there is one, and then what helps to understand it; of words
+/// that are not taken, what clap says.
+pub fn tell<R: Eprint + AllocGlobal, S, F, W>(
+    rt: &R,
+    words: &[&str],
+    ended: &HostEnded<'_, S, F>,
+    writer: &KeptWriter<W>,
+) {
+    if let Some(text) = ended.fault_text() {
+        complain(rt, text);
+    }
+    match ended {
+        Ended::Did(done) => tell_of_line(rt, done, writer),
+        Ended::Helped(Err(_)) => explain_writing(rt, writer.failure()),
+        Ended::Refused => {
+            if let Some(text) = refused_line_words(rt.alloc(), words) {
+                let _ = eprint!(rt; "{text}");
+            }
+        }
+        Ended::Helped(Ok(())) | Ended::NoMemory => {}
+    }
+}
