@@ -16,8 +16,6 @@ struct Checker;
 impl Engine for Checker {
     ghost means = { λ checker input text verdict. program input ≡ (text, verdict) };
 
-    ghost starts_threads = { λ checker. false };
-
     fn make(&self, alloc: Global, input: &[u8]) -> Result<(Vec<u8>, Verdict), RunFault> {
         text_of::<
             LinkedStore<Wide>,

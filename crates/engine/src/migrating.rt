@@ -49,8 +49,6 @@ struct Migrator;
 impl Engine for Migrator {
     ghost means = { λ migrator. IsMigration };
 
-    ghost starts_threads = { λ migrator. false };
-
     fn make(&self, alloc: Global, input: &[u8]) -> Result<(Vec<u8>, Verdict), RunFault> {
         migration_of(alloc, input).map_err(|_| RunFault::Memory)
     }

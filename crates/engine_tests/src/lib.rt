@@ -1,5 +1,5 @@
-//! Tests of `engine`, `engine_core` and `command_line`: reads and writes that fail, a source without an end, the command
-//! line, migrations and the exit statuses.
+//! Tests of `engine`, `engine_core`, `engine_trace`, `command_line` and `program`: reads and writes that fail, a source
+//! without an end, the command line, migrations, whole traces, and the exit statuses.
 #![tactic(auto)]
 
 #[cfg(test)]
@@ -12,3 +12,7 @@ mod fakes;
 mod migrations;
 #[cfg(test)]
 mod stored_run;
+#[cfg(test)]
+mod traces;
+#[cfg(test)]
+mod whole_lines;

@@ -79,8 +79,6 @@ struct Tracer;
 impl Engine for Tracer {
     ghost means = { λ tracer input text verdict. trace_of_bytes input ≡ (text, verdict) };
 
-    ghost starts_threads = { λ tracer. false };
-
     fn make(&self, alloc: Global, input: &[u8]) -> Result<(Vec<u8>, Verdict), RunFault> {
         trace_text(alloc, input).map_err(|_| RunFault::Memory)
     }

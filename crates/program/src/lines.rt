@@ -20,7 +20,6 @@ fn run_standard<'a, R: Threads + Wait + Sync, I: Inputs, K: Sink>(
     line: Line<'a>,
     sink: &mut K,
 ) -> Done<'a, I::Standard, I::File, I::Fault>
-    requires none { line.file ≡ None }
     requires sink { K.failed sink.old ≡ false }
     ensures line { result.line ≡ line.entry }
     ensures done { IsDone (I.is_standard inputs.now) (I.is_file inputs.now) (I.is_fault inputs.now)

@@ -12,14 +12,23 @@ const BOOT: &str =
 const BOOTED: &str =
     "0 boot\n  + thread 2048 ready\n  + thread 4096 ready\n  + endpoint 6144 idle\n  + slot 32 cnode 0 radix 4 guard 0 size 60 original\n  + slot 64 tcb 2048 original\n  + slot 96 tcb 4096 original\n  + slot 128 endpoint 6144 badge 0 rights wrgp original\n  + slot 160 untyped 16384 bits 12 free 0 original\n  + slot 2048 cnode 0 radix 4 guard 0 size 60 under 32\n  + slot 4096 cnode 0 radix 4 guard 0 size 60 under 32\n";
 
+/// The same set-up in format 2, with a name for a thread and one for the endpoint's slot, and a call of these.
+const NAMED: &[u8] =
+    b"format = 2\nmemory_bits = 16\nroot_radix = 4\nthreads = 2\nendpoints = 1\n[[untyped]]\nbase = 16384\nbits = 12\n[names]\nep = 4\na = 2048\n[[call]]\nthread = \"@a\"\nop = \"nbsend\"\ncap = \"@ep\"\n";
+
+/// What is written for a set-up, and the exit status.
+fn traced(alloc: Global, setup: &[u8]) -> (Vec<u8>, u8) {
+    let mut out = Vec::new(alloc);
+    let mut source = ReaderSource::new(setup);
+    let mut sink = WriterSink::new(&mut out);
+    let answer = trace_run(alloc, &mut source, &mut sink);
+    (out, status_of(&answer))
+}
+
 /// What is written for a set-up of these calls, and the exit status.
 fn run(alloc: Global, calls: &str) -> Result<(Vec<u8>, u8), Fail> {
     let setup = format!(in alloc; "{BOOT}{calls}")?;
-    let mut out = Vec::new(alloc);
-    let mut source = ReaderSource::new(setup.as_bytes());
-    let mut sink = WriterSink::new(&mut out);
-    let answer = trace_run(alloc, &mut source, &mut sink);
-    Ok((out, status_of(&answer)))
+    Ok(traced(alloc, setup.as_bytes()))
 }
 
 /// Whether a set-up of these calls has this trace, but for its head and the changes of its boot, and this exit status.
@@ -43,6 +52,19 @@ fn trace_of_a_message(rt: HostRuntime) -> Result<(), Fail> {
     let lines =
         "1 2048 send: waiting\n  with cap 4 label 7 words 1 2\n  - thread 2048 ready\n  + thread 2048 sending 6144 badge 0 label 7 words 1 2\n  - endpoint 6144 idle\n  + endpoint 6144 sending 2048\n2 4096 recv: delivered 6144 from 2048 to 4096 badge 0 label 7 words 1 2 [met]\n  with cap 4\n  - thread 2048 sending 6144 badge 0 label 7 words 1 2\n  + thread 2048 ready\n  + inbox 4096 badge 0 label 7 words 1 2\n  - endpoint 6144 sending 2048\n  + endpoint 6144 idle\nexpected 1 of 1\n";
     assert!(rt; gives(rt.alloc(), calls, 2, lines, 0)?);
+    Ok(())
+}
+
+#[test]
+fn trace_of_a_set_up_with_names(rt: HostRuntime) -> Result<(), Fail> {
+    let (text, status) = traced(rt.alloc(), NAMED);
+    let names = "name a 2048\nname ep 4";
+    let call = "1 2048 nbsend: dropped\n  with cap 4 label 0 words\nexpected 0 of 0";
+    let wanted = format!(in rt.alloc();
+        "trace 1 wide memory_bits 16 calls 1\n{names}\n{BOOTED}{call}\n"
+    )?;
+    assert!(rt; text.as_slice() == wanted.as_bytes());
+    assert!(rt; status == 0);
     Ok(())
 }
 
