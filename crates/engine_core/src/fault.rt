@@ -1,9 +1,8 @@
 //! How a run of the program ends.
-ghost use Rattle.std.specs.Prelude.{◌≡◌, Some};
+ghost use Rattle.std.specs.Prelude.{◌≡◌};
 ghost use Rattle.engine_core.specs.Statuses.{run_status};
 
-use std::error::Error;
-use std::fmt;
+use thiserror::Error;
 
 /// What a run found.
 #[derive(Clone, Copy, Drop)]
@@ -16,8 +15,9 @@ pub enum Verdict {
     Refused,
 }
 
-/// Why a run came to no verdict.
-#[derive(Clone, Copy, Debug, Drop)]
+/// Why a run came to no verdict. It is shown as its `text`.
+#[derive(Clone, Copy, Debug, Drop, Error)]
+#[error("{}", self.text())]
 pub enum RunFault {
     /// A read failed, or the input has too many bytes.
     Reading,
@@ -44,19 +44,6 @@ impl RunFault {
         }
     }
 }
-
-impl fmt::Display for RunFault {
-    ghost use Rattle.engine_core.specs.Statuses.{run_fault_text};
-
-    ghost output = { λ fault. Some (run_fault_text fault) };
-
-    fn fmt<W: fmt::Write>(&self, f: &mut fmt::Formatter<W>) -> fmt::Result {
-        let text = self.text();
-        write!(f, "{text}")
-    }
-}
-
-impl Error for RunFault {}
 
 /// The program's exit status: 0 where all expectations are met, 1 where one is not, 2 where the set-up is refused, 3
 /// after a fault.
