@@ -26,7 +26,7 @@ PARTS = ("src", "specs", "proofs")
 FOLDERS = ("must-fail", "wrong-bodies")
 # What a proof file says where it names what the edit took away: it says nothing of the contract.
 GONE = re.compile(r"is not in scope|has no field|was not admitted|is no name|depends on|has no `")
-WHY = re.compile(r"why: the (clause|invariant)(?: '(\w+)')? of (\w+(?:::\w+)?)(?:: .+)?$")
+WHY = re.compile(r"why: the (clause|invariant|ghost member)(?: '(\w+)')? of (\w+(?:::\w+)?)(?:: .+)?$")
 SIGNATURE = re.compile(r"( *)(?:pub(?:\([a-z]+\))? )?(?:const )?fn (\w+)")
 
 
@@ -345,6 +345,8 @@ def told_of(edit, goals):
     whole = [it for it in mine if it.startswith("returns") and "clause-" not in it]
     if kind == "invariant":
         found = [it for it in mine if it.startswith("invariant_of")]
+    elif kind == "ghost member":
+        found = [it for it in mine if it.startswith("returns")]
     elif clause:
         found = [it for it in mine if re.search(rf"clause-{clause}(?:-|$)", it)]
     else:
