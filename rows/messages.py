@@ -15,10 +15,24 @@ OPERATIONS = ("send, nbsend, recv, nbrecv, retype, copy, mint, move, mutate, del
               "suspend, resume")
 RIGHTS = "a number from 0 to 15, the sum of 1 for w, 2 for r, 4 for g and 8 for p"
 NAME = "1 to 40 of the letters a to z, the digits and _"
-NUMBER = "a number, or a text of 0x and 1 to 16 hexadecimal digits; in a narrow set-up it is below 2^32"
-WORD = ("a number, a text of 0x and 1 to 16 hexadecimal digits, or in format 2 a text of @ and a name from names; "
+NUMBER = "a number from 0 on, or a text of 0x and 1 to 16 hexadecimal digits; in a narrow set-up it is below 2^32"
+WORD = ("a number from 0 on, a text of 0x and 1 to 16 hexadecimal digits, or in format 2 a text of @ and a name from names; "
         "in a narrow set-up it is below 2^32")
+LABEL = ("a number from 0 on, or a text of 0x and 1 to 16 hexadecimal digits, below 2^52, or in a narrow set-up below "
+         "2^20")
+FORMAT_1 = "1, since only a set-up of format 1 is migrated"
 KEYS = "format, profile, memory_bits, root_radix, threads, endpoints, clients, limit, untyped, call"
+
+
+# of the refusals that a reply can give each one, and numbers of seL4's that it never gives
+REFUSALS = "1 2 3 4 6/1 6/2 6/3 6/4 8 9 10 100 101".split()
+NO_REFUSALS = "0 5 6 6/0 6/5 6/9 6/01 7 8/1 11 01 +1 99 102 1000".split()
+# expectations with which a reply can begin, and others; of a message at most four words are delivered
+DELIVERED = "delivered 6144 from 2048 to 4096 badge 0 label 7 words"
+BEGINNINGS = ["done", "waiting", "dropped", "empty", "refused", "delivered", "delivered 6144 from 2048 to 4096",
+              DELIVERED, DELIVERED + " 1 2 3 4"]
+NO_BEGINNINGS = ["done ", "don", "done 1", "waiting 2048", "delivered to 2048", "delivered x", "delivered 06144",
+                 DELIVERED + " -1", DELIVERED + " 1 2 3 4 5", "refused IllegalOperation", "refused 3 ", "refused "]
 
 
 def untyped(base, bits):
@@ -39,7 +53,7 @@ SETUPS = [
     (FIRST + CALL + 'op = "copy"\nindex = 8\nsrc_index = 4\nrights = "wr--"\n', 2,
      [f'call 1, key rights: the value is "wr--"; it has to be {RIGHTS}']),
     (FIRST + CALL + 'op = "send"\nlabel = "@x"\n', 2,
-     ['call 1, key label: the value is "@x"; it has to be a number below 2^52, or in a narrow set-up below 2^20']),
+     ['call 1, key label: the value is "@x"; it has to be ' + LABEL]),
     (FIRST + CALL + 'op = "send"\nwords = 1\n', 2,
      [f"call 1, key words: the value is 1; it has to be an array of at most 4 of these: {WORD}"]),
     (FIRST + CALL.replace("2048", '"@x"') + 'op = "send"\n', 2,
@@ -50,6 +64,30 @@ SETUPS = [
     (SECOND + CALL.replace("2048", '"a"') + 'op = "recv"\n', 2, ['call 1, key thread: a name is written with @, as "@a"']),
     (SECOND + '[[untyped]]\nbase = "@a"\nbits = 5\n', 2,
      [f'untyped 1, key base: the value is "@a"; it has to be {NUMBER}']),
+    (FIRST + CALL.replace("cap = 4", "cap = -1") + 'op = "recv"\n', 2,
+     [f"call 1, key cap: the value is -1; it has to be {WORD}"]),
+    (NARROW + CALL.replace("cap = 4", "cap = 4294967296") + 'op = "recv"\n', 2,
+     [f"call 1, key cap: the value is 4294967296; it has to be {WORD}"]),
+    (FIRST + CALL + 'op = "send"\nlabel = -1\n', 2, [f"call 1, key label: the value is -1; it has to be {LABEL}"]),
+    (FIRST + CALL + 'op = "send"\nwords = [1, -1, "x"]\n', 2,
+     [f"call 1, key words, element 2: the value is -1; it has to be {WORD}"]),
+    (FIRST + CALL + 'op = "send"\nwords = [1, 2, "x"]\n', 2,
+     [f'call 1, key words, element 3: the value is "x"; it has to be {WORD}']),
+    (FIRST + CALL + 'op = "send"\nwords = [[]]\n', 2,
+     [f"call 1, key words, element 1: the value is an array of 0; it has to be {WORD}"]),
+    (NARROW + CALL + 'op = "send"\nwords = [1, 4294967296]\n', 2,
+     [f"call 1, key words, element 2: the value is 4294967296; it has to be {WORD}"]),
+    (SECOND + CALL + 'op = "send"\nwords = ["@a", "0x1", "@b"]\n', 2,
+     ['call 1, key words, element 3: names has no "b"; did you mean a?']),
+    (FIRST + CALL + 'op = "send"\nwords = [1, -1, 3, 4, 5]\n', 2,
+     [f"call 1, key words: the value is an array of 5; it has to be an array of at most 4 of these: {WORD}"]),
+    (FIRST + "untyped = [1]\n", 2, ["top, key untyped, element 1: the value is 1; it has to be a table"]),
+    (FIRST + "call = 1\n", 2, ["top, key call: the value is 1; it has to be an array of at most 65536 tables"]),
+    (FIRST + untyped(16384, 48), 2,
+     ["untyped 1, key bits: the value is 48; it has to be the number of bits of an untyped region's size, from 4 to 47"]),
+    (NARROW + untyped(16384, 30), 2,
+     ["untyped 1, key bits: the value is 30; it has to be the number of bits of an untyped region's size, from 4 to 29"]),
+    (FIRST + untyped(-1, 12), 2, [f"untyped 1, key base: the value is -1; it has to be {NUMBER}"]),
     (FIRST + CALL + 'op = "recv"\nlabel = 1\n', 2,
      ['call 1: there is no key "label"; the keys are thread, op, client, expect, cap']),
     (FIRST + "memory_bit = 3\n", 2, [f'top: there is no key "memory_bit"; did you mean memory_bits? The keys are {KEYS}']),
@@ -102,7 +140,16 @@ STREAMS = [
      ['call 1: no reply begins with "delivered to 2048"']),
     (["trace"], "format = 1\nthreads =\n", "/dev/null", 2, ["TOML parse error at line 2, column 10", None]),
     (["migrate"], FIRST, "/dev/null", 0, []),
-    (["migrate"], SECOND, "/dev/null", 2, ["only a set-up of format 1 is migrated"]),
+    (["migrate"], SECOND, "/dev/null", 2, [f"top, key format: the value is 2; it has to be {FORMAT_1}"]),
+    (["migrate"], FIRST.replace("1", "3", 1), "/dev/null", 2, [f"top, key format: the value is 3; it has to be {FORMAT_1}"]),
+    (["migrate"], SIZES, "/dev/null", 2, [f"top, key format: the key is missing; it has to be {FORMAT_1}"]),
+    (["migrate"], SECOND + "zzz = 1\n", "/dev/null", 2, [f"top, key format: the value is 2; it has to be {FORMAT_1}"]),
+    (["migrate"], SECOND + '[[call]]\nthread = 2048\nop = "recv"\n', "/dev/null", 2,
+     [f"top, key format: the value is 2; it has to be {FORMAT_1}"]),
+    (["migrate"], FIRST + "zzz = 1\n", "/dev/null", 2, [f'top: there is no key "zzz"; the keys are {KEYS}']),
+    (["migrate"], "format = 1\nthreads =\n", "/dev/null", 2, ["TOML parse error at line 2, column 10", None]),
+    (["check"], FIRST.replace("1", "3", 1), "/dev/null", 2,
+     ["top, key format: the value is 3; it has to be a number from 1 to 2"]),
 ]
 
 
@@ -120,6 +167,18 @@ def wrong_setups(program):
         answer, error = said(program, ["check"], setup)
         if answer != status or not fits(error.splitlines(), wanted):
             yield f"{setup}status {answer}, said\n{error}"
+
+
+def wrong_expectations(program):
+    """A receive waits, so `waiting` alone is met; a line is said of each expectation that no reply begins with."""
+    begins = [*BEGINNINGS, *(f"refused {refusal}" for refusal in REFUSALS)]
+    others = [*NO_BEGINNINGS, *(f"refused {refusal}" for refusal in NO_REFUSALS)]
+    for expectation in [*begins, *others]:
+        setup = FIRST + CALL + f'op = "recv"\nexpect = "{expectation}"\n'
+        wanted = [] if expectation in begins else [f'call 1: no reply begins with "{expectation}"']
+        status, error = said(program, ["check"], setup)
+        if status != (0 if expectation == "waiting" else 1) or not fits(error.splitlines(), wanted):
+            yield f"{setup}status {status}, said\n{error}"
 
 
 def wrong_lines(program):
@@ -140,10 +199,11 @@ def wrong_streams(program):
 
 def main():
     program = sys.argv[1]
-    wrong = [*wrong_setups(program), *wrong_lines(program), *wrong_streams(program)]
+    wrong = [*wrong_setups(program), *wrong_expectations(program), *wrong_lines(program), *wrong_streams(program)]
     for text in wrong:
         print(text)
-    print(f"{len(SETUPS) + len(LINES) + len(STREAMS)} messages, {len(wrong)} wrong")
+    expectations = len(BEGINNINGS) + len(NO_BEGINNINGS) + len(REFUSALS) + len(NO_REFUSALS)
+    print(f"{len(SETUPS) + expectations + len(LINES) + len(STREAMS)} messages, {len(wrong)} wrong")
     return 1 if wrong else 0
 
 

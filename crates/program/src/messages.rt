@@ -2,7 +2,7 @@
 use crate::ended::{Done, Ended, Used};
 use command_line::{Job, refused_line_words};
 use engine_core::{INPUT_LIMIT, KeptReader, KeptWriter, ReaderSource, RunFault, Verdict};
-use setup_messages::{refusal_words, unmet_warnings};
+use setup_messages::{Formats, refusal_words, unmet_warnings};
 use std::fmt::Display;
 use std::io::{self, Eprint};
 
@@ -74,6 +74,14 @@ fn note(rt: &impl Eprint, text: &str) {
     }
 }
 
+/// By which formats a job reads a set-up.
+fn formats_of(job: Job) -> Formats {
+    match job {
+        Job::Migrate => Formats::First,
+        Job::Check | Job::Trace | Job::Threads => Formats::All,
+    }
+}
+
 /// Says why a set-up is refused, or which of its expectations no reply can meet where it was checked or traced.
 fn note_on_verdict<R: Eprint + AllocGlobal>(rt: &R, job: Job, verdict: Verdict, bytes: &[u8]) {
     match (job, verdict) {
@@ -82,11 +90,11 @@ fn note_on_verdict<R: Eprint + AllocGlobal>(rt: &R, job: Job, verdict: Verdict, 
                 note(rt, warnings.as_str());
             }
         }
-        (_, Verdict::Refused) => match refusal_words(rt.alloc(), bytes) {
-            Ok(Some(words)) => note(rt, words.as_str()),
-            Ok(None) => complain(rt, "only a set-up of format 1 is migrated"),
-            Err(_) => {}
-        },
+        (_, Verdict::Refused) => {
+            if let Ok(words) = refusal_words(rt.alloc(), bytes, formats_of(job)) {
+                note(rt, words.as_str());
+            }
+        }
         _ => {}
     }
 }

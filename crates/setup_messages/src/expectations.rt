@@ -1,8 +1,19 @@
 //! Expectations that no reply can meet.
+use crate::message::{Piece, say};
+use cap_core::limits::MAX_MESSAGE_WORDS;
 use setup_format::{Setup, read_setup};
 use std::alloc::{AllocError, Global};
 
-/// The words of a reply that delivers a message; a number stands where a word is empty, and behind them all.
+/// The replies that are one word, and the first word of a refusal.
+const WORDS: [&str; 5] = ["done", "waiting", "dropped", "empty", "refused"];
+
+/// The refusals that a reply gives: of a failed lookup with the kind of its failure.
+const REFUSALS: [&str; 13] = [
+    "1", "2", "3", "4", "6/1", "6/2", "6/3", "6/4", "8", "9", "10", "100", "101",
+];
+
+/// The words of a reply that delivers a message; a number stands where a word is empty, and the words of the message
+/// behind them all.
 const DELIVERED: [&str; 11] = [
     "delivered",
     "",
@@ -17,27 +28,34 @@ const DELIVERED: [&str; 11] = [
     "words",
 ];
 
-/// Whether a text is a number in decimal.
-fn is_number(text: &str) -> bool {
-    !text.is_empty() && text.as_bytes().iter().all(|byte| byte.is_ascii_digit())
+/// Whether a text is among others.
+fn is_among(text: &str, others: &[&str]) -> bool {
+    others.iter().any(|other| *other == text)
 }
 
-/// Whether a text is the number of a refusal: of a failed lookup with its kind, or of another refusal.
-fn is_refusal(text: &str) -> bool {
-    match text.split_once('/') {
-        Some((code, kind)) => code == "6" && is_number(kind),
-        None => is_number(text),
+/// Whether a text is a number as a reply has it.
+fn is_number(text: &str) -> bool {
+    let digits = text.as_bytes();
+    match digits.first() {
+        Some(b'0') => digits.len() == 1,
+        Some(_) => digits.iter().all(|byte| byte.is_ascii_digit()),
+        None => false,
     }
 }
 
-/// Whether words begin a reply that delivers a message.
-fn begin_delivery(words: &[&str]) -> bool {
-    for (i, word) in words.iter().enumerate() {
-        let fits = match DELIVERED.get(i) {
-            Some(wanted) if !wanted.is_empty() => word == wanted,
-            _ => is_number(word),
-        };
-        if !fits {
+/// Whether a word stands at a place of a reply that delivers a message, 0 the first.
+fn is_delivered(place: usize, word: &str) -> bool {
+    match DELIVERED.get(place) {
+        Some(&"") => is_number(word),
+        Some(wanted) => word == *wanted,
+        None => place < DELIVERED.len() + MAX_MESSAGE_WORDS && is_number(word),
+    }
+}
+
+/// Whether a text begins a reply that delivers a message.
+fn begins_delivery(text: &str) -> bool {
+    for (place, word) in text.split(' ').enumerate() {
+        if !is_delivered(place, word) {
             return false;
         }
     }
@@ -45,28 +63,44 @@ fn begin_delivery(words: &[&str]) -> bool {
 }
 
 /// Whether a reply can begin with an expectation.
-fn is_beginning(alloc: Global, expectation: &str) -> Result<bool, AllocError> {
-    let words = expectation.split(' ').collect::<Vec<&str>>(alloc)?;
-    Ok(match words.as_slice() {
-        ["done" | "waiting" | "dropped" | "empty" | "refused"] => true,
-        ["refused", code] => is_refusal(code),
-        others => begin_delivery(others),
-    })
+fn is_beginning(expectation: &str) -> bool {
+    match expectation.strip_prefix("refused ") {
+        Some(refusal) => is_among(refusal, &REFUSALS),
+        None => is_among(expectation, &WORDS) || begins_delivery(expectation),
+    }
+}
+
+/// Adds a line for a call, 0 the first, where its expectation is the beginning of no reply.
+fn say_unmet(message: &mut String, i: usize, expectation: &str) -> Result<(), AllocError> {
+    if is_beginning(expectation) {
+        return Ok(());
+    }
+    say(
+        message,
+        &[
+            Piece::Text("call"),
+            Piece::Count(Some(i.saturating_add(1))),
+            Piece::Text(": no reply begins with "),
+            Piece::Quoted(expectation),
+            Piece::Text("\n"),
+        ],
+    )
+}
+
+fn say_all_unmet(message: &mut String, setup: &Setup) -> Result<(), AllocError> {
+    for i in 0..setup.calls().len() {
+        if let Some(expectation) = setup.expect(i) {
+            say_unmet(message, i, expectation)?;
+        }
+    }
+    Ok(())
 }
 
 /// The warnings on the calls of a set-up, each as a line.
 fn warnings_on(alloc: Global, setup: &Setup) -> Result<String, AllocError> {
-    let mut lines = String::new(alloc);
-    for i in 0..setup.calls().len() {
-        if let Some(expectation) = setup.expect(i) {
-            if !is_beginning(alloc, expectation)? {
-                let n = i.saturating_add(1);
-                let line = format!(in alloc; "call {n}: no reply begins with {expectation:?}\n")?;
-                lines.push_str(line.as_str())?;
-            }
-        }
-    }
-    Ok(lines)
+    let mut message = String::new(alloc);
+    say_all_unmet(&mut message, setup)?;
+    Ok(message)
 }
 
 /// A line for each call of a set-up whose expectation is the beginning of no reply; none where the set-up is refused.

@@ -1,67 +1,98 @@
 //! Why a set-up cannot be laid out, in words.
-use crate::regions::{memory_size, overlapped, region_at};
+use crate::message::{Piece, say};
+use crate::regions::{Occupant, memory_size, overlapped, region_at};
 use boot_plan::PlanDefect;
-use setup_format::read_document;
-use std::alloc::{AllocError, Global};
+use std::alloc::AllocError;
 use toml::Table;
 
-/// The words on a region whose base is no multiple of its size. Untyped regions count from 1 in words.
-fn unaligned_words(alloc: Global, document: &Table, place: usize) -> Result<String, AllocError> {
-    let n = place.saturating_add(1);
-    match region_at(document, place) {
-        Some(region) => {
-            let base = region.start;
-            let size = region.end.saturating_sub(base);
-            format!(in alloc; "untyped {n}: its base {base} is no multiple of its size {size}")
-        }
-        None => format!(in alloc; "untyped {n}: its base is no multiple of its size"),
+/// An untyped region of a document by its place, 0 the first. In words they count from 1.
+#[derive(Clone, Copy)]
+struct Region<'a> {
+    document: &'a Table,
+    place: usize,
+}
+
+impl Region<'_> {
+    /// Which region is meant.
+    fn count(self) -> Piece<'static> {
+        Piece::Count(Some(self.place.saturating_add(1)))
     }
 }
 
-/// The words on a region that ends past the memory.
-fn outside_words(alloc: Global, document: &Table, place: usize) -> Result<String, AllocError> {
-    let n = place.saturating_add(1);
-    match (region_at(document, place), memory_size(document)) {
-        (Some(region), Some(size)) => {
-            let end = region.end;
-            format!(in alloc; "untyped {n}: it ends at {end}, and the memory at {size}")
-        }
-        _ => format!(in alloc; "untyped {n}: it ends past the memory"),
+/// Adds that a region's base is no multiple of its size.
+fn say_unaligned(message: &mut String, region: Region<'_>) -> Result<(), AllocError> {
+    let extent = region_at(region.document, region.place);
+    say(
+        message,
+        &[
+            Piece::Text("untyped"),
+            region.count(),
+            Piece::Text(": its base "),
+            Piece::Number(extent.start),
+            Piece::Text(" is no multiple of its size "),
+            Piece::Number(extent.end.saturating_sub(extent.start)),
+        ],
+    )
+}
+
+/// Adds that a region ends past the memory.
+fn say_outside(message: &mut String, region: Region<'_>) -> Result<(), AllocError> {
+    say(
+        message,
+        &[
+            Piece::Text("untyped"),
+            region.count(),
+            Piece::Text(": it ends at "),
+            Piece::Number(region_at(region.document, region.place).end),
+            Piece::Text(", and the memory at "),
+            Piece::Number(u128::from(memory_size(region.document))),
+        ],
+    )
+}
+
+/// What a region overlaps, in words.
+fn occupant_pieces(occupant: Option<Occupant>) -> [Piece<'static>; 4] {
+    let none = Piece::Text("");
+    match occupant {
+        Some(occupant) => occupant.pieces(),
+        None => [
+            Piece::Text("a boot object or an earlier region"),
+            none,
+            none,
+            none,
+        ],
     }
 }
 
-/// The words on a region that overlaps something.
-fn overlap_words(alloc: Global, document: &Table, place: usize) -> Result<String, AllocError> {
-    let n = place.saturating_add(1);
-    match overlapped(document, place) {
-        Some(occupant) => format!(in alloc; "untyped {n}: it overlaps {occupant}"),
-        None => format!(in alloc; "untyped {n}: it overlaps a boot object or an earlier region"),
-    }
+/// Adds that a region overlaps something.
+fn say_overlap(message: &mut String, region: Region<'_>) -> Result<(), AllocError> {
+    let occupant = overlapped(region.document, region.place);
+    say(
+        message,
+        &[
+            Piece::Text("untyped"),
+            region.count(),
+            Piece::Text(": it overlaps "),
+        ],
+    )?;
+    say(message, &occupant_pieces(occupant))
 }
 
-/// The words on a plan that cannot be laid out.
-pub fn defect_words(
-    alloc: Global,
-    bytes: &[u8],
+/// Adds why a document cannot be laid out.
+pub fn say_defect(
+    message: &mut String,
+    document: &Table,
     defect: PlanDefect,
-) -> Result<Option<String>, AllocError> {
-    let Ok(document) = read_document(alloc, bytes) else {
-        return Err(AllocError);
-    };
-    let words = match defect {
-        PlanDefect::Outside => {
-            format!(in alloc;
-                "the root CNode, the threads and the endpoints do not fit into the memory; raise memory_bits"
-            )?
-        }
-        PlanDefect::Unaligned(place) => unaligned_words(alloc, &document, place)?,
-        PlanDefect::UntypedOutside(place) => outside_words(alloc, &document, place)?,
-        PlanDefect::Overlap(place) => overlap_words(alloc, &document, place)?,
-        PlanDefect::Slots => {
-            format!(in alloc;
-                "the root CNode has too few slots for the capabilities of the boot; raise root_radix"
-            )?
-        }
-    };
-    Ok(Some(words))
+) -> Result<(), AllocError> {
+    match defect {
+        PlanDefect::Outside => message.push_str(
+            "the root CNode, the threads and the endpoints do not fit into the memory; raise memory_bits",
+        ),
+        PlanDefect::Slots => message.push_str(
+            "the root CNode has too few slots for the capabilities of the boot; raise root_radix",
+        ),
+        PlanDefect::Unaligned(place) => say_unaligned(message, Region { document, place }),
+        PlanDefect::UntypedOutside(place) => say_outside(message, Region { document, place }),
+        PlanDefect::Overlap(place) => say_overlap(message, Region { document, place }),
+    }
 }

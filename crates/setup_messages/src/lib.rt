@@ -3,13 +3,15 @@
 #![tactic(auto)]
 
 mod accepted;
+mod document;
 mod expectations;
-mod found;
 mod layouts;
-mod names;
+mod message;
 mod near;
 mod refused;
 mod regions;
+mod values;
 
+pub use accepted::Formats;
 pub use expectations::unmet_warnings;
 pub use refused::refusal_words;

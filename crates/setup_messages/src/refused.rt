@@ -1,25 +1,16 @@
 //! Why a set-up is refused, in words.
-use crate::accepted::{FIRST_TOP_KEYS, Listed, OPERATIONS, TOP_KEYS, UNTYPED_KEYS, kind_of_key};
-use crate::found::{Found, MAX_SHOWN_BYTES};
-use crate::layouts::defect_words;
-use crate::names::{entry_words, name_words};
+use crate::accepted::{FIRST_TOP_KEYS, Formats, TOP_KEYS, UNTYPED_KEYS, accepted_at};
+use crate::document::{table_at, value_at};
+use crate::layouts::say_defect;
+use crate::message::{Piece, say, say_names};
 use crate::near::nearest;
-use crate::regions::profile_in;
-use setup_format::{Key, Place, SetupFault, Wrong, call_keys, read_setup};
+use crate::values::{Rejected, Spot, say_no_key, say_rejected};
+use setup_format::{
+    Key, Place, SetupFault, Wrong, call_keys, read_document, read_first_format, read_table,
+};
 use setup_values::kinds::op;
 use std::alloc::{AllocError, Global};
 use toml::{Table, Value};
-
-/// The table at a place of the document.
-fn table_at(document: &Table, place: Place) -> Option<&Table> {
-    let (key, n) = match place {
-        Place::Top => return Some(document),
-        Place::Untyped(n) => ("untyped", n),
-        Place::Call(n) => ("call", n),
-    };
-    let tables = document.get(key)?.as_array()?;
-    tables.as_slice().get(n.checked_sub(1)?)?.as_table()
-}
 
 /// The keys that a table has.
 fn keys_at(table: &Table, place: Place) -> &'static [&'static str] {
@@ -36,142 +27,154 @@ fn keys_at(table: &Table, place: Place) -> &'static [&'static str] {
     }
 }
 
-/// The words on an unknown key.
-fn unknown_words(
+/// Adds a key that is none of the keys of its table, and the one that looks like it.
+fn say_no_such_key(
     alloc: Global,
+    message: &mut String,
+    spot: Spot<'_>,
+    keys: &[&'static str],
+) -> Result<(), AllocError> {
+    let near = nearest(alloc, spot.key, keys)?;
+    say(
+        message,
+        &[
+            Piece::Place(spot.place),
+            Piece::Text(": there is no key "),
+            Piece::Key(spot.key),
+            Piece::Text("; the keys are "),
+        ],
+    )?;
+    say_names(message, keys)?;
+    say(message, &[Piece::Near(near)])
+}
+
+/// Adds why a key is unknown.
+fn say_unknown(
+    alloc: Global,
+    message: &mut String,
     table: &Table,
-    place: Place,
-    key: &str,
-) -> Result<String, AllocError> {
-    if let (Place::Top, "names") = (place, key) {
-        return format!(in alloc; "top: names are a key of format 2, and this set-up has format 1");
-    }
-    let keys = keys_at(table, place);
-    let known = Listed(keys);
-    if key.len() > MAX_SHOWN_BYTES {
-        let length = key.len();
-        return format!(in alloc;
-            "{place}: there is no key of {length} bytes; the keys are {known}"
-        );
-    }
-    match nearest(alloc, key, keys)? {
-        Some(near) => {
-            format!(in alloc;
-                "{place}: there is no key {key:?}; did you mean {near}? The keys are {known}"
-            )
-        }
-        None => format!(in alloc; "{place}: there is no key {key:?}; the keys are {known}"),
-    }
-}
-
-/// The words on a value that its key does not take.
-fn value_words(
-    alloc: Global,
-    place: Place,
-    key: &str,
-    value: &Value,
-) -> Result<String, AllocError> {
-    let wanted = kind_of_key(place, key);
-    let found = Found(value);
-    let near = match (key, value) {
-        ("op", Value::String(text)) if text.len() <= MAX_SHOWN_BYTES => {
-            nearest(alloc, text.as_str(), OPERATIONS.as_slice())?
-        }
-        _ => None,
-    };
-    match near {
-        Some(near) => {
-            format!(in alloc;
-                "{place}, key {key}: the value is {found}; did you mean {near}? It has to be {wanted}"
-            )
-        }
-        None => format!(in alloc;
-            "{place}, key {key}: the value is {found}; it has to be {wanted}"
+    spot: Spot<'_>,
+) -> Result<(), AllocError> {
+    match (spot.place, spot.key) {
+        (Place::Top, "names") => message.push_str(
+            "top: names are a key of format 2, and this set-up has format 1",
         ),
+        _ => say_no_such_key(alloc, message, spot, keys_at(table, spot.place)),
     }
 }
 
-/// The words on a value that its key does not take: an entry of the names, a text that is no name, or another value.
-fn found_words(
+/// Adds why a known key is not as it should be.
+fn say_known(
     alloc: Global,
+    message: &mut String,
     document: &Table,
-    place: Place,
-    key: &str,
-    value: &Value,
-) -> Result<String, AllocError> {
-    if let (Place::Top, "names", Value::Table(names)) = (place, key, value)
-        && let Some(profile) = profile_in(document)
-        && let Some(words) = entry_words(alloc, names, profile)?
-    {
-        return Ok(words);
+    formats: Formats,
+    spot: Spot<'_>,
+) -> Result<(), AllocError> {
+    let accepted = accepted_at(document, formats, spot.place, spot.key);
+    match value_at(document, spot.place, spot.key) {
+        Some(value) => say_rejected(
+            alloc,
+            message,
+            document,
+            Rejected {
+                spot,
+                value,
+                accepted,
+            },
+        ),
+        None => say_no_key(message, spot, accepted),
     }
-    if let Some(Value::Table(names)) = document.get("names")
-        && let Some(words) = name_words(alloc, names, place, key, value)?
-    {
-        return Ok(words);
-    }
-    value_words(alloc, place, key, value)
 }
 
-/// The words on a fault at a key.
-fn key_words(
+/// Adds why a key is not as it should be.
+fn say_key(
     alloc: Global,
+    message: &mut String,
     document: &Table,
+    formats: Formats,
     wrong: Wrong,
-    place: Place,
-    key: &str,
-) -> Result<Option<String>, AllocError> {
-    let Some(table) = table_at(document, place) else {
-        return Ok(None);
-    };
-    let wanted = kind_of_key(place, key);
-    let words = match (wrong, table.get(key)) {
-        (Wrong::Unknown, _) => unknown_words(alloc, table, place, key)?,
-        (_, Some(value)) => found_words(alloc, document, place, key, value)?,
-        (_, None) => format!(in alloc;
-            "{place}, key {key}: the key is missing; it has to be {wanted}"
-        )?,
-    };
-    Ok(Some(words))
+    spot: Spot<'_>,
+) -> Result<(), AllocError> {
+    match (wrong, table_at(document, spot.place)) {
+        (Wrong::Unknown, Some(table)) => say_unknown(alloc, message, table, spot),
+        _ => say_known(alloc, message, document, formats, spot),
+    }
+}
+
+fn key_text(key: &Key) -> &str {
+    match key {
+        Key::Known(key) => key,
+        Key::Found(key) => key.as_str(),
+    }
+}
+
+/// Adds why a document is refused.
+fn say_fault(
+    alloc: Global,
+    message: &mut String,
+    document: &Table,
+    formats: Formats,
+    fault: &SetupFault,
+) -> Result<(), AllocError> {
+    match fault {
+        SetupFault::At { wrong, place, key } => say_key(
+            alloc,
+            message,
+            document,
+            formats,
+            *wrong,
+            Spot::new(*place, key_text(key)),
+        ),
+        SetupFault::Layout(defect) => say_defect(message, document, *defect),
+        // The document is the table of a text.
+        SetupFault::Text => Ok(()),
+        SetupFault::Memory => Err(AllocError),
+    }
+}
+
+/// The fault of a document, read by these formats.
+fn fault_of(alloc: Global, document: &Table, formats: Formats) -> Option<SetupFault> {
+    match formats {
+        Formats::All => read_table(alloc, document).err(),
+        Formats::First => read_first_format(alloc, document).err(),
+    }
+}
+
+/// The words on a document.
+fn document_words(alloc: Global, document: &Table, formats: Formats) -> Result<String, AllocError> {
+    let mut message = String::new(alloc);
+    if let Some(fault) = fault_of(alloc, document, formats) {
+        say_fault(alloc, &mut message, document, formats, &fault)?;
+    }
+    Ok(message)
 }
 
 /// The words on a text that is no TOML document.
-fn text_words(alloc: Global, bytes: &[u8]) -> Result<Option<String>, AllocError> {
-    let Ok(text) = str::from_utf8(bytes) else {
-        return Ok(Some(format!(in alloc; "the text is not UTF-8")?));
-    };
+fn text_words(alloc: Global, text: &str) -> Result<String, AllocError> {
     match toml::table_from_str(alloc, text) {
-        Ok(_) => Ok(None),
-        Err(error) => Ok(Some(format!(in alloc; "{error}")?)),
+        Ok(_) => Ok(String::new(alloc)),
+        Err(error) => format!(in alloc; "{error}"),
     }
 }
 
-/// Says in words why a set-up is refused, in one line, or two where its text is no TOML document; nothing where it is
-/// not refused.
+/// The words on bytes that are no TOML document.
+fn bytes_words(alloc: Global, bytes: &[u8]) -> Result<String, AllocError> {
+    match str::from_utf8(bytes) {
+        Ok(text) => text_words(alloc, text),
+        Err(_) => String::from_str(alloc, "the text is not UTF-8"),
+    }
+}
+
+/// Says in words why a set-up is refused that is read by these formats, in one line, or two where its text is no TOML
+/// document; nothing where it is not refused.
 ///
 /// # Errors
 /// Where memory was refused.
-pub fn refusal_words(alloc: Global, bytes: &[u8]) -> Result<Option<String>, AllocError> {
-    let Err(fault) = read_setup(alloc, bytes) else {
-        return Ok(None);
-    };
-    let (wrong, place, key) = match &fault {
-        SetupFault::Memory => return Err(AllocError),
-        SetupFault::Text => return text_words(alloc, bytes),
-        SetupFault::Layout(defect) => return defect_words(alloc, bytes, *defect),
-        SetupFault::At {
-            wrong,
-            place,
-            key: Key::Known(key),
-        } => (*wrong, *place, *key),
-        SetupFault::At {
-            wrong,
-            place,
-            key: Key::Found(key),
-        } => (*wrong, *place, key.as_str()),
-    };
-    match toml::table_from_slice(alloc, bytes) {
-        Ok(document) => key_words(alloc, &document, wrong, place, key),
-        Err(_) => Ok(None),
+pub fn refusal_words(alloc: Global, bytes: &[u8], formats: Formats) -> Result<String, AllocError> {
+    match read_document(alloc, bytes) {
+        Ok(document) => document_words(alloc, &document, formats),
+        Err(SetupFault::Memory) => Err(AllocError),
+        Err(_) => bytes_words(alloc, bytes),
     }
 }
