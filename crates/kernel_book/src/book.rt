@@ -60,7 +60,8 @@ impl<N: Naming, P: Profile, S: CapStore<P> + Drop, W: Waiters<P> + Drop> Book<N,
     ) -> Result<Book<N, P, S, W>, AllocError>
         requires opening { kernel ≡ N.opening }
         requires limit { limit ≡ N.limit }
-        ensures { IfOk result (λ b. b.history.items ≡ []) }
+        ensures history { IfOk result (λ b. b.history.items ≡ []) }
+        ensures kernel { IfOk result (λ b. b.kernel ≡ kernel) }
     {
         let history = Vec::with_capacity(alloc, limit as usize)?;
         Ok(Book {

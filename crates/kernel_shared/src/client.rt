@@ -109,8 +109,9 @@ impl<N: Naming, T: Volume<N>> Client<N, T> {
         }
     }
 
-    /// The value of a query after all that is published at that moment, which the client has then seen. `None` where the
-    /// reader gave no entry; then nothing changes. It waits for nobody, and takes no memory.
+    /// The value of a query after a front of the history that begins with all that the client had seen, and which it has
+    /// then seen. That it is the newest, with all that is published at that moment, is shown by a test, and no clause says
+    /// it. `None` where the reader gave no entry; then nothing changes. It waits for nobody, and takes no memory.
     pub fn look(&mut self, query: Query) -> Option<Answer>
         ensures some { IfSome result (λ a. IsAnswer N.profile N.opening self.new.front query a) }
         ensures later { StartsWith self.new.front self.old.front }
