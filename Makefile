@@ -8,8 +8,8 @@
 # make test: the gate;
 # make rows: the built program: each worked set-up, as it is, migrated and traced, what it says of wrong command lines, files and
 # set-ups, an address used again a thousand times, each request for memory refused in turn, by each subcommand and by
-# calls of the libraries, inputs and outputs that fail, texts that are broken, deep or long, three clients in whatever
-# order they come, and what the documents print;
+# calls of the libraries, inputs and outputs that fail, texts that are broken, deep or long, three clients and four in
+# whatever order they come, and what the documents print;
 # make page: a page that steps through the run of each example, in page/out/; make page-test: steps through these pages in
 # chromium and compares what they show (traces=FOLDER: pages of the traces in a folder instead); it says first what it needs
 # and does not find;
@@ -59,6 +59,7 @@ rows: run
 	python3 rows/fail_each_transfer.py $(program) $(stored)
 	python3 rows/hostile_texts.py $(program) $(setups) $(stored)
 	python3 rows/run_clients.py $(program) $(setups)/examples/three_clients.toml 100
+	python3 rows/run_clients.py $(program) rows/four_clients.toml 100 60
 	python3 rows/documents.py $(dir $(program)) README.md docs/*.md
 
 page: run

@@ -1,10 +1,16 @@
 #!/usr/bin/env python3
-"""run_clients.py PROGRAM SETUP TIMES: runs a set-up's clients by `threads` so many times, and looks at each history.
+"""run_clients.py PROGRAM SETUP TIMES [ORDERS]: runs a set-up's clients by `threads` so many times, and looks at each
+history.
 
-Each client's entries have to be numbered from 0 on, and to be the first of its calls in the set-up. Then the calls of the history
-are made again, in its order, by `check`: each reply and each line of the state has to be the same. The status is 0 where all
-calls of the set-up were made, and else 1.
+Each client's entries have to be numbered from 0 on, and to be the first of its calls in the set-up. Then the calls of
+the history are made again, in its order, by `check`: each reply and each line of the state has to be the same. The
+status is 0 where all calls of the set-up were made, and else 1.
+
+It counts the runs in which each client was alone, which is where it made all of its calls with no other client's call
+between them, and the orders in which the clients' calls came. Where ORDERS is given, no client may be alone in that way
+in any run, and there have to be at least so many different orders.
 """
+import itertools
 import json
 import re
 import subprocess
@@ -32,7 +38,8 @@ def run(program, job, text):
     return done.returncode, done.stdout.decode().splitlines()
 
 
-def faults(program, setup, text):
+def faults(program, setup, text, orders):
+    """What is wrong with one run. The clients whose calls came, in their order, are added to `orders`."""
     calls = setup.get("call", [])
     own = [[call for call in calls if call.get("client", 0) == client] for client in range(setup.get("clients", 1))]
     status, lines = run(program, "threads", text)
@@ -48,6 +55,7 @@ def faults(program, setup, text):
             yield f"not the client's call: {entry[0]}"
         made.append(call)
         seen[client] += 1
+    orders.append(tuple(int(entry[2]) for entry in entries))
     if lines[-1] != f"entries {len(made)} of {len(calls)}":
         yield f"last line {lines[-1]!r}"
     if status != (0 if len(made) == len(calls) else 1):
@@ -57,19 +65,32 @@ def faults(program, setup, text):
         yield "the history's calls, made again, give another report"
 
 
+def is_each_alone(order):
+    """Whether the calls of each client came with no other client's between them."""
+    turns = [client for client, _ in itertools.groupby(order)]
+    return len(turns) == len(set(turns))
+
+
 def main():
     program, path, times = sys.argv[1:4]
+    wanted = int(sys.argv[4]) if len(sys.argv) > 4 else None
     with open(path, encoding="utf-8") as file:
         text = file.read()
     setup = tomllib.loads(text)
     wrong = 0
+    orders = []
     for _ in range(int(times)):
-        bad = list(faults(program, setup, text))
+        bad = list(faults(program, setup, text, orders))
         wrong += bool(bad)
         for fault in bad:
             print(fault)
-    print(f"{times} runs, {wrong} wrong")
-    return 1 if wrong else 0
+    alone = sum(map(is_each_alone, orders))
+    different = len(set(orders))
+    print(f"{times} runs, {wrong} wrong, {alone} with each client alone, {different} orders")
+    missed = wanted is not None and (alone > 0 or different < wanted)
+    if missed:
+        print(f"wanted: no run with each client alone, and at least {wanted} orders")
+    return 1 if wrong or missed else 0
 
 
 sys.exit(main())
