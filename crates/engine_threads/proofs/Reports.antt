@@ -69,35 +69,35 @@ numbered p o h b = ∥∥₁_elim b (numbered_set h) (λ l. l.numbered)
 
 -- ---- the whole
 
-pub shared_run_is : (gated : Bool) (p : ProfileName) (setup : SetupView) (o : Shown) (limit : ℕ) (h : List Entry) (clients : List Token)
+pub shared_run_is : (ends : ℕ → ℕ → Type 0) (p : ProfileName) (setup : SetupView) (o : Shown) (limit : ℕ) (h : List Entry) (clients : List Token)
     → IsPlan p setup.plan → o ≡ shown (boot p setup.plan) → limit ≡ setup.limit
     → All (λ (c : CallView). c.client < length clients) setup.calls
     → ∥ Lawful p o h ∥₁ → length h ≤ limit → AreSettled h clients
-    → ((i : ℕ) (t : Token) → slice_get clients i ≡ Some t → IsMade gated setup.calls limit i t) → IsSharedRun gated p setup h
-shared_run_is gated p setup o limit h clients lawful is bound few law short settled each = record {
+    → ((i : ℕ) (t : Token) → slice_get clients i ≡ Some t → IsMade ends setup.calls limit i t) → IsSharedRun ends p setup h
+shared_run_is ends p setup o limit h clients lawful is bound few law short settled each = record {
   replies = answered p setup.plan o h lawful is law;
   numbered = numbered p o h law;
   within = omega arith;
-  beginnings = beginnings gated setup.calls limit h clients settled each;
-  unless_full = λ ungated room. unless_full gated setup.calls limit h clients settled each few ungated (omega arith);
-  whole = whole gated setup.calls limit h clients settled each;
+  beginnings = beginnings ends setup.calls limit h clients settled each;
+  unless_full = λ room. unless_full ends setup.calls limit h clients settled each few (omega arith);
+  whole = whole ends setup.calls limit h clients settled each;
 }
 
 -- a history that was settled with the clients of a drive
-pub run_settled : {N T D : Type 0} (p : ProfileName) (setup : SetupView) (o : Shown) (limit : ℕ) (client : D → Token) (many : D → ℕ) (stopped : D → Option (Stop N T)) (gated : Bool) (olds : List Token) (lists : List (Vec Call Global)) (driven : List D) (h : List Entry)
+pub run_settled : {N T D : Type 0} (ends : ℕ → ℕ → Type 0) (p : ProfileName) (setup : SetupView) (o : Shown) (limit : ℕ) (client : D → Token) (many : D → ℕ) (stopped : D → Option (Stop N T)) (olds : List Token) (lists : List (Vec Call Global)) (driven : List D) (h : List Entry)
     → IsPlan p setup.plan → o ≡ shown (boot p setup.plan) → limit ≡ setup.limit
     → IsWithinBounds setup → length olds ≡ setup.clients → length lists ≡ length olds → length driven ≡ length olds
     → ((i : ℕ) (t : Token) → slice_get olds i ≡ Some t → t ≡ token i 0 [] None)
     → ((i : ℕ) (l : Vec Call Global) → slice_get lists i ≡ Some l → l.items ≡ client_calls i setup.calls)
-    → EachThree olds lists driven (λ t l d. IsDriven limit t l.items (client d) (many d) (stopped d))
-    → All (λ d. IsFinished gated (stopped d)) driven
-    → ∥ Lawful p o h ∥₁ → length h ≤ limit → AreSettled h (map client driven) → IsSharedRun gated p setup h
-run_settled p setup o limit client many stopped gated olds lists driven h lawful is bound within n a b first listed ran finished law short settled =
+    → EachThree olds lists driven (λ t l d. IsDriven ends limit t l.items (client d) (many d) (stopped d))
+    → All (λ d. IsFinished (stopped d)) driven
+    → ∥ Lawful p o h ∥₁ → length h ≤ limit → AreSettled h (map client driven) → IsSharedRun ends p setup h
+run_settled ends p setup o limit client many stopped olds lists driven h lawful is bound within n a b first listed ran finished law short settled =
     let many_clients : length (map client driven) ≡ setup.clients = length-map driven client ∙ (b ∙ n) in
-    shared_run_is gated p setup o limit h (map client driven) lawful is bound
+    shared_run_is ends p setup o limit h (map client driven) lawful is bound
     (subst (λ k. All (λ (c : CallView). c.client < k) setup.calls) (sym many_clients) within.each_client)
     law short settled
-    (each_made setup.calls limit client many stopped gated (λ (l : Vec Call Global). l.items) olds lists driven a b first listed ran settled.whole finished)
+    (each_made ends setup.calls limit client many stopped (λ (l : Vec Call Global). l.items) olds lists driven a b first listed ran settled.whole finished)
 
 pub ok_both : {A F : Type 0} (P Q R : A → Type 0) (r : Result A F) → IfOk r P → IfOk r Q → ((v : A) → P v → Q v → R v) → IfOk r R
 ok_both P Q R (Ok v) p q f = f v p q

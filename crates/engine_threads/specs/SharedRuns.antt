@@ -1,5 +1,5 @@
 -- What the program writes for the bytes that it reads where the clients of a set-up share one kernel, and its verdict.
-use Rattle.std.specs.Prelude.{◌≡◌, ℕ, ◌<◌, ◌≤◌, ◌==◌, Bool, true, false, List, [], ◌++◌, map, filter, length, Result, Ok, Err}
+use Rattle.std.specs.Prelude.{◌≡◌, ℕ, ◌<◌, ◌≤◌, ◌==◌, ◌⊎◌, true, List, [], ◌++◌, map, filter, length, Result, Ok, Err}
 use Rattle.cap_core.specs.declared.profile.ProfileName.{ProfileName}
 use Rattle.abstract_kernel.specs.declared.call.Call.{Call}
 use Rattle.abstract_kernel.specs.Boot.{boot}
@@ -30,14 +30,16 @@ IsBeginning first calls = (rest : List Call) × (calls ≡ first ++ rest)
 
 -- A history that the clients of a set-up can make of a kernel that they share. The replies are those of the abstract kernel
 -- from its boot on; each client's entries are numbered from 0 on, in order; there are no more entries than the set-up's limit;
--- and each client's entries carry a beginning of its calls, which is all of them where the history has as many entries as
--- the set-up has calls, and, unless a gate may end clients (`gated`), where it has fewer entries than the limit.
-pub record IsSharedRun (gated : Bool) (p : ProfileName) (setup : SetupView) (history : List Entry) : Type 0 where
+-- and each client's entries carry a beginning of its calls. That is all of them where the history has as many entries as the
+-- set-up has calls. Where it has fewer than the limit, it is all of them, or the gate may end the client (`ends`) before the
+-- call that would come next.
+pub record IsSharedRun (ends : ℕ → ℕ → Type 0) (p : ProfileName) (setup : SetupView) (history : List Entry) : Type 0 where
   pub replies : replies_in history ≡ replies_of p (boot p setup.plan) (calls_of history)
   pub numbered : is_numbered [] history ≡ true
   pub within : length history ≤ setup.limit
   pub beginnings : (client : ℕ) → IsBeginning (calls_by client history) (client_calls client setup.calls)
-  pub unless_full : gated ≡ false → length history < setup.limit → (client : ℕ) → calls_by client history ≡ client_calls client setup.calls
+  pub unless_full : length history < setup.limit → (client : ℕ)
+      → (calls_by client history ≡ client_calls client setup.calls) ⊎ ends client (length (calls_by client history))
   pub whole : length history ≡ length setup.calls → (client : ℕ) → calls_by client history ≡ client_calls client setup.calls
 
 -- what the abstract kernel shows after the calls of a history
@@ -51,15 +53,15 @@ IsReportOf p setup history text verdict =
     × (verdict ≡ verdict_on (length history) (length setup.calls))
 
 -- the report of some shared run of the set-up
-abbrev pub IsOutcomeIn : Bool → ProfileName → SetupView → List ℕ → Verdict → Type 0
-IsOutcomeIn gated p setup text verdict =
-    (history : List Entry) × IsSharedRun gated p setup history × IsReportOf p setup history text verdict
+abbrev pub IsOutcomeIn : (ℕ → ℕ → Type 0) → ProfileName → SetupView → List ℕ → Verdict → Type 0
+IsOutcomeIn ends p setup text verdict =
+    (history : List Entry) × IsSharedRun ends p setup history × IsReportOf p setup history text verdict
 
 -- or the line by which it is refused
-abbrev pub IsOutcome : Bool → Result SetupView Fault → List ℕ → Verdict → Type 0
-IsOutcome gated (Ok setup) text verdict = IsOutcomeIn gated setup.profile setup text verdict
-IsOutcome gated (Err fault) text verdict = (text ≡ refusal_line fault) × (verdict ≡ Refused)
+abbrev pub IsOutcome : (ℕ → ℕ → Type 0) → Result SetupView Fault → List ℕ → Verdict → Type 0
+IsOutcome ends (Ok setup) text verdict = IsOutcomeIn ends setup.profile setup text verdict
+IsOutcome ends (Err fault) text verdict = (text ≡ refusal_line fault) × (verdict ≡ Refused)
 
 -- what is right to write for the bytes of an input, in the profile that its set-up names
-unfoldable pub IsSharedProgram : Bool → List ℕ → List ℕ → Verdict → Type 0
-IsSharedProgram gated input text verdict = IsOutcome gated (setup_of_bytes input) text verdict
+unfoldable pub IsSharedProgram : (ℕ → ℕ → Type 0) → List ℕ → List ℕ → Verdict → Type 0
+IsSharedProgram ends input text verdict = IsOutcome ends (setup_of_bytes input) text verdict

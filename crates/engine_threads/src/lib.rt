@@ -2,8 +2,10 @@
 #![tactic(auto)]
 
 mod client_calls;
+mod open_gate;
 mod returning;
 mod sharing;
 mod threads;
 
-pub use threads::{OpenGate, threads_run, threads_run_open};
+pub use open_gate::OpenGate;
+pub use threads::{threads_run, threads_run_open};

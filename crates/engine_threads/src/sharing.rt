@@ -1,5 +1,5 @@
 //! A shared run of a set-up: its clients make their calls of one kernel, each in a thread of its own.
-ghost use Rattle.std.specs.Prelude.{◌≡◌, ◌↔◌, All, IfOk, IfErr, map};
+ghost use Rattle.std.specs.Prelude.{◌≡◌, ◌↔◌, All, Err, IfOk, IfErr, map};
 ghost use Rattle.abstract_kernel.specs.Boot.{boot};
 ghost use Rattle.engine_core.specs.declared.fault.RunFault.TheVariants as Told;
 ghost use Rattle.kernel_shared.specs.declared.start.StartFault.TheVariants as Start;
@@ -8,7 +8,7 @@ ghost use Rattle.kernel_shared.specs.declared.settling.SettleFault.TheVariants a
 ghost use Rattle.engine_threads.specs.declared.returning.ReturnFault.TheVariants as Returns;
 ghost use Rattle.abstract_kernel.specs.Plan.{IsPlan};
 ghost use Rattle.abstract_kernel.specs.State.{shown};
-ghost use Rattle.engine_threads.specs.Private.Settled.{AreSettled, IsFinished, IsOwnFault};
+ghost use Rattle.engine_threads.specs.Private.Settled.{AreSettled, HadMemory, IsFinished, IsOwnFault};
 ghost use Rattle.engine_threads.specs.SharedRuns.{IsSharedRun};
 
 use crate::client_calls::calls_of_clients;
@@ -77,13 +77,13 @@ fn settle_after<N: Naming, P: Profile, S: MakeStore<P>, W: MakeWaiters<P>, R: Wa
     alloc: Global,
     shared: SharedKernel<N, P, S, W>,
     all: Vec<Driven<N, P, S, W>>,
-    gated: bool,
 ) -> Result<Book<N, P, S, W>, RunFault>
     ensures settled { IfOk result (λ b. AreSettled b.history.items (map (λ d. d.client) all.items)) }
-    ensures finished { IfOk result (λ _. All (λ d. IsFinished gated d.stopped) all.items) }
+    ensures finished { IfOk result (λ _. All (λ d. IsFinished d.stopped) all.items) }
+    ensures memory { result ≡ Err Told.Thread → All (λ d. HadMemory d.stopped) all.items }
     ensures fault { IfErr result IsOwnFault }
 {
-    let clients = match clients_after(alloc, all, gated) {
+    let clients = match clients_after(alloc, all) {
         Ok(clients) => clients,
         Err(fault) => {
             shared.give_up(rt);
@@ -101,11 +101,11 @@ fn settle_after<N: Naming, P: Profile, S: MakeStore<P>, W: MakeWaiters<P>, R: Wa
 }
 
 /// Boots a kernel from the set-up's plan, shares it among the set-up's clients, and lets each make its calls, in order,
-/// in a thread of its own. `gated` says that the gate may end clients.
+/// in a thread of its own.
 ///
 /// # Errors
-/// `Memory`, and `Thread` where a thread could not be started, where the shared kernel gave a reader no entry, or where
-/// a client was ended by a gate that ends none.
+/// `Memory` where memory was wanted and not there, by any client too, whatever stopped the others. `Thread` where a thread
+/// could not be started, the shared kernel gave a reader no entry, or a client lost a call or found its name taken.
 pub fn shared_run<
     N: Naming + Send + Sync,
     P: Profile + Send + Sync,
@@ -119,7 +119,6 @@ pub fn shared_run<
     blank: Blank,
     setup: &Setup,
     gate: &G,
-    gated: bool,
 ) -> Result<Book<N, P, S, W>, RunFault>
     requires name { blank.name ≡ N.name }
     requires parts { blank.parts ≡ N.parts }
@@ -129,7 +128,7 @@ pub fn shared_run<
     requires start { N.start ≡ boot P.the setup.now.plan }
     requires opening { N.opening ≡ shown (boot P.the setup.now.plan) }
     requires limit { N.limit ≡ setup.now.limit }
-    ensures run { IfOk result (λ b. IsSharedRun gated P.the setup.now b.history.items) }
+    ensures run { IfOk result (λ b. IsSharedRun G.ends P.the setup.now b.history.items) }
     ensures fault { IfErr result IsOwnFault }
 {
     let Ok(kernel) = Kernel::<P, S, W>::boot(alloc, setup.plan()) else {
@@ -150,7 +149,7 @@ pub fn shared_run<
         Err(fault) => return Err(start_fault(fault)),
     };
     match drive(rt, alloc, &shared, clients, lists.as_slice(), gate) {
-        Ok(all) => settle_after(rt, alloc, shared, all, gated),
+        Ok(all) => settle_after(rt, alloc, shared, all),
         Err(fault) => {
             shared.give_up(rt);
             Err(drive_fault(fault))

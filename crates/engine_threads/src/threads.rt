@@ -1,6 +1,7 @@
 //! The run of a set-up's clients, over a source and a sink.
-ghost use Rattle.std.specs.Prelude.{◌≡◌, List, ℕ, Err, IsOk, true, false, IfOk, IfErr};
+ghost use Rattle.std.specs.Prelude.{◌≡◌, ◌++◌, List, ℕ, Err, IsOk, false, IfOk, IfErr, codes};
 ghost use Rattle.engine_core.specs.Devices.{Gave};
+ghost use Rattle.setup_format.specs.Refusal.{setup_fault_text};
 ghost use Rattle.setup_format.specs.Setups.{setup_of_bytes};
 ghost use Rattle.abstract_kernel.specs.Boot.{boot};
 ghost use Rattle.abstract_kernel.specs.Plan.{IsPlan};
@@ -10,6 +11,7 @@ ghost use Rattle.engine_core.specs.Runs.{IsRun};
 ghost use Rattle.engine_threads.specs.Private.Settled.{IsOwnFault};
 ghost use Rattle.engine_threads.specs.SharedRuns.{IsOutcomeIn, IsSharedProgram};
 
+use crate::open_gate::OpenGate;
 use crate::sharing::shared_run;
 use cap_core::{Narrow, Profile, ProfileName, Wide};
 use engine::refusal;
@@ -23,7 +25,7 @@ use std::alloc::Global;
 use std::marker::Brand;
 use std::sync::Wait;
 use std::sync::ledger::Blank;
-use std::thread::{self, Threads};
+use std::thread::Threads;
 
 /// Whether all calls of the set-up are made.
 fn verdict_on(entries: usize, calls: usize) -> Verdict
@@ -50,7 +52,6 @@ fn report_on<
     blank: Blank,
     setup: &Setup,
     gate: &G,
-    gated: bool,
 ) -> Result<(Vec<u8>, Verdict), RunFault>
     requires name { blank.name ≡ N.name }
     requires parts { blank.parts ≡ N.parts }
@@ -60,10 +61,10 @@ fn report_on<
     requires start { N.start ≡ boot P.the setup.now.plan }
     requires opening { N.opening ≡ shown (boot P.the setup.now.plan) }
     requires limit { N.limit ≡ setup.now.limit }
-    ensures made { IfOk result (λ made. IsOutcomeIn gated P.the setup.now made.0.items made.1) }
+    ensures made { IfOk result (λ made. IsOutcomeIn G.ends P.the setup.now made.0.items made.1) }
     ensures fault { IfErr result IsOwnFault }
 {
-    let book = shared_run::<N, P, S, W, R, G>(rt, alloc, blank, setup, gate, gated)?;
+    let book = shared_run::<N, P, S, W, R, G>(rt, alloc, blank, setup, gate)?;
     let Ok(text) = shared_report(alloc, setup, &book) else {
         return Err(RunFault::Memory);
     };
@@ -77,16 +78,13 @@ fn report_by_links<P: Profile + Send + Sync, R: Threads + Wait + Sync, G: Gate +
     alloc: Global,
     setup: &Setup,
     gate: &G,
-    gated: bool,
 ) -> Result<(Vec<u8>, Verdict), RunFault>
     requires { IsPlan P.the setup.now.plan }
-    ensures made { IfOk result (λ made. IsOutcomeIn gated P.the setup.now made.0.items made.1) }
+    ensures made { IfOk result (λ made. IsOutcomeIn G.ends P.the setup.now made.0.items made.1) }
     ensures fault { IfErr result IsOwnFault }
 {
     let blank = Blank::new(u64::from(setup.clients()));
-    report_on::<Brand, P, LinkedStore<P>, LinkedWaiters<P>, R, G>(
-        rt, alloc, blank, setup, gate, gated,
-    )
+    report_on::<Brand, P, LinkedStore<P>, LinkedWaiters<P>, R, G>(rt, alloc, blank, setup, gate)
 }
 
 /// The same in the profile of the set-up.
@@ -95,15 +93,26 @@ fn report_in_profile<R: Threads + Wait + Sync, G: Gate + Sync>(
     alloc: Global,
     setup: &Setup,
     gate: &G,
-    gated: bool,
 ) -> Result<(Vec<u8>, Verdict), RunFault>
     requires { IsPlan setup.now.profile setup.now.plan }
-    ensures made { IfOk result (λ made. IsOutcomeIn gated setup.now.profile setup.now made.0.items made.1) }
+    ensures made { IfOk result (λ made. IsOutcomeIn G.ends setup.now.profile setup.now made.0.items made.1) }
     ensures fault { IfErr result IsOwnFault }
 {
     match setup.profile() {
-        ProfileName::Wide => report_by_links::<Wide, R, G>(rt, alloc, setup, gate, gated),
-        ProfileName::Narrow => report_by_links::<Narrow, R, G>(rt, alloc, setup, gate, gated),
+        ProfileName::Wide => report_by_links::<Wide, R, G>(rt, alloc, setup, gate),
+        ProfileName::Narrow => report_by_links::<Narrow, R, G>(rt, alloc, setup, gate),
+    }
+}
+
+/// The line that is written for a set-up that is refused, and the verdict.
+fn refused(alloc: Global, fault: &SetupFault) -> Result<(Vec<u8>, Verdict), RunFault>
+    ensures text { IfOk result (λ made. made.0.items ≡ setup_fault_text fault.now ++ codes "\n") }
+    ensures verdict { IfOk result (λ made. made.1 ≡ Verdict.Refused) }
+    ensures memory { IfErr result (λ e. e ≡ RunFault.Memory) }
+{
+    match refusal(alloc, fault) {
+        Ok(text) => Ok((text, Verdict::Refused)),
+        Err(_) => Err(RunFault::Memory),
     }
 }
 
@@ -114,19 +123,33 @@ fn report_of_input<R: Threads + Wait + Sync, G: Gate + Sync>(
     alloc: Global,
     input: &[u8],
     gate: &G,
-    gated: bool,
 ) -> Result<(Vec<u8>, Verdict), RunFault>
-    ensures made { IfOk result (λ made. IsSharedProgram gated input.now made.0.items made.1) }
+    ensures made { IfOk result (λ made. IsSharedProgram G.ends input.now made.0.items made.1) }
     ensures fault { IfErr result IsOwnFault }
     ensures accepted { result ≡ Err RunFault.Thread → IsOk (setup_of_bytes input.now) }
 {
     match read_setup(alloc, input) {
-        Ok(setup) => report_in_profile(rt, alloc, &setup, gate, gated),
+        Ok(setup) => report_in_profile(rt, alloc, &setup, gate),
         Err(SetupFault::Memory) => Err(RunFault::Memory),
-        Err(fault) => match refusal(alloc, &fault) {
-            Ok(text) => Ok((text, Verdict::Refused)),
-            Err(_) => Err(RunFault::Memory),
-        },
+        Err(fault) => refused(alloc, &fault),
+    }
+}
+
+/// The same with a gate that is always open.
+#[tactic(auto, unfolding(crate::specs::SharedRuns::IsSharedProgram))]
+fn report_of_input_open<R: Threads + Wait + Sync>(
+    rt: &R,
+    alloc: Global,
+    input: &[u8],
+) -> Result<(Vec<u8>, Verdict), RunFault>
+    ensures made { IfOk result (λ made. IsSharedProgram (λ _ _. ⊥) input.now made.0.items made.1) }
+    ensures fault { IfErr result IsOwnFault }
+    ensures accepted { result ≡ Err RunFault.Thread → IsOk (setup_of_bytes input.now) }
+{
+    match read_setup(alloc, input) {
+        Ok(setup) => report_in_profile(rt, alloc, &setup, &OpenGate::among(setup.clients())),
+        Err(SetupFault::Memory) => Err(RunFault::Memory),
+        Err(fault) => refused(alloc, &fault),
     }
 }
 
@@ -137,8 +160,10 @@ fn report_of_input<R: Threads + Wait + Sync, G: Gate + Sync>(
 ///
 /// # Errors
 /// `Reading` where a read failed in this call, or where `INPUT_LIMIT` bytes came without an end; nothing is written
-/// then. `Writing` where a write failed or took no byte; a front of the text was written then. `Memory`, and `Thread`
-/// where a thread could not be started, or the shared kernel gave a reader no entry; nothing is written then.
+/// then. `Writing` where a write failed or took no byte; a front of the text was written then. `Memory` where memory was
+/// wanted and not there, by any client too, whatever stopped the others; nothing is written then. `Thread` where a
+/// thread could not be started, the shared kernel gave a reader no entry, or a client lost a call or found its name
+/// taken; nothing is written then.
 pub fn threads_run<R: Threads + Wait + Sync, S: Source, K: Sink, G: Gate + Sync>(
     rt: &R,
     alloc: Global,
@@ -148,17 +173,17 @@ pub fn threads_run<R: Threads + Wait + Sync, S: Source, K: Sink, G: Gate + Sync>
 ) -> Result<Verdict, RunFault>
     requires source { S.failed source.old ≡ false }
     requires sink { K.failed sink.old ≡ false }
-    ensures run { IsRun (IsSharedProgram true) S.Source K.Sink source.old source.new sink.old sink.new result }
+    ensures run { IsRun (IsSharedProgram G.ends) S.Source K.Sink source.old source.new sink.old sink.new result }
     ensures accepted { result ≡ Err RunFault.Thread → (input : List ℕ) × Gave S.left S.given source.old source.new input × IsOk (setup_of_bytes input) }
 {
     let input = read_below(alloc, source, INPUT_LIMIT)?;
-    let (text, verdict) = report_of_input(rt, alloc, input.as_slice(), gate, true)?;
+    let (text, verdict) = report_of_input(rt, alloc, input.as_slice(), gate)?;
     write_all(sink, text.as_slice())?;
     Ok(verdict)
 }
 
-/// The same with a gate that is always open, as the program's subcommand `threads` has it: a history lacks calls only
-/// where it is full.
+/// The same with a gate that is always open, an `OpenGate`, as the program's subcommand `threads` has it: a history lacks
+/// calls only where it is full.
 ///
 /// # Errors
 /// As `threads_run`.
@@ -170,25 +195,11 @@ pub fn threads_run_open<R: Threads + Wait + Sync, S: Source, K: Sink>(
 ) -> Result<Verdict, RunFault>
     requires source { S.failed source.old ≡ false }
     requires sink { K.failed sink.old ≡ false }
-    ensures run { IsRun (IsSharedProgram false) S.Source K.Sink source.old source.new sink.old sink.new result }
+    ensures run { IsRun (IsSharedProgram (λ _ _. ⊥)) S.Source K.Sink source.old source.new sink.old sink.new result }
     ensures accepted { result ≡ Err RunFault.Thread → (input : List ℕ) × Gave S.left S.given source.old source.new input × IsOk (setup_of_bytes input) }
 {
     let input = read_below(alloc, source, INPUT_LIMIT)?;
-    let (text, verdict) = report_of_input(rt, alloc, input.as_slice(), &OpenGate, false)?;
+    let (text, verdict) = report_of_input_open(rt, alloc, input.as_slice())?;
     write_all(sink, text.as_slice())?;
     Ok(verdict)
-}
-
-/// A gate that is always open.
-#[derive(Clone, Copy, Drop)]
-pub struct OpenGate;
-
-impl Gate for OpenGate {
-    fn before(&self, _client: u32, _number: u32) -> bool {
-        true
-    }
-
-    fn after(&self, _client: u32, _number: u32) {
-        thread::yield_now();
-    }
 }

@@ -61,7 +61,7 @@ fn gives<R: Threads + Wait + Sync>(
     status: u8,
 ) -> Result<bool, Fail> {
     let (keys, untyped, calls) = setup;
-    let (text, given) = run(rt, alloc, keys, untyped, calls, &OpenGate)?;
+    let (text, given) = run(rt, alloc, keys, untyped, calls, &OpenGate::among(1))?;
     let (entries, slots, last) = report;
     let wanted = format!(in alloc; "{entries}{slots}{last}")?;
     Ok(text.as_slice() == wanted.as_bytes() && given == status)
@@ -109,7 +109,7 @@ fn two_clients_come_to_the_limit(rt: HostRuntime) -> Result<(), Fail> {
         keys.as_str(),
         UNTYPED,
         TWICE_EACH,
-        &OpenGate,
+        &OpenGate::among(2),
     )?;
     assert!(rt; text.as_slice().ends_with(b"\nentries 3 of 4\n") && status == 1);
     Ok(())
@@ -124,7 +124,7 @@ fn two_clients_make_all_their_calls(rt: HostRuntime) -> Result<(), Fail> {
         keys.as_str(),
         UNTYPED,
         TWICE_EACH,
-        &OpenGate,
+        &OpenGate::among(2),
     )?;
     assert!(rt; text.as_slice().ends_with(b"\nentries 4 of 4\n") && status == 0);
     Ok(())

@@ -1,10 +1,10 @@
 -- What is known of a history that was settled with the clients that made it.
-use Rattle.std.specs.Prelude.{◌≡◌, ◌≢◌, Bool, true, List, All, Option, Some, None, length, sum_by}
+use Rattle.std.specs.Prelude.{◌≡◌, ◌≢◌, List, All, Option, Some, None, length, sum_by}
 use Rattle.kernel_book.specs.declared.entry.Entry.{Entry}
 use Rattle.kernel_shared.specs.declared.driving.Driven.{Driven}
 use Rattle.kernel_shared.specs.declared.driving.Stop.{Stop}
 use Rattle.kernel_shared.specs.declared.driving.Stop.TheVariants.{Gate, Fault}
-use Rattle.kernel_shared.specs.declared.fault.SharedFault.TheVariants.{Full}
+use Rattle.kernel_shared.specs.declared.fault.SharedFault.TheVariants.{Full, Memory}
 use Rattle.kernel_shared.specs.Tokens.{Token, EachBegins, made}
 use Rattle.engine_core.specs.declared.fault.RunFault.{RunFault}
 use Rattle.engine_core.specs.declared.fault.RunFault.TheVariants.{Reading, Writing}
@@ -15,16 +15,21 @@ pub record AreSettled (history : List Entry) (clients : List Token) : Type 0 whe
   pub fronts : EachBegins history clients
   pub whole : All (λ (t : Token). t.stray ≡ None) clients
 
--- nothing stopped the client before the end of its calls, or the history was full, or a gate that may do so ended it
-abbrev pub IsFinished : {N T : Type 0} → Bool → Option (Stop N T) → Type 0
-IsFinished gated None = Unit {0}
-IsFinished gated (Some (Fault Full)) = Unit {0}
-IsFinished gated (Some Gate) = gated ≡ true
-IsFinished gated _ = ⊥
+-- nothing stopped the client before the end of its calls, or the history was full, or the gate ended it
+abbrev pub IsFinished : {N T : Type 0} → Option (Stop N T) → Type 0
+IsFinished None = Unit {0}
+IsFinished (Some (Fault Full)) = Unit {0}
+IsFinished (Some Gate) = Unit {0}
+IsFinished _ = ⊥
+
+-- the client was not stopped by a want of memory
+abbrev pub HadMemory : {N T : Type 0} → Option (Stop N T) → Type 0
+HadMemory (Some (Fault Memory)) = ⊥
+HadMemory _ = Unit {0}
 
 -- a client that can be handed back after its drive: it finished, and lost sight of no call
-abbrev pub IsReturnable : {N T : Type 0} → Bool → Driven N T → Type 0
-IsReturnable gated d = IsFinished gated d.stopped × (d.client.stray ≡ None)
+abbrev pub IsReturnable : {N T : Type 0} → Driven N T → Type 0
+IsReturnable d = IsFinished d.stopped × (d.client.stray ≡ None)
 
 -- a fault that is of no device
 abbrev pub IsOwnFault : RunFault → Type 0

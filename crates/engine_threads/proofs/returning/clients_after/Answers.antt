@@ -25,7 +25,7 @@ loop-driven-preserved g c =
           ∙ (ap (λ (l : List Token). l ++ client ∷ []) before.same
           ∙ (ap (λ (t : Token). map f c.loop-driven.yielded ++ t ∷ []) is ∙ sym (map_push f c.loop-driven.yielded c.in-Some.driven)));
       whole = subst (λ (l : List Token). All (λ (t : Token). t.stray ≡ None) l) (sym pushed) (All-push (λ (t : Token). t.stray ≡ None) c.loop-driven.clients.items client before.whole kept);
-      finished = All-push (λ (d : Driven g.row.N.Denot g.row.T.Denot). IsFinished c.args.gated d.stopped) c.loop-driven.yielded c.in-Some.driven before.finished c.in_ok-client_after.ensures.finished;
+      finished = All-push (λ (d : Driven g.row.N.Denot g.row.T.Denot). IsFinished d.stopped) c.loop-driven.yielded c.in-Some.driven before.finished c.in_ok-client_after.ensures.finished;
     }
 
 pub returns-clause-same : goal.returns-clause-same
@@ -42,4 +42,4 @@ returns-clause-finished g c =
     let long : c.into_iter-driven-iterator.result.rest.len ≡ length c.args.all.items = search rules in
     let y = YieldsList-end (YieldsList-from_vec {Z = Global} c.args.all.items into.0 long) c.loop-driven.yielded c.loop-driven.driven-iterator c.loop-driven.yielded_by _ c.next.new.self c.in-None.is c.next.ensures.steps in
     let all : c.loop-driven.yielded ≡ c.args.all.items = sym (map-id c.loop-driven.yielded) ∙ y.0 in
-    subst (All (λ (d : Driven g.row.N.Denot g.row.T.Denot). IsFinished c.args.gated d.stopped)) all c.loop-driven.invariant.finished
+    subst (All (λ (d : Driven g.row.N.Denot g.row.T.Denot). IsFinished d.stopped)) all c.loop-driven.invariant.finished

@@ -10,5 +10,5 @@ invariant-loop-driven g l = record {
   room : vec_capacity l.clients ≡ vec_len l.fn.all;
   same : l.clients.items ≡ map (λ (d : Driven g.row.N.Denot g.row.T.Denot). d.client) l.yielded;
   whole : All (λ (t : Token). t.stray ≡ None) l.clients.items;
-  finished : All (λ (d : Driven g.row.N.Denot g.row.T.Denot). IsFinished l.fn.gated d.stopped) l.yielded;
+  finished : All (λ (d : Driven g.row.N.Denot g.row.T.Denot). IsFinished d.stopped) l.yielded;
 }

@@ -29,7 +29,7 @@ returns-in-Ok-drive-clause-run g c =
     let bound : book.history.len ≤ book.limit = book.short in
     let limited : book.limit ≡ limit = book.limited in
     let short : length book.history.items ≤ limit = omega arith in
-    run_settled g.P.Profile.the setup g.N.Naming.opening limit (λ (d : Driven _ _). d.client) (λ (d : Driven _ _). d.made) (λ (d : Driven _ _). d.stopped) c.args.gated olds lists all book.history.items
+    run_settled g.G.Gate.ends g.P.Profile.the setup g.N.Naming.opening limit (λ (d : Driven _ _). d.client) (λ (d : Driven _ _). d.made) (λ (d : Driven _ _). d.stopped) olds lists all book.history.items
     c.requires.plan c.requires.opening c.requires.limit c.clients.ensures.bounds n a b
     c.in-Ok-start.ensures.each
     (λ i l at. c.in-Ok-calls_of_clients.ensures.each i l (ap (λ ls. slice_get ls i) (sym c.as_slice.ensures.value) ∙ at))
