@@ -87,11 +87,12 @@ export function drawForest(view) {
   return [heading("Derivation forest", remark), element("div", attributes, list)];
 }
 
-/** Scrolls the forest so that what a step changed or names is in sight: the first of it, or from there on as much as
-    there is room for. `top` is how far it was scrolled before. */
+/** Scrolls the forest so that what a step changed is in sight, or what it names where nothing changed: the first of it
+    and as much behind it as there is room for. `top` is how far it was scrolled before. */
 export function showChange(scroller, top) {
   scroller.scrollTop = top;
-  const nodes = [...scroller.querySelectorAll(".node:is(.named, .filled, .emptied, .altered, .moved)")];
+  const changed = [...scroller.querySelectorAll(".node:is(.filled, .emptied, .altered, .moved)")];
+  const nodes = changed.length > 0 ? changed : [...scroller.querySelectorAll(".node.named")];
   if (nodes.length === 0) return;
   const places = nodes.map((node) => node.getBoundingClientRect());
   const window = scroller.getBoundingClientRect();

@@ -200,6 +200,8 @@ function listenToControls(page) {
   byId("play").addEventListener("click", () => page.player.toggle());
   byId("state-lines").addEventListener("toggle", () => page.drawLines());
   window.addEventListener("hashchange", () => page.show(Number(location.hash.slice(1))));
+  // The signs stand on a print, and otherwise beside the keys.
+  byId("signs").append(document.querySelector("#what .legend").cloneNode(true));
   byId("show-keys").addEventListener("click", () => byId("keys").showModal());
   byId("close-keys").addEventListener("click", () => byId("keys").close());
   listenToKeys(page, { list: byId("list"), main: byId("main"), find: byId("find"), keys: byId("keys") });

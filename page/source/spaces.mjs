@@ -98,7 +98,8 @@ function drawNode(view, node, words) {
   cells.unhide();
   const name = objectName(view, node);
   const title = element("h3", { "data-node": node.ended ? undefined : node.base },
-    node.ended ? [element("s", {}, name), " ended"] : name, node.base === 0 ? " the root CNode" : "", " ", dim(`${node.slots} slots`), " ",
+    node.ended ? [element("s", {}, name), " ended"] : name,
+    node.base === 0 ? " the root CNode" : "", " ", dim(`${node.slots} slots`), " ",
     lossOf(view, node).map((text) => [element("span", { class: "tag missed" }, text), " "]));
   return [title, element("ul", { class: "cells" }, cells.cells, drawGap(node, cells.next, node.slots))];
 }

@@ -23,7 +23,7 @@ FAULTS = (
     ("what was made of an untyped region counts as gone", "revoke_of_untyped", "summary.mjs",
      'view.after.slots.some(isInside) ? "; what was made of it stays" : ""', '""'),
     ("the forest is not scrolled", "five_components", "forest.mjs",
-     "scroller.scrollTop += isAbove", "scroller.scrollTop += 0 * isAbove"),
+     "scroller.scrollTop += isAbove", "scroller.scrollLeft += isAbove"),
 )
 
 

@@ -9,7 +9,8 @@ READ = r"""
 (async () => {
   const box = (element) => element?.getBoundingClientRect();
   const forest = box(document.querySelector(".forest-scroll"));
-  const first = box(document.querySelector("#forest .node:is(.named, .filled, .emptied, .altered, .moved)"));
+  const first = box(document.querySelector("#forest .node:is(.filled, .emptied, .altered, .moved)")
+    ?? document.querySelector("#forest .node.named"));
   const inSight = !first || (first.top >= forest.top && first.bottom <= forest.bottom);
   const closed = () => [...document.querySelectorAll("details.fold:not([open])")];
   while (closed().length > 0) {
