@@ -48,6 +48,7 @@ try:
 
 rows: run
 	python3 build/test_build.py
+	python3 rows/private_definitions.py crates docs/definitions.md
 	python3 rows/run.py $(program) $(setups)
 	python3 rows/migrate.py $(program) $(setups)
 	python3 rows/traces.py $(program) $(setups)
