@@ -1,7 +1,5 @@
 //! A worked set-up with what is wanted of it.
-use crate::pairs::{PAIRS, Pair};
-use engine::status_of;
-use std::alloc::Global;
+use engine::{Verdict, status_of};
 use std::fmt;
 use std::fs::{self, Files};
 use std::io::ErrorKind;
@@ -9,20 +7,14 @@ use std::io::ErrorKind;
 /// A set-up, the report that is wanted, and the exit status that is.
 #[derive(Drop)]
 pub struct Case {
-    setup: Vec<u8>,
-    report: Vec<u8>,
-    status: u8,
+    pub setup: Vec<u8>,
+    pub report: Vec<u8>,
+    pub status: u8,
 }
 
-/// What differs from what is wanted, over one pair of stores.
-#[derive(Drop)]
-pub struct Difference {
-    pair: Pair,
-    what: What,
-}
-
-#[derive(Drop)]
-enum What {
+/// What differs from what is wanted.
+#[derive(Clone, Copy)]
+pub enum Difference<'a> {
     /// The exit status.
     Status {
         given: u8,
@@ -31,22 +23,47 @@ enum What {
     /// The first line of the report that differs, counted from 1, without its end.
     Line {
         number: usize,
-        given: String,
-        wanted: String,
+        given: &'a [u8],
+        wanted: &'a [u8],
     },
 }
 
-/// The exit status that a file of a topic asks for, or 0 where there is no such file.
-fn status_in<R: Files + AllocGlobal>(rt: &R, path: &str) -> anyhow::Result<u8> {
+/// The exit status that a text asks for.
+fn status_in(text: &str) -> anyhow::Result<u8> {
+    Ok(text.trim().parse()?)
+}
+
+/// The exit status that a file asks for, or 0 where there is no such file.
+fn status_at<R: Files + AllocGlobal>(rt: &R, path: &str) -> anyhow::Result<u8> {
     match fs::read_to_string(rt, path) {
-        Ok(text) => Ok(text.as_str().trim().parse()?),
-        Err(error) if error.kind() == ErrorKind::NotFound => Ok(0),
-        Err(error) => Err(error.into()),
+        Ok(text) => status_in(text.as_str()),
+        Err(error) => if error.kind() == ErrorKind::NotFound {
+            Ok(0)
+        } else {
+            Err(error.into())
+        },
     }
 }
 
-/// The first line in which two texts differ, counted from 1, and that line in each.
-fn first_difference<'a>(given: &'a [u8], wanted: &'a [u8]) -> Option<(usize, &'a [u8], &'a [u8])> {
+/// A file of a set-up, by its ending.
+fn read_file<R: Files + AllocGlobal>(
+    rt: &R,
+    topic: &str,
+    name: &str,
+    ending: &str,
+) -> anyhow::Result<Vec<u8>> {
+    let path = format!(in rt.alloc(); "{topic}/{name}.{ending}")?;
+    Ok(fs::read(rt, path.as_str())?)
+}
+
+/// The exit status that is wanted of a set-up.
+fn wanted_status<R: Files + AllocGlobal>(rt: &R, topic: &str, name: &str) -> anyhow::Result<u8> {
+    let path = format!(in rt.alloc(); "{topic}/{name}.status")?;
+    status_at(rt, path.as_str())
+}
+
+/// The first line in which two texts differ.
+fn first_difference<'a>(given: &'a [u8], wanted: &'a [u8]) -> Option<Difference<'a>> {
     let mut given = given.split(|b| *b == b'\n');
     let mut wanted = wanted.split(|b| *b == b'\n');
     for number in 1..usize::MAX {
@@ -57,84 +74,62 @@ fn first_difference<'a>(given: &'a [u8], wanted: &'a [u8]) -> Option<(usize, &'a
         let line = lines.0.unwrap_or(b"");
         let wanted_line = lines.1.unwrap_or(b"");
         if line != wanted_line || lines.0.is_some() != lines.1.is_some() {
-            return Some((number, line, wanted_line));
+            return Some(Difference::Line {
+                number,
+                given: line,
+                wanted: wanted_line,
+            });
         }
     }
     None
 }
 
-/// What is written in place of bytes that are no text.
-fn line_text(alloc: Global, line: &[u8]) -> anyhow::Result<String> {
-    let text = std::str::from_utf8(line).unwrap_or("(no text)");
-    Ok(String::from_str(alloc, text)?)
-}
-
 impl Case {
     /// The case of this name in the folder of its topic.
     pub fn read<R: Files + AllocGlobal>(rt: &R, topic: &str, name: &str) -> anyhow::Result<Case> {
-        let alloc = rt.alloc();
-        let setup = format!(in alloc; "{topic}/{name}.toml")?;
-        let report = format!(in alloc; "{topic}/{name}.report")?;
-        let status = format!(in alloc; "{topic}/{name}.status")?;
+        let status = wanted_status(rt, topic, name)?;
+        let setup = read_file(rt, topic, name, "toml")?;
+        let report = read_file(rt, topic, name, "report")?;
         Ok(Case {
-            setup: fs::read(rt, setup.as_str())?,
-            report: fs::read(rt, report.as_str())?,
-            status: status_in(rt, status.as_str())?,
+            setup,
+            report,
+            status,
         })
     }
 
-    /// What differs from what is wanted over this pair of stores.
-    fn difference_over(&self, alloc: Global, pair: Pair) -> anyhow::Result<Option<Difference>> {
-        let (text, verdict) = pair.run(alloc, self.setup.as_slice())?;
-        if let Some((number, given, wanted)) = first_difference(
-            text.as_slice(),
-            self.report.as_slice(),
-        ) {
-            let what = What::Line {
-                number,
-                given: line_text(alloc, given)?,
-                wanted: line_text(alloc, wanted)?,
-            };
-            return Ok(Some(Difference { pair, what }));
-        }
+    /// What differs from what is wanted in a text that was written, or in the verdict.
+    pub fn difference<'a>(&'a self, text: &'a [u8], verdict: Verdict) -> Option<Difference<'a>> {
         let given = status_of(&Ok(verdict));
-        if given != self.status {
-            let what = What::Status {
+        match first_difference(text, self.report.as_slice()) {
+            None if given != self.status => Some(Difference::Status {
                 given,
                 wanted: self.status,
-            };
-            return Ok(Some(Difference { pair, what }));
+            }),
+            difference => difference,
         }
-        Ok(None)
-    }
-
-    /// What differs from what is wanted over the first pair of stores where something does.
-    pub fn difference(&self, alloc: Global) -> anyhow::Result<Option<Difference>> {
-        for pair in PAIRS {
-            let difference = self.difference_over(alloc, pair)?;
-            if difference.is_some() {
-                return Ok(difference);
-            }
-        }
-        Ok(None)
     }
 }
 
-impl fmt::Display for Difference {
+/// What is written in place of bytes that are no text.
+fn line_text(line: &[u8]) -> &str {
+    std::str::from_utf8(line).unwrap_or("(no text)")
+}
+
+impl fmt::Display for Difference<'_> {
     fn fmt<W: fmt::Write>(&self, f: &mut fmt::Formatter<W>) -> fmt::Result {
-        let pair = self.pair;
-        match &self.what {
-            What::Status { given, wanted } => {
-                write!(f, "with {pair}: status {given}, and not {wanted}")
-            }
-            What::Line {
+        match *self {
+            Difference::Status { given, wanted } => write!(f, "status {given}, and not {wanted}"),
+            Difference::Line {
                 number,
                 given,
                 wanted,
-            } => write!(
-                f,
-                "with {pair}: line {number} of the report is `{given}`, and not `{wanted}`"
-            ),
+            } => {
+                let (line, wanted) = (line_text(given), line_text(wanted));
+                write!(
+                    f,
+                    "line {number} of the report is `{line}`, and not `{wanted}`"
+                )
+            }
         }
     }
 }

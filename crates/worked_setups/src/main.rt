@@ -3,75 +3,244 @@
 //!
 //! Each folder here is a topic. In it `NAME.toml` is a set-up and `NAME.report` its report, byte for byte; the exit status that
 //! is wanted stands in `NAME.status`, and is 0 where there is no such file. `NAME.trace` is a set-up's trace, which `make rows`
-//! compares. For each topic one line says how many set-ups it
-//! has, and one line for each case that fails what differs. The exit status is 1 where a case failed.
+//! compares. A set-up of the first format that is accepted is run twice: as it is, and as what it is migrated to, which has
+//! to have the same report and status. For each topic one line says how many set-ups it has, and how many of them were
+//! migrated, and one line for each pair over which one fails what differs.
+//!
+//! At the end one set-up is compared with `planted.report`, which is not its report, and with a status that is not its own:
+//! one line says for each pair what differs. The exit status is 1 where a set-up failed, or nothing differed there.
 #![tactic(auto)]
 
-use case::Case;
-use std::fs::{self, Files};
+use case::{Case, Difference};
+use migrated::migrated;
+use pairs::{PAIRS, Pair};
+use std::fs::{self, DirEntry, Files};
+use std::io;
 use std::process::ExitCode;
 
 mod case;
+mod migrated;
 mod pairs;
 
-/// The folders of the folder it stands in, in order.
-fn topics<R: Files + AllocGlobal + Clone + Drop>(rt: &R) -> anyhow::Result<Vec<String>> {
-    let mut topics = Vec::new(rt.alloc());
-    for entry in fs::read_dir(rt, ".")? {
-        let entry = entry?;
-        if entry.file_type()?.is_dir() {
-            topics.push(String::from_str(rt.alloc(), entry.file_name())?)?;
-        }
-    }
-    topics.sort()?;
-    Ok(topics)
+/// What comes of no set-up.
+const NOTHING: Tally = Tally {
+    differing: 0,
+    migrated: 0,
+};
+
+/// The names that are looked for in a folder.
+#[derive(Clone, Copy)]
+enum Wanted {
+    /// Those of its folders.
+    Topics,
+    /// Those of its set-ups, without their ending.
+    SetUps,
 }
 
-/// The names of a topic's set-ups, in order.
-fn setups_of<R: Files + AllocGlobal + Clone + Drop>(
+/// The name of an entry, where it is wanted.
+fn wanted_name<R: Files>(entry: &DirEntry<R>, wanted: Wanted) -> io::Result<Option<&str>> {
+    Ok(match wanted {
+        Wanted::Topics => if entry.file_type()?.is_dir() {
+            Some(entry.file_name())
+        } else {
+            None
+        },
+        Wanted::SetUps => entry.file_name().strip_suffix(".toml"),
+    })
+}
+
+/// Adds the name of an entry, where it is wanted.
+fn add_name<R: Files + AllocGlobal>(
     rt: &R,
-    topic: &str,
+    names: &mut Vec<String>,
+    entry: &DirEntry<R>,
+    wanted: Wanted,
+) -> anyhow::Result<()> {
+    if let Some(name) = wanted_name(entry, wanted)? {
+        names.push(String::from_str(rt.alloc(), name)?)?;
+    }
+    Ok(())
+}
+
+fn add_names<R: Files + AllocGlobal + Clone + Drop>(
+    rt: &R,
+    names: &mut Vec<String>,
+    folder: &str,
+    wanted: Wanted,
+) -> anyhow::Result<()> {
+    for entry in fs::read_dir(rt, folder)? {
+        add_name(rt, names, &entry?, wanted)?;
+    }
+    Ok(())
+}
+
+/// The names that are looked for in a folder, in order.
+fn names_in<R: Files + AllocGlobal + Clone + Drop>(
+    rt: &R,
+    folder: &str,
+    wanted: Wanted,
 ) -> anyhow::Result<Vec<String>> {
     let mut names = Vec::new(rt.alloc());
-    for entry in fs::read_dir(rt, topic)? {
-        let entry = entry?;
-        if let Some(name) = entry.file_name().strip_suffix(".toml") {
-            names.push(String::from_str(rt.alloc(), name)?)?;
-        }
-    }
+    add_names(rt, &mut names, folder, wanted)?;
     names.sort()?;
     Ok(names)
 }
 
-/// Runs the set-ups of one topic, and answers how many failed.
+/// A set-up by its topic and its name, and a pair.
+#[derive(Clone, Copy)]
+struct Subject<'a> {
+    topic: &'a str,
+    name: &'a str,
+    pair: Pair,
+}
+
+/// Says what differs, if something does, and answers whether it does.
+fn say_difference<R: Print>(
+    rt: &R,
+    subject: Subject<'_>,
+    difference: Option<Difference<'_>>,
+) -> io::Result<bool> {
+    let Some(difference) = difference else {
+        return Ok(false);
+    };
+    let Subject { topic, name, pair } = subject;
+    println!(rt; "{topic}/{name}.toml: with {pair}: {difference}")?;
+    Ok(true)
+}
+
+/// Runs a case over one pair, and answers whether something differs from what is wanted.
+fn differs<R: Print + AllocGlobal>(
+    rt: &R,
+    subject: Subject<'_>,
+    case: &Case,
+) -> anyhow::Result<bool> {
+    let (text, verdict) = subject.pair.run(rt.alloc(), case.setup.as_slice())?;
+    Ok(say_difference(rt, subject, case.difference(text.as_slice(), verdict))?)
+}
+
+/// Runs a case over each pair, and answers over how many something differs.
+fn differing<R: Print + AllocGlobal>(
+    rt: &R,
+    topic: &str,
+    name: &str,
+    case: &Case,
+) -> anyhow::Result<u64> {
+    let mut count = 0u64;
+    for pair in PAIRS {
+        if differs(rt, Subject { topic, name, pair }, case)? {
+            count = count.saturating_add(1);
+        }
+    }
+    Ok(count)
+}
+
+/// What came of set-ups: how often something differed, and how many were migrated.
+#[derive(Clone, Copy)]
+struct Tally {
+    differing: u64,
+    migrated: u64,
+}
+
+impl Tally {
+    fn and(self, other: Tally) -> Tally {
+        Tally {
+            differing: self.differing.saturating_add(other.differing),
+            migrated: self.migrated.saturating_add(other.migrated),
+        }
+    }
+}
+
+/// Runs what a set-up is migrated to, if it is of the first format and accepted.
+fn run_migrated<R: Print + AllocGlobal>(
+    rt: &R,
+    topic: &str,
+    name: &str,
+    case: Case,
+) -> anyhow::Result<Tally> {
+    let Some(setup) = migrated(rt.alloc(), case.setup.as_slice())? else {
+        return Ok(NOTHING);
+    };
+    let case = Case { setup, ..case };
+    Ok(Tally {
+        differing: differing(rt, topic, name, &case)?,
+        migrated: 1,
+    })
+}
+
+/// Runs one set-up, as it is and as what it is migrated to.
+fn run_set_up<R: Files + Print + AllocGlobal>(
+    rt: &R,
+    topic: &str,
+    name: &str,
+) -> anyhow::Result<Tally> {
+    let case = Case::read(rt, topic, name)?;
+    let as_it_is = Tally {
+        differing: differing(rt, topic, name, &case)?,
+        migrated: 0,
+    };
+    Ok(as_it_is.and(run_migrated(rt, topic, name, case)?))
+}
+
+/// Runs set-ups of one topic.
+fn run_all<R: Files + Print + AllocGlobal>(
+    rt: &R,
+    topic: &str,
+    names: &[String],
+) -> anyhow::Result<Tally> {
+    let mut tally = NOTHING;
+    for name in names {
+        tally = tally.and(run_set_up(rt, topic, name.as_str())?);
+    }
+    Ok(tally)
+}
+
+/// Says how many set-ups a topic has, and how many of them were migrated.
+fn say_topic<R: Print>(rt: &R, topic: &str, count: usize, migrated: u64) -> io::Result<()> {
+    println!(rt; "{topic}: {count} set-ups, {migrated} migrated")
+}
+
+/// Runs the set-ups of one topic, and answers how often something differs.
 fn run_topic<R: Files + Print + AllocGlobal + Clone + Drop>(
     rt: &R,
     topic: &str,
 ) -> anyhow::Result<u64> {
-    let names = setups_of(rt, topic)?;
-    let count = names.len();
-    let mut failed = 0u64;
-    for name in &names {
-        let case = Case::read(rt, topic, name.as_str())?;
-        if let Some(difference) = case.difference(rt.alloc())? {
-            println!(rt; "{topic}/{name}.toml: {difference}")?;
-            failed = failed.saturating_add(1);
-        }
-    }
-    println!(rt; "{topic}: {count} set-ups")?;
-    Ok(failed)
+    let names = names_in(rt, topic, Wanted::SetUps)?;
+    let tally = run_all(rt, topic, names.as_slice())?;
+    say_topic(rt, topic, names.len(), tally.migrated)?;
+    Ok(tally.differing)
 }
 
-/// Runs each topic, and answers how many set-ups failed.
-fn run<R: Files + Print + AllocGlobal + Clone + Drop>(rt: &R) -> anyhow::Result<u64> {
-    let mut failed = 0u64;
-    for topic in &topics(rt)? {
-        failed = failed.saturating_add(run_topic(rt, topic.as_str())?);
+/// Runs topics, and answers how often something differs.
+fn run_topics<R: Files + Print + AllocGlobal + Clone + Drop>(
+    rt: &R,
+    topics: &[String],
+) -> anyhow::Result<u64> {
+    let mut count = 0u64;
+    for topic in topics {
+        count = count.saturating_add(run_topic(rt, topic.as_str())?);
     }
-    Ok(failed)
+    Ok(count)
+}
+
+/// Compares a set-up with a report and a status that are not its own, and answers how often something differs.
+fn run_planted<R: Files + Print + AllocGlobal>(rt: &R) -> anyhow::Result<u64> {
+    let (topic, name) = ("examples", "send_then_receive");
+    let mut case = Case::read(rt, topic, name)?;
+    case.status = 1;
+    let by_status = differing(rt, topic, name, &case)?;
+    case.report = fs::read(rt, "planted.report")?;
+    Ok(by_status.saturating_add(differing(rt, topic, name, &case)?))
+}
+
+/// Runs each topic, and what is planted: whether nothing failed, and all that is planted was found.
+fn run<R: Files + Print + AllocGlobal + Clone + Drop>(rt: &R) -> anyhow::Result<bool> {
+    let topics = names_in(rt, ".", Wanted::Topics)?;
+    let failed = run_topics(rt, topics.as_slice())?;
+    let found = run_planted(rt)?;
+    Ok(failed == 0 && found == 2 * PAIRS.len() as u64)
 }
 
 fn main(rt: HostRuntime) -> anyhow::Result<ExitCode> {
-    let failed = run(&rt)?;
-    Ok(ExitCode::from(if failed == 0 { 0 } else { 1 }))
+    let right = run(&rt)?;
+    Ok(ExitCode::from(if right { 0 } else { 1 }))
 }
