@@ -1,4 +1,4 @@
-//! Tests of `engine`, `engine_core`, `engine_trace`, `command_line` and `program`: reads and writes that fail, a source
+//! Tests of `engine`, `engine_core`, `engine_trace` and `command_line`: reads and writes that fail, a source
 //! without an end, the command line, migrations, whole traces, and the exit statuses.
 #![tactic(auto)]
 
@@ -14,5 +14,3 @@ mod migrations;
 mod stored_run;
 #[cfg(test)]
 mod traces;
-#[cfg(test)]
-mod whole_lines;
