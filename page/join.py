@@ -17,25 +17,27 @@ import sys
 
 FOLDER = pathlib.Path(__file__).resolve().parent
 SOURCE = FOLDER / "source"
-FIRST_MODULE = "page.mjs"
-IMPORT = re.compile(r'^import \{ ([\w, ]+) \} from "\./(\w+\.mjs)";\n', re.M)
+FIRST_MODULE = SOURCE / "page.mjs"
+STYLES = ("colours.css", "style.css")
+IMPORT = re.compile(r'^import \{ ([\w, ]+) \} from "([./\w]+)/(\w+\.mjs)";\n', re.M)
 EXPORT = re.compile(r"^export (?=(?:async )?(?:function|class|const) (\w+))", re.M)
 
 
-def in_order(name, found):
-    """The modules that one needs, each behind those that it needs itself, and then the module."""
-    if name not in found:
-        text = (SOURCE / name).read_text()
-        for _, needed in IMPORT.findall(text):
-            in_order(needed, found)
-        found[name] = text
+def in_order(path, found):
+    """The modules that one needs, by their names, each behind those that it needs itself, and then the module."""
+    if path.name not in found:
+        text = path.read_text()
+        for _, folder, needed in IMPORT.findall(text):
+            in_order((path.parent / folder / needed).resolve(), found)
+        found[path.name] = text
     return found
 
 
-def faults_of(modules):
-    """What keeps the modules from being joined."""
+def faults_of(modules, folder, apart):
+    """What keeps the modules from being joined; each one in the folder has to be among them, but for those that stand
+    apart."""
     for module, text in modules.items():
-        for names, needed in IMPORT.findall(text):
+        for names, _, needed in IMPORT.findall(text):
             for name in names.split(", "):
                 if name not in EXPORT.findall(modules[needed]):
                     yield f"{module} imports {name}, which {needed} does not export"
@@ -43,23 +45,42 @@ def faults_of(modules):
                     yield f"{module} imports {name} and does not use it"
         if re.search(r"^\s*(?:import|export)\b", EXPORT.sub("", IMPORT.sub("", text)), re.M):
             yield f"{module} has an import or an export of another form"
-    for module in sorted(path.name for path in SOURCE.glob("*.mjs")):
-        if module not in modules:
+    for module in sorted(path.name for path in folder.glob("*.mjs")):
+        if module not in modules and module not in apart:
             yield f"no module needs {module}"
 
 
 def function_of(module, text):
     """A module as a function that is called at once and gives what the module exports."""
     name = module.removesuffix(".mjs")
-    taken = IMPORT.sub(lambda found: f"const {{ {found[1]} }} = modules.{found[2].removesuffix('.mjs')};\n", text)
+    taken = IMPORT.sub(lambda found: f"const {{ {found[1]} }} = modules.{found[3].removesuffix('.mjs')};\n", text)
     given = ", ".join(EXPORT.findall(text))
     return f"\n// {module}\nmodules.{name} = (() => {{\n{EXPORT.sub('', taken)}return {{ {given} }};\n}})();\n"
 
 
-def joined(modules):
-    """One script of all modules."""
+def joined(first, apart=()):
+    """One script of a module and all that it needs; modules that stand apart in its folder are scripts of their own."""
+    modules = in_order(first, {})
+    faults = list(faults_of(modules, first.parent, apart))
+    if faults:
+        sys.exit("\n".join(faults))
     parts = [function_of(module, text) for module, text in modules.items()]
     return '\n"use strict";\n(() => {\nconst modules = {};\n' + "".join(parts) + "})();\n"
+
+
+def filled(page, **texts):
+    """A page with texts in the places of their names in braces, each of which stands once."""
+    for name, text in texts.items():
+        assert page.count(f"{{{name}}}") == 1, name
+    return re.sub("|".join(rf"\{{{name}\}}" for name in texts), lambda found: texts[found[0][1:-1]], page)
+
+
+def harmless(*texts):
+    """Texts of scripts and styles, none of which ends its element too early."""
+    for text in texts:
+        if re.search(r"</(?:script|style)|<!--", text, re.I):
+            sys.exit("the script or the style would end too early in a page")
+    return texts
 
 
 def digest(text):
@@ -72,20 +93,15 @@ def policy_of(style, script):
             "form-action 'none'; require-trusted-types-for 'script'; trusted-types 'none'")
 
 
+def viewer_parts():
+    """The style and the script of the viewer."""
+    return harmless("\n" + "".join((SOURCE / name).read_text() for name in STYLES), joined(FIRST_MODULE))
+
+
 def viewer():
     """The text of viewer.html."""
-    modules = in_order(FIRST_MODULE, {})
-    faults = list(faults_of(modules))
-    if faults:
-        sys.exit("\n".join(faults))
-    script, style = joined(modules), "\n" + (SOURCE / "style.css").read_text()
-    for text in (script, style):
-        if re.search(r"</(?:script|style)|<!--", text, re.I):
-            sys.exit("the script or the style would end too early in a page")
-    page = (SOURCE / "page.html").read_text()
-    for mark, text in (("{policy}", policy_of(style, script)), ("{style}", style), ("{script}", script)):
-        assert page.count(mark) == 1, mark
-        page = page.replace(mark, text)
+    style, script = viewer_parts()
+    page = filled((SOURCE / "page.html").read_text(), policy=policy_of(style, script), style=style, script=script)
     for line in ("<title>", '<pre id="trace">'):
         assert len(re.findall(f"^{line}", page, re.M)) == 1, line
     return page
@@ -102,4 +118,5 @@ def main():
     return 0
 
 
-sys.exit(main())
+if __name__ == "__main__":
+    sys.exit(main())

@@ -1,4 +1,5 @@
-// Opens a trace from a file, chosen by the file picker or dropped onto the page. The file stays in the browser.
+// Opens a trace from a file, chosen by the file picker or dropped onto the page, or from the page around this one. It
+// stays in the browser.
 
 /** Tells `open` the text and the name of each file that a picker chooses or that is dropped. */
 export function listenToFiles(pickers, open) {
@@ -13,5 +14,14 @@ export function listenToFiles(pickers, open) {
   document.addEventListener("drop", (event) => {
     event.preventDefault();
     if (event.dataTransfer.files.length > 0) read(event.dataTransfer.files[0]);
+  });
+}
+
+/** Tells `open` the text, the name and the number of the call that a page tells which has this one in a frame. */
+export function listenToParent(open) {
+  if (window.parent === window) return;
+  document.body.dataset.framed = "";
+  window.addEventListener("message", ({ source, data }) => {
+    if (source === window.parent) open(data.trace, data.number, data.name);
   });
 }

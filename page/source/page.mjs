@@ -10,7 +10,7 @@ import { drawMemory } from "./memory.mjs";
 import { drawReachTable } from "./reach_table.mjs";
 import { drawSpaces } from "./spaces.mjs";
 import { drawThreadsAndEndpoints } from "./threads.mjs";
-import { listenToFiles } from "./files.mjs";
+import { listenToFiles, listenToParent } from "./files.mjs";
 import { listenToKeys } from "./keys.mjs";
 import { namedSlots } from "./lookup.mjs";
 import { readTrace } from "./trace.mjs";
@@ -206,6 +206,7 @@ function listenToControls(page) {
   byId("close-keys").addEventListener("click", () => byId("keys").close());
   listenToKeys(page, { list: byId("list"), main: byId("main"), find: byId("find"), keys: byId("keys") });
   listenToFiles([byId("open"), byId("open-first")], (text, name) => page.open(text, 0, name));
+  listenToParent((text, number, name) => page.open(text, number ?? page.number, name));
   listenToPointer();
 }
 

@@ -80,7 +80,7 @@ class Chromium:
             os.close(end)
         self.out, self.into = os.fdopen(our_write_end, "wb"), os.fdopen(our_read_end, "rb")
         self.waiting = b""
-        self.session = None
+        self.session = self.context = None
         self.attach()
 
     def command(self, width, height):
@@ -90,9 +90,10 @@ class Chromium:
                 "--remote-debugging-pipe", "about:blank"]
 
     def attach(self):
-        context = self.call("Target.createBrowserContext", proxyServer=f"127.0.0.1:{self.recorder.port}",
-                            proxyBypassList="<-loopback>")["browserContextId"]
-        page = self.call("Target.createTarget", url="about:blank", browserContextId=context)["targetId"]
+        made = self.call("Target.createBrowserContext", proxyServer=f"127.0.0.1:{self.recorder.port}",
+                         proxyBypassList="<-loopback>")
+        self.context = made["browserContextId"]
+        page = self.call("Target.createTarget", url="about:blank", browserContextId=self.context)["targetId"]
         self.session = self.call("Target.attachToTarget", targetId=page, flatten=True)["sessionId"]
         for domain in ("Page", "Network", "Runtime", "Log", "Accessibility"):
             self.call(f"{domain}.enable")

@@ -307,7 +307,7 @@ def luminance(colour):
 
 def colours(_, page, __):
     """Each text and its ground have a contrast of 4.5 or more, in the light theme and in the dark one."""
-    style = (page / "source" / "style.css").read_text()
+    style = (page / "source" / "colours.css").read_text()
     themes = re.findall(r":root \{(.*?)\}", style, re.S)[:2]
     kinds = ("filled", "emptied", "altered", "untyped", "endpoint", "cnode", "tcb")
     grounds = ("ground", "card", "soft", "chosen", "filled-ground", "emptied-ground", "altered-ground")
