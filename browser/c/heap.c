@@ -1,6 +1,6 @@
-/* Memory for the program in a browser, in place of the C library's: blocks of 2^k bytes, with a list of free ones for each k.
-   A block begins with its header; what the caller gets lies behind it, aligned as it asked. Memory that is asked for
-   beyond what the module may have is refused, and the program says so, as it does elsewhere. */
+/* Memory for the program in a browser, in place of the C library's: blocks of a header and 2^k bytes, with a list of
+   free ones for each k. What the caller gets lies behind the header, aligned as it asked. Memory that is asked for beyond
+   what the module may have is refused, and the program says so, as it does elsewhere. */
 
 typedef unsigned long size;
 typedef unsigned char byte;
@@ -35,12 +35,13 @@ static size up_to(size number, size alignment) { return (number + alignment - 1)
 
 static struct header *header_of(void *bytes) { return (struct header *)bytes - 1; }
 
-/* The least k for which 2^k bytes hold the header and what is asked for, or CLASSES. */
-static size class_of(size bytes, size alignment) {
-    if (bytes >> (CLASSES - 1) || alignment >> (CLASSES - 1)) return CLASSES;
-    size needed = bytes + alignment + sizeof(struct header);
-    size class = 5;
-    while (class < CLASSES && (1UL << class) < needed) class++;
+static size length_of(size class) { return sizeof(struct header) + (1UL << class); }
+
+/* The least k for which 2^k bytes hold what is asked for and what its alignment may take, or CLASSES. */
+static size class_of(size bytes, size spare) {
+    if (bytes >> (CLASSES - 1) || spare >> (CLASSES - 1)) return CLASSES;
+    size class = 4;
+    while (class < CLASSES && (1UL << class) < bytes + spare) class++;
     return class;
 }
 
@@ -52,7 +53,8 @@ static struct free_block *new_block(size bytes) {
     }
     if (bytes > end - top) {
         size pages = (bytes - (end - top) + PAGE - 1) / PAGE;
-        if (__builtin_wasm_memory_grow(0, pages) == (size)-1) return 0;
+        /* -1 where there is no more, of 32 bits once the module has 32-bit memory */
+        if ((unsigned)__builtin_wasm_memory_grow(0, pages) == ~0U) return 0;
         end += pages * PAGE;
     }
     struct free_block *block = (struct free_block *)top;
@@ -66,7 +68,7 @@ static void *take(size bytes, size alignment) {
     if (class == CLASSES) return 0;
     struct free_block *block = free_blocks[class];
     if (block) free_blocks[class] = block->next;
-    else block = new_block(1UL << class);
+    else block = new_block(length_of(class));
     if (!block) return 0;
     void *taken = (void *)up_to((size)block + sizeof(struct header), alignment);
     *header_of(taken) = (struct header){class, block};
@@ -89,7 +91,7 @@ void rattle_dealloc(void *bytes) { give_back(bytes); }
 struct tried rattle_realloc(void *old, size kept, size bytes, size alignment) {
     struct header header = *header_of(old);
     size before = (size)old - (size)header.block;
-    if (bytes <= (1UL << header.class) - before) return (struct tried){1, old};
+    if (bytes <= length_of(header.class) - before) return (struct tried){1, old};
     void *taken = take(bytes, alignment);
     if (!taken) return (struct tried){0, old};
     __builtin_memcpy(taken, old, kept);
