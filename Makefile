@@ -10,6 +10,9 @@
 # set-ups, an address used again a thousand times, each request for memory refused in turn, by each subcommand and by
 # calls of the libraries, inputs and outputs that fail, texts that are broken, deep or long, three clients and four in
 # whatever order they come, and what the documents print;
+# make browser: site/sel4sim.html, the proved program as one page for any browser (docs/browser.md); make browser-test: tries
+# it in chromium and firefox, beside the native program (pictures=FOLDER: writes pictures of it there); they say first what
+# they need and do not find;
 # make page: a page that steps through the run of each example, in page/out/; make page-test: steps through these pages in
 # chromium and compares what they show (traces=FOLDER: pages of the traces in a folder instead); it says first what it needs
 # and does not find;
@@ -17,7 +20,7 @@
 # (docs/performance.md); it says first what it needs and does not find;
 # make wrong-bodies: each wrong body of each crate, in copies; CRATE=NAME: those of one crate, JOBS=N: N crates side by side
 # (docs/wrong-bodies.md). It is no part of the gate, which tries those of must-fail/ alone.
-.PHONY: run dist dist-test install test try rows page page-test needs bench wrong-bodies
+.PHONY: run dist dist-test install test try rows browser browser-test page page-test needs bench wrong-bodies
 
 program = crates/sel4sim/out/sel4sim
 calls = crates/refused_memory/out/refused_memory
@@ -49,6 +52,7 @@ try:
 rows: run
 	python3 build/test_build.py
 	python3 rows/private_definitions.py crates docs/definitions.md
+	python3 rows/browser_page.py site/sel4sim.html
 	python3 rows/run.py $(program) $(setups)
 	python3 rows/migrate.py $(program) $(setups)
 	python3 rows/traces.py $(program) $(setups)
@@ -62,6 +66,12 @@ rows: run
 	python3 rows/run_clients.py $(program) $(setups)/examples/three_clients.toml 100
 	python3 rows/run_clients.py $(program) rows/four_clients.toml 100 60
 	python3 rows/documents.py $(dir $(program)) README.md docs/*.md
+
+browser: run
+	@python3 browser/build.py
+
+browser-test: run
+	python3 browser/test/browser_test.py $(program) $(setups) $(if $(pictures),--pictures $(pictures))
 
 page: run
 	python3 page/join.py

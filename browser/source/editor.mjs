@@ -1,0 +1,76 @@
+// The editor: CodeMirror with its mode for TOML, and a margin for what the program says of each call.
+import { element } from "../../page/source/element.mjs";
+
+const MARGIN = "margin";
+
+/** An editor in an element; `changed` is told of each change that the reader makes. */
+export class Editor {
+  constructor(parent, changed) {
+    this.mirror = CodeMirror(parent, {
+      mode: "toml", lineNumbers: true, gutters: [MARGIN, "CodeMirror-linenumbers"], inputStyle: "contenteditable",
+      screenReaderLabel: "Set-up", lineWrapping: true, tabSize: 2,
+      // Tab leaves the editor, as it leaves every other part of the page.
+      extraKeys: { Tab: false, "Shift-Tab": false, Esc: () => this.leave() },
+    });
+    this.faulty = null;
+    this.mirror.on("changes", () => {
+      this.clear();
+      changed();
+    });
+  }
+
+  get text() {
+    return this.mirror.getValue();
+  }
+
+  set text(text) {
+    this.mirror.setValue(text);
+    this.mirror.clearHistory();
+  }
+
+  get lines() {
+    return this.mirror.lineCount();
+  }
+
+  /** Takes all marks away. */
+  clear() {
+    this.mirror.clearGutter(MARGIN);
+    if (this.faulty) this.mirror.removeLineClass(this.faulty, "background", "faulty");
+    this.faulty = null;
+  }
+
+  /** Puts marks into the margin. */
+  markAll(marks) {
+    this.mirror.operation(() => marks.forEach((mark) => this.mark(mark)));
+  }
+
+  /** Puts a sign into the margin of a line; the words are its title. */
+  mark({ line, look, shown, words }) {
+    if (line >= this.lines) return;
+    const made = element("span", { class: `mark-${look}`, title: words, role: "img", "aria-label": words }, shown);
+    this.mirror.setGutterMarker(line, MARGIN, made);
+  }
+
+  /** Marks a line as the one at fault. */
+  fault(line, words) {
+    const at = Math.min(line, this.lines - 1);
+    this.faulty = this.mirror.addLineClass(at, "background", "faulty");
+    this.mark({ line: at, look: "missed", shown: "✗", words });
+  }
+
+  /** Brings a line into sight, and puts the cursor there. */
+  go(line) {
+    this.mirror.setCursor(line, 0);
+    this.mirror.scrollIntoView({ line, ch: 0 }, 80);
+    this.mirror.focus();
+  }
+
+  leave() {
+    this.mirror.getInputField().blur();
+  }
+
+  /** Has the editor measure itself anew, after its place has changed. */
+  refresh() {
+    this.mirror.refresh();
+  }
+}

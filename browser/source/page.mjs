@@ -1,0 +1,350 @@
+// The page: a set-up in an editor, and what the program says of it in tabs. It brings the other modules together.
+import { Editor } from "./editor.mjs";
+import { Program, STOPPED } from "./program.mjs";
+import { TABS } from "./tabs.mjs";
+import { callsOf } from "./report.mjs";
+import { element } from "../../page/source/element.mjs";
+import { fragmentOf, readFragment } from "./share.mjs";
+import { keepState, keptState } from "./kept.mjs";
+import { lineOfFault, placesOf } from "./places.mjs";
+import { wordsOf } from "./answer.mjs";
+import { listenToFiles } from "../../page/source/files.mjs";
+
+const byId = (id) => document.getElementById(id);
+const TITLE = "sel4sim";
+const FIRST_EXAMPLE = ["examples", "send_then_receive"];
+/** So long after the last key the set-up is run by itself, */
+const MILLISECONDS_STILL = 300;
+/** unless it is longer than this, or its last run took so long. */
+const LETTERS_BY_ITSELF = 200_000;
+const MILLISECONDS_BY_ITSELF = 1500;
+/** So many calls are marked in the margin, and of the others those that are not met. */
+const CALLS_MARKED = 3000;
+/** A run that takes longer than this is told. */
+const MILLISECONDS_UNTOLD = 150;
+
+/** The addresses and the markup that the page makes itself: its policy lets no others pass. */
+const URLS = globalThis.trustedTypes?.createPolicy(TITLE, { createScriptURL: (url) => url, createHTML: (text) => text })
+  ?? { createScriptURL: (url) => url, createHTML: (text) => text };
+
+const decoded = (bytes) => new TextDecoder().decode(bytes);
+
+/** A file name as a word of a command line. */
+const quoted = (word) => (/^[\w@%+=:,./-]+$/u.test(word) ? word : `'${word.replace(/'/gu, "'\\''")}'`);
+
+function saveFile(bytes, name) {
+  const address = URL.createObjectURL(new Blob([bytes]));
+  element("a", { href: address, download: name }).click();
+  setTimeout(() => URL.revokeObjectURL(address), 10_000);
+}
+
+/** The mark of a call in the margin. */
+function markOf({ number, reply, outcome }) {
+  const [look, shown] = outcome === "met" ? ["met", "✓"] : outcome ? ["missed", "✗"]
+    : reply.startsWith("refused") ? ["refused", "!"] : ["done", "·"];
+  return { look, shown, words: `call ${number}: ${reply}${outcome ? ` (${outcome})` : ""}` };
+}
+
+class Page {
+  constructor(data) {
+    this.data = data;
+    this.markup = (text) => URLS.createHTML(text);
+    this.program = new Program(data.module, data.worker, URLS);
+    this.editor = new Editor(byId("editor"), () => this.changed());
+    this.tab = TABS[0];
+    this.timer = null;
+    this.round = 0;
+    this.took = 0;
+    this.shown = null;
+    this.told = null;
+    this.read = "";
+    this.drawTabs();
+    this.drawExamples();
+  }
+
+  get name() {
+    return byId("name").value.trim() || "setup.toml";
+  }
+
+  get title() {
+    return this.name.replace(/\.toml$/u, "");
+  }
+
+  /** Takes a set-up in place of the one in the editor, and runs it; done once its answer is shown. */
+  open(text, name) {
+    byId("name").value = name;
+    document.title = `${this.title} · ${TITLE}`;
+    this.editor.text = text;
+    this.drawChosen();
+    this.say(text.includes("\uFFFD") ? `${name} is not UTF-8: what could not be read is shown as \uFFFD.` : "");
+    this.keep();
+    return this.run();
+  }
+
+  say(notice) {
+    byId("notice").textContent = notice;
+  }
+
+  keep() {
+    const { name, read, tab } = this;
+    keepState({ text: this.editor.text, name, tab: tab.name, read });
+  }
+
+  /** What is typed is run by itself, where that is quick. */
+  changed() {
+    this.keep();
+    clearTimeout(this.timer);
+    const { length } = this.editor.text;
+    if (length > LETTERS_BY_ITSELF || this.took > MILLISECONDS_BY_ITSELF) {
+      this.tell("changed: run it again");
+      return;
+    }
+    this.timer = setTimeout(() => this.run(), MILLISECONDS_STILL);
+  }
+
+  tell(state) {
+    byId("state").textContent = state;
+  }
+
+  /** Runs the program on the set-up: `check` for the report and the marks in the margin, and what the tab is for. */
+  async run() {
+    clearTimeout(this.timer);
+    this.round += 1;
+    const { round, tab } = this;
+    const text = this.editor.text;
+    const bytes = new TextEncoder().encode(text);
+    const late = setTimeout(() => this.tell("running…"), MILLISECONDS_UNTOLD);
+    byId("stop").disabled = false;
+    const isLast = () => round === this.round;
+    const report = await this.answerTo(TABS[0].words, bytes);
+    const isEnough = report === STOPPED || tab.told || tab === TABS[0];
+    const answer = isEnough || !isLast() ? report : await this.answerTo(tab.words, bytes);
+    clearTimeout(late);
+    if (!isLast()) return;
+    byId("stop").disabled = true;
+    this.tell(answer === STOPPED ? "stopped" : "");
+    if (report === STOPPED) return;
+    this.mark(text, report);
+    this.showReportAlso(tab, report);
+    if (answer === STOPPED) return;
+    this.took = report.milliseconds + answer.milliseconds;
+    this.show(tab, answer);
+  }
+
+  answerTo(words, bytes) {
+    return this.program.run([...words, this.name], this.name, bytes);
+  }
+
+  stop() {
+    this.program.stop();
+  }
+
+  /** Puts into the margin what each call was answered, or where the set-up is at fault. */
+  mark(text, { output, errors }) {
+    this.editor.clear();
+    const report = decoded(output);
+    const line = lineOfFault(text, report, decoded(errors));
+    if (line >= 0) {
+      this.editor.fault(line, decoded(errors).replace(/^sel4sim: /gmu, "").trim() || report.trim());
+      return;
+    }
+    const marked = callsOf(report).filter(({ outcome }, at) => at < CALLS_MARKED || outcome.startsWith("not met"));
+    const { call } = placesOf(text, marked.at(-1)?.number ?? 0);
+    this.editor.markAll(marked.filter(({ number }) => call[number - 1])
+      .map((told) => ({ line: call[told.number - 1].line, ...markOf(told) })));
+  }
+
+  /** Shows an answer in its tab. */
+  show(tab, answer) {
+    this.shown = { tab, answer };
+    const text = decoded(answer.output);
+    const words = tab.told ? { status: "not here", isGood: false, ended: "" } : wordsOf(answer, text);
+    byId("status").textContent = words.status;
+    byId("status").className = words.isGood ? "tag met" : "tag missed";
+    byId("ended").textContent = words.ended;
+    byId("errors").textContent = tab.told ? "" : decoded(answer.errors);
+    const panel = byId(`panel-${tab.name}`);
+    const isWhole = answer.status === 0 || answer.status === 1;
+    if (tab.told) panel.replaceChildren(element("p", {}, tab.told), element("pre", {}, this.commandOf(tab)));
+    else if (isWhole) tab.show(this, panel, text);
+    else panel.replaceChildren(element("pre", {}, text));
+  }
+
+  /** The report stands ready for a print whatever tab is shown. */
+  showReportAlso(tab, report) {
+    if (tab === TABS[0] || report.trap) return;
+    TABS[0].show(this, byId(`panel-${TABS[0].name}`), decoded(report.output));
+  }
+
+  commandOf({ words }) {
+    return `sel4sim ${words.join(" ")} ${quoted(this.name)}`;
+  }
+
+  drawTabs() {
+    for (const tab of TABS) {
+      const { name, about } = tab;
+      const [id, panel] = [`tab-${name}`, `panel-${name}`];
+      const button = element("button", { type: "button", role: "tab", id, "aria-controls": panel, title: about }, name);
+      button.addEventListener("click", () => this.choose(tab));
+      byId("tabs").append(button);
+      byId("panels").append(element("div", { id: panel, role: "tabpanel", "aria-labelledby": id }));
+    }
+    this.drawChosen();
+  }
+
+  drawChosen() {
+    for (const { name } of TABS) {
+      const isChosen = name === this.tab.name;
+      byId(`tab-${name}`).setAttribute("aria-selected", String(isChosen));
+      byId(`tab-${name}`).tabIndex = isChosen ? 0 : -1;
+      byId(`panel-${name}`).hidden = !isChosen;
+    }
+    document.body.dataset.tab = this.tab.name;
+    byId("command-line").textContent = this.commandOf(this.tab);
+  }
+
+  choose(tab) {
+    this.tab = tab;
+    this.drawChosen();
+    this.keep();
+    this.run();
+  }
+
+  /** Chooses a tab by its place, and puts the focus there. */
+  chooseAt(at) {
+    const tab = TABS[(at + TABS.length) % TABS.length];
+    this.choose(tab);
+    byId(`tab-${tab.name}`).focus();
+  }
+
+  drawExamples() {
+    for (const { topic, setups } of this.data.topics) {
+      byId("examples").append(element("optgroup", { label: topic.replace(/_/gu, " ") },
+        setups.map(({ name }) => element("option", { value: `${topic}/${name}` }, name.replace(/_/gu, " ")))));
+    }
+  }
+
+  /** Opens an example. */
+  openExample(topic, name) {
+    const found = this.data.topics.find((it) => it.topic === topic)?.setups.find((it) => it.name === name);
+    if (found) this.open(found.text, `${name}.toml`);
+  }
+
+  goToCall(number) {
+    const place = placesOf(this.editor.text).call[number - 1];
+    if (!place) return;
+    this.setWide(false);
+    this.editor.go(place.line);
+  }
+
+  setWide(isWide) {
+    document.body.classList.toggle("wide", isWide);
+    byId("wide").textContent = isWide ? "show set-up" : "hide set-up";
+    this.editor.refresh();
+  }
+
+  save() {
+    saveFile(this.editor.text, this.name);
+  }
+
+  async share() {
+    const address = `${location.href.split("#")[0]}${await fragmentOf(this.editor.text, this.name)}`;
+    byId("address").value = address;
+    byId("shared").showModal();
+    byId("address").select();
+  }
+
+  /** Opens the set-up of the page's address, if it has one that was not read before: whether it has. */
+  async openShared() {
+    const fragment = location.hash;
+    let setup = null;
+    try {
+      if (fragment !== this.read) setup = await readFragment(fragment);
+    } catch {
+      this.say("The address has a set-up that cannot be read: a part of it is missing.");
+    }
+    if (setup === null) return false;
+    this.read = fragment;
+    this.open(setup.text, setup.name);
+    return true;
+  }
+
+  /** Opens what the address has, or what was kept, or an example. */
+  async begin() {
+    const { text, name, tab, read = "" } = keptState();
+    this.read = read;
+    this.tab = TABS.find((it) => it.name === tab) ?? TABS[0];
+    this.drawChosen();
+    if (await this.openShared()) return;
+    if (typeof text === "string" && text !== "") this.open(text, name);
+    else this.openExample(...FIRST_EXAMPLE);
+  }
+
+  /** The keys, on this page and in the frame of the steps. */
+  listenToKeys(where) {
+    where.addEventListener("keydown", (event) => {
+      const { key, target } = event;
+      const isTyping = target.closest("input, select, textarea, .CodeMirror") !== null;
+      const action = event.ctrlKey || event.metaKey ? { Enter: () => this.run(), s: () => this.save() }[key]
+        : this.actionOf(key, isTyping || where !== document && key === "?");
+      if (!action || event.altKey || document.querySelector("dialog[open]")) return;
+      event.preventDefault();
+      action();
+    });
+  }
+
+  actionOf(key, isTyping) {
+    if (key === "F1") return () => byId("keys").showModal();
+    if (key === "Escape" && this.program.isRunning) return () => this.stop();
+    if (isTyping) return null;
+    if (/^[1-9]$/u.test(key) && Number(key) <= TABS.length) return () => this.chooseAt(Number(key) - 1);
+    return { "?": () => byId("keys").showModal(), e: () => this.edit(),
+      w: () => this.setWide(!document.body.classList.contains("wide")) }[key] ?? null;
+  }
+
+  edit() {
+    this.setWide(false);
+    this.editor.mirror.focus();
+  }
+
+  listen() {
+    const on = (id, act) => byId(id).addEventListener("click", act);
+    on("run", () => this.run());
+    on("stop", () => this.stop());
+    on("save", () => this.save());
+    on("share", () => this.share());
+    on("wide", () => this.setWide(!document.body.classList.contains("wide")));
+    on("show-keys", () => byId("keys").showModal());
+    on("show-about", () => byId("about").showModal());
+    on("more-about", () => byId("about").showModal());
+    on("copy", () => navigator.clipboard?.writeText(byId("command-line").textContent));
+    on("copy-address", () => navigator.clipboard?.writeText(byId("address").value));
+    on("save-output", () => this.shown && saveFile(this.shown.answer.output, `${this.title}.${this.shown.tab.name}`));
+    byId("examples").addEventListener("change", ({ target }) => {
+      if (target.value) this.openExample(...target.value.split("/"));
+      target.value = "";
+    });
+    byId("name").addEventListener("change", () => this.choose(this.tab));
+    byId("tabs").addEventListener("keydown", ({ key }) => {
+      const at = TABS.indexOf(this.tab);
+      if (key === "ArrowRight") this.chooseAt(at + 1);
+      if (key === "ArrowLeft") this.chooseAt(at - 1);
+    });
+    window.addEventListener("hashchange", () => this.openShared());
+    listenToFiles([byId("open")], (text, name) => this.open(text, name));
+    this.listenToKeys(document);
+  }
+}
+
+function start() {
+  const page = new Page(JSON.parse(byId("data").textContent));
+  for (const name of ["commit", "toolchain"]) {
+    byId(name).textContent = document.querySelector(`meta[name="sel4sim-${name}"]`).content;
+  }
+  page.listen();
+  page.begin();
+  // For tests: a run of the program on any bytes, in the page's own worker.
+  window.sel4sim = { page, run: (words, name, bytes) => page.program.run(words, name, bytes) };
+}
+
+start();

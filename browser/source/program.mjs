@@ -1,0 +1,78 @@
+// The program in a worker: one run at a time, which can be stopped.
+
+const NAME = "sel4sim";
+/** A run that took more memory than this leaves a worker behind that is not used again, so that it is given back. */
+const KEPT_MEMORY = 64 << 20;
+
+/** What a run that was stopped gives in place of an answer. */
+export const STOPPED = Symbol("stopped");
+
+/** The bytes of a text that was packed by gzip and base64. */
+async function unpacked(text) {
+  const packed = Uint8Array.from(atob(text), (letter) => letter.charCodeAt(0));
+  const stream = new Blob([packed]).stream().pipeThrough(new DecompressionStream("gzip"));
+  return new Uint8Array(await new Response(stream).arrayBuffer());
+}
+
+/** Runs the module `packed` by the worker's script `script`; `urls` makes addresses that the page's policy lets pass. */
+export class Program {
+  constructor(packed, script, urls) {
+    this.module = unpacked(packed).then((bytes) => WebAssembly.compile(bytes));
+    this.address = urls.createScriptURL(URL.createObjectURL(new Blob([script], { type: "text/javascript" })));
+    this.worker = null;
+    this.give = null;
+  }
+
+  get isRunning() {
+    return this.give !== null;
+  }
+
+  /** Runs the program with words and the file that they may name. The answer is `{ status, output, errors, milliseconds,
+      memory }`, with `trap` in place of `status` where it was ended by the browser, or STOPPED. */
+  async run(words, name, bytes) {
+    this.stop();
+    const answer = new Promise((give) => {
+      this.give = give;
+    });
+    const { give } = this;
+    try {
+      const module = await this.module;
+      if (this.give === give) this.start(module, { words: [NAME, ...words], name, bytes });
+    } catch (error) {
+      this.end({ trap: `${error.name}: ${error.message}`, output: new Uint8Array(), errors: new Uint8Array(),
+        milliseconds: 0, memory: 0 });
+    }
+    return answer;
+  }
+
+  start(module, message) {
+    this.worker ??= new Worker(this.address);
+    this.worker.onmessage = ({ data }) => {
+      if (data.memory > KEPT_MEMORY || data.trap) this.dismiss();
+      this.end(data);
+    };
+    this.worker.onerror = (event) => {
+      this.dismiss();
+      this.end({ trap: event.message || "the worker could not run", output: new Uint8Array(),
+        errors: new Uint8Array(), milliseconds: 0, memory: 0 });
+    };
+    this.worker.postMessage({ module, ...message });
+  }
+
+  /** Stops what runs, if anything does. */
+  stop() {
+    if (!this.isRunning) return;
+    this.dismiss();
+    this.end(STOPPED);
+  }
+
+  dismiss() {
+    this.worker?.terminate();
+    this.worker = null;
+  }
+
+  end(answer) {
+    this.give?.(answer);
+    this.give = null;
+  }
+}

@@ -1,0 +1,52 @@
+// What the program can do, each in a tab. A new subcommand is one entry of TABS; where its text is to be shown in a way
+// of its own, `show` says how.
+import { dim, element } from "../../page/source/element.mjs";
+import { drawReport } from "./report.mjs";
+
+/** The text as it is. */
+function showText(page, panel, text) {
+  panel.replaceChildren(element("pre", { tabindex: "0", "aria-label": "What the program wrote" }, text));
+}
+
+function showReport(page, panel, text) {
+  drawReport(panel, text, (number) => page.goToCall(number));
+}
+
+/** The page of a trace, in a frame of its own, which is told each trace anew and keeps its place. */
+function showSteps(page, panel, text) {
+  const told = { trace: text, name: page.title };
+  const kept = panel.querySelector("iframe");
+  if (kept) {
+    page.told = told;
+    kept.contentWindow.postMessage(told, "*");
+    return;
+  }
+  const frame = element("iframe", { title: "The run, call by call" });
+  page.told = told;
+  frame.addEventListener("load", () => {
+    page.listenToKeys(frame.contentDocument);
+    frame.contentWindow.postMessage(page.told, "*");
+  });
+  frame.srcdoc = page.markup(page.data.viewer);
+  panel.replaceChildren(frame);
+}
+
+/** A set-up that the program wrote, which can take the place of the one in the editor. */
+function showSetup(page, panel, text) {
+  const take = element("button", { type: "button" }, "edit this set-up");
+  take.addEventListener("click", () => page.open(text, page.name));
+  panel.replaceChildren(element("p", {}, take, " ", dim("it takes the place of the one in the editor")),
+    element("pre", { tabindex: "0", "aria-label": "The set-up in format 2" }, text));
+}
+
+/** A tab: its name, the program's words, what the tab is for, and how to show what the program writes. A tab without
+    `show` says why the program cannot do it in a browser. */
+export const TABS = [
+  { name: "report", words: ["check"], about: "What each call is answered, and the state at the end", show: showReport },
+  { name: "steps", words: ["trace"], about: "What each call changes, step by step", show: showSteps },
+  { name: "trace", words: ["trace"], about: "The steps as text", show: showText },
+  { name: "migrate", words: ["migrate"], about: "A set-up of format 1 as one of format 2", show: showSetup },
+  { name: "threads", words: ["threads"], about: "The clients of a set-up side by side",
+    told: "A browser gives this program no threads, so clients that run side by side cannot be shown here. The program "
+      + "on a computer of your own runs them:" },
+];
