@@ -1,0 +1,504 @@
+#!/usr/bin/env python3
+"""browser_test.py PROGRAM FOLDER [--short] [--pictures FOLDER]: tries site/sel4sim.html in chromium, and shortly in firefox.
+
+Each set-up in the folders of FOLDER is run by each subcommand in the page's own worker: standard output, standard error and
+status have to be those of PROGRAM, byte for byte. So are texts that are broken, deep and long (rows/hostile_texts.py). Then
+the page is used as a reader uses it. Nothing may leave it: no request may reach the proxy. With --pictures, pictures of the
+page at several widths are written there; with --short, the broken and long texts are left out.
+"""
+import base64
+import json
+import os
+import pathlib
+import random
+import re
+import shutil
+import subprocess
+import sys
+import tempfile
+import time
+
+TOP = pathlib.Path(__file__).resolve().parent.parent.parent
+sys.path[:0] = [str(TOP / "page" / "test"), str(TOP / "rows"), str(TOP / "browser" / "test")]
+
+import chromium  # noqa: E402
+import firefox  # noqa: E402
+import hostile_texts  # noqa: E402
+
+SITE = TOP / "site" / "sel4sim.html"
+SUBCOMMANDS = ("check", "trace", "migrate")
+SEED = 7
+TEXTS = 400
+MOST_SECONDS = 5
+MOST_MEMORY = 400 << 20
+CONTROLS = {"button", "tab", "combobox", "textbox", "tabpanel", "main"}
+
+# Runs the program on bytes: what it wrote, as base64, and how it ended.
+RUN = """(async () => {
+  const to64 = (bytes) => { let text = ""; for (let at = 0; at < bytes.length; at += 8192)
+    text += String.fromCharCode(...bytes.subarray(at, at + 8192)); return btoa(text); };
+  const bytes = BYTES;
+  const answers = [];
+  for (const words of WORDS) {
+    const { status, trap, output, errors, milliseconds, memory } = await sel4sim.run([...words, NAME], NAME, bytes);
+    answers.push({ status, trap, output: to64(output), errors: to64(errors), milliseconds, memory });
+  }
+  return answers;
+})()"""
+
+
+def needs():
+    """What is missing on this machine."""
+    if chromium.program() is None:
+        yield "chromium (apt-get install chromium)"
+    if firefox.program() is None:
+        yield "firefox (apt-get install firefox-esr)"
+    if not SITE.exists():
+        yield "site/sel4sim.html (make browser)"
+
+
+def native(program, folder, words, name, text):
+    """What the native program answers, in a folder that has the set-up by its name."""
+    path = pathlib.Path(folder, name)
+    path.write_bytes(text)
+    ran = subprocess.run([program, *words, name], cwd=folder, stdin=subprocess.DEVNULL, capture_output=True, timeout=120)
+    path.unlink()
+    return ran.returncode, ran.stdout, ran.stderr
+
+
+def as_answer(given):
+    return given["trap"] if "trap" in given else given["status"], base64.b64decode(given["output"]), base64.b64decode(given["errors"])
+
+
+class Tester:
+    """A browser with the page, the native program, and the faults that are found."""
+
+    def __init__(self, browser, program, folder):
+        self.browser, self.program, self.folder = browser, program, folder
+        self.faults = []
+
+    def say(self, fault):
+        self.faults.append(fault)
+        print(fault, flush=True)
+
+    def open(self, fragment=""):
+        self.browser.open(SITE.as_uri() + fragment)
+        self.settle()
+
+    def settle(self, still=0.4):
+        """Waits until what was typed has been run; what is typed is run after it stands still for a while."""
+        until = time.time() + 30
+        time.sleep(still)
+        while self.browser.value("document.getElementById('stop').disabled") is False:
+            if time.time() > until:
+                self.say("a run does not end")
+                return
+            time.sleep(0.05)
+
+    def wanted(self, holds, what):
+        if not holds:
+            self.say(what)
+
+    def text(self, name):
+        return self.browser.value(f"document.getElementById({json.dumps(name)}).textContent")
+
+    def answers(self, words, name, bytes_):
+        return self.browser.value(RUN.replace("WORDS", json.dumps(words)).replace("NAME", json.dumps(name)).replace("BYTES", bytes_))
+
+    def run_bytes(self, words, name, text):
+        packed = base64.b64encode(text).decode()
+        return self.answers(words, name, f"Uint8Array.from(atob('{packed}'), (letter) => letter.charCodeAt(0))")
+
+    def run_file(self, words, name, path):
+        """The same for a long text, which the page reads from a file."""
+        return self.answers(words, name, f"new Uint8Array(await {picked(self, path)}.arrayBuffer())")
+
+    def choose(self, path, picker):
+        document = self.browser.call("DOM.getDocument")["root"]["nodeId"]
+        node = self.browser.call("DOM.querySelector", nodeId=document, selector=f"#{picker}")["nodeId"]
+        self.browser.call("DOM.setFileInputFiles", nodeId=node, files=[str(path)])
+
+    def compare(self, what, words, name, text, given):
+        wanted = native(self.program, self.folder, words, name, text)
+        got = as_answer(given)
+        for part, one, other in zip(("status", "standard output", "standard error"), got, wanted):
+            if one != other:
+                self.say(f"{what}, {' '.join(words)}: {part} is {one if part == 'status' else one[:300]}, natively "
+                         f"{other if part == 'status' else other[:300]}")
+
+    def type(self, text):
+        self.browser.value("document.querySelector('.CodeMirror').CodeMirror.focus()")
+        self.browser.call("Input.insertText", text=text)
+        self.settle()
+
+
+def same_answers(test, setups):
+    """Every worked set-up by every subcommand; of `threads`, what it says where no thread can be started."""
+    count = 0
+    for path in sorted(setups.glob("*/*.toml")):
+        text, words = path.read_bytes(), [[it] for it in SUBCOMMANDS]
+        given = test.run_bytes([*words, ["threads"]], path.name, text)
+        for it, answer in zip(words, given):
+            test.compare(f"{path.parent.name}/{path.stem}", it, path.name, text, answer)
+            count += 1
+        status, output, errors = as_answer(given[-1])
+        if status == 2:
+            test.compare(f"{path.parent.name}/{path.stem}", ["threads"], path.name, text, given[-1])
+        elif status != 0:
+            test.wanted((status, output) == (3, b"") and errors.startswith(b"sel4sim: "),
+                        f"{path.stem}, threads: status {status}, {output[:100]}, {errors[:100]}")
+        count += 1
+    for words in ([], ["--help"], ["help"], ["--version"], ["check", "--no-such"], ["chekc"], ["check", "another.toml"]):
+        given = test.run_bytes([words], "a set-up.toml", b"format = 2\n")
+        test.compare("a command line", words, "a set-up.toml", b"format = 2\n", given[0])
+        count += 1
+    print(f"{count} answers compared with the native program's", flush=True)
+
+
+def hostile(test, setups, stored):
+    """Broken, deep and long texts: the native program's answers, or status 3 where a browser gives less memory."""
+    texts = [it for path in hostile_texts.longest_of_each_format(setups) for it in hostile_texts.beginnings(path.read_bytes())]
+    texts += hostile_texts.replaced(stored)
+    for name, text in random.Random(SEED).sample(texts, TEXTS):
+        test.compare(name, ["check"], "broken.toml", text, test.run_bytes([["check"]], "broken.toml", text)[0])
+    count = 0
+    for name, text, _ in hostile_texts.long_texts(stored):
+        path = pathlib.Path(test.folder, "long.toml")
+        path.write_bytes(text)
+        given = test.run_file([["check"]], path.name, path)[0]
+        if given.get("status") == 3 and given["memory"] > 900 << 20:
+            print(f"{name}: out of memory at {given['memory'] >> 20} MiB")
+        else:
+            test.compare(name, ["check"], path.name, text, given)
+        count += 1
+    print(f"{TEXTS} broken texts and {count} deep and long ones", flush=True)
+
+
+def peak_memory(browser):
+    """The most memory that a process of the browser which shows a page has had, in bytes."""
+    most = 0
+    for folder in pathlib.Path("/proc").glob("[0-9]*"):
+        try:
+            words, status = (folder / "cmdline").read_bytes(), (folder / "status").read_text()
+        except OSError:
+            continue
+        if b"--type=renderer" in words and is_below(folder.name, browser.process.pid):
+            most = max(most, int(re.search(r"VmHWM:\s+(\d+) kB", status)[1]) << 10)
+    return most
+
+
+def is_below(pid, ancestor):
+    while pid not in ("0", "1", ""):
+        if int(pid) == ancestor:
+            return True
+        try:
+            pid = pathlib.Path("/proc", pid, "stat").read_text().rsplit(")", 1)[1].split()[1]
+        except OSError:
+            return False
+    return False
+
+
+def picked(test, path):
+    """Has the page read a file; an expression for it."""
+    test.browser.value("(() => { document.getElementById('long')?.remove(); const picker = document.createElement('input');"
+                       " picker.type = 'file'; picker.id = 'long'; document.body.append(picker); })()")
+    test.choose(path, "long")
+    return "document.getElementById('long').files[0]"
+
+
+OPEN = """(async () => {
+  const text = await FILE.text();
+  const begun = performance.now();
+  await sel4sim.page.open(text, 'longest.toml');
+  return performance.now() - begun;
+})()"""
+
+
+def longest(program, folder, stored):
+    """65,536 calls in time and memory; after a run that is stopped there is another; memory past 1 GiB is refused. In a
+    browser of its own, whose memory nothing else has raised."""
+    browser = chromium.Chromium(width=1280, height=800)
+    test = Tester(browser, program, folder)
+    try:
+        test.open()
+        path = pathlib.Path(folder, "longest.toml")
+        path.write_bytes(next(it for name, it, _ in hostile_texts.long_texts(stored) if name == "65,536 calls"))
+        seconds = browser.value(OPEN.replace("FILE", picked(test, path))) / 1000
+        memory = peak_memory(browser)
+        test.wanted("more lines" in test.text("panel-report"), "the longest set-up has no report")
+        test.wanted("status 0" in test.text("status"), f"the longest set-up: {test.text('status')}")
+        test.wanted(seconds <= MOST_SECONDS, f"the longest set-up takes {seconds:.1f} s")
+        test.wanted(memory <= MOST_MEMORY, f"the longest set-up takes {memory >> 20} MiB")
+        print(f"65,536 calls: {seconds:.1f} s until the report is shown ({test.text('ended')}), "
+              f"{memory >> 20} MiB in the page's process", flush=True)
+        stops(test)
+        path.write_bytes(b"".join(b"k%d = 1\n" % number for number in range(4_000_000)))
+        given = test.run_file([["check"]], path.name, path)[0]
+        status, _, errors = as_answer(given)
+        test.wanted(status == 3 and b"memory" in errors, f"where memory ends: {status}, {errors[:200]}")
+        test.wanted(given["memory"] <= 1 << 30, f"the program had {given['memory'] >> 20} MiB")
+        test.compare("after memory was refused", ["check"], "a.toml", stored, test.run_bytes([["check"]], "a.toml", stored)[0])
+        return test.faults
+    finally:
+        browser.close()
+
+
+def stops(test):
+    """A run that is stopped in its middle says so, and another one goes on."""
+    test.browser.value("document.getElementById('run').click()")
+    time.sleep(0.2)
+    test.browser.value("document.getElementById('stop').click()")
+    time.sleep(0.1)
+    test.wanted(test.text("state") == "stopped", f"a run that is stopped is told as {test.text('state')!r}")
+    test.browser.value("sel4sim.page.openExample('examples', 'send_then_receive')")
+    test.settle()
+    test.wanted("delivered 6144 from 2048" in test.text("panel-report"), "after a run that was stopped there is no other")
+
+
+def typing(test, _):
+    """Typing changes the report; a fault is marked at its line; a shared address, a file and a reload keep the set-up."""
+    browser = test.browser
+    browser.value("localStorage.clear()")
+    test.open()
+    test.wanted("delivered 6144 from 2048" in test.text("panel-report"), "the first example does not run")
+    test.wanted("status 0" in test.text("status"), f"the first example ends with {test.text('status')}")
+    browser.value("(() => { const list = document.getElementById('examples'); list.value = 'examples/two_clients_by_badge';"
+                  " list.dispatchEvent(new Event('change')); })()")
+    test.settle()
+    test.wanted("badge" in test.text("panel-report"), "an example of the menu does not run")
+    browser.value("sel4sim.page.openExample('examples', 'send_then_receive')")
+    test.settle()
+    test.type('lable = 7\n')
+    test.wanted("status 2" in test.text("status") and "lable" in test.text("errors"), f"a fault is told as {test.text('errors')!r}")
+    marked = browser.value("document.querySelectorAll('.faulty').length")
+    test.wanted(marked == 1, f"{marked} lines are marked")
+    browser.value("sel4sim.page.editor.mirror.undo()")
+    test.settle()
+    test.wanted("status 0" in test.text("status"), "the fault stays when it is gone")
+    test.wanted(browser.value("document.querySelectorAll('.mark-met').length") == 1, "a call that is met is not marked")
+    browser.value("sel4sim.page.editor.text = sel4sim.page.editor.text.replace('delivered 6144', 'delivered 1')")
+    test.settle()
+    test.wanted(browser.value("document.querySelectorAll('.mark-missed').length") == 1 and "status 1" in test.text("status"),
+                "a call that is not met is not marked")
+    kept = browser.value("sel4sim.page.editor.text")
+    test.open()
+    test.wanted(browser.value("sel4sim.page.editor.text") == kept, "a reload does not keep the set-up")
+    browser.value("document.getElementById('share').click()")
+    time.sleep(0.3)
+    address = browser.value("document.getElementById('address').value")
+    browser.value("document.getElementById('shared').close()")
+    browser.value("sel4sim.page.openExample('examples', 'two_clients_by_badge')")
+    test.settle()
+    test.open("#" + address.split("#")[1])
+    test.wanted(browser.value("sel4sim.page.editor.text") == kept, "a shared address does not give the set-up")
+    browser.value("sel4sim.page.editor.text = 'format = 2\\n'")
+    test.settle()
+    test.open("#" + address.split("#")[1])
+    test.wanted(browser.value("sel4sim.page.editor.text") == "format = 2\n", "a reload of a shared address drops what was typed")
+
+
+MARKS = """(() => {
+  const { mirror, faulty } = sel4sim.page.editor;
+  let marks = 0;
+  mirror.eachLine((line) => { if (line.gutterMarkers?.margin) marks += 1; });
+  return [marks, faulty ? faulty.text : null];
+})()"""
+
+
+def marks(test, setups):
+    """In each worked set-up each call has a mark in the margin; in one that is refused the line at fault has it."""
+    for path in sorted(setups.glob("*/*.toml")):
+        topic, name, report = path.parent.name, path.stem, path.with_suffix(".report").read_text()
+        if not test.browser.value(f"sel4sim.page.data.topics.some(({{ topic, setups }}) => topic === '{topic}'"
+                                  f" && setups.some((it) => it.name === '{name}'))"):
+            test.wanted(name == "byte_that_is_no_utf8", f"the menu lacks {topic}/{name}")
+            continue
+        test.browser.value(f"sel4sim.page.openExample('{topic}', '{name}')")
+        test.settle(0)
+        count, line = test.browser.value(MARKS)
+        calls = len(re.findall(r"(?m)^\d+ \d+ \w+: ", report))
+        fault = re.match(r"set-up refused \d+ at (?:.* key (\S+)|.*)", report)
+        test.wanted(count == (1 if fault else calls), f"{topic}/{name}: {count} marks, and not {calls}")
+        test.wanted((line is not None) == bool(fault), f"{topic}/{name}: the line {line!r} is marked")
+        if fault and fault[1] and re.search(rf"(?m)^\s*{re.escape(fault[1])}\s*=", path.read_text()):
+            test.wanted(line.startswith(fault[1]), f"{topic}/{name}: the line {line!r} is marked, and not {fault[1]}")
+
+
+def files(test, stored):
+    """A file is opened, and what is saved has the same bytes."""
+    browser, folder = test.browser, pathlib.Path(test.folder)
+    (folder / "mine.toml").write_bytes(stored)
+    test.choose(folder / "mine.toml", "open")
+    test.settle()
+    test.wanted(browser.value("document.title") == "mine · sel4sim", f"the title is {browser.value('document.title')}")
+    test.wanted(test.text("command-line") == "sel4sim check mine.toml", f"the command is {test.text('command-line')}")
+    (folder / "saved").mkdir(exist_ok=True)
+    browser.call("Browser.setDownloadBehavior", behavior="allow", browserContextId=browser.context,
+                 downloadPath=str(folder / "saved"))
+    browser.value("document.getElementById('save').click()")
+    time.sleep(1)
+    saved = folder / "saved" / "mine.toml"
+    test.wanted(saved.exists() and saved.read_bytes() == stored, f"what is saved: {list((folder / 'saved').iterdir())}")
+
+
+def tabs(test, _):
+    """Each tab shows what its command writes, and the keys lead to it."""
+    browser = test.browser
+    browser.value("sel4sim.page.openExample('first_format', 'send_then_receive')")
+    test.settle()
+    browser.value("document.getElementById('tab-report').focus()")
+    names = browser.value("[...document.querySelectorAll('[role=tab]')].map((tab) => tab.textContent)")
+    for number, name in enumerate(names, 1):
+        browser.press(str(number))
+        test.settle()
+        test.wanted(browser.value(f"document.getElementById('tab-{name}').getAttribute('aria-selected')") == "true",
+                    f"the key {number} does not lead to the tab {name}")
+        test.wanted(browser.value(f"!document.getElementById('panel-{name}').hidden"), f"the tab {name} shows nothing")
+    browser.press("2")
+    test.settle()
+    inside = "document.querySelector('#panel-steps iframe').contentDocument"
+    test.wanted("boot, 2 calls" == browser.value(f"{inside}.getElementById('position').textContent"), "the steps are not shown")
+    browser.value(f"{inside}.getElementById('on').click()")
+    test.wanted("call 1 of 2" == browser.value(f"{inside}.getElementById('position').textContent"), "the steps do not step")
+    browser.press("4")
+    test.settle()
+    test.wanted("format = 2" in test.text("panel-migrate"), "a set-up is not migrated")
+    browser.value("document.querySelector('#panel-migrate button').click()")
+    test.settle()
+    test.wanted("format = 2" in browser.value("sel4sim.page.editor.text"), "a migrated set-up does not come into the editor")
+    browser.press("1")
+    test.settle()
+    browser.value("document.querySelector('button.line').click()")
+    test.wanted(browser.value("document.activeElement.closest('.CodeMirror') !== null"), "a call does not lead to the editor")
+
+
+def reading(test, _):
+    """Roles and names, the keys by a question mark, a print, both themes, and no width that is overrun."""
+    browser = test.browser
+    found = {}
+    for node in browser.call("Accessibility.getFullAXTree")["nodes"]:
+        role = node.get("role", {}).get("value")
+        if role in CONTROLS and not node.get("ignored"):
+            found.setdefault(role, []).append(node.get("name", {}).get("value", ""))
+    for role in CONTROLS:
+        test.wanted(role in found, f"nothing has the role {role}")
+        test.wanted(role == "main" or "" not in found.get(role, []), f"something of the role {role} has no name")
+    browser.value("document.getElementById('tab-report').focus()")
+    browser.press("?")
+    test.wanted(browser.value("document.getElementById('keys').open"), "the question mark does not show the keys")
+    browser.press("Escape")
+    test.wanted(not browser.value("document.getElementById('keys').open"), "Escape does not close the keys")
+    test.wanted(len(browser.call("Page.printToPDF")["data"]) > 10_000, "the print is empty")
+    light = browser.value("getComputedStyle(document.body).backgroundColor")
+    browser.call("Emulation.setEmulatedMedia", features=[{"name": "prefers-color-scheme", "value": "dark"}])
+    test.wanted(browser.value("getComputedStyle(document.body).backgroundColor") != light, "the dark theme is not dark")
+    browser.call("Emulation.setEmulatedMedia", features=[])
+    for width in (390, 800, 1280, 1900):
+        browser.call("Emulation.setDeviceMetricsOverride", width=width, height=844, deviceScaleFactor=1, mobile=width < 400)
+        wide = browser.value("document.documentElement.scrollWidth")
+        test.wanted(wide <= width, f"a window of {width} is overrun: {wide}")
+    browser.call("Emulation.clearDeviceMetricsOverride")
+
+
+def nothing_leaves(test, _):
+    asked = [it for it in test.browser.asked if not it.startswith((SITE.as_uri(), "blob:", "about:", "data:"))]
+    test.wanted(not asked and not test.browser.recorder.asked, f"it asked for {asked}, {test.browser.recorder.asked}")
+    test.wanted(not test.browser.complaints, f"the page complains: {test.browser.complaints[:3]}")
+
+
+def pictures(test, folder):
+    """Pictures of the page to look at."""
+    browser = test.browser
+    folder.mkdir(parents=True, exist_ok=True)
+    for width, height in ((1280, 800), (390, 844)):
+        for theme in ("light", "dark"):
+            browser.call("Emulation.setDeviceMetricsOverride", width=width, height=height, deviceScaleFactor=1, mobile=width < 400)
+            browser.call("Emulation.setEmulatedMedia", features=[{"name": "prefers-color-scheme", "value": theme}])
+            test.open()
+            for name, setup in (("report", "revocation_of_badged_copies"), ("steps", "revocation_of_badged_copies"),
+                                ("migrate", "two_clients_by_badge"), ("threads", "three_clients")):
+                browser.value(f"sel4sim.page.openExample('examples', '{setup}')")
+                browser.value(f"document.getElementById('tab-{name}').click()")
+                test.settle()
+                picture(browser, folder / f"{name}_{width}_{theme}.png")
+            browser.value("document.getElementById('tab-report').click()")
+            for what, topic, setup in (("refused", "refused", "operation_that_does_not_exist"),
+                                       ("missed", "expectations", "expectation_not_met")):
+                browser.value(f"sel4sim.page.openExample('{topic}', '{setup}')")
+                test.settle()
+                picture(browser, folder / f"{what}_{width}_{theme}.png")
+    for name in ("keys", "about"):
+        browser.value(f"document.getElementById('{name}').showModal()")
+        picture(browser, folder / f"{name}.png")
+        browser.value(f"document.getElementById('{name}').close()")
+    browser.call("Emulation.clearDeviceMetricsOverride")
+    browser.call("Emulation.setEmulatedMedia", features=[])
+    browser.call("Emulation.setEmulatedMedia", media="print")
+    picture(browser, folder / "print.png")
+    browser.call("Emulation.setEmulatedMedia", media="")
+
+
+def picture(browser, path):
+    time.sleep(0.3)
+    path.write_bytes(base64.b64decode(browser.call("Page.captureScreenshot")["data"]))
+
+
+def in_firefox(program, folder, stored):
+    """The page runs, marks a fault and steps in firefox too; what it answers is the native program's."""
+    browser = firefox.Firefox()
+    try:
+        test = Tester(browser, program, folder)
+        browser.open(SITE.as_uri())
+        test.settle()
+        test.wanted("delivered 6144 from 2048" in test.text("panel-report"), f"firefox: {test.text('ended')}")
+        for name, text in (("a.toml", stored), ("b.toml", b"format = 2\nx = 1\n")):
+            given = test.run_bytes([[it] for it in SUBCOMMANDS], name, text)
+            for words, answer in zip(SUBCOMMANDS, given):
+                test.compare(f"firefox, {name}", [words], name, text, {key: it for key, it in answer.items() if it is not None})
+        browser.value("document.getElementById('tab-steps').click()")
+        test.settle()
+        time.sleep(0.5)
+        inside = "document.querySelector('#panel-steps iframe').contentDocument"
+        test.wanted("2 calls" in browser.value(f"{inside}.getElementById('position').textContent"), "firefox: no steps")
+        browser.value("sel4sim.page.editor.text = 'format = 2\\nlable = 1\\n'")
+        test.settle()
+        test.wanted(browser.value("document.querySelectorAll('.faulty').length") == 1, "firefox: a fault is not marked")
+        print("firefox: " + ("with faults" if test.faults else "all right"), flush=True)
+        return test.faults
+    finally:
+        browser.close()
+
+
+def main():
+    missing = list(needs())
+    if missing:
+        print("make browser-test needs " + ", ".join(missing))
+        return 1
+    program, setups = os.path.abspath(sys.argv[1]), pathlib.Path(sys.argv[2])
+    stored = (setups / "examples" / "send_then_receive.toml").read_bytes()
+    folder = tempfile.mkdtemp(prefix="browser_test_")
+    browser = chromium.Chromium(width=1280, height=800)
+    test = Tester(browser, program, folder)
+    is_short = "--short" in sys.argv
+    try:
+        test.open()
+        if "--pictures" in sys.argv:
+            pictures(test, pathlib.Path(sys.argv[sys.argv.index("--pictures") + 1]))
+            test.open()
+        same_answers(test, setups)
+        marks(test, setups)
+        for check in (typing, files, tabs, reading, nothing_leaves):
+            check(test, stored)
+        if not is_short:
+            hostile(test, setups, stored)
+            nothing_leaves(test, stored)
+    finally:
+        browser.close()
+    faults = test.faults + longest(program, folder, stored) + in_firefox(program, folder, stored)
+    shutil.rmtree(folder)
+    print(f"{len(faults)} faults")
+    return 1 if faults else 0
+
+
+if __name__ == "__main__":
+    sys.exit(main())
