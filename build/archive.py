@@ -28,6 +28,8 @@ SHA-256 of bin/sel4sim: {sum}
 The program needs x86-64 Linux with the GNU C library, and no toolchain. To install it: copy bin/ and share/ below
 /usr/local or another prefix. In README and the pages, `crates/worked_setups/data/examples` is `share/sel4sim/examples`
 here, and `page` is `share/sel4sim/page`. To begin: bin/sel4sim check share/sel4sim/examples/send_then_receive.toml
+Without installing anything: open share/doc/sel4sim/site/sel4sim.html in a browser. It is the same program, compiled for
+WebAssembly, of the commit that the page itself names; tested against the native one, not proved.
 """
 
 
@@ -50,6 +52,8 @@ def contents():
     examples = "crates/worked_setups/data/examples"
     files.update((f"share/sel4sim/examples/{it}", f"{examples}/{it}") for it in below(examples))
     files.update((f"share/doc/sel4sim/docs/{it}", f"docs/{it}") for it in below("docs"))
+    # Beside the pages, so that its link to docs/browser.md leads there.
+    files["share/doc/sel4sim/site/sel4sim.html"] = "site/sel4sim.html"
     top = ["README.md", *sorted(it for it in os.listdir(TOP) if it.startswith("LICENSE"))]
     files.update((f"share/doc/sel4sim/{it}", it) for it in top)
     return files

@@ -2,7 +2,7 @@
 """archive_test.py: tries what make dist puts into its archive, with the program that is built.
 
 The same bytes come twice; the program gives each example's report in an empty root that has the C library alone; the
-page's script makes a page; an installation has the same files; the man page has no warnings and names the commands that
+page's script makes a page; the page for browsers is there, with what it links to; an installation has the same files; the man page has no warnings and names the commands that
 `sel4sim --help` does. The empty root takes root, or a user that may make user namespaces."""
 import io
 import os
@@ -77,6 +77,14 @@ class Archive(unittest.TestCase):
         words = [self.below("share/sel4sim/page/page.sh"), self.program]
         page = output(*words, self.below("share/sel4sim/examples/send_then_receive.toml"))
         self.assertTrue(page.rstrip().endswith("</html>"))
+
+    def test_has_the_page_for_browsers(self):
+        page = self.below("share/doc/sel4sim/site/sel4sim.html")
+        with open(page, encoding="utf-8") as file:
+            linked = re.findall(r'href="([^"#]+)"', file.read())
+        self.assertIn("../docs/browser.md", linked)
+        for it in linked:
+            self.assertTrue(os.path.isfile(os.path.join(os.path.dirname(page), it)), it)
 
     def test_installs_the_same(self):
         to = os.path.join(self.folder, "a place")
