@@ -400,6 +400,16 @@ def reading(test, _):
     browser.call("Emulation.clearDeviceMetricsOverride")
 
 
+def trapped(test, _):
+    """A run that the browser ends is told as such, and the set-up is still there."""
+    kept = test.browser.value("sel4sim.page.editor.text")
+    test.browser.value("sel4sim.page.show(sel4sim.page.tab, { trap: 'RangeError: too much recursion', milliseconds: 1, memory: 0,"
+                       " output: new Uint8Array(), errors: new Uint8Array() })")
+    told = test.text("status") + ": " + test.text("ended")
+    test.wanted("ended by the browser: RangeError" in told and "out of stack" in told, f"a trap is told as {told}")
+    test.wanted(test.browser.value("sel4sim.page.editor.text") == kept, "a trap takes the set-up away")
+
+
 def nothing_leaves(test, _):
     asked = [it for it in test.browser.asked if not it.startswith((SITE.as_uri(), "blob:", "about:", "data:"))]
     test.wanted(not asked and not test.browser.recorder.asked, f"it asked for {asked}, {test.browser.recorder.asked}")
@@ -487,7 +497,7 @@ def main():
             test.open()
         same_answers(test, setups)
         marks(test, setups)
-        for check in (typing, files, tabs, reading, nothing_leaves):
+        for check in (typing, files, tabs, reading, trapped, nothing_leaves):
             check(test, stored)
         if not is_short:
             hostile(test, setups, stored)
