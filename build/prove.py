@@ -3,8 +3,9 @@
 
 Each crate is built by `rt lib` once the crates below it are built. Of the crates that can begin, the one with the most
 work above it begins first; seconds.txt has what each costs. As many run side by side as `make -j N` is told, or as
-there are processors, and as memory allows. A crate on which the end waits gets two of these places. What `rt` keeps is
-used again, so after an interrupt the build goes on where it stopped.
+there are processors, and as memory allows. A crate on which the end waits may prove two functions at a time; it counts
+as one, since most of a run has one thing to do at a time. What `rt` keeps is used again, so after an interrupt the
+build goes on where it stopped.
 
 A run of `rt` locks the crate's folder and those of all crates below, so that two runs in one tree wait for each other.
 Therefore each crate is built in a folder of its own, build/out/side/NAME, which has links to its files and to the
@@ -170,25 +171,23 @@ class Build:
                     self.done.append(name)
         return len(self.done)
 
-    def jobs_of(self, name, free):
-        """Returns how many places a library gets: two where the end waits for what is above it, not for processors."""
+    def jobs_of(self, name):
+        """Returns how many functions a library proves at a time: two where the end waits for it, not for processors."""
         left = sum(self.cost[it] for it in self.names if it not in self.done)
-        return 2 if free > 1 and self.ahead[name] * self.places > left else 1
+        return 2 if self.places > 1 and self.ahead[name] * self.places > left else 1
 
     def start_some(self):
         for name in list(self.waiting):
-            free = self.places - sum(jobs for _, _, jobs in self.running.values())
-            if free < 1 or (self.running and free_memory() < BYTES_A_JOB):
+            if len(self.running) >= self.places or (self.running and free_memory() < BYTES_A_JOB):
                 return
             if all(it in self.stamps for it in self.libraries[name].below):
                 self.waiting.remove(name)
-                jobs = self.jobs_of(name, free)
                 below = [self.libraries[it] for it in self.below[name]]
-                self.running[name] = self.libraries[name].start(below, jobs), time.time(), jobs
+                self.running[name] = self.libraries[name].start(below, self.jobs_of(name)), time.time()
 
     def take_ended(self):
         """Takes the libraries whose run has ended, and returns the name and status of one that failed, if any did."""
-        for name, (tool, since, _) in list(self.running.items()):
+        for name, (tool, since) in list(self.running.items()):
             if tool.poll() is None:
                 continue
             del self.running[name]
@@ -208,10 +207,10 @@ class Build:
 
     def end_all(self):
         """Ends what runs, and brings its kept work back."""
-        for tool, _, _ in self.running.values():
+        for tool, _ in self.running.values():
             with contextlib.suppress(ProcessLookupError):
                 tool.terminate()
-        for name, (tool, _, _) in self.running.items():
+        for name, (tool, _) in self.running.items():
             tool.wait()
             self.libraries[name].bring_back()
         self.running = {}
