@@ -2,14 +2,15 @@
 # threads or migrate; without FILE the stored set-up. It compiles the first time, and where a source has changed;
 # make run: the proved program on the stored set-up; its crates are proved in the order of crates.txt, as many side
 # by side as make -j N says, or as there are processors, and as memory allows; after an interrupt it goes on;
-# make dist: dist/sel4sim-COMMIT-x86_64-linux.tar.gz: the program, proved as by make run, with examples, pages and man page;
-# make dist-test tries what goes into it, on the program that is built, also where there is no toolchain;
+# make dist: dist/sel4sim-COMMIT-x86_64-linux.tar.gz: the program, proved as by make run, with examples, pages, man page
+# and completions; make dist-test tries what goes into it, on the program that is built, also where there is no toolchain;
 # make install: the program that make run built, and the same files, below PREFIX (/usr/local) and DESTDIR;
 # make test: the gate;
-# make rows: the built program: each worked set-up, as it is, migrated and traced, what it says of wrong command lines, files and
-# set-ups, an address used again a thousand times, each request for memory refused in turn, by each subcommand and by
-# calls of the libraries, inputs and outputs that fail, texts that are broken, deep or long, three clients and four in
-# whatever order they come, and what the documents print;
+# make rows: the built program: each worked set-up, as it is, migrated and traced, and by the schema for editors; what
+# --help names beside the completions and the man page; what it says of wrong command lines, files and set-ups, an
+# address used again a thousand times, each request for memory refused in turn, by each subcommand and by calls of the
+# libraries, inputs and outputs that fail, texts that are broken, deep or long, three clients and four in whatever order
+# they come, and what the documents print; it says first what it needs and does not find;
 # make browser: site/sel4sim.html, the proved program as one page for any browser (docs/browser.md); make browser-test: tries
 # it in chromium and firefox, beside the native program (pictures=FOLDER: writes pictures of it there); they say first what
 # they need and do not find;
@@ -20,7 +21,7 @@
 # (docs/performance.md); it says first what it needs and does not find;
 # make wrong-bodies: each wrong body of each crate, in copies; CRATE=NAME: those of one crate, JOBS=N: N crates side by side
 # (docs/wrong-bodies.md). It is no part of the gate, which tries those of must-fail/ alone.
-.PHONY: run dist dist-test install test try rows browser browser-test page page-test needs bench wrong-bodies
+.PHONY: run dist dist-test install test try rows rows-needs browser browser-test page page-test needs bench wrong-bodies
 
 program = crates/sel4sim/out/sel4sim
 calls = crates/refused_memory/out/refused_memory
@@ -49,11 +50,17 @@ try:
 	@test -z "$$FILE" || test -e "$$FILE" || { echo "make try: there is no file $$FILE" >&2; exit 3; }
 	@python3 build/unproved.py $(if $(FILE),$(or $(DO),check) "$$FILE",$(DO) < $(given))
 
-rows: run
+rows-needs:
+	@python3 rows/schema.py --needs
+
+rows: rows-needs run
 	python3 build/test_build.py
+	python3 build/completions_test.py
+	python3 build/completions.py --check $(program)
 	python3 rows/private_definitions.py crates docs/definitions.md
 	python3 rows/browser_page.py site/sel4sim.html
 	python3 rows/run.py $(program) $(setups)
+	python3 rows/schema.py $(program) $(setups) crates/traced_file/data page/test/setups rows
 	python3 rows/migrate.py $(program) $(setups)
 	python3 rows/traces.py $(program) $(setups)
 	python3 rows/messages.py $(program)
