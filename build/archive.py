@@ -47,6 +47,10 @@ def below(folder):
 def contents():
     """Returns a dict from each path below the prefix to the file of the repository that goes there."""
     files = {"bin/sel4sim": PROGRAM, "share/man/man1/sel4sim.1": "build/sel4sim.1"}
+    # Where each shell looks for completions of programs that are installed below the prefix.
+    files["share/bash-completion/completions/sel4sim"] = "build/completions/sel4sim.bash"
+    files["share/zsh/site-functions/_sel4sim"] = "build/completions/_sel4sim"
+    files["share/fish/vendor_completions.d/sel4sim.fish"] = "build/completions/sel4sim.fish"
     scripts = sorted(it for it in os.listdir(os.path.join(TOP, "page")) if it.endswith((".sh", ".html")))
     files.update((f"share/sel4sim/page/{it}", f"page/{it}") for it in scripts)
     examples = "crates/worked_setups/data/examples"

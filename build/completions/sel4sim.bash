@@ -1,0 +1,30 @@
+# Made by build/completions.py from what `sel4sim --help` and `sel4sim COMMAND --help` print.
+_sel4sim() {
+    local word=${COMP_WORDS[COMP_CWORD]} command= at
+    for ((at = 1; at < COMP_CWORD; at++)); do
+        case ${COMP_WORDS[at]} in -*) ;; *) command=${COMP_WORDS[at]}; break ;; esac
+    done
+    COMPREPLY=()
+    case $command in
+        '')
+            COMPREPLY=($(compgen -W 'check trace threads migrate -h --help' -- "$word"))
+            ;;
+        check)
+            COMPREPLY=($(compgen -W '-h --help' -- "$word"))
+            [[ $word == -* ]] || mapfile -t -O "${#COMPREPLY[@]}" COMPREPLY < <(compgen -f -- "$word")
+            ;;
+        trace)
+            COMPREPLY=($(compgen -W '-h --help' -- "$word"))
+            [[ $word == -* ]] || mapfile -t -O "${#COMPREPLY[@]}" COMPREPLY < <(compgen -f -- "$word")
+            ;;
+        threads)
+            COMPREPLY=($(compgen -W '-h --help' -- "$word"))
+            [[ $word == -* ]] || mapfile -t -O "${#COMPREPLY[@]}" COMPREPLY < <(compgen -f -- "$word")
+            ;;
+        migrate)
+            COMPREPLY=($(compgen -W '-h --help' -- "$word"))
+            [[ $word == -* ]] || mapfile -t -O "${#COMPREPLY[@]}" COMPREPLY < <(compgen -f -- "$word")
+            ;;
+    esac
+}
+complete -o filenames -F _sel4sim sel4sim

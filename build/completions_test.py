@@ -1,0 +1,121 @@
+#!/usr/bin/env python3
+"""Tests of completions.py with a stand-in for the program, which has options with values too: its files in bash, and
+where these are installed in fish, and read by zsh."""
+import os
+import shutil
+import subprocess
+import tempfile
+import unittest
+
+import completions
+
+HELP = {
+    "": """A stand-in
+
+Usage: sel4sim [COMMAND]
+
+Commands:
+  check    Runs a set-up
+  tree     Prints the forest; it's text
+
+Options:
+  -h, --help     Print help
+  -V, --version  Print version
+
+Without a command, standard input is read.
+""",
+    "check": """Runs a set-up
+
+Usage: sel4sim check [OPTIONS] [FILE]...
+
+Arguments:
+  [FILE]...  The set-ups
+
+Options:
+      --strict  Refuses [what] is doubtful
+  -h, --help    Print help
+""",
+    "tree": """Prints the forest
+
+Usage: sel4sim tree [OPTIONS]
+
+Options:
+      --form <FORM>
+          How it is drawn
+
+          [possible values: text, dot]
+      --after <N>  Behind call N
+  -h, --help       Print help
+""",
+}
+
+
+class Completions(unittest.TestCase):
+    @classmethod
+    def setUpClass(cls):
+        cls.folder = tempfile.mkdtemp(prefix="sel4sim completions ")
+        program = os.path.join(cls.folder, "sel4sim")
+        with open(program, "w", encoding="utf-8") as file:
+            file.write("#!/bin/sh\ncase $1 in\n")
+            for name in ("check", "tree", ""):
+                file.write(f"{name or '*'}) cat <<'END'\n{HELP[name]}END\n;;\n")
+            file.write("esac\n")
+        os.chmod(program, 0o755)
+        for name, text in completions.completions(program).items():
+            with open(os.path.join(cls.folder, name), "w", encoding="utf-8") as file:
+                file.write(text)
+        os.mkdir(os.path.join(cls.folder, "work"))
+        for name in ("my layout.toml", "t.toml"):
+            with open(os.path.join(cls.folder, "work", name), "w", encoding="utf-8"):
+                pass
+
+    @classmethod
+    def tearDownClass(cls):
+        shutil.rmtree(cls.folder)
+
+    def output(self, *words):
+        env = {**os.environ, "HOME": self.folder, "TERM": "dumb"}
+        done = subprocess.run(words, cwd=f"{self.folder}/work", env=env, capture_output=True, text=True, timeout=60)
+        self.assertEqual(done.stderr, "")
+        return done.stdout.splitlines()
+
+    def in_bash(self, *words):
+        """What bash completes the last of these words to."""
+        script = ('source ../sel4sim.bash; COMP_WORDS=("$@"); COMP_CWORD=$(($# - 1)); _sel4sim; '
+                  'printf "%s\\n" "${COMPREPLY[@]}"')
+        return self.output("bash", "-c", script, "bash", "sel4sim", *words)
+
+    def in_fish(self, line):
+        return [it.split("\t")[0] for it in self.output("fish", "-c", f"source ../sel4sim.fish; complete -C 'sel4sim {line}'")]
+
+    def test_reads_the_help(self):
+        whole, commands = completions.helps(f"{self.folder}/sel4sim")
+        self.assertEqual([name for name, _, _ in commands], ["check", "tree"])
+        self.assertEqual([option.spellings for option in whole.options], [["-h", "--help"], ["-V", "--version"]])
+        form, after, _ = commands[1][2].options
+        self.assertEqual((form.values, form.about, after.has_value), (["text", "dot"], "How it is drawn", True))
+        self.assertEqual([told.takes_files for _, _, told in commands], [True, False])
+
+    def test_in_bash(self):
+        self.assertEqual(self.in_bash(""), ["check", "tree", "-h", "--help", "-V", "--version"])
+        self.assertEqual(self.in_bash("ch"), ["check"])
+        self.assertEqual(self.in_bash("check", "my"), ["my layout.toml"])
+        self.assertEqual(self.in_bash("check", "--s"), ["--strict"])
+        self.assertEqual(self.in_bash("tree", "--form", ""), ["text", "dot"])
+        self.assertEqual(self.in_bash("tree", "t"), [""])
+
+    @unittest.skipUnless(shutil.which("fish"), "there is no fish")
+    def test_in_fish(self):
+        self.assertEqual(self.in_fish("ch"), ["check"])
+        self.assertEqual(self.in_fish("check my"), ["my layout.toml"])
+        self.assertEqual(self.in_fish("check --s"), ["--strict"])
+        self.assertEqual(sorted(self.in_fish("tree --form ")), ["dot", "text"])
+        self.assertEqual(self.in_fish("tree t"), [])
+
+    @unittest.skipUnless(shutil.which("zsh"), "there is no zsh")
+    def test_is_read_by_zsh(self):
+        self.assertEqual(self.output("zsh", "-n", "../_sel4sim"), [])
+
+
+if __name__ == "__main__":
+    unittest.main()
