@@ -26,8 +26,8 @@ Proved with: {toolchain}
 SHA-256 of bin/sel4sim: {sum}
 
 The program needs x86-64 Linux with the GNU C library, and no toolchain. To install it: copy bin/ and share/ below
-/usr/local or another prefix. In README and the pages, `crates/worked_setups/data/examples` is `share/sel4sim/examples`
-here, and `page` is `share/sel4sim/page`. To begin: bin/sel4sim check share/sel4sim/examples/send_then_receive.toml
+/usr/local or another prefix. In README and the pages, `examples` is `share/sel4sim/examples` here, and `page` is
+`share/sel4sim/page`. To begin: bin/sel4sim check share/sel4sim/examples/send_then_receive.toml
 Without installing anything: open share/doc/sel4sim/site/sel4sim.html in a browser. It is the same program, compiled for
 WebAssembly, of the commit that the page itself names; tested against the native one, not proved.
 """

@@ -1,7 +1,7 @@
 #!/usr/bin/env python3
 """documents.py FOLDER PAGE..: runs what the pages print, with the program in FOLDER, and compares what it writes.
 
-A page's blocks are taken in order, in a folder of the page's own that has `crates` in it:
+A page's blocks are taken in order, in a folder of the page's own that has `crates` and `examples` in it:
 
 - ```toml NAME      is written to the file NAME; with the word `more` behind the name it is added to its end;
 - ```console        has commands, each behind `$ `, and below each what it writes: standard output alone, or with
@@ -107,7 +107,8 @@ def faults(page, program):
     """What is wrong on a page."""
     with tempfile.TemporaryDirectory() as name:
         folder = pathlib.Path(name)
-        (folder / "crates").symlink_to(ROOT / "crates")
+        for top in ("crates", "examples"):
+            (folder / top).symlink_to(ROOT / top)
         runner = Runner(folder, program)
         for number, words, lines in blocks(page):
             if not words or words[0] not in KINDS or (KINDS[words[0]] and len(words) == 1):
