@@ -1,5 +1,5 @@
 -- The set-up that a table or a text is read as, or its first fault.
-use Rattle.std.specs.Prelude.{codes, ℕ, ◌-◌, max, List, [], ◌∷◌, length, ◌==◌, if◌then◌else◌, Option, Some, None, Result, Ok, Err}
+use Rattle.std.specs.Prelude.{codes, ℕ, ◌-◌, max, List, [], ◌∷◌, ◌++◌, length, ◌==◌, if◌then◌else◌, Option, Some, None, Result, Ok, Err}
 use Rattle.std.specs.Str.{is_utf8}
 use Rattle.toml.specs.Data.{Members}
 use Rattle.toml.specs.Parse.{parse_document}
@@ -10,6 +10,7 @@ use Rattle.cap_core.specs.Numbers.{min_untyped_bits, max_object_bits}
 use Rattle.abstract_kernel.specs.declared.plan.PlanDefect.{PlanDefect}
 use Rattle.abstract_kernel.specs.Plan.{Plan, planned, first_defect}
 use Rattle.setup_format.specs.declared.limits.TheConstants.{FIRST_FORMAT, NEWEST_FORMAT, MAX_CALLS}
+use Rattle.setup_format.specs.declared.fault.Place.{Place}
 use Rattle.setup_format.specs.declared.fault.Place.TheVariants as places
 use Rattle.setup_format.specs.declared.setup.Sizes.{Sizes}
 use Rattle.setup_values.specs.Names.{Names}
@@ -17,7 +18,8 @@ use Rattle.cap_core.specs.Checks.{◌>>=◌}
 use Rattle.setup_values.specs.Kinds.{number, word, names, expect, op, profile, tables, each}
 use Rattle.setup_format.specs.Faults.{Fault, text, layout}
 use Rattle.setup_format.specs.Tables.{required, optional, known_only}
-use Rattle.setup_format.specs.Operations.{call_keys, operation_at}
+use Rattle.setup_values.specs.Operations.{call_keys}
+use Rattle.setup_format.specs.Operations.{operation_at}
 use Rattle.setup_format.specs.Views.{CallView, SetupView}
 
 -- ---- untyped tables
@@ -41,27 +43,31 @@ call_at p names clients n table = do
   thread ← required (places.Call n) table (codes "thread") (word p names)
   client ← optional (places.Call n) table (codes "client") 0 (number 0 (clients - 1))
   expect ← optional (places.Call n) table (codes "expect") None expect
-  operation ← operation_at p op names (places.Call n) table
+  operation ← operation_at p names (places.Call n) table op
   Ok (record { call = record { thread = thread; op = operation }; client = client; expect = expect })
 
 -- ---- the top table
 
--- the keys of the first format
+-- the keys of the first format; a later one has names before its tables
+abbrev pub size_keys : List (List ℕ)
+size_keys =
+    codes "format" ∷ codes "profile" ∷ codes "memory_bits" ∷ codes "root_radix" ∷ codes "threads" ∷ codes "endpoints" ∷ codes "clients" ∷ codes "limit" ∷ []
+
+abbrev pub table_keys : List (List ℕ)
+table_keys = codes "untyped" ∷ codes "call" ∷ []
+
 abbrev pub first_keys : List (List ℕ)
-first_keys =
-    codes "format" ∷ codes "profile" ∷ codes "memory_bits" ∷ codes "root_radix" ∷ codes "threads" ∷ codes "endpoints" ∷ codes "clients" ∷ codes "limit" ∷ codes "untyped"
-    ∷ codes "call" ∷ []
+first_keys = size_keys ++ table_keys
 
--- the keys of a format: a later one has names
 abbrev pub top_keys : ℕ → List (List ℕ)
-top_keys format = if format == FIRST_FORMAT then first_keys else codes "names" ∷ first_keys
+top_keys format = if format == FIRST_FORMAT then first_keys else size_keys ++ codes "names" ∷ table_keys
 
-unfoldable pub sizes_of : Members → Result Sizes Fault
-sizes_of table = do
-  memory_bits ← required places.Top table (codes "memory_bits") (number min_memory_bits max_memory_bits)
-  root_radix ← required places.Top table (codes "root_radix") (number min_root_radix max_root_radix)
-  threads ← required places.Top table (codes "threads") (number min_boot_threads max_boot_threads)
-  endpoints ← required places.Top table (codes "endpoints") (number 0 max_boot_endpoints)
+unfoldable pub sizes_at : Place → Members → Result Sizes Fault
+sizes_at place table = do
+  memory_bits ← required place table (codes "memory_bits") (number min_memory_bits max_memory_bits)
+  root_radix ← required place table (codes "root_radix") (number min_root_radix max_root_radix)
+  threads ← required place table (codes "threads") (number min_boot_threads max_boot_threads)
+  endpoints ← required place table (codes "endpoints") (number 0 max_boot_endpoints)
   Ok (record { memory_bits = memory_bits; root_radix = root_radix; threads = threads; endpoints = endpoints })
 
 -- the plan of a boot, and the fault where it has a defect
@@ -94,7 +100,7 @@ names_of p table = optional places.Top table (codes "names") [] (names p)
 -- a table whose format, keys and profile are known
 unfoldable pub setup_at : ProfileName → Members → Result SetupView Fault
 setup_at p table = do
-  sizes ← sizes_of table
+  sizes ← sizes_at places.Top table
   clients ← optional places.Top table (codes "clients") 1 (number 1 max_clients)
   limit ← optional places.Top table (codes "limit") 0 (number 1 max_history_limit)
   names ← names_of p table

@@ -10,6 +10,9 @@ pub mod setup;
 mod tables;
 
 pub use fault::{Key, Place, SetupFault, Wrong};
-pub use operations::call_keys;
-pub use read::{read_document, read_first_format, read_named_setup, read_setup, read_table};
+pub use operations::op_name;
+pub use read::{
+    read_document, read_first_format, read_named_setup, read_setup, read_table, top_keys,
+    untyped_keys,
+};
 pub use setup::{NamedSetup, Setup};

@@ -1,379 +1,214 @@
-//! The operations that a call may name: the keys of each, and what they are read as.
-ghost use Rattle.std.specs.Prelude.{◌≡◌, map};
+//! The operation of a call, from the keys that hold its words.
+ghost use Rattle.std.specs.Prelude.{◌≡◌};
 ghost use Rattle.toml.specs.View.{table_view};
 ghost use Rattle.setup_values.specs.Names.{names_view};
 ghost use Rattle.setup_format.specs.Faults.{Gives};
-ghost use Rattle.setup_values.specs.declared.values.OpName.TheVariants as op_names;
 ghost use Rattle.setup_format.specs.Operations as spec;
 
-use crate::fault::{Place, SetupFault};
-use crate::tables::{label_or, rights_or_all, word_at, word_or, words_or_none};
+use crate::fault::SetupFault;
+use crate::tables::Keys;
 use abstract_kernel::Op;
 use abstract_kernel::invocation::SlotArguments;
-use cap_core::{Message, Profile};
-use setup_values::{Name, OpName, Words};
-use toml::Table;
-
-/// The keys of a retype.
-#[rattlefmt::skip]
-fn retype_keys() -> &'static [&'static str]
-    ensures { map (λ k. k.now) result.now ≡ spec.call_keys op_names.Retype }
-{
-    &[
-        "thread", "op", "client", "expect",
-        "cap", "kind", "size_bits", "root", "index", "depth", "offset", "count",
-    ]
-}
-
-/// The keys of a copy.
-#[rattlefmt::skip]
-fn copy_keys() -> &'static [&'static str]
-    ensures { map (λ k. k.now) result.now ≡ spec.call_keys op_names.CapCopy }
-{
-    &[
-        "thread", "op", "client", "expect",
-        "cap", "index", "depth", "src_root", "src_index", "src_depth", "rights",
-    ]
-}
-
-/// The keys of a mint.
-#[rattlefmt::skip]
-fn mint_keys() -> &'static [&'static str]
-    ensures { map (λ k. k.now) result.now ≡ spec.call_keys op_names.CapMint }
-{
-    &[
-        "thread", "op", "client", "expect",
-        "cap", "index", "depth", "src_root", "src_index", "src_depth", "rights", "word",
-    ]
-}
-
-/// The keys of a move.
-#[rattlefmt::skip]
-fn move_keys() -> &'static [&'static str]
-    ensures { map (λ k. k.now) result.now ≡ spec.call_keys op_names.CapMove }
-{
-    &[
-        "thread", "op", "client", "expect",
-        "cap", "index", "depth", "src_root", "src_index", "src_depth",
-    ]
-}
-
-/// The keys of a mutate.
-#[rattlefmt::skip]
-fn mutate_keys() -> &'static [&'static str]
-    ensures { map (λ k. k.now) result.now ≡ spec.call_keys op_names.CapMutate }
-{
-    &[
-        "thread", "op", "client", "expect",
-        "cap", "index", "depth", "src_root", "src_index", "src_depth", "word",
-    ]
-}
-
-/// The keys of a call with an operation.
-pub fn call_keys(op: OpName) -> &'static [&'static str]
-    ensures { map (λ k. k.now) result.now ≡ spec.call_keys op }
-{
-    match op {
-        OpName::Retype => retype_keys(),
-        OpName::CapCopy => copy_keys(),
-        OpName::CapMint => mint_keys(),
-        OpName::CapMove => move_keys(),
-        OpName::CapMutate => mutate_keys(),
-        OpName::CapDelete | OpName::CapRevoke | OpName::CancelBadged => &[
-            "thread", "op", "client", "expect", "cap", "index", "depth",
-        ],
-        OpName::Send | OpName::NbSend => &[
-            "thread", "op", "client", "expect", "cap", "label", "words",
-        ],
-        OpName::Recv | OpName::NbRecv | OpName::Suspend | OpName::Resume => &[
-            "thread", "op", "client", "expect", "cap",
-        ],
-        OpName::SetSpace => &["thread", "op", "client", "expect", "cap", "root", "word"],
-    }
-}
+use cap_core::{Message, Profile, Rights};
+use setup_values::kinds::{Label, RightsKind, Word, WordsKind};
+use setup_values::{OpName, Words};
 
 #[tactic(auto, unfolding(crate::specs::Operations::retype_at))]
-fn retype_at<P: Profile>(names: &[Name], place: Place, table: &Table) -> Result<Op, SetupFault>
-    ensures { Gives (λ o. o) result (spec.retype_at P.the (names_view names.now) place (table_view table.now)) }
+fn retype_at<P: Profile>(keys: &Keys<'_, P>) -> Result<Op, SetupFault>
+    ensures { Gives (λ o. o) result (spec.retype_at P.the (names_view keys.now.names.now) keys.now.place (table_view keys.now.table.now)) }
 {
-    let cap = word_at::<P>(names, table, place, "cap")?;
-    let kind = word_at::<P>(names, table, place, "kind")?;
-    let size_bits = word_or::<P>(names, table, place, "size_bits", 0)?;
-    let root = word_at::<P>(names, table, place, "root")?;
-    let index = word_or::<P>(names, table, place, "index", 0)?;
-    let depth = word_or::<P>(names, table, place, "depth", 0)?;
-    let offset = word_at::<P>(names, table, place, "offset")?;
-    let count = word_at::<P>(names, table, place, "count")?;
     Ok(Op::Retype {
-        cap,
-        kind,
-        size_bits,
-        root,
-        index,
-        depth,
-        offset,
-        count,
+        cap: keys.required("cap", Word)?,
+        kind: keys.required("kind", Word)?,
+        size_bits: keys.optional("size_bits", 0, Word)?,
+        root: keys.required("root", Word)?,
+        index: keys.optional("index", 0, Word)?,
+        depth: keys.optional("depth", 0, Word)?,
+        offset: keys.required("offset", Word)?,
+        count: keys.required("count", Word)?,
     })
 }
 
 /// The address of the CNode by which a copy or a move is made, and the words by which it names its slots. A depth that is
 /// not given is all the bits of a word, and the source's CNode is the one that is invoked where none is given.
 #[tactic(auto, unfolding(crate::specs::Operations::slots_at))]
-fn slots_at<P: Profile>(
-    names: &[Name],
-    place: Place,
-    table: &Table,
-) -> Result<(u64, SlotArguments), SetupFault>
-    ensures { Gives (λ w. w) result (spec.slots_at P.the (names_view names.now) place (table_view table.now)) }
+fn slots_at<P: Profile>(keys: &Keys<'_, P>) -> Result<(u64, SlotArguments), SetupFault>
+    ensures { Gives (λ w. w) result (spec.slots_at P.the (names_view keys.now.names.now) keys.now.place (table_view keys.now.table.now)) }
 {
-    let word_bits = u64::from(P::WORD_BITS);
-    let cap = word_at::<P>(names, table, place, "cap")?;
-    let index = word_at::<P>(names, table, place, "index")?;
-    let depth = word_or::<P>(names, table, place, "depth", word_bits)?;
-    let src_root = word_or::<P>(names, table, place, "src_root", cap)?;
-    let src_index = word_at::<P>(names, table, place, "src_index")?;
-    let src_depth = word_or::<P>(names, table, place, "src_depth", word_bits)?;
+    let cap = keys.required("cap", Word)?;
     let slots = SlotArguments {
-        index,
-        depth,
-        src_root,
-        src_index,
-        src_depth,
+        index: keys.required("index", Word)?,
+        depth: keys.optional("depth", u64::from(P::WORD_BITS), Word)?,
+        src_root: keys.optional("src_root", cap, Word)?,
+        src_index: keys.required("src_index", Word)?,
+        src_depth: keys.optional("src_depth", u64::from(P::WORD_BITS), Word)?,
     };
     Ok((cap, slots))
 }
 
 #[tactic(auto, unfolding(crate::specs::Operations::copy_at))]
-fn copy_at<P: Profile>(names: &[Name], place: Place, table: &Table) -> Result<Op, SetupFault>
-    ensures { Gives (λ o. o) result (spec.copy_at P.the (names_view names.now) place (table_view table.now)) }
+fn copy_at<P: Profile>(keys: &Keys<'_, P>) -> Result<Op, SetupFault>
+    ensures { Gives (λ o. o) result (spec.copy_at P.the (names_view keys.now.names.now) keys.now.place (table_view keys.now.table.now)) }
 {
-    let (cap, slots) = slots_at::<P>(names, place, table)?;
-    let rights = rights_or_all(table, place, "rights")?;
-    let SlotArguments {
-        index,
-        depth,
-        src_root,
-        src_index,
-        src_depth,
-    } = slots;
+    let (cap, slots) = slots_at(keys)?;
     Ok(Op::CapCopy {
         cap,
-        index,
-        depth,
-        src_root,
-        src_index,
-        src_depth,
-        rights,
+        index: slots.index,
+        depth: slots.depth,
+        src_root: slots.src_root,
+        src_index: slots.src_index,
+        src_depth: slots.src_depth,
+        rights: keys.optional("rights", Rights::ALL, RightsKind)?,
     })
 }
 
 #[tactic(auto, unfolding(crate::specs::Operations::mint_at))]
-fn mint_at<P: Profile>(names: &[Name], place: Place, table: &Table) -> Result<Op, SetupFault>
-    ensures { Gives (λ o. o) result (spec.mint_at P.the (names_view names.now) place (table_view table.now)) }
+fn mint_at<P: Profile>(keys: &Keys<'_, P>) -> Result<Op, SetupFault>
+    ensures { Gives (λ o. o) result (spec.mint_at P.the (names_view keys.now.names.now) keys.now.place (table_view keys.now.table.now)) }
 {
-    let (cap, slots) = slots_at::<P>(names, place, table)?;
-    let rights = rights_or_all(table, place, "rights")?;
-    let word = word_at::<P>(names, table, place, "word")?;
-    let SlotArguments {
-        index,
-        depth,
-        src_root,
-        src_index,
-        src_depth,
-    } = slots;
+    let (cap, slots) = slots_at(keys)?;
     Ok(Op::CapMint {
         cap,
-        index,
-        depth,
-        src_root,
-        src_index,
-        src_depth,
-        rights,
-        word,
+        index: slots.index,
+        depth: slots.depth,
+        src_root: slots.src_root,
+        src_index: slots.src_index,
+        src_depth: slots.src_depth,
+        rights: keys.optional("rights", Rights::ALL, RightsKind)?,
+        word: keys.required("word", Word)?,
     })
 }
 
 #[tactic(auto, unfolding(crate::specs::Operations::move_at))]
-fn move_at<P: Profile>(names: &[Name], place: Place, table: &Table) -> Result<Op, SetupFault>
-    ensures { Gives (λ o. o) result (spec.move_at P.the (names_view names.now) place (table_view table.now)) }
+fn move_at<P: Profile>(keys: &Keys<'_, P>) -> Result<Op, SetupFault>
+    ensures { Gives (λ o. o) result (spec.move_at P.the (names_view keys.now.names.now) keys.now.place (table_view keys.now.table.now)) }
 {
-    let (cap, slots) = slots_at::<P>(names, place, table)?;
-    let SlotArguments {
-        index,
-        depth,
-        src_root,
-        src_index,
-        src_depth,
-    } = slots;
+    let (cap, slots) = slots_at(keys)?;
     Ok(Op::CapMove {
         cap,
-        index,
-        depth,
-        src_root,
-        src_index,
-        src_depth,
+        index: slots.index,
+        depth: slots.depth,
+        src_root: slots.src_root,
+        src_index: slots.src_index,
+        src_depth: slots.src_depth,
     })
 }
 
 #[tactic(auto, unfolding(crate::specs::Operations::mutate_at))]
-fn mutate_at<P: Profile>(names: &[Name], place: Place, table: &Table) -> Result<Op, SetupFault>
-    ensures { Gives (λ o. o) result (spec.mutate_at P.the (names_view names.now) place (table_view table.now)) }
+fn mutate_at<P: Profile>(keys: &Keys<'_, P>) -> Result<Op, SetupFault>
+    ensures { Gives (λ o. o) result (spec.mutate_at P.the (names_view keys.now.names.now) keys.now.place (table_view keys.now.table.now)) }
 {
-    let (cap, slots) = slots_at::<P>(names, place, table)?;
-    let word = word_at::<P>(names, table, place, "word")?;
-    let SlotArguments {
-        index,
-        depth,
-        src_root,
-        src_index,
-        src_depth,
-    } = slots;
+    let (cap, slots) = slots_at(keys)?;
     Ok(Op::CapMutate {
         cap,
-        index,
-        depth,
-        src_root,
-        src_index,
-        src_depth,
-        word,
+        index: slots.index,
+        depth: slots.depth,
+        src_root: slots.src_root,
+        src_index: slots.src_index,
+        src_depth: slots.src_depth,
+        word: keys.required("word", Word)?,
     })
 }
 
-#[tactic(auto, unfolding(crate::specs::Operations::delete_at))]
-fn delete_at<P: Profile>(names: &[Name], place: Place, table: &Table) -> Result<Op, SetupFault>
-    ensures { Gives (λ o. o) result (spec.delete_at P.the (names_view names.now) place (table_view table.now)) }
+/// The address of a CNode, and the words by which an operation names a slot of it.
+#[tactic(auto, unfolding(crate::specs::Operations::slot_at))]
+fn slot_at<P: Profile>(keys: &Keys<'_, P>) -> Result<(u64, u64, u64), SetupFault>
+    ensures { Gives (λ w. w) result (spec.slot_at P.the (names_view keys.now.names.now) keys.now.place (table_view keys.now.table.now)) }
 {
-    let cap = word_at::<P>(names, table, place, "cap")?;
-    let index = word_at::<P>(names, table, place, "index")?;
-    let depth = word_or::<P>(names, table, place, "depth", u64::from(P::WORD_BITS))?;
-    Ok(Op::CapDelete { cap, index, depth })
+    let cap = keys.required("cap", Word)?;
+    let index = keys.required("index", Word)?;
+    let depth = keys.optional("depth", u64::from(P::WORD_BITS), Word)?;
+    Ok((cap, index, depth))
 }
 
-#[tactic(auto, unfolding(crate::specs::Operations::revoke_at))]
-fn revoke_at<P: Profile>(names: &[Name], place: Place, table: &Table) -> Result<Op, SetupFault>
-    ensures { Gives (λ o. o) result (spec.revoke_at P.the (names_view names.now) place (table_view table.now)) }
-{
-    let cap = word_at::<P>(names, table, place, "cap")?;
-    let index = word_at::<P>(names, table, place, "index")?;
-    let depth = word_or::<P>(names, table, place, "depth", u64::from(P::WORD_BITS))?;
-    Ok(Op::CapRevoke { cap, index, depth })
-}
-
-#[tactic(auto, unfolding(crate::specs::Operations::cancel_badged_at))]
-fn cancel_badged_at<P: Profile>(
-    names: &[Name],
-    place: Place,
-    table: &Table,
-) -> Result<Op, SetupFault>
-    ensures { Gives (λ o. o) result (spec.cancel_badged_at P.the (names_view names.now) place (table_view table.now)) }
-{
-    let cap = word_at::<P>(names, table, place, "cap")?;
-    let index = word_at::<P>(names, table, place, "index")?;
-    let depth = word_or::<P>(names, table, place, "depth", u64::from(P::WORD_BITS))?;
-    Ok(Op::CancelBadged { cap, index, depth })
-}
-
+/// The address of an endpoint, and the message that is sent to it.
 #[tactic(auto, unfolding(crate::specs::Operations::message_at))]
-fn message_at<P: Profile>(
-    names: &[Name],
-    place: Place,
-    table: &Table,
-) -> Result<Message, SetupFault>
-    ensures { Gives (λ m. m) result (spec.message_at P.the (names_view names.now) place (table_view table.now)) }
+fn message_at<P: Profile>(keys: &Keys<'_, P>) -> Result<(u64, Message), SetupFault>
+    ensures { Gives (λ m. m) result (spec.message_at P.the (names_view keys.now.names.now) keys.now.place (table_view keys.now.table.now)) }
 {
-    let label = label_or::<P>(table, place, "label", 0)?;
-    let Words { words, count } = words_or_none::<P>(names, table, place, "words")?;
-    Ok(Message {
-        label,
-        words,
-        count,
-    })
-}
-
-#[tactic(auto, unfolding(crate::specs::Operations::send_at))]
-fn send_at<P: Profile>(names: &[Name], place: Place, table: &Table) -> Result<Op, SetupFault>
-    ensures { Gives (λ o. o) result (spec.send_at P.the (names_view names.now) place (table_view table.now)) }
-{
-    let cap = word_at::<P>(names, table, place, "cap")?;
-    let message = message_at::<P>(names, place, table)?;
-    Ok(Op::Send { cap, message })
-}
-
-#[tactic(auto, unfolding(crate::specs::Operations::nb_send_at))]
-fn nb_send_at<P: Profile>(names: &[Name], place: Place, table: &Table) -> Result<Op, SetupFault>
-    ensures { Gives (λ o. o) result (spec.nb_send_at P.the (names_view names.now) place (table_view table.now)) }
-{
-    let cap = word_at::<P>(names, table, place, "cap")?;
-    let message = message_at::<P>(names, place, table)?;
-    Ok(Op::NbSend { cap, message })
-}
-
-#[tactic(auto, unfolding(crate::specs::Operations::recv_at))]
-fn recv_at<P: Profile>(names: &[Name], place: Place, table: &Table) -> Result<Op, SetupFault>
-    ensures { Gives (λ o. o) result (spec.recv_at P.the (names_view names.now) place (table_view table.now)) }
-{
-    let cap = word_at::<P>(names, table, place, "cap")?;
-    Ok(Op::Recv { cap })
-}
-
-#[tactic(auto, unfolding(crate::specs::Operations::nb_recv_at))]
-fn nb_recv_at<P: Profile>(names: &[Name], place: Place, table: &Table) -> Result<Op, SetupFault>
-    ensures { Gives (λ o. o) result (spec.nb_recv_at P.the (names_view names.now) place (table_view table.now)) }
-{
-    let cap = word_at::<P>(names, table, place, "cap")?;
-    Ok(Op::NbRecv { cap })
-}
-
-#[tactic(auto, unfolding(crate::specs::Operations::set_space_at))]
-fn set_space_at<P: Profile>(names: &[Name], place: Place, table: &Table) -> Result<Op, SetupFault>
-    ensures { Gives (λ o. o) result (spec.set_space_at P.the (names_view names.now) place (table_view table.now)) }
-{
-    let cap = word_at::<P>(names, table, place, "cap")?;
-    let root = word_at::<P>(names, table, place, "root")?;
-    let word = word_or::<P>(names, table, place, "word", 0)?;
-    Ok(Op::SetSpace { cap, root, word })
-}
-
-#[tactic(auto, unfolding(crate::specs::Operations::suspend_at))]
-fn suspend_at<P: Profile>(names: &[Name], place: Place, table: &Table) -> Result<Op, SetupFault>
-    ensures { Gives (λ o. o) result (spec.suspend_at P.the (names_view names.now) place (table_view table.now)) }
-{
-    let cap = word_at::<P>(names, table, place, "cap")?;
-    Ok(Op::Suspend { cap })
-}
-
-#[tactic(auto, unfolding(crate::specs::Operations::resume_at))]
-fn resume_at<P: Profile>(names: &[Name], place: Place, table: &Table) -> Result<Op, SetupFault>
-    ensures { Gives (λ o. o) result (spec.resume_at P.the (names_view names.now) place (table_view table.now)) }
-{
-    let cap = word_at::<P>(names, table, place, "cap")?;
-    Ok(Op::Resume { cap })
+    let cap = keys.required("cap", Word)?;
+    let label = keys.optional("label", 0, Label)?;
+    let Words { words, count } = keys.optional("words", Words::none(), WordsKind)?;
+    Ok((
+        cap,
+        Message {
+            label,
+            words,
+            count,
+        },
+    ))
 }
 
 /// An operation, from the keys of its call.
-pub fn operation_at<P: Profile>(
-    op: OpName,
-    names: &[Name],
-    place: Place,
-    table: &Table,
-) -> Result<Op, SetupFault>
-    ensures { Gives (λ o. o) result (spec.operation_at P.the op (names_view names.now) place (table_view table.now)) }
+#[tactic(auto, unfolding(crate::specs::Operations::set_space_at))]
+pub fn operation_at<P: Profile>(op: OpName, keys: &Keys<'_, P>) -> Result<Op, SetupFault>
+    ensures { Gives (λ o. o) result (spec.operation_at P.the (names_view keys.now.names.now) keys.now.place (table_view keys.now.table.now) op) }
+{
+    Ok(match op {
+        OpName::Retype => retype_at(keys)?,
+        OpName::CapCopy => copy_at(keys)?,
+        OpName::CapMint => mint_at(keys)?,
+        OpName::CapMove => move_at(keys)?,
+        OpName::CapMutate => mutate_at(keys)?,
+        OpName::CapDelete => {
+            let (cap, index, depth) = slot_at(keys)?;
+            Op::CapDelete { cap, index, depth }
+        }
+        OpName::CapRevoke => {
+            let (cap, index, depth) = slot_at(keys)?;
+            Op::CapRevoke { cap, index, depth }
+        }
+        OpName::CancelBadged => {
+            let (cap, index, depth) = slot_at(keys)?;
+            Op::CancelBadged { cap, index, depth }
+        }
+        OpName::Send => {
+            let (cap, message) = message_at(keys)?;
+            Op::Send { cap, message }
+        }
+        OpName::NbSend => {
+            let (cap, message) = message_at(keys)?;
+            Op::NbSend { cap, message }
+        }
+        OpName::Recv => Op::Recv {
+            cap: keys.required("cap", Word)?,
+        },
+        OpName::NbRecv => Op::NbRecv {
+            cap: keys.required("cap", Word)?,
+        },
+        OpName::SetSpace => Op::SetSpace {
+            cap: keys.required("cap", Word)?,
+            root: keys.required("root", Word)?,
+            word: keys.optional("word", 0, Word)?,
+        },
+        OpName::Suspend => Op::Suspend {
+            cap: keys.required("cap", Word)?,
+        },
+        OpName::Resume => Op::Resume {
+            cap: keys.required("cap", Word)?,
+        },
+    })
+}
+
+/// The name of an operation. `OpName::text` is how it is spelt.
+pub fn op_name(op: &Op) -> OpName
+    ensures { result ≡ spec.op_name op.now }
 {
     match op {
-        OpName::Retype => retype_at::<P>(names, place, table),
-        OpName::CapCopy => copy_at::<P>(names, place, table),
-        OpName::CapMint => mint_at::<P>(names, place, table),
-        OpName::CapMove => move_at::<P>(names, place, table),
-        OpName::CapMutate => mutate_at::<P>(names, place, table),
-        OpName::CapDelete => delete_at::<P>(names, place, table),
-        OpName::CapRevoke => revoke_at::<P>(names, place, table),
-        OpName::CancelBadged => cancel_badged_at::<P>(names, place, table),
-        OpName::Send => send_at::<P>(names, place, table),
-        OpName::NbSend => nb_send_at::<P>(names, place, table),
-        OpName::Recv => recv_at::<P>(names, place, table),
-        OpName::NbRecv => nb_recv_at::<P>(names, place, table),
-        OpName::SetSpace => set_space_at::<P>(names, place, table),
-        OpName::Suspend => suspend_at::<P>(names, place, table),
-        OpName::Resume => resume_at::<P>(names, place, table),
+        Op::Retype { .. } => OpName::Retype,
+        Op::CapCopy { .. } => OpName::CapCopy,
+        Op::CapMint { .. } => OpName::CapMint,
+        Op::CapMove { .. } => OpName::CapMove,
+        Op::CapMutate { .. } => OpName::CapMutate,
+        Op::CapDelete { .. } => OpName::CapDelete,
+        Op::CapRevoke { .. } => OpName::CapRevoke,
+        Op::CancelBadged { .. } => OpName::CancelBadged,
+        Op::Send { .. } => OpName::Send,
+        Op::NbSend { .. } => OpName::NbSend,
+        Op::Recv { .. } => OpName::Recv,
+        Op::NbRecv { .. } => OpName::NbRecv,
+        Op::SetSpace { .. } => OpName::SetSpace,
+        Op::Suspend { .. } => OpName::Suspend,
+        Op::Resume { .. } => OpName::Resume,
     }
 }

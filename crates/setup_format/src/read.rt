@@ -13,12 +13,9 @@ ghost use Rattle.setup_format.specs.Setups as spec;
 
 use crate::fault::{Place, SetupFault};
 use crate::limits::{FIRST_FORMAT, MAX_CALLS, NEWEST_FORMAT};
-use crate::operations::{call_keys, operation_at};
+use crate::operations::operation_at;
 use crate::setup::{NamedSetup, Setup, SetupCall, SetupCalls, Sizes};
-use crate::tables::{
-    expect_or_none, known_only, names_or_none, number_at, number_or, op_at, profile_or_wide,
-    tables_or_none, word_at,
-};
+use crate::tables::Keys;
 use abstract_kernel::Call;
 use boot_plan::BootPlan;
 use cap_core::limits::{
@@ -27,24 +24,26 @@ use cap_core::limits::{
 };
 use cap_core::{Narrow, Profile, ProfileName, Wide};
 use setup_values::Name;
+use setup_values::kinds::{Number, OpKind, ProfileKind, Word};
 use std::alloc::Global;
 use toml::Table;
+
+/// The keys of a table of `untyped`.
+pub fn untyped_keys() -> &'static [&'static str]
+    ensures { map (λ k. k.now) result.now ≡ spec.untyped_keys }
+{
+    &["base", "bits"]
+}
 
 #[tactic(auto, unfolding(crate::specs::Setups::untyped_at))]
 fn untyped_at<P: Profile>(table: &Table, n: usize) -> Result<(u64, u32), SetupFault>
     ensures region { Gives (λ r. r) result (spec.untyped_at P.the n (table_view table.now)) }
     ensures sized { IfOk result (IsUntypedSize P.the) }
 {
-    let place = Place::Untyped(n);
-    known_only(table, place, &["base", "bits"])?;
-    let base = word_at::<P>(&[], table, place, "base")?;
-    let bits = number_at(
-        table,
-        place,
-        "bits",
-        P::MIN_UNTYPED_BITS,
-        P::MAX_OBJECT_BITS,
-    )?;
+    let keys = Keys::<P>::new(table, Place::Untyped(n), &[]);
+    keys.known_only(untyped_keys())?;
+    let base = keys.required("base", Word)?;
+    let bits = keys.required("bits", Number(P::MIN_UNTYPED_BITS, P::MAX_OBJECT_BITS))?;
     Ok((base, bits))
 }
 
@@ -73,13 +72,13 @@ fn call_at<P: Profile>(
     ensures call { Gives call_view result (spec.call_at P.the (names_view names.now) clients n (table_view table.now)) }
     ensures client { IfOk result (λ r. r.client < clients) }
 {
-    let place = Place::Call(n);
-    let op = op_at(table, place, "op")?;
-    known_only(table, place, call_keys(op))?;
-    let thread = word_at::<P>(names, table, place, "thread")?;
-    let client = number_or(table, place, "client", 0, 0, clients - 1)?;
-    let expect = expect_or_none(alloc, table, place, "expect")?;
-    let op = operation_at::<P>(op, names, place, table)?;
+    let keys = Keys::<P>::new(table, Place::Call(n), names);
+    let op = keys.required("op", OpKind)?;
+    keys.known_only(op.keys())?;
+    let thread = keys.required("thread", Word)?;
+    let client = keys.optional("client", 0, Number(0, clients - 1))?;
+    let expect = keys.expect(alloc, "expect")?;
+    let op = operation_at(op, &keys)?;
     Ok(SetupCall {
         call: Call { thread, op },
         client,
@@ -106,38 +105,16 @@ fn calls_of<P: Profile>(
     Ok(calls)
 }
 
-#[tactic(auto, unfolding(crate::specs::Setups::sizes_of))]
-fn sizes_of(table: &Table) -> Result<Sizes, SetupFault>
-    ensures sizes { Gives (λ s. s) result (spec.sizes_of (table_view table.now)) }
+#[tactic(auto, unfolding(crate::specs::Setups::sizes_at))]
+fn sizes_at<P: Profile>(keys: &Keys<'_, P>) -> Result<Sizes, SetupFault>
+    ensures sizes { Gives (λ s. s) result (spec.sizes_at keys.now.place (table_view keys.now.table.now)) }
     ensures within { IfOk result IsSizes }
 {
-    let memory_bits = number_at(
-        table,
-        Place::Top,
-        "memory_bits",
-        MIN_MEMORY_BITS,
-        MAX_MEMORY_BITS,
-    )?;
-    let root_radix = number_at(
-        table,
-        Place::Top,
-        "root_radix",
-        MIN_ROOT_RADIX,
-        MAX_ROOT_RADIX,
-    )?;
-    let threads = number_at(
-        table,
-        Place::Top,
-        "threads",
-        MIN_BOOT_THREADS,
-        MAX_BOOT_THREADS,
-    )?;
-    let endpoints = number_at(table, Place::Top, "endpoints", 0, MAX_BOOT_ENDPOINTS)?;
     Ok(Sizes {
-        memory_bits,
-        root_radix,
-        threads,
-        endpoints,
+        memory_bits: keys.required("memory_bits", Number(MIN_MEMORY_BITS, MAX_MEMORY_BITS))?,
+        root_radix: keys.required("root_radix", Number(MIN_ROOT_RADIX, MAX_ROOT_RADIX))?,
+        threads: keys.required("threads", Number(MIN_BOOT_THREADS, MAX_BOOT_THREADS))?,
+        endpoints: keys.required("endpoints", Number(0, MAX_BOOT_ENDPOINTS))?,
     })
 }
 
@@ -147,16 +124,14 @@ fn plan_of<P: Profile>(sizes: Sizes, untypeds: Vec<(u64, u32)>) -> Result<BootPl
     ensures plan { Gives (λ plan. plan) result (spec.laid_out P.the (spec.planned_with sizes untypeds.items)) }
     ensures sound { IfOk result (IsPlan P.the) }
 {
-    match BootPlan::new::<P>(
+    BootPlan::new::<P>(
         sizes.memory_bits,
         sizes.root_radix,
         sizes.threads,
         sizes.endpoints,
         untypeds,
-    ) {
-        Ok(plan) => Ok(plan),
-        Err(defect) => Err(SetupFault::Layout(defect)),
-    }
+    )
+    .map_err(|defect| SetupFault::Layout(defect))
 }
 
 /// The most entries of a history: the number of calls, at least 1, where the set-up gives none.
@@ -209,13 +184,13 @@ fn setup_at<P: Profile>(alloc: Global, table: &Table) -> Result<Setup, SetupFaul
     ensures plan { IfOk result (λ s. IsPlan s.profile s.plan) }
     ensures bounds { IfOk result IsWithinBounds }
 {
-    let sizes = sizes_of(table)?;
-    let clients = number_or(table, Place::Top, "clients", 1, 1, MAX_CLIENTS)?;
-    let limit = number_or(table, Place::Top, "limit", 0, 1, MAX_HISTORY_LIMIT)?;
-    let names = names_or_none::<P>(alloc, table, Place::Top, "names")?;
-    let most = MAX_BOOT_UNTYPEDS as usize;
-    let untyped = tables_or_none(alloc, table, Place::Top, "untyped", 0, most)?;
-    let call = tables_or_none(alloc, table, Place::Top, "call", 0, MAX_CALLS)?;
+    let keys = Keys::<P>::new(table, Place::Top, &[]);
+    let sizes = sizes_at(&keys)?;
+    let clients = keys.optional("clients", 1, Number(1, MAX_CLIENTS))?;
+    let limit = keys.optional("limit", 0, Number(1, MAX_HISTORY_LIMIT))?;
+    let names = keys.names(alloc, "names")?;
+    let untyped = keys.tables(alloc, "untyped", MAX_BOOT_UNTYPEDS as usize)?;
+    let call = keys.tables(alloc, "call", MAX_CALLS)?;
     setup_with::<P>(
         alloc,
         names.as_slice(),
@@ -227,9 +202,9 @@ fn setup_at<P: Profile>(alloc: Global, table: &Table) -> Result<Setup, SetupFaul
     )
 }
 
-/// The keys of the top table in a format.
+/// The keys of the top table in a format, in the order in which a message lists them.
 #[rattlefmt::skip]
-fn top_keys(format: u32) -> &'static [&'static str]
+pub fn top_keys(format: u32) -> &'static [&'static str]
     ensures { map (λ k. k.now) result.now ≡ spec.top_keys format }
 {
     if format == FIRST_FORMAT {
@@ -239,7 +214,7 @@ fn top_keys(format: u32) -> &'static [&'static str]
         ]
     } else {
         &[
-            "names", "format", "profile", "memory_bits", "root_radix", "threads", "endpoints", "clients", "limit",
+            "format", "profile", "memory_bits", "root_radix", "threads", "endpoints", "clients", "limit", "names",
             "untyped", "call",
         ]
     }
@@ -252,9 +227,10 @@ fn setup_up_to(newest: u32, alloc: Global, table: &Table) -> Result<Setup, Setup
     ensures plan { IfOk result (λ s. IsPlan s.profile s.plan) }
     ensures bounds { IfOk result IsWithinBounds }
 {
-    let format = number_at(table, Place::Top, "format", FIRST_FORMAT, newest)?;
-    known_only(table, Place::Top, top_keys(format))?;
-    match profile_or_wide(table, Place::Top, "profile")? {
+    let keys = Keys::<Wide>::new(table, Place::Top, &[]);
+    let format = keys.required("format", Number(FIRST_FORMAT, newest))?;
+    keys.known_only(top_keys(format))?;
+    match keys.optional("profile", ProfileName::Wide, ProfileKind)? {
         ProfileName::Wide => setup_at::<Wide>(alloc, table),
         ProfileName::Narrow => setup_at::<Narrow>(alloc, table),
     }
@@ -284,8 +260,8 @@ fn names_of(alloc: Global, profile: ProfileName, table: &Table) -> Result<Vec<Na
     ensures { Gives (λ v. names_view v.items) result (spec.names_of profile (table_view table.now)) }
 {
     match profile {
-        ProfileName::Wide => names_or_none::<Wide>(alloc, table, Place::Top, "names"),
-        ProfileName::Narrow => names_or_none::<Narrow>(alloc, table, Place::Top, "names"),
+        ProfileName::Wide => Keys::<Wide>::new(table, Place::Top, &[]).names(alloc, "names"),
+        ProfileName::Narrow => Keys::<Narrow>::new(table, Place::Top, &[]).names(alloc, "names"),
     }
 }
 

@@ -1,9 +1,9 @@
 //! The tables and the values of a document.
 ghost use Rattle.std.specs.Prelude.{◌≤◌};
 
-use cap_core::ProfileName;
+use cap_core::{ProfileName, Wide};
 use setup_format::Place;
-use setup_values::kinds::{number, profile};
+use setup_values::kinds::{Kind, Number, ProfileKind};
 use toml::{Table, Value};
 
 /// The elements of the array at a key; none where there is no array.
@@ -33,10 +33,7 @@ pub fn table_at(document: &Table, place: Place) -> Option<&Table> {
 
 /// The value at a key of a table of the document.
 pub fn value_at<'a>(document: &'a Table, place: Place, key: &str) -> Option<&'a Value> {
-    match table_at(document, place) {
-        Some(table) => table.get(key),
-        None => None,
-    }
+    table_at(document, place)?.get(key)
 }
 
 /// The number at a key that was taken, or the least one.
@@ -45,7 +42,7 @@ pub fn number_at(table: &Table, key: &str, low: u32, high: u32) -> u32
     ensures { result ≤ high }
 {
     match table.get(key) {
-        Some(value) => number(value, low, high).unwrap_or(low),
+        Some(value) => Number(low, high).read::<Wide>(&[], value).unwrap_or(low),
         None => low,
     }
 }
@@ -53,7 +50,9 @@ pub fn number_at(table: &Table, key: &str, low: u32, high: u32) -> u32
 /// The profile of a document whose profile was taken.
 pub fn profile_of(document: &Table) -> ProfileName {
     match document.get("profile") {
-        Some(value) => profile(value).unwrap_or(ProfileName::Wide),
+        Some(value) => ProfileKind
+            .read::<Wide>(&[], value)
+            .unwrap_or(ProfileName::Wide),
         None => ProfileName::Wide,
     }
 }

@@ -1,8 +1,8 @@
 //! Expectations that no reply can meet.
-use crate::message::{Piece, say};
 use cap_core::limits::MAX_MESSAGE_WORDS;
 use setup_format::{Setup, read_setup};
 use std::alloc::{AllocError, Global};
+use std::fmt::Write;
 
 /// The replies that are one word, and the first word of a refusal.
 const WORDS: [&str; 5] = ["done", "waiting", "dropped", "empty", "refused"];
@@ -14,19 +14,8 @@ const REFUSALS: [&str; 13] = [
 
 /// The words of a reply that delivers a message; a number stands where a word is empty, and the words of the message
 /// behind them all.
-const DELIVERED: [&str; 11] = [
-    "delivered",
-    "",
-    "from",
-    "",
-    "to",
-    "",
-    "badge",
-    "",
-    "label",
-    "",
-    "words",
-];
+#[rattlefmt::skip]
+const DELIVERED: [&str; 11] = ["delivered", "", "from", "", "to", "", "badge", "", "label", "", "words"];
 
 /// Whether a text is among others.
 fn is_among(text: &str, others: &[&str]) -> bool {
@@ -75,31 +64,18 @@ fn say_unmet(message: &mut String, i: usize, expectation: &str) -> Result<(), Al
     if is_beginning(expectation) {
         return Ok(());
     }
-    say(
-        message,
-        &[
-            Piece::Text("call"),
-            Piece::Count(Some(i.saturating_add(1))),
-            Piece::Text(": no reply begins with "),
-            Piece::Quoted(expectation),
-            Piece::Text("\n"),
-        ],
-    )
-}
-
-fn say_all_unmet(message: &mut String, setup: &Setup) -> Result<(), AllocError> {
-    for i in 0..setup.calls().len() {
-        if let Some(expectation) = setup.expect(i) {
-            say_unmet(message, i, expectation)?;
-        }
-    }
-    Ok(())
+    let n = i.saturating_add(1);
+    write!(message, "call {n}: no reply begins with {expectation:?}\n")
 }
 
 /// The warnings on the calls of a set-up, each as a line.
 fn warnings_on(alloc: Global, setup: &Setup) -> Result<String, AllocError> {
     let mut message = String::new(alloc);
-    say_all_unmet(&mut message, setup)?;
+    for i in 0..setup.calls().len() {
+        if let Some(expectation) = setup.expect(i) {
+            say_unmet(&mut message, i, expectation)?;
+        }
+    }
     Ok(message)
 }
 

@@ -1,81 +1,48 @@
 //! Why a set-up cannot be laid out, in words.
-use crate::message::{Piece, say};
-use crate::regions::{Occupant, memory_size, overlapped, region_at};
+use crate::regions::{memory_size, overlapped, region_at};
 use boot_plan::PlanDefect;
 use std::alloc::AllocError;
+use std::fmt::Write;
 use toml::Table;
 
-/// An untyped region of a document by its place, 0 the first. In words they count from 1.
-#[derive(Clone, Copy)]
-struct Region<'a> {
-    document: &'a Table,
-    place: usize,
-}
-
-impl Region<'_> {
-    /// Which region is meant.
-    fn count(self) -> Piece<'static> {
-        Piece::Count(Some(self.place.saturating_add(1)))
-    }
-}
-
-/// Adds that a region's base is no multiple of its size.
-fn say_unaligned(message: &mut String, region: Region<'_>) -> Result<(), AllocError> {
-    let extent = region_at(region.document, region.place);
-    say(
+/// Adds that the base of a region is no multiple of its size. Regions are found by their place, 0 the first, and count
+/// from 1 in words.
+fn say_unaligned(message: &mut String, document: &Table, place: usize) -> Result<(), AllocError> {
+    let region = region_at(document, place);
+    let (n, base, size) = (
+        place.saturating_add(1),
+        region.start,
+        region.end.saturating_sub(region.start),
+    );
+    write!(
         message,
-        &[
-            Piece::Text("untyped"),
-            region.count(),
-            Piece::Text(": its base "),
-            Piece::Number(extent.start),
-            Piece::Text(" is no multiple of its size "),
-            Piece::Number(extent.end.saturating_sub(extent.start)),
-        ],
+        "untyped {n}: its base {base} is no multiple of its size {size}"
     )
 }
 
 /// Adds that a region ends past the memory.
-fn say_outside(message: &mut String, region: Region<'_>) -> Result<(), AllocError> {
-    say(
+fn say_outside(message: &mut String, document: &Table, place: usize) -> Result<(), AllocError> {
+    let (n, end, memory) = (
+        place.saturating_add(1),
+        region_at(document, place).end,
+        memory_size(document),
+    );
+    write!(
         message,
-        &[
-            Piece::Text("untyped"),
-            region.count(),
-            Piece::Text(": it ends at "),
-            Piece::Number(region_at(region.document, region.place).end),
-            Piece::Text(", and the memory at "),
-            Piece::Number(u128::from(memory_size(region.document))),
-        ],
+        "untyped {n}: it ends at {end}, and the memory at {memory}"
     )
 }
 
-/// What a region overlaps, in words.
-fn occupant_pieces(occupant: Option<Occupant>) -> [Piece<'static>; 4] {
-    let none = Piece::Text("");
-    match occupant {
-        Some(occupant) => occupant.pieces(),
-        None => [
-            Piece::Text("a boot object or an earlier region"),
-            none,
-            none,
-            none,
-        ],
-    }
-}
-
 /// Adds that a region overlaps something.
-fn say_overlap(message: &mut String, region: Region<'_>) -> Result<(), AllocError> {
-    let occupant = overlapped(region.document, region.place);
-    say(
-        message,
-        &[
-            Piece::Text("untyped"),
-            region.count(),
-            Piece::Text(": it overlaps "),
-        ],
-    )?;
-    say(message, &occupant_pieces(occupant))
+fn say_overlap(message: &mut String, document: &Table, place: usize) -> Result<(), AllocError> {
+    let n = place.saturating_add(1);
+    match overlapped(document, place) {
+        Some(occupant) => write!(message, "untyped {n}: it overlaps {occupant}"),
+        None => write!(
+            message,
+            "untyped {n}: it overlaps a boot object or an earlier region"
+        ),
+    }
 }
 
 /// Adds why a document cannot be laid out.
@@ -91,8 +58,8 @@ pub fn say_defect(
         PlanDefect::Slots => message.push_str(
             "the root CNode has too few slots for the capabilities of the boot; raise root_radix",
         ),
-        PlanDefect::Unaligned(place) => say_unaligned(message, Region { document, place }),
-        PlanDefect::UntypedOutside(place) => say_outside(message, Region { document, place }),
-        PlanDefect::Overlap(place) => say_overlap(message, Region { document, place }),
+        PlanDefect::Unaligned(place) => say_unaligned(message, document, place),
+        PlanDefect::UntypedOutside(place) => say_outside(message, document, place),
+        PlanDefect::Overlap(place) => say_overlap(message, document, place),
     }
 }

@@ -1,36 +1,14 @@
-//! Messages, which are written piece by piece.
+//! What messages are made of.
 use setup_format::Place;
-use std::alloc::AllocError;
-use std::fmt::{self, Write};
+use std::fmt;
 use toml::Value;
 
 /// The most bytes of a key or a value that are shown.
 pub const MAX_SHOWN_BYTES: usize = 60;
 
-/// A piece of a message.
-#[derive(Clone, Copy)]
-pub enum Piece<'a> {
-    /// A text as it is.
-    Text(&'a str),
-    /// A text of the set-up, in quotes.
-    Quoted(&'a str),
-    /// A key of the set-up, in quotes, and of a long one how long it is.
-    Key(&'a str),
-    /// A number.
-    Number(u128),
-    /// A number behind a space, where there is one.
-    Count(Option<usize>),
-    /// A table of the set-up.
-    Place(Place),
-    /// A value of the set-up.
-    Found(&'a Value),
-    /// What may have been meant, where something looks like it.
-    Near(Option<&'a str>),
-}
-
 /// A value that was found: a short text or a number as it is, how many elements an array has, and the type of any other.
 #[derive(Clone, Copy)]
-struct Found<'a>(&'a Value);
+pub struct Found<'a>(pub &'a Value);
 
 impl fmt::Display for Found<'_> {
     fn fmt<W: fmt::Write>(&self, f: &mut fmt::Formatter<W>) -> fmt::Result {
@@ -49,60 +27,66 @@ impl fmt::Display for Found<'_> {
     }
 }
 
-fn say_found(message: &mut String, value: &Value) -> Result<(), AllocError> {
-    let found = Found(value);
-    write!(message, "{found}")
-}
+/// A key of the set-up, in quotes, and of a long one how long it is.
+#[derive(Clone, Copy)]
+pub struct Quoted<'a>(pub &'a str);
 
-fn say_key(message: &mut String, key: &str) -> Result<(), AllocError> {
-    let length = key.len();
-    if length > MAX_SHOWN_BYTES {
-        return write!(message, "of {length} bytes");
-    }
-    write!(message, "{key:?}")
-}
-
-fn say_count(message: &mut String, count: Option<usize>) -> Result<(), AllocError> {
-    match count {
-        Some(count) => write!(message, " {count}"),
-        None => Ok(()),
+impl fmt::Display for Quoted<'_> {
+    fn fmt<W: fmt::Write>(&self, f: &mut fmt::Formatter<W>) -> fmt::Result {
+        let (key, length) = (self.0, self.0.len());
+        if length > MAX_SHOWN_BYTES {
+            return write!(f, "of {length} bytes");
+        }
+        write!(f, "{key:?}")
     }
 }
 
-fn say_near(message: &mut String, near: Option<&str>) -> Result<(), AllocError> {
-    match near {
-        Some(near) => write!(message, "; did you mean {near}?"),
-        None => Ok(()),
+/// What may have been meant, where something looks like it.
+#[derive(Clone, Copy)]
+pub struct Near<'a>(pub Option<&'a str>);
+
+impl fmt::Display for Near<'_> {
+    fn fmt<W: fmt::Write>(&self, f: &mut fmt::Formatter<W>) -> fmt::Result {
+        match self.0 {
+            Some(near) => write!(f, "; did you mean {near}?"),
+            None => Ok(()),
+        }
     }
 }
 
-fn say_piece(message: &mut String, piece: Piece<'_>) -> Result<(), AllocError> {
-    match piece {
-        Piece::Text(text) => message.push_str(text),
-        Piece::Quoted(text) => write!(message, "{text:?}"),
-        Piece::Key(key) => say_key(message, key),
-        Piece::Number(number) => write!(message, "{number}"),
-        Piece::Count(count) => say_count(message, count),
-        Piece::Place(place) => write!(message, "{place}"),
-        Piece::Found(value) => say_found(message, value),
-        Piece::Near(near) => say_near(message, near),
+/// Names, with a comma between.
+#[derive(Clone, Copy)]
+pub struct Listed<'a>(pub &'a [&'a str]);
+
+impl fmt::Display for Listed<'_> {
+    fn fmt<W: fmt::Write>(&self, f: &mut fmt::Formatter<W>) -> fmt::Result {
+        let mut separator = "";
+        for name in self.0 {
+            write!(f, "{separator}{name}")?;
+            separator = ", ";
+        }
+        Ok(())
     }
 }
 
-/// Adds pieces to a message.
-pub fn say(message: &mut String, pieces: &[Piece<'_>]) -> Result<(), AllocError> {
-    for piece in pieces {
-        say_piece(message, *piece)?;
-    }
-    Ok(())
+/// A key of a table of the document, or an element of the array there, 1 the first.
+#[derive(Clone, Copy)]
+pub struct Spot<'a> {
+    pub place: Place,
+    pub key: &'a str,
+    pub element: Option<usize>,
 }
 
-/// Adds names to a message, with a comma between.
-pub fn say_names(message: &mut String, names: &[&str]) -> Result<(), AllocError> {
-    let mut separator = "";
-    for name in names {
-        say(message, &[Piece::Text(separator), Piece::Text(name)])?;
-        separator = ", ";
+impl fmt::Display for Spot<'_> {
+    fn fmt<W: fmt::Write>(&self, f: &mut fmt::Formatter<W>) -> fmt::Result {
+        let Spot {
+            place,
+            key,
+            element,
+        } = *self;
+        match element {
+            Some(n) => write!(f, "{place}, key {key}, element {n}"),
+            None => write!(f, "{place}, key {key}"),
+        }
     }
-    Ok(())
 }

@@ -2,51 +2,38 @@
 use crate::message::MAX_SHOWN_BYTES;
 use std::alloc::{AllocError, Global};
 use strsim::osa_distance;
-use toml::Table;
 
 /// The most edits that lead from a name to one that looks like it.
 const MAX_EDITS: usize = 2;
 
-/// How many edits lead from what was found to a name. From a text that is not shown no few edits lead to any.
-fn edits(alloc: Global, found: &str, name: &str) -> Result<usize, AllocError> {
-    if found.len() > MAX_SHOWN_BYTES {
-        return Ok(MAX_SHOWN_BYTES);
-    }
-    osa_distance(alloc, found, name)
+/// The name that looks most like what was found, among those that were tried: none where no name looks like it.
+#[derive(Drop)]
+pub struct Nearest<'a> {
+    found: &'a str,
+    fewest: usize,
+    pub name: Option<&'a str>,
 }
 
-/// The one of some names that looks most like the one that was found, if one does.
-pub fn nearest<'a>(
-    alloc: Global,
-    found: &str,
-    names: &[&'a str],
-) -> Result<Option<&'a str>, AllocError> {
-    let mut best = None;
-    let mut fewest = MAX_EDITS + 1;
-    for name in names {
-        let edits = edits(alloc, found, name)?;
-        if edits < fewest {
-            fewest = edits;
-            best = Some(*name);
+impl<'a> Nearest<'a> {
+    /// Where no name was tried.
+    pub fn to(found: &'a str) -> Nearest<'a> {
+        Nearest {
+            found,
+            fewest: MAX_EDITS + 1,
+            name: None,
         }
     }
-    Ok(best)
-}
 
-/// The key of a table that looks most like the one that was found, if one does.
-pub fn nearest_key<'a>(
-    alloc: Global,
-    found: &str,
-    table: &'a Table,
-) -> Result<Option<&'a str>, AllocError> {
-    let mut best = None;
-    let mut fewest = MAX_EDITS + 1;
-    for (name, _) in table.iter() {
-        let edits = edits(alloc, found, name.as_str())?;
-        if edits < fewest {
-            fewest = edits;
-            best = Some(name.as_str());
+    /// Tries a name. Nothing looks like a text that is too long to be shown.
+    pub fn try_name(&mut self, alloc: Global, name: &'a str) -> Result<(), AllocError> {
+        if self.found.len() > MAX_SHOWN_BYTES {
+            return Ok(());
         }
+        let edits = osa_distance(alloc, self.found, name)?;
+        if edits < self.fewest {
+            self.fewest = edits;
+            self.name = Some(name);
+        }
+        Ok(())
     }
-    Ok(best)
 }

@@ -1,66 +1,57 @@
 //! Why a set-up is refused, in words.
-use crate::accepted::{FIRST_TOP_KEYS, Formats, TOP_KEYS, UNTYPED_KEYS, accepted_at};
+use crate::accepted::{Formats, accepted_at};
 use crate::document::{table_at, value_at};
 use crate::layouts::say_defect;
-use crate::message::{Piece, say, say_names};
-use crate::near::nearest;
-use crate::values::{Rejected, Spot, say_no_key, say_rejected};
+use crate::message::{Listed, Near, Quoted, Spot};
+use crate::near::Nearest;
+use crate::values::{Rejected, say_rejected};
+use cap_core::Wide;
+use setup_format::limits::{FIRST_FORMAT, NEWEST_FORMAT};
 use setup_format::{
-    Key, Place, SetupFault, Wrong, call_keys, read_document, read_first_format, read_table,
+    Key, Place, SetupFault, Wrong, read_document, read_first_format, read_table, top_keys,
+    untyped_keys,
 };
-use setup_values::kinds::op;
+use setup_values::kinds::{Kind, OpKind};
 use std::alloc::{AllocError, Global};
+use std::fmt::Write;
 use toml::{Table, Value};
 
 /// The keys that a table has.
 fn keys_at(table: &Table, place: Place) -> &'static [&'static str] {
     match place {
         Place::Top => match table.get("format") {
-            Some(Value::Integer(1)) => FIRST_TOP_KEYS.as_slice(),
-            _ => TOP_KEYS.as_slice(),
+            Some(Value::Integer(1)) => top_keys(FIRST_FORMAT),
+            _ => top_keys(NEWEST_FORMAT),
         },
-        Place::Untyped(_) => UNTYPED_KEYS.as_slice(),
-        Place::Call(_) => match table.get("op").map(op) {
-            Some(Ok(name)) => call_keys(name),
+        Place::Untyped(_) => untyped_keys(),
+        Place::Call(_) => match table.get("op").map(|op| OpKind.read::<Wide>(&[], op)) {
+            Some(Ok(op)) => op.keys(),
             _ => &[],
         },
     }
 }
 
-/// Adds a key that is none of the keys of its table, and the one that looks like it.
-fn say_no_such_key(
-    alloc: Global,
-    message: &mut String,
-    spot: Spot<'_>,
-    keys: &[&'static str],
-) -> Result<(), AllocError> {
-    let near = nearest(alloc, spot.key, keys)?;
-    say(
-        message,
-        &[
-            Piece::Place(spot.place),
-            Piece::Text(": there is no key "),
-            Piece::Key(spot.key),
-            Piece::Text("; the keys are "),
-        ],
-    )?;
-    say_names(message, keys)?;
-    say(message, &[Piece::Near(near)])
-}
-
-/// Adds why a key is unknown.
+/// Adds why a key is unknown: the keys of its table, and the one that looks like it.
 fn say_unknown(
     alloc: Global,
     message: &mut String,
     table: &Table,
-    spot: Spot<'_>,
+    place: Place,
+    key: &str,
 ) -> Result<(), AllocError> {
-    match (spot.place, spot.key) {
-        (Place::Top, "names") => message.push_str(
-            "top: names are a key of format 2, and this set-up has format 1",
-        ),
-        _ => say_no_such_key(alloc, message, spot, keys_at(table, spot.place)),
+    if let (Place::Top, "names") = (place, key) {
+        return message.push_str("top: names are a key of format 2, and this set-up has format 1");
     }
+    let names = keys_at(table, place);
+    let mut near = Nearest::to(key);
+    for name in names {
+        near.try_name(alloc, *name)?;
+    }
+    let (key, keys, near) = (Quoted(key), Listed(names), Near(near.name));
+    write!(
+        message,
+        "{place}: there is no key {key}; the keys are {keys}{near}"
+    )
 }
 
 /// Adds why a known key is not as it should be.
@@ -83,7 +74,17 @@ fn say_known(
                 accepted,
             },
         ),
-        None => say_no_key(message, spot, accepted),
+        None => write!(
+            message,
+            "{spot}: the key is missing; it has to be {accepted}"
+        ),
+    }
+}
+
+fn key_text(key: &Key) -> &str {
+    match key {
+        Key::Known(key) => key,
+        Key::Found(key) => key.as_str(),
     }
 }
 
@@ -93,19 +94,22 @@ fn say_key(
     message: &mut String,
     document: &Table,
     formats: Formats,
-    wrong: Wrong,
-    spot: Spot<'_>,
+    fault: (Wrong, Place, &str),
 ) -> Result<(), AllocError> {
-    match (wrong, table_at(document, spot.place)) {
-        (Wrong::Unknown, Some(table)) => say_unknown(alloc, message, table, spot),
-        _ => say_known(alloc, message, document, formats, spot),
-    }
-}
-
-fn key_text(key: &Key) -> &str {
-    match key {
-        Key::Known(key) => key,
-        Key::Found(key) => key.as_str(),
+    let (wrong, place, key) = fault;
+    match (wrong, table_at(document, place)) {
+        (Wrong::Unknown, Some(table)) => say_unknown(alloc, message, table, place, key),
+        _ => say_known(
+            alloc,
+            message,
+            document,
+            formats,
+            Spot {
+                place,
+                key,
+                element: None,
+            },
+        ),
     }
 }
 
@@ -123,8 +127,7 @@ fn say_fault(
             message,
             document,
             formats,
-            *wrong,
-            Spot::new(*place, key_text(key)),
+            (*wrong, *place, key_text(key)),
         ),
         SetupFault::Layout(defect) => say_defect(message, document, *defect),
         // The document is the table of a text.

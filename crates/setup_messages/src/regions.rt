@@ -4,14 +4,14 @@ ghost use Rattle.std.specs.Prelude.{◌≤◌};
 ghost use Rattle.cap_core.specs.Numbers.{tcb_bits};
 
 use crate::document::{elements_at, number_at, profile_of};
-use crate::message::Piece;
 use abstract_kernel::plan::Extent;
 use cap_core::limits::{
     MAX_BOOT_ENDPOINTS, MAX_BOOT_THREADS, MAX_MEMORY_BITS, MAX_ROOT_RADIX, MIN_BOOT_THREADS,
     MIN_MEMORY_BITS, MIN_ROOT_RADIX,
 };
 use cap_core::{Narrow, Profile, ProfileName, Wide};
-use setup_values::kinds::word;
+use setup_values::kinds::{Kind, Word};
+use std::fmt;
 use toml::{Table, Value};
 
 /// A boot object or an untyped region, and its first address. Threads and endpoints count from 0, and untyped regions
@@ -23,15 +23,13 @@ pub struct Occupant {
     base: u128,
 }
 
-impl Occupant {
-    /// What it is and where it stands.
-    pub fn pieces(&self) -> [Piece<'static>; 4] {
-        [
-            Piece::Text(self.name),
-            Piece::Count(self.number),
-            Piece::Text(" at "),
-            Piece::Number(self.base),
-        ]
+impl fmt::Display for Occupant {
+    fn fmt<W: fmt::Write>(&self, f: &mut fmt::Formatter<W>) -> fmt::Result {
+        let Occupant { name, number, base } = *self;
+        match number {
+            Some(number) => write!(f, "{name} {number} at {base}"),
+            None => write!(f, "{name} at {base}"),
+        }
     }
 }
 
@@ -131,7 +129,7 @@ fn overlapped_object(document: &Table, region: Extent) -> Option<Occupant> {
 /// The base of a table of the array `untyped`.
 fn base_in(table: &Table) -> u64 {
     match table.get("base") {
-        Some(value) => word::<Wide>(&[], value).unwrap_or(0),
+        Some(value) => Word.read::<Wide>(&[], value).unwrap_or(0),
         None => 0,
     }
 }
@@ -177,10 +175,7 @@ pub fn memory_size(document: &Table) -> u64 {
 pub fn overlapped(document: &Table, place: usize) -> Option<Occupant> {
     let region = region_at(document, place);
     match overlapped_object(document, region) {
-        None => match elements_at(document, "untyped").get(..place) {
-            Some(earlier) => overlapped_region(earlier, region),
-            None => None,
-        },
+        None => overlapped_region(elements_at(document, "untyped").get(..place)?, region),
         object => object,
     }
 }

@@ -11,13 +11,13 @@ use Rattle.cap_core.specs.Checks.{◌>>=◌}
 use Rattle.cap_core.specs.Numbers.{word_bits, label_bits}
 use Rattle.cap_core.specs.Rights.{all_rights}
 use Rattle.setup_values.specs.declared.limits.TheConstants.{MAX_EXPECT_BYTES, MAX_NAME_BYTES}
-use Rattle.setup_values.specs.declared.values.OpName.{OpName}
-use Rattle.setup_values.specs.declared.values.OpName.TheVariants.{Retype, CapCopy, CapMint, CapMove, CapMutate, CapDelete, CapRevoke, CancelBadged, Send, NbSend, Recv, NbRecv, SetSpace, Suspend, Resume}
+use Rattle.setup_values.specs.declared.operations.OpName.{OpName}
 use Rattle.setup_values.specs.declared.values.Words.{Words}
 use Rattle.setup_values.specs.declared.values.Wrong.{Wrong}
 use Rattle.setup_values.specs.declared.values.Wrong.TheVariants.{Unknown, Missing, OtherType, OtherValue}
 use Rattle.setup_values.specs.Names.{Names, word_named}
 use Rattle.setup_values.specs.Keys.{entries_of, least}
+use Rattle.setup_values.specs.Operations.{op_named}
 
 -- ---- the number of what is wrong with a value or at its key
 
@@ -77,9 +77,9 @@ abbrev pub spelt : Names → List ℕ → Option ℕ
 spelt names [] = hexadecimal []
 spelt names (c ∷ cs) = if c == 64 then word_named names cs else hexadecimal (c ∷ cs)
 
-abbrev pub or_other : Option ℕ → Result ℕ Wrong
+abbrev pub or_other : {A : Type 0} → Option A → Result A Wrong
 or_other None = Err OtherValue
-or_other (Some n) = Ok n
+or_other (Some x) = Ok x
 
 abbrev pub natural_in : Names → Option ℤ → Option (List ℕ) → Result ℕ Wrong
 natural_in names (Some (pos n)) text = Ok n
@@ -179,43 +179,10 @@ profile_in (Some t) =
 abbrev pub profile : Data → Result ProfileName Wrong
 profile d = profile_in (as_str d)
 
--- op: a text that names an operation, on slots, on an endpoint or on a thread
-abbrev pub slot_op : List ℕ → Option OpName
-slot_op t =
-    if bytes_eq t (codes "retype") then Some Retype
-    else if bytes_eq t (codes "copy") then Some CapCopy
-    else if bytes_eq t (codes "mint") then Some CapMint
-    else if bytes_eq t (codes "move") then Some CapMove
-    else if bytes_eq t (codes "mutate") then Some CapMutate
-    else if bytes_eq t (codes "delete") then Some CapDelete
-    else if bytes_eq t (codes "revoke") then Some CapRevoke
-    else if bytes_eq t (codes "cancel_badged") then Some CancelBadged
-    else None
-
-abbrev pub endpoint_op : List ℕ → Option OpName
-endpoint_op t =
-    if bytes_eq t (codes "send") then Some Send
-    else if bytes_eq t (codes "nbsend") then Some NbSend
-    else if bytes_eq t (codes "recv") then Some Recv
-    else if bytes_eq t (codes "nbrecv") then Some NbRecv
-    else None
-
-abbrev pub thread_op : List ℕ → Option OpName
-thread_op t =
-    if bytes_eq t (codes "set_space") then Some SetSpace
-    else if bytes_eq t (codes "suspend") then Some Suspend
-    else if bytes_eq t (codes "resume") then Some Resume
-    else None
-
-abbrev pub one_op : Option OpName → Option OpName → Option OpName → Result OpName Wrong
-one_op (Some op) endpoint thread = Ok op
-one_op None (Some op) thread = Ok op
-one_op None None (Some op) = Ok op
-one_op None None None = Err OtherValue
-
+-- op: a text that names an operation
 abbrev pub op_in : Option (List ℕ) → Result OpName Wrong
 op_in None = Err OtherType
-op_in (Some t) = one_op (slot_op t) (endpoint_op t) (thread_op t)
+op_in (Some t) = or_other (op_named t)
 
 abbrev pub op : Data → Result OpName Wrong
 op d = op_in (as_str d)

@@ -1,4 +1,5 @@
 -- What the values of a set-up's keys are read as.
 pub mod Names
 pub mod Keys
+pub mod Operations
 pub mod Kinds

@@ -10,24 +10,58 @@ ghost use Rattle.setup_values.specs.Kinds as kind;
 
 use crate::limits::MAX_EXPECT_BYTES;
 use crate::names::{Name, is_name, word_of};
-use crate::values::{OpName, Words, Wrong};
+use crate::operations::OpName;
+use crate::values::{Words, Wrong};
 use cap_core::limits::MAX_MESSAGE_WORDS;
 use cap_core::{Profile, ProfileName, Rights};
 use toml::{Table, Value};
 
-/// An integer from `low` to `high`.
-pub fn number(value: &Value, low: u32, high: u32) -> Result<u32, Wrong>
-    ensures number { result ≡ kind.number low high (view value.now) }
-    ensures within { IfOk result (λ n. (low ≤ n) × (n ≤ high)) }
-{
-    match value.as_integer() {
-        None => Err(Wrong::OtherType),
-        Some(n) => {
-            if n < i64::from(low) || n > i64::from(high) {
-                Err(Wrong::OtherValue)
-            } else {
-                Ok(n as u32)
-            }
+/// A kind of value: which values a key accepts, and what each is read as, by a profile and the names of a set-up.
+pub trait Kind {
+    ghost use Rattle.std.specs.Prelude.{Result};
+    ghost use Rattle.toml.specs.Data.{Data};
+    ghost use Rattle.cap_core.specs.declared.profile.ProfileName.{ProfileName};
+    ghost use Rattle.setup_values.specs.Names.{Names};
+    ghost use Rattle.setup_values.specs.declared.values.Wrong.{Wrong};
+
+    /// What a value is read as.
+    type Out: Copy;
+
+    /// What each value is read as, or what is wrong with it.
+    ghost means: { Self → ProfileName → Names → Data → Result Self.Out Wrong };
+
+    /// What is so of all that is read.
+    ghost holds: { Self → Self.Out → Type 0 } = { λ _ _. Unit {0} };
+
+    /// Reads a value.
+    ///
+    /// # Errors
+    ///
+    /// `OtherType` or `OtherValue` where the kind does not accept it.
+    fn read<P: Profile>(&self, names: &[Name], value: &Value) -> Result<Self::Out, Wrong>
+        ensures means { result ≡ means self.now P.the (names_view names.now) (view value.now) }
+        ensures holds { IfOk result (holds self.now) };
+}
+
+/// An integer from the first to the second.
+#[derive(Clone, Copy)]
+pub struct Number(pub u32, pub u32);
+
+impl Kind for Number {
+    ghost use Rattle.setup_values.specs.Kinds.{number};
+
+    type Out = u32;
+
+    ghost means = { λ k _ _. number k.0 k.1 };
+
+    ghost holds = { λ k n. (k.0 ≤ n) × (n ≤ k.1) };
+
+    fn read<P: Profile>(&self, _names: &[Name], value: &Value) -> Result<u32, Wrong> {
+        let n = value.as_integer().ok_or(Wrong::OtherType)?;
+        if n < i64::from(self.0) || n > i64::from(self.1) {
+            Err(Wrong::OtherValue)
+        } else {
+            Ok(n as u32)
         }
     }
 }
@@ -101,36 +135,64 @@ fn is_word<P: Profile>(number: u64) -> bool
     number <= u64::MAX >> (u64::BITS - P::WORD_BITS)
 }
 
-/// A number that fits a word: an integer, a text `0x` and 1 to 16 hexadecimal digits, or a text `@` and a name.
-pub fn word<P: Profile>(names: &[Name], value: &Value) -> Result<u64, Wrong>
-    ensures { result ≡ kind.word P.the (names_view names.now) (view value.now) }
-{
-    let number = natural(names, value)?;
-    if is_word::<P>(number) {
-        Ok(number)
-    } else {
-        Err(Wrong::OtherValue)
+/// A number that fits a word: an integer, a text `0x` and 1 to 16 hexadecimal digits, or a text `@` and one of the names.
+#[derive(Clone, Copy)]
+pub struct Word;
+
+impl Kind for Word {
+    ghost use Rattle.setup_values.specs.Kinds.{word};
+
+    type Out = u64;
+
+    ghost means = { λ _ p names. word p names };
+
+    fn read<P: Profile>(&self, names: &[Name], value: &Value) -> Result<u64, Wrong> {
+        let number = natural(names, value)?;
+        if is_word::<P>(number) {
+            Ok(number)
+        } else {
+            Err(Wrong::OtherValue)
+        }
     }
 }
 
 /// A word that fits a label. It takes no name.
-pub fn label<P: Profile>(value: &Value) -> Result<u64, Wrong>
-    ensures { result ≡ kind.label P.the (view value.now) }
-{
-    let number = word::<P>(&[], value)?;
-    if number < 1 << P::LABEL_BITS {
-        Ok(number)
-    } else {
-        Err(Wrong::OtherValue)
+#[derive(Clone, Copy)]
+pub struct Label;
+
+impl Kind for Label {
+    ghost use Rattle.setup_values.specs.Kinds.{label};
+
+    type Out = u64;
+
+    ghost means = { λ _ p _. label p };
+
+    fn read<P: Profile>(&self, _names: &[Name], value: &Value) -> Result<u64, Wrong> {
+        let number = Word.read::<P>(&[], value)?;
+        if number < 1 << P::LABEL_BITS {
+            Ok(number)
+        } else {
+            Err(Wrong::OtherValue)
+        }
     }
 }
 
 /// The rights that a number from 0 to that of all rights stands for.
-pub fn rights(value: &Value) -> Result<Rights, Wrong>
-    ensures { result ≡ kind.rights (view value.now) }
-{
-    let number = number(value, 0, u32::from(Rights::ALL.0))?;
-    Ok(Rights(number as u8))
+#[derive(Clone, Copy)]
+pub struct RightsKind;
+
+impl Kind for RightsKind {
+    ghost use Rattle.setup_values.specs.Kinds.{rights};
+    ghost use Rattle.cap_core.specs.declared.rights.Rights.{Rights};
+
+    type Out = Rights;
+
+    ghost means = { λ _ _ _. rights };
+
+    fn read<P: Profile>(&self, names: &[Name], value: &Value) -> Result<Rights, Wrong> {
+        let number = Number(0, u32::from(Rights::ALL.0)).read::<P>(names, value)?;
+        Ok(Rights(number as u8))
+    }
 }
 
 /// The elements of an array of `low` to `high` elements.
@@ -153,18 +215,28 @@ pub fn array(value: &Value, low: usize, high: usize) -> Result<&[Value], Wrong>
 }
 
 /// An array of no more words than a message has. The other words are 0.
-pub fn words<P: Profile>(names: &[Name], value: &Value) -> Result<Words, Wrong>
-    ensures { result ≡ kind.words P.the (names_view names.now) (view value.now) }
-{
-    let elements = array(value, 0, MAX_MESSAGE_WORDS)?;
-    let mut words = [0; MAX_MESSAGE_WORDS];
-    for (i, element) in elements.iter().enumerate() {
-        words[i] = word::<P>(names, element)?;
+#[derive(Clone, Copy)]
+pub struct WordsKind;
+
+impl Kind for WordsKind {
+    ghost use Rattle.setup_values.specs.Kinds.{words};
+    ghost use Rattle.setup_values.specs.declared.values.Words.{Words};
+
+    type Out = Words;
+
+    ghost means = { λ _ p names. words p names };
+
+    fn read<P: Profile>(&self, names: &[Name], value: &Value) -> Result<Words, Wrong> {
+        let elements = array(value, 0, MAX_MESSAGE_WORDS)?;
+        let mut words = [0; MAX_MESSAGE_WORDS];
+        for (i, element) in elements.iter().enumerate() {
+            words[i] = Word.read::<P>(names, element)?;
+        }
+        Ok(Words {
+            words,
+            count: elements.len() as u32,
+        })
     }
-    Ok(Words {
-        words,
-        count: elements.len() as u32,
-    })
 }
 
 /// A table.
@@ -181,7 +253,7 @@ pub fn named_word<P: Profile>(name: &str, value: &Value) -> Result<u64, Wrong>
     if !is_name(name.as_bytes()) {
         return Err(Wrong::OtherValue);
     }
-    word::<P>(&[], value)
+    Word.read::<P>(&[], value)
 }
 
 fn is_shown(text: &[u8]) -> bool
@@ -203,72 +275,42 @@ pub fn expect(value: &Value) -> Result<&str, Wrong>
     Ok(text)
 }
 
-/// The profile that a text names.
-pub fn profile(value: &Value) -> Result<ProfileName, Wrong>
-    ensures { result ≡ kind.profile (view value.now) }
-{
-    match value.as_str() {
-        None => Err(Wrong::OtherType),
-        Some("wide") => Ok(ProfileName::Wide),
-        Some("narrow") => Ok(ProfileName::Narrow),
-        Some(_) => Err(Wrong::OtherValue),
-    }
-}
+/// A text that names a profile.
+#[derive(Clone, Copy)]
+pub struct ProfileKind;
 
-/// The operation on slots that a text names.
-fn slot_op(text: &str) -> Option<OpName>
-    ensures { result ≡ kind.slot_op text.now }
-{
-    match text {
-        "retype" => Some(OpName::Retype),
-        "copy" => Some(OpName::CapCopy),
-        "mint" => Some(OpName::CapMint),
-        "move" => Some(OpName::CapMove),
-        "mutate" => Some(OpName::CapMutate),
-        "delete" => Some(OpName::CapDelete),
-        "revoke" => Some(OpName::CapRevoke),
-        "cancel_badged" => Some(OpName::CancelBadged),
-        _ => None,
-    }
-}
+impl Kind for ProfileKind {
+    ghost use Rattle.setup_values.specs.Kinds.{profile};
+    ghost use Rattle.cap_core.specs.declared.profile.ProfileName.{ProfileName};
 
-/// The operation on an endpoint that a text names.
-fn endpoint_op(text: &str) -> Option<OpName>
-    ensures { result ≡ kind.endpoint_op text.now }
-{
-    match text {
-        "send" => Some(OpName::Send),
-        "nbsend" => Some(OpName::NbSend),
-        "recv" => Some(OpName::Recv),
-        "nbrecv" => Some(OpName::NbRecv),
-        _ => None,
-    }
-}
+    type Out = ProfileName;
 
-/// The operation on a thread that a text names.
-fn thread_op(text: &str) -> Option<OpName>
-    ensures { result ≡ kind.thread_op text.now }
-{
-    match text {
-        "set_space" => Some(OpName::SetSpace),
-        "suspend" => Some(OpName::Suspend),
-        "resume" => Some(OpName::Resume),
-        _ => None,
+    ghost means = { λ _ _ _. profile };
+
+    fn read<P: Profile>(&self, _names: &[Name], value: &Value) -> Result<ProfileName, Wrong> {
+        match value.as_str() {
+            None => Err(Wrong::OtherType),
+            Some("wide") => Ok(ProfileName::Wide),
+            Some("narrow") => Ok(ProfileName::Narrow),
+            Some(_) => Err(Wrong::OtherValue),
+        }
     }
 }
 
 /// A text that names an operation.
-pub fn op(value: &Value) -> Result<OpName, Wrong>
-    ensures { result ≡ kind.op (view value.now) }
-{
-    let Some(text) = value.as_str() else {
-        return Err(Wrong::OtherType);
-    };
-    if let Some(op) = slot_op(text) {
-        return Ok(op);
+#[derive(Clone, Copy)]
+pub struct OpKind;
+
+impl Kind for OpKind {
+    ghost use Rattle.setup_values.specs.Kinds.{op};
+    ghost use Rattle.setup_values.specs.declared.operations.OpName.{OpName};
+
+    type Out = OpName;
+
+    ghost means = { λ _ _ _. op };
+
+    fn read<P: Profile>(&self, _names: &[Name], value: &Value) -> Result<OpName, Wrong> {
+        let text = value.as_str().ok_or(Wrong::OtherType)?;
+        OpName::named(text).ok_or(Wrong::OtherValue)
     }
-    if let Some(op) = endpoint_op(text) {
-        return Ok(op);
-    }
-    thread_op(text).ok_or(Wrong::OtherValue)
 }

@@ -6,8 +6,11 @@ mod depth;
 pub mod kinds;
 pub mod limits;
 pub mod names;
+pub mod operations;
 pub mod values;
 
 pub use depth::table_is_within;
+pub use kinds::Kind;
 pub use names::Name;
-pub use values::{OpName, Words, Wrong};
+pub use operations::OpName;
+pub use values::{Words, Wrong};

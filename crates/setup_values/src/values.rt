@@ -32,29 +32,24 @@ impl Wrong {
     }
 }
 
-/// The name of an operation.
-#[derive(Clone, Copy)]
-pub enum OpName {
-    Retype,
-    CapCopy,
-    CapMint,
-    CapMove,
-    CapMutate,
-    CapDelete,
-    CapRevoke,
-    CancelBadged,
-    Send,
-    NbSend,
-    Recv,
-    NbRecv,
-    SetSpace,
-    Suspend,
-    Resume,
-}
-
 /// The words of a message: the first `count` of `words`. The others are 0.
 #[derive(Clone, Copy)]
 pub struct Words {
     pub words: [u64; MAX_MESSAGE_WORDS],
     pub count: u32,
+}
+
+impl Words {
+    ghost use Rattle.std.specs.Prelude.{[]};
+    ghost use Rattle.setup_values.specs.Kinds.{filled};
+
+    /// No words.
+    pub fn none() -> Words
+        ensures { result ≡ filled [] }
+    {
+        Words {
+            words: [0; MAX_MESSAGE_WORDS],
+            count: 0,
+        }
+    }
 }

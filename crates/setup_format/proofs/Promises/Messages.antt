@@ -18,8 +18,8 @@ use Rattle.setup_format.specs.declared.fault.Place.{Place}
 use Rattle.setup_format.specs.declared.fault.Place.TheVariants as places
 use Rattle.setup_format.specs.declared.fault.SetupFault.{SetupFault}
 use Rattle.setup_format.specs.declared.fault.SetupFault.TheVariants as faults
-use Rattle.setup_values.specs.declared.values.OpName.{OpName}
-use Rattle.setup_values.specs.declared.values.OpName.TheVariants as op_names
+use Rattle.setup_values.specs.declared.operations.OpName.{OpName}
+use Rattle.setup_values.specs.declared.operations.OpName.TheVariants as op_names
 use Rattle.setup_format.specs.declared.setup.Sizes.{Sizes}
 use Rattle.setup_values.specs.declared.values.Words.{Words}
 use Rattle.setup_values.specs.Names.{Names}
@@ -27,11 +27,12 @@ use Rattle.setup_format.specs.declared.limits.TheConstants.{NEWEST_FORMAT}
 use Rattle.setup_format.specs.Views.{SetupView}
 use Rattle.setup_format.specs.Faults.{Fault, text, at, layout, Gives}
 use Rattle.cap_core.specs.Checks.{◌>>=◌}
-use Rattle.setup_values.specs.Kinds.{below, number, word, rights, label, each, array_in, item_list, words, filled}
+use Rattle.setup_values.specs.Kinds.{below, number, word, rights, label, each, array_in, item_list, words, filled, expect, op}
+use Rattle.setup_values.specs.Operations.{call_keys}
 use Rattle.setup_format.specs.Tables.{at_key, needed, given_or, required, optional, known_only, least_unknown, no_unknown}
 use Rattle.setup_format.specs.Messages.{IsMessage, SendsMessage, HasMessage}
-use Rattle.setup_format.specs.Operations.{retype_at, slots_at, copy_at, mint_at, move_at, mutate_at, delete_at, revoke_at, cancel_badged_at, message_at, send_at, nb_send_at, recv_at, nb_recv_at, set_space_at, suspend_at, resume_at, operation_at}
-use Rattle.setup_format.specs.Setups.{top_keys, untyped_keys, untyped_at, call_at, sizes_of, planned_with, laid_out, laid_out_unless, setup_with, setup_at, setup_up_to, setup_of}
+use Rattle.setup_format.specs.Operations.{word_at, word_or, retype_at, slots_at, rights_at, copy_at, mint_at, move_at, mutate_at, slot_at, message_at, set_space_at, operation_at}
+use Rattle.setup_format.specs.Setups.{top_keys, untyped_keys, untyped_at, call_at, sizes_at, planned_with, laid_out, laid_out_unless, setup_with, setup_at, setup_up_to, setup_of}
 
 -- a fact holds of what is read, and there is no fault of the text
 abbrev Reads : {A : Type 0} → (A → Type 0) → Result A Fault → Type 0
@@ -126,150 +127,99 @@ words_filled p names d =
     (λ ds le. weaker_ok (λ ws. length ws ≡ length ds) (λ ws. length ws ≤ MAX_MESSAGE_WORDS) (each (λ _. word p names) 0 ds) (each_as_long (λ _. word p names) 0 ds) (λ ws e. omega (arith, e))))
     filled_is
 
--- ---- calls
+-- ---- operations
 
-reads_message : (p : ProfileName) (names : Names) (place : Place) (table : Members) → Reads (IsMessage p) (message_at p names place table)
-unfolding message_at
-reads_message p names place table =
-    then_reads (λ n. n < 2 ^ label_bits p) (IsMessage p) (optional place table (codes "label") 0 (label p)) _
-    (reads_optional (λ n. n < 2 ^ label_bits p) place table (codes "label") 0 (label p) (pow_pos (label_bits p)) (label_within p))
-    (λ l within. then_reads IsFilled (IsMessage p) (optional place table (codes "words") (filled []) (words p names)) _
-    (reads_optional IsFilled place table (codes "words") (filled []) (words p names) (filled_is [] (omega arith)) (words_filled p names))
-    (λ w is. record { label_within = within; count_most = is.count_most; zeros = is.zeros }))
+module _ (p : ProfileName) (names : Names) (place : Place) (table : Members) where
+  word_given : (key : List ℕ) → Reads Anything (word_at p names place table key)
+  word_given key = reads_required place table key (word p names)
 
-reads_send : (p : ProfileName) (names : Names) (place : Place) (table : Members) → Reads (SendsMessage p) (send_at p names place table)
-unfolding send_at
-reads_send p names place table =
-    then_reads Anything (SendsMessage p) (required place table (codes "cap") (word p names)) _ (reads_required place table (codes "cap") (word p names))
-    (λ cap _. then_reads (IsMessage p) (SendsMessage p) (message_at p names place table) _ (reads_message p names place table) (λ message is. is))
+  word_or_default : (key : List ℕ) (default : ℕ) → Reads Anything (word_or p names place table key default)
+  word_or_default key default = reads_any place table key default (word p names)
 
-reads_nb_send : (p : ProfileName) (names : Names) (place : Place) (table : Members) → Reads (SendsMessage p) (nb_send_at p names place table)
-unfolding nb_send_at
-reads_nb_send p names place table =
-    then_reads Anything (SendsMessage p) (required place table (codes "cap") (word p names)) _ (reads_required place table (codes "cap") (word p names))
-    (λ cap _. then_reads (IsMessage p) (SendsMessage p) (message_at p names place table) _ (reads_message p names place table) (λ message is. is))
+  -- what follows on any word
+  on : {A B : Type 0} (Q : B → Type 0) (r : Result A Fault) (f : A → Result B Fault) → Reads Anything r → ((x : A) → Reads Q (f x)) → Reads Q (r >>= f)
+  on Q r f h more = then_reads Anything Q r f h (λ x _. more x)
 
-reads_recv : (p : ProfileName) (names : Names) (place : Place) (table : Members) → Reads (SendsMessage p) (recv_at p names place table)
-unfolding recv_at
-reads_recv p names place table =
-    then_reads Anything (SendsMessage p) (required place table (codes "cap") (word p names)) _ (reads_required place table (codes "cap") (word p names)) (λ cap _. tt)
+  reads_retype : Reads (SendsMessage p) (retype_at p names place table)
+  unfolding retype_at
+  reads_retype =
+      on (SendsMessage p) _ _ (word_given (codes "cap")) (λ cap. on (SendsMessage p) _ _ (word_given (codes "kind")) (λ kind. on (SendsMessage p) _ _ (word_or_default (codes "size_bits") 0) (λ size_bits.
+      on (SendsMessage p) _ _ (word_given (codes "root")) (λ root. on (SendsMessage p) _ _ (word_or_default (codes "index") 0) (λ index. on (SendsMessage p) _ _ (word_or_default (codes "depth") 0) (λ depth.
+      on (SendsMessage p) _ _ (word_given (codes "offset")) (λ offset. on (SendsMessage p) _ _ (word_given (codes "count")) (λ count. tt))))))))
 
-reads_nb_recv : (p : ProfileName) (names : Names) (place : Place) (table : Members) → Reads (SendsMessage p) (nb_recv_at p names place table)
-unfolding nb_recv_at
-reads_nb_recv p names place table =
-    then_reads Anything (SendsMessage p) (required place table (codes "cap") (word p names)) _ (reads_required place table (codes "cap") (word p names)) (λ cap _. tt)
+  reads_slots : Reads Anything (slots_at p names place table)
+  unfolding slots_at
+  reads_slots =
+      on Anything _ _ (word_given (codes "cap")) (λ cap. on Anything _ _ (word_given (codes "index")) (λ index. on Anything _ _ (word_or_default (codes "depth") (word_bits p)) (λ depth.
+      on Anything _ _ (word_or_default (codes "src_root") cap) (λ src_root. on Anything _ _ (word_given (codes "src_index")) (λ src_index.
+      on Anything _ _ (word_or_default (codes "src_depth") (word_bits p)) (λ src_depth. tt))))))
 
--- operations that send nothing
-reads_retype : (p : ProfileName) (names : Names) (place : Place) (table : Members) → Reads (SendsMessage p) (retype_at p names place table)
-unfolding retype_at
-reads_retype p names place table =
-    then_reads Anything (SendsMessage p) _ _ (reads_required place table (codes "cap") (word p names))
-    (λ cap _. then_reads Anything (SendsMessage p) _ _ (reads_required place table (codes "kind") (word p names))
-    (λ kind _. then_reads Anything (SendsMessage p) _ _ (reads_any place table (codes "size_bits") 0 (word p names))
-    (λ size_bits _. then_reads Anything (SendsMessage p) _ _ (reads_required place table (codes "root") (word p names))
-    (λ root _. then_reads Anything (SendsMessage p) _ _ (reads_any place table (codes "index") 0 (word p names))
-    (λ index _. then_reads Anything (SendsMessage p) _ _ (reads_any place table (codes "depth") 0 (word p names))
-    (λ depth _. then_reads Anything (SendsMessage p) _ _ (reads_required place table (codes "offset") (word p names))
-    (λ offset _. then_reads Anything (SendsMessage p) _ _ (reads_required place table (codes "count") (word p names)) (λ count _. tt))))))))
+  reads_rights : Reads Anything (rights_at p names place table)
+  reads_rights = reads_any place table (codes "rights") all_rights rights
 
-reads_slots : (p : ProfileName) (names : Names) (place : Place) (table : Members) → Reads Anything (slots_at p names place table)
-unfolding slots_at
-reads_slots p names place table =
-    then_reads Anything Anything _ _ (reads_required place table (codes "cap") (word p names))
-    (λ cap _. then_reads Anything Anything _ _ (reads_required place table (codes "index") (word p names))
-    (λ index _. then_reads Anything Anything _ _ (reads_any place table (codes "depth") (word_bits p) (word p names))
-    (λ depth _. then_reads Anything Anything _ _ (reads_any place table (codes "src_root") cap (word p names))
-    (λ src_root _. then_reads Anything Anything _ _ (reads_required place table (codes "src_index") (word p names))
-    (λ src_index _. then_reads Anything Anything _ _ (reads_any place table (codes "src_depth") (word_bits p) (word p names)) (λ src_depth _. tt))))))
+  reads_copy : Reads (SendsMessage p) (copy_at p names place table)
+  unfolding copy_at
+  reads_copy = on (SendsMessage p) _ _ reads_slots (λ w. on (SendsMessage p) _ _ reads_rights (λ given. tt))
 
-reads_copy : (p : ProfileName) (names : Names) (place : Place) (table : Members) → Reads (SendsMessage p) (copy_at p names place table)
-unfolding copy_at
-reads_copy p names place table =
-    then_reads Anything (SendsMessage p) _ _ (reads_slots p names place table)
-    (λ w _. then_reads Anything (SendsMessage p) _ _ (reads_any place table (codes "rights") all_rights rights) (λ given _. tt))
+  reads_mint : Reads (SendsMessage p) (mint_at p names place table)
+  unfolding mint_at
+  reads_mint =
+      on (SendsMessage p) _ _ reads_slots (λ w. on (SendsMessage p) _ _ reads_rights (λ given. on (SendsMessage p) _ _ (word_given (codes "word")) (λ value. tt)))
 
-reads_mint : (p : ProfileName) (names : Names) (place : Place) (table : Members) → Reads (SendsMessage p) (mint_at p names place table)
-unfolding mint_at
-reads_mint p names place table =
-    then_reads Anything (SendsMessage p) _ _ (reads_slots p names place table)
-    (λ w _. then_reads Anything (SendsMessage p) _ _ (reads_any place table (codes "rights") all_rights rights)
-    (λ given _. then_reads Anything (SendsMessage p) _ _ (reads_required place table (codes "word") (word p names)) (λ value _. tt)))
+  reads_move : Reads (SendsMessage p) (move_at p names place table)
+  unfolding move_at
+  reads_move = on (SendsMessage p) _ _ reads_slots (λ w. tt)
 
-reads_move : (p : ProfileName) (names : Names) (place : Place) (table : Members) → Reads (SendsMessage p) (move_at p names place table)
-unfolding move_at
-reads_move p names place table =
-    then_reads Anything (SendsMessage p) _ _ (reads_slots p names place table) (λ w _. tt)
+  reads_mutate : Reads (SendsMessage p) (mutate_at p names place table)
+  unfolding mutate_at
+  reads_mutate = on (SendsMessage p) _ _ reads_slots (λ w. on (SendsMessage p) _ _ (word_given (codes "word")) (λ value. tt))
 
-reads_mutate : (p : ProfileName) (names : Names) (place : Place) (table : Members) → Reads (SendsMessage p) (mutate_at p names place table)
-unfolding mutate_at
-reads_mutate p names place table =
-    then_reads Anything (SendsMessage p) _ _ (reads_slots p names place table)
-    (λ w _. then_reads Anything (SendsMessage p) _ _ (reads_required place table (codes "word") (word p names)) (λ value _. tt))
+  reads_slot : Reads Anything (slot_at p names place table)
+  unfolding slot_at
+  reads_slot =
+      on Anything _ _ (word_given (codes "cap")) (λ cap. on Anything _ _ (word_given (codes "index")) (λ index. on Anything _ _ (word_or_default (codes "depth") (word_bits p)) (λ depth. tt)))
 
-reads_delete : (p : ProfileName) (names : Names) (place : Place) (table : Members) → Reads (SendsMessage p) (delete_at p names place table)
-unfolding delete_at
-reads_delete p names place table =
-    then_reads Anything (SendsMessage p) _ _ (reads_required place table (codes "cap") (word p names))
-    (λ cap _. then_reads Anything (SendsMessage p) _ _ (reads_required place table (codes "index") (word p names))
-    (λ index _. then_reads Anything (SendsMessage p) _ _ (reads_any place table (codes "depth") (word_bits p) (word p names)) (λ depth _. tt)))
+  reads_message : Reads (λ w. IsMessage p w.1) (message_at p names place table)
+  unfolding message_at
+  reads_message =
+      on (λ w. IsMessage p w.1) _ _ (word_given (codes "cap"))
+      (λ cap. then_reads (λ n. n < 2 ^ label_bits p) (λ w. IsMessage p w.1) (optional place table (codes "label") 0 (label p)) _
+      (reads_optional (λ n. n < 2 ^ label_bits p) place table (codes "label") 0 (label p) (pow_pos (label_bits p)) (label_within p))
+      (λ l within. then_reads IsFilled (λ w. IsMessage p w.1) (optional place table (codes "words") (filled []) (words p names)) _
+      (reads_optional IsFilled place table (codes "words") (filled []) (words p names) (filled_is [] (omega arith)) (words_filled p names))
+      (λ w is. record { label_within = within; count_most = is.count_most; zeros = is.zeros })))
 
-reads_revoke : (p : ProfileName) (names : Names) (place : Place) (table : Members) → Reads (SendsMessage p) (revoke_at p names place table)
-unfolding revoke_at
-reads_revoke p names place table =
-    then_reads Anything (SendsMessage p) _ _ (reads_required place table (codes "cap") (word p names))
-    (λ cap _. then_reads Anything (SendsMessage p) _ _ (reads_required place table (codes "index") (word p names))
-    (λ index _. then_reads Anything (SendsMessage p) _ _ (reads_any place table (codes "depth") (word_bits p) (word p names)) (λ depth _. tt)))
+  reads_set_space : Reads (SendsMessage p) (set_space_at p names place table)
+  unfolding set_space_at
+  reads_set_space =
+      on (SendsMessage p) _ _ (word_given (codes "cap")) (λ cap. on (SendsMessage p) _ _ (word_given (codes "root")) (λ root. on (SendsMessage p) _ _ (word_or_default (codes "word") 0) (λ value. tt)))
 
-reads_cancel_badged : (p : ProfileName) (names : Names) (place : Place) (table : Members) → Reads (SendsMessage p) (cancel_badged_at p names place table)
-unfolding cancel_badged_at
-reads_cancel_badged p names place table =
-    then_reads Anything (SendsMessage p) _ _ (reads_required place table (codes "cap") (word p names))
-    (λ cap _. then_reads Anything (SendsMessage p) _ _ (reads_required place table (codes "index") (word p names))
-    (λ index _. then_reads Anything (SendsMessage p) _ _ (reads_any place table (codes "depth") (word_bits p) (word p names)) (λ depth _. tt)))
-
-reads_set_space : (p : ProfileName) (names : Names) (place : Place) (table : Members) → Reads (SendsMessage p) (set_space_at p names place table)
-unfolding set_space_at
-reads_set_space p names place table =
-    then_reads Anything (SendsMessage p) _ _ (reads_required place table (codes "cap") (word p names))
-    (λ cap _. then_reads Anything (SendsMessage p) _ _ (reads_required place table (codes "root") (word p names))
-    (λ root _. then_reads Anything (SendsMessage p) _ _ (reads_any place table (codes "word") 0 (word p names)) (λ value _. tt)))
-
-reads_suspend : (p : ProfileName) (names : Names) (place : Place) (table : Members) → Reads (SendsMessage p) (suspend_at p names place table)
-unfolding suspend_at
-reads_suspend p names place table =
-    then_reads Anything (SendsMessage p) _ _ (reads_required place table (codes "cap") (word p names)) (λ cap _. tt)
-
-reads_resume : (p : ProfileName) (names : Names) (place : Place) (table : Members) → Reads (SendsMessage p) (resume_at p names place table)
-unfolding resume_at
-reads_resume p names place table =
-    then_reads Anything (SendsMessage p) _ _ (reads_required place table (codes "cap") (word p names)) (λ cap _. tt)
-
-reads_operation : (p : ProfileName) (op : OpName) (names : Names) (place : Place) (table : Members) → Reads (SendsMessage p) (operation_at p op names place table)
-reads_operation p op_names.Retype names place table = reads_retype p names place table
-reads_operation p op_names.CapCopy names place table = reads_copy p names place table
-reads_operation p op_names.CapMint names place table = reads_mint p names place table
-reads_operation p op_names.CapMove names place table = reads_move p names place table
-reads_operation p op_names.CapMutate names place table = reads_mutate p names place table
-reads_operation p op_names.CapDelete names place table = reads_delete p names place table
-reads_operation p op_names.CapRevoke names place table = reads_revoke p names place table
-reads_operation p op_names.CancelBadged names place table = reads_cancel_badged p names place table
-reads_operation p op_names.Send names place table = reads_send p names place table
-reads_operation p op_names.NbSend names place table = reads_nb_send p names place table
-reads_operation p op_names.Recv names place table = reads_recv p names place table
-reads_operation p op_names.NbRecv names place table = reads_nb_recv p names place table
-reads_operation p op_names.SetSpace names place table = reads_set_space p names place table
-reads_operation p op_names.Suspend names place table = reads_suspend p names place table
-reads_operation p op_names.Resume names place table = reads_resume p names place table
+  reads_operation : (op : OpName) → Reads (SendsMessage p) (operation_at p names place table op)
+  reads_operation op_names.Retype = reads_retype
+  reads_operation op_names.CapCopy = reads_copy
+  reads_operation op_names.CapMint = reads_mint
+  reads_operation op_names.CapMove = reads_move
+  reads_operation op_names.CapMutate = reads_mutate
+  reads_operation op_names.CapDelete = on (SendsMessage p) _ _ reads_slot (λ w. tt)
+  reads_operation op_names.CapRevoke = on (SendsMessage p) _ _ reads_slot (λ w. tt)
+  reads_operation op_names.CancelBadged = on (SendsMessage p) _ _ reads_slot (λ w. tt)
+  reads_operation op_names.Send = then_reads (λ w. IsMessage p w.1) (SendsMessage p) _ _ reads_message (λ w is. is)
+  reads_operation op_names.NbSend = then_reads (λ w. IsMessage p w.1) (SendsMessage p) _ _ reads_message (λ w is. is)
+  reads_operation op_names.Recv = on (SendsMessage p) _ _ (word_given (codes "cap")) (λ cap. tt)
+  reads_operation op_names.NbRecv = on (SendsMessage p) _ _ (word_given (codes "cap")) (λ cap. tt)
+  reads_operation op_names.SetSpace = reads_set_space
+  reads_operation op_names.Suspend = on (SendsMessage p) _ _ (word_given (codes "cap")) (λ cap. tt)
+  reads_operation op_names.Resume = on (SendsMessage p) _ _ (word_given (codes "cap")) (λ cap. tt)
 
 reads_call : (p : ProfileName) (names : Names) (clients n : ℕ) (table : Members) → Reads (HasMessage p) (call_at p names clients n table)
 unfolding call_at
 reads_call p names clients n table =
-    then_reads Anything (HasMessage p) _ _ (reads_required _ table (codes "op") _)
-    (λ op _. then_reads Anything (HasMessage p) _ _ (reads_known _ table _)
-    (λ known _. then_reads Anything (HasMessage p) _ _ (reads_required _ table (codes "thread") _)
-    (λ thread _. then_reads Anything (HasMessage p) _ _ (reads_any _ table (codes "client") 0 _)
-    (λ client _. then_reads Anything (HasMessage p) _ _ (reads_any _ table (codes "expect") None _)
-    (λ expect _. then_reads (SendsMessage p) (HasMessage p) _ _ (reads_operation p op names _ table) (λ operation has. has))))))
+    then_reads Anything (HasMessage p) (required (places.Call n) table (codes "op") op) _ (reads_required (places.Call n) table (codes "op") op)
+    (λ o _. then_reads Anything (HasMessage p) (known_only (places.Call n) table (call_keys o)) _ (reads_known (places.Call n) table (call_keys o))
+    (λ known _. then_reads Anything (HasMessage p) (required (places.Call n) table (codes "thread") (word p names)) _ (reads_required (places.Call n) table (codes "thread") (word p names))
+    (λ thread _. then_reads Anything (HasMessage p) (optional (places.Call n) table (codes "client") 0 (number 0 (clients - 1))) _ (reads_any (places.Call n) table (codes "client") 0 (number 0 (clients - 1)))
+    (λ client _. then_reads Anything (HasMessage p) (optional (places.Call n) table (codes "expect") None expect) _ (reads_any (places.Call n) table (codes "expect") None expect)
+    (λ expected _. then_reads (SendsMessage p) (HasMessage p) (operation_at p names (places.Call n) table o) _ (reads_operation p names (places.Call n) table o) (λ operation has. has))))))
 
 reads_each : {A B : Type 0} (P : B → Type 0) (read : ℕ → A → Result B Fault) → ((n : ℕ) (x : A) → Reads P (read n x)) → (n : ℕ) (xs : List A) → Reads (AllByRecursion P) (each read n xs)
 unfolding each
@@ -298,9 +248,9 @@ reads_untyped p n table =
     (reads_required (places.Untyped n) table (codes "bits") (number (min_untyped_bits p) (max_object_bits p)))
     (λ bits _. refl {a = (base, bits)})))
 
-reads_sizes : (table : Members) → Reads Anything (sizes_of table)
-unfolding sizes_of
-reads_sizes table =
+reads_sizes : (place : Place) (table : Members) → Reads Anything (sizes_at place table)
+unfolding sizes_at
+reads_sizes place table =
     then_reads Anything Anything _ _ (reads_required _ table (codes "memory_bits") _)
     (λ memory_bits _. then_reads Anything Anything _ _ (reads_required _ table (codes "root_radix") _)
     (λ root_radix _. then_reads Anything Anything _ _ (reads_required _ table (codes "threads") _)
@@ -327,7 +277,7 @@ reads_setup_with p names sizes clients limit untyped call =
 reads_setup_at : (p : ProfileName) (table : Members) → Reads HaveMessages (setup_at p table)
 unfolding setup_at
 reads_setup_at p table =
-    then_reads Anything HaveMessages _ _ (reads_sizes table)
+    then_reads Anything HaveMessages _ _ (reads_sizes places.Top table)
     (λ sizes _. then_reads Anything HaveMessages _ _ (reads_any _ table (codes "clients") 1 _)
     (λ clients _. then_reads Anything HaveMessages _ _ (reads_any _ table (codes "limit") 0 _)
     (λ limit _. then_reads Anything HaveMessages _ _ (reads_any _ table (codes "names") [] _)

@@ -17,7 +17,7 @@ use Rattle.setup_values.specs.Kinds.{between, word, natural, below, number, expe
 use Rattle.setup_format.specs.declared.fault.Place.{Place}
 use Rattle.setup_format.specs.declared.fault.Place.TheVariants as places
 use Rattle.setup_format.specs.Tables.{required, needed, known_only, no_unknown, is_one_of}
-use Rattle.setup_format.specs.Operations.{call_keys}
+use Rattle.setup_values.specs.Operations.{call_keys}
 use Rattle.setup_format.specs.Setups.{call_at}
 use Rattle.setup_migrate.specs.Migration.{with_changed, each_item, thread_at, thread_or, named_thread, named_call, named_calls}
 use Rattle.setup_migrate.proofs.Parts.{get_changed, get_changed_other, keys_changed}

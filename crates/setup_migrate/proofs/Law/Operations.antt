@@ -5,13 +5,13 @@ use Rattle.cap_core.specs.declared.profile.ProfileName.{ProfileName}
 use Rattle.cap_core.specs.declared.limits.TheConstants.{MAX_MESSAGE_WORDS}
 use Rattle.cap_core.specs.Numbers.{word_bits}
 use Rattle.cap_core.specs.Rights.{all_rights}
-use Rattle.setup_values.specs.declared.values.OpName.{OpName}
-use Rattle.setup_values.specs.declared.values.OpName.TheVariants.{Retype, CapCopy, CapMint, CapMove, CapMutate, CapDelete, CapRevoke, CancelBadged, Send, NbSend, Recv, NbRecv, SetSpace, Suspend, Resume}
+use Rattle.setup_values.specs.declared.operations.OpName.{OpName}
+use Rattle.setup_values.specs.declared.operations.OpName.TheVariants.{Retype, CapCopy, CapMint, CapMove, CapMutate, CapDelete, CapRevoke, CancelBadged, Send, NbSend, Recv, NbRecv, SetSpace, Suspend, Resume}
 use Rattle.setup_values.specs.Names.{Names, word_named}
 use Rattle.setup_values.specs.Kinds.{natural_in, spelt, or_other, word, words, filled, label, rights, array_in, below}
 use Rattle.setup_format.specs.declared.fault.Place.{Place}
 use Rattle.setup_format.specs.Tables.{required, optional}
-use Rattle.setup_format.specs.Operations.{operation_at, retype_at, slots_at, copy_at, mint_at, move_at, mutate_at, delete_at, revoke_at, cancel_badged_at, message_at, send_at, nb_send_at, recv_at, nb_recv_at, set_space_at, suspend_at, resume_at}
+use Rattle.setup_format.specs.Operations.{operation_at, retype_at, slots_at, rights_at, copy_at, mint_at, move_at, mutate_at, slot_at, message_at, set_space_at}
 use Rattle.setup_migrate.proofs.Law.Follows.{Follows, same, after, no_answer, required_follows, optional_follows, each_follows}
 
 -- ---- a word
@@ -62,7 +62,7 @@ module _ (p : ProfileName) (names : Names) (place : Place) (t u : Members) (a : 
       after (need (codes "cap") refl) (λ cap. after (need (codes "index") refl) (λ index. after (may (codes "depth") (word_bits p) refl) (λ depth.
       after (may (codes "src_root") cap refl) (λ src_root. after (need (codes "src_index") refl) (λ src_index. after (may (codes "src_depth") (word_bits p) refl) (λ src_depth. same _))))))
 
-  rights_follow : Follows (optional place t (codes "rights") all_rights rights) (optional place u (codes "rights") all_rights rights)
+  rights_follow : Follows (rights_at p [] place t) (rights_at p names place u)
   rights_follow = optional_follows place t u (codes "rights") all_rights rights rights (a.agrees (codes "rights") refl) (λ d. same (rights d))
 
   copy_follows : Follows (copy_at p [] place t) (copy_at p names place u)
@@ -81,65 +81,34 @@ module _ (p : ProfileName) (names : Names) (place : Place) (t u : Members) (a : 
   unfolding mutate_at
   mutate_follows = after slots_follow (λ w. after (need (codes "word") refl) (λ value. same _))
 
-  delete_follows : Follows (delete_at p [] place t) (delete_at p names place u)
-  unfolding delete_at
-  delete_follows = after (need (codes "cap") refl) (λ cap. after (need (codes "index") refl) (λ index. after (may (codes "depth") (word_bits p) refl) (λ depth. same _)))
-
-  revoke_follows : Follows (revoke_at p [] place t) (revoke_at p names place u)
-  unfolding revoke_at
-  revoke_follows = after (need (codes "cap") refl) (λ cap. after (need (codes "index") refl) (λ index. after (may (codes "depth") (word_bits p) refl) (λ depth. same _)))
-
-  cancel_badged_follows : Follows (cancel_badged_at p [] place t) (cancel_badged_at p names place u)
-  unfolding cancel_badged_at
-  cancel_badged_follows = after (need (codes "cap") refl) (λ cap. after (need (codes "index") refl) (λ index. after (may (codes "depth") (word_bits p) refl) (λ depth. same _)))
+  slot_follows : Follows (slot_at p [] place t) (slot_at p names place u)
+  unfolding slot_at
+  slot_follows = after (need (codes "cap") refl) (λ cap. after (need (codes "index") refl) (λ index. after (may (codes "depth") (word_bits p) refl) (λ depth. same _)))
 
   message_follows : Follows (message_at p [] place t) (message_at p names place u)
   unfolding message_at
   message_follows =
+      after (need (codes "cap") refl) (λ cap.
       after (optional_follows place t u (codes "label") 0 (label p) (label p) (a.agrees (codes "label") refl) (λ d. same (label p d))) (λ l.
-      after (optional_follows place t u (codes "words") (filled []) (words p []) (words p names) (a.agrees (codes "words") refl) (words_follows p names)) (λ ws. same _))
-
-  send_follows : Follows (send_at p [] place t) (send_at p names place u)
-  unfolding send_at
-  send_follows = after (need (codes "cap") refl) (λ cap. after message_follows (λ message. same _))
-
-  nb_send_follows : Follows (nb_send_at p [] place t) (nb_send_at p names place u)
-  unfolding nb_send_at
-  nb_send_follows = after (need (codes "cap") refl) (λ cap. after message_follows (λ message. same _))
-
-  recv_follows : Follows (recv_at p [] place t) (recv_at p names place u)
-  unfolding recv_at
-  recv_follows = after (need (codes "cap") refl) (λ cap. same _)
-
-  nb_recv_follows : Follows (nb_recv_at p [] place t) (nb_recv_at p names place u)
-  unfolding nb_recv_at
-  nb_recv_follows = after (need (codes "cap") refl) (λ cap. same _)
+      after (optional_follows place t u (codes "words") (filled []) (words p []) (words p names) (a.agrees (codes "words") refl) (words_follows p names)) (λ ws. same _)))
 
   set_space_follows : Follows (set_space_at p [] place t) (set_space_at p names place u)
   unfolding set_space_at
   set_space_follows = after (need (codes "cap") refl) (λ cap. after (need (codes "root") refl) (λ root. after (may (codes "word") 0 refl) (λ value. same _)))
 
-  suspend_follows : Follows (suspend_at p [] place t) (suspend_at p names place u)
-  unfolding suspend_at
-  suspend_follows = after (need (codes "cap") refl) (λ cap. same _)
-
-  resume_follows : Follows (resume_at p [] place t) (resume_at p names place u)
-  unfolding resume_at
-  resume_follows = after (need (codes "cap") refl) (λ cap. same _)
-
-  pub operation_follows : (op : OpName) → Follows (operation_at p op [] place t) (operation_at p op names place u)
+  pub operation_follows : (op : OpName) → Follows (operation_at p [] place t op) (operation_at p names place u op)
   operation_follows Retype = retype_follows
   operation_follows CapCopy = copy_follows
   operation_follows CapMint = mint_follows
   operation_follows CapMove = move_follows
   operation_follows CapMutate = mutate_follows
-  operation_follows CapDelete = delete_follows
-  operation_follows CapRevoke = revoke_follows
-  operation_follows CancelBadged = cancel_badged_follows
-  operation_follows Send = send_follows
-  operation_follows NbSend = nb_send_follows
-  operation_follows Recv = recv_follows
-  operation_follows NbRecv = nb_recv_follows
+  operation_follows CapDelete = after slot_follows (λ w. same _)
+  operation_follows CapRevoke = after slot_follows (λ w. same _)
+  operation_follows CancelBadged = after slot_follows (λ w. same _)
+  operation_follows Send = after message_follows (λ w. same _)
+  operation_follows NbSend = after message_follows (λ w. same _)
+  operation_follows Recv = after (need (codes "cap") refl) (λ cap. same _)
+  operation_follows NbRecv = after (need (codes "cap") refl) (λ cap. same _)
   operation_follows SetSpace = set_space_follows
-  operation_follows Suspend = suspend_follows
-  operation_follows Resume = resume_follows
+  operation_follows Suspend = after (need (codes "cap") refl) (λ cap. same _)
+  operation_follows Resume = after (need (codes "cap") refl) (λ cap. same _)

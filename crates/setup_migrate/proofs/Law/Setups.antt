@@ -1,5 +1,5 @@
 -- The migrated table is read as the same set-up as the table itself by the first format.
-use Rattle.std.proofs.Common.{◌≡◌, ℕ, Bool, true, false, not, ◌||◌, codes, ℤ, pos, negsuc, List, [], ◌∷◌, length, map, Option, Some, None, option_map, Result, Ok, refl, sym, ap, subst, ◌∙◌, inl, inr, arith}
+use Rattle.std.proofs.Common.{◌≡◌, ℕ, Bool, true, false, not, ◌||◌, codes, ℤ, pos, negsuc, List, [], ◌∷◌, ◌++◌, length, map, Option, Some, None, option_map, Result, Ok, refl, sym, ap, subst, ◌∙◌, inl, inr, arith}
 use Rattle.std.proofs.lemmas.Bool.{cases_Bool, false≢true}
 use Rattle.std.proofs.lemmas.Bool.Decides.{nat_tests}
 use Rattle.std.proofs.lemmas.Option.{none-some}
@@ -22,7 +22,7 @@ use Rattle.setup_format.specs.declared.fault.Place.TheVariants as places
 use Rattle.setup_format.specs.declared.setup.Sizes.{Sizes}
 use Rattle.setup_format.specs.Faults.{Fault}
 use Rattle.setup_format.specs.Tables.{required, optional, needed, given_or, at_key, known_only, no_unknown, is_one_of}
-use Rattle.setup_format.specs.Setups.{first_keys, top_keys, sizes_of, planned_with, laid_out, limit_of, untyped_at, call_at, setup_with, setup_at, setup_up_to, setup_of, first_format_setup_of}
+use Rattle.setup_format.specs.Setups.{size_keys, table_keys, first_keys, top_keys, sizes_at, planned_with, laid_out, limit_of, untyped_at, call_at, setup_with, setup_at, setup_up_to, setup_of, first_format_setup_of}
 use Rattle.setup_format.specs.Views.{SetupView}
 use Rattle.setup_migrate.specs.Migration.{with_member, named_calls, migrated}
 use Rattle.setup_migrate.proofs.Parts.{get_changed, get_changed_other, get_with, get_with_other, keys_changed, keys_with, past, texts_tied}
@@ -96,12 +96,21 @@ all_known ks n e = none_least ks (none (least (λ key. key) ks) e)
 all_known_is : (ks : List (List ℕ)) (n : ℕ) → no_unknown places.Top (least (λ key. key) ks) ≡ Ok n → ◌≡◌ {A = Result ℕ Fault} (Ok 0) (Ok n)
 all_known_is ks n e = let none = all_known ks n e in rw none at e
 
-more_known : (k : List ℕ) → not (is_one_of first_keys k) ≡ false → not (is_one_of (top_keys NEWEST_FORMAT) k) ≡ false
-more_known k e = more (bytes_eq (codes "names") k) (is_one_of first_keys k) e
+-- a list with a key more has each key that it had
+more_in : (k key : List ℕ) (xs ys : List (List ℕ)) → not (is_one_of (xs ++ ys) k) ≡ false → not (is_one_of (xs ++ key ∷ ys) k) ≡ false
+more_in k key [] ys e = more (bytes_eq key k) (is_one_of ys k) e
   where
     more : (a b : Bool) → not b ≡ false → not (a || b) ≡ false
     more true b e = refl
     more false b e = e
+more_in k key (x ∷ xs) ys e = either (bytes_eq x k) (is_one_of (xs ++ ys) k) (is_one_of (xs ++ key ∷ ys) k) (more_in k key xs ys) e
+  where
+    either : (a b c : Bool) → (not b ≡ false → not c ≡ false) → not (a || b) ≡ false → not (a || c) ≡ false
+    either true b c h e = refl
+    either false b c h e = h e
+
+more_known : (k : List ℕ) → not (is_one_of first_keys k) ≡ false → not (is_one_of (top_keys NEWEST_FORMAT) k) ≡ false
+more_known k e = more_in k (codes "names") size_keys table_keys e
 
 -- no key of the table is unknown, and so none of the migrated one is
 known_after : (p : ProfileName) (plan : Plan) (t : Members) (n : ℕ) → known_only places.Top t (top_keys FIRST_FORMAT) ≡ Ok n
@@ -136,8 +145,8 @@ no_names t n e = not_a_key (λ key. not (is_one_of first_keys key)) (codes "name
 
 -- ---- a table whose format, keys and profile are known
 
-sizes_same : (p : ProfileName) (plan : Plan) (t : Members) → sizes_of (migrated p plan t) ≡ sizes_of t
-unfolding sizes_of
+sizes_same : (p : ProfileName) (plan : Plan) (t : Members) → sizes_at places.Top (migrated p plan t) ≡ sizes_at places.Top t
+unfolding sizes_at
 sizes_same p plan t =
     rw (
       other_member p plan t (codes "memory_bits") refl refl refl,
@@ -183,7 +192,7 @@ at_profile : (p : ProfileName) (t : Members) (s : SetupView) → get_member (cod
     → (s.profile ≡ p) × (setup_at p (migrated p s.plan t) ≡ Ok s)
 unfolding setup_at
 at_profile p t s none e h =
-    let (sizes, e1, r1) = parts (sizes_of t) _ s e in
+    let (sizes, e1, r1) = parts (sizes_at places.Top t) _ s e in
     let (clients, e2, r2) = parts (optional places.Top t (codes "clients") 1 (number 1 MAX_CLIENTS)) _ s r1 in
     let (limit, e3, r3) = parts (optional places.Top t (codes "limit") 0 (number 1 MAX_HISTORY_LIMIT)) _ s r2 in
     let (ns, e4, r4) = parts (optional places.Top t (codes "names") [] (names p)) _ s r3 in

@@ -7,7 +7,7 @@ use Rattle.setup_values.specs.Names.{names_view}
 use Rattle.setup_values.specs.Kinds.{seen as seen_result, entry}
 use Rattle.setup_format.specs.Tables.{at_key}
 use Rattle.setup_format.proofs.Grammar.Entries.{Entry, seen, so_far, names_in_turn, one_more, at_fault, all_read, fails_at}
-use Rattle.setup_format.proofs.tables.names_of.Goals as goal
+use Rattle.setup_format.proofs.tables.Keys.names_of.Goals as goal
 
 pub loop-text-init : goal.loop-text-init
 loop-text-init g c = rw (c.new-names.ensures.items, c.into_iter-text-iterator.ensures.into_iter_gives, c.iter-text-items.ensures.rest) refl
@@ -23,7 +23,7 @@ returns-in_err-word g c =
     let read : entry p (seen e) ≡ seen_result (λ n. (c.as_str.result.now, n)) c.named_word.result = ap (λ t. entry p (t, view e.1)) (sym text) ∙ sym c.named_word.ensures in
     let before : so_far p front (e ∷ left) ≡ so_far p [] es = ap (so_far p front) (sym c.in-Some.ensures.steps) ∙ c.loop-text.invariant in
     let error = err_from_is_err_and c.from_residual.result c.from_residual.ensures.1 in
-    rw (error.1, error.2) (fails_at c.in_err-word.field-0.0 c.args.place c.args.key.now c.named_word.result _
+    rw (error.1, error.2) (fails_at c.in_err-word.field-0.0 c.args.self.now.place c.args.key.now c.named_word.result _
     (λ w is. names_in_turn p es c.iter-text-items.ensures.ordered ∙ at_fault p front e left w (so_far p [] es) (read ∙ ap (seen_result (λ n. (c.as_str.result.now, n))) is) before) c.in_err-word.ensures.read)
 
 pub loop-text-preserved : goal.loop-text-preserved
@@ -49,4 +49,4 @@ returns g c =
     let front = names_view c.loop-text.names.items in
     let es = c.args.table.now.entries in
     let before : so_far p front [] ≡ so_far p [] es = ap (so_far p front) (sym c.in-None.ensures.steps.0) ∙ c.loop-text.invariant in
-    ap (at_key c.args.place c.args.key.now) (names_in_turn p es c.iter-text-items.ensures.ordered ∙ all_read p front (so_far p [] es) before)
+    ap (at_key c.args.self.now.place c.args.key.now) (names_in_turn p es c.iter-text-items.ensures.ordered ∙ all_read p front (so_far p [] es) before)

@@ -4,7 +4,7 @@ use Rattle.cap_core.specs.declared.limits.TheConstants.{MAX_MESSAGE_WORDS}
 use Rattle.setup_values.specs.Kinds.{each, word}
 use Rattle.setup_values.specs.Names.{names_view}
 use Rattle.setup_values.proofs.Loops.{with_front}
-use Rattle.setup_values.proofs.kinds.words.Given as goal
+use Rattle.setup_values.proofs.kinds.WordsKindKind.read.Given as goal
 
 abbrev pub invariant-loop-i : goal.invariant-loop-i
 invariant-loop-i g l = record {
