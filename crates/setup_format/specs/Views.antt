@@ -6,7 +6,6 @@ use Rattle.abstract_kernel.specs.Plan.{Plan}
 use Rattle.cap_core.specs.Limits.{max_clients, max_history_limit}
 use Rattle.setup_format.specs.declared.limits.TheConstants.{MAX_CALLS}
 use Rattle.setup_format.specs.declared.setup.Caller.{Caller}
-use Rattle.setup_format.specs.declared.setup.SetupCall.{SetupCall}
 
 -- a call, the client that makes it, and what its reply is expected to begin with
 pub record CallView : Type 0 where
@@ -23,15 +22,14 @@ pub record SetupView : Type 0 where
 
 -- ---- what a set-up is, as the code keeps it
 
--- a call that is read, and then all of them: the calls, each beside its caller
-abbrev pub call_view : SetupCall → CallView
-call_view r = record { call = r.call; client = r.client; expect = option_map string_bytes r.expect }
+-- a call beside its caller, and then all of them
+abbrev pub call_view : Call → Caller → CallView
+call_view call caller = record { call = call; client = caller.client; expect = option_map string_bytes caller.expect }
 
 abbrev pub call_views : List Call → List Caller → List CallView
 call_views [] callers = []
 call_views (call ∷ calls) [] = []
-call_views (call ∷ calls) (caller ∷ callers) =
-    record { call = call; client = caller.client; expect = option_map string_bytes caller.expect } ∷ call_views calls callers
+call_views (call ∷ calls) (caller ∷ callers) = call_view call caller ∷ call_views calls callers
 
 -- its parts together
 abbrev pub setup_view : ProfileName → Plan → ℕ → ℕ → List CallView → SetupView

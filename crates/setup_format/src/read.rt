@@ -14,7 +14,7 @@ ghost use Rattle.setup_format.specs.Setups as spec;
 use crate::fault::{Place, SetupFault};
 use crate::limits::{FIRST_FORMAT, MAX_CALLS, NEWEST_FORMAT};
 use crate::operations::operation_at;
-use crate::setup::{NamedSetup, Setup, SetupCall, SetupCalls, Sizes};
+use crate::setup::{Caller, NamedSetup, Setup, SetupCalls, Sizes};
 use crate::tables::Keys;
 use abstract_kernel::Call;
 use boot_plan::BootPlan;
@@ -67,10 +67,10 @@ fn call_at<P: Profile>(
     clients: u32,
     n: usize,
     table: &Table,
-) -> Result<SetupCall, SetupFault>
+) -> Result<(Call, Caller), SetupFault>
     requires { 1 ≤ clients }
-    ensures call { Gives call_view result (spec.call_at P.the (names_view names.now) clients n (table_view table.now)) }
-    ensures client { IfOk result (λ r. r.client < clients) }
+    ensures call { Gives (λ r. call_view r.0 r.1) result (spec.call_at P.the (names_view names.now) clients n (table_view table.now)) }
+    ensures client { IfOk result (λ r. r.1.client < clients) }
 {
     let keys = Keys::<P>::new(table, Place::Call(n), names);
     let op = keys.required("op", OpKind)?;
@@ -79,11 +79,7 @@ fn call_at<P: Profile>(
     let client = keys.optional("client", 0, Number(0, clients - 1))?;
     let expect = keys.expect(alloc, "expect")?;
     let op = operation_at(op, &keys)?;
-    Ok(SetupCall {
-        call: Call { thread, op },
-        client,
-        expect,
-    })
+    Ok((Call { thread, op }, Caller { client, expect }))
 }
 
 fn calls_of<P: Profile>(
@@ -99,8 +95,8 @@ fn calls_of<P: Profile>(
 {
     let mut calls = SetupCalls::new(alloc);
     for (i, table) in tables.iter().enumerate() {
-        let call = call_at::<P>(alloc, names, clients, 1 + i, table)?;
-        calls.push(call)?;
+        let row = call_at::<P>(alloc, names, clients, 1 + i, table)?;
+        calls.push(row.0, row.1)?;
     }
     Ok(calls)
 }

@@ -19,14 +19,6 @@ pub struct Sizes {
     pub endpoints: u32,
 }
 
-/// A call of a set-up, the client that makes it, and how its reply is expected to begin.
-#[derive(Drop)]
-pub struct SetupCall {
-    pub call: Call,
-    pub client: u32,
-    pub expect: Option<String>,
-}
-
 /// The client that makes a call, and how it expects the reply to begin.
 #[derive(Drop)]
 pub struct Caller {
@@ -66,18 +58,13 @@ impl SetupCalls {
         }
     }
 
-    pub fn push(&mut self, row: SetupCall) -> Result<(), AllocError>
-        ensures { OnOk result (self.new ≡ self.old ++ call_view row ∷ []) }
+    pub fn push(&mut self, call: Call, caller: Caller) -> Result<(), AllocError>
+        ensures { OnOk result (self.new ≡ self.old ++ call_view call caller ∷ []) }
     {
         self.calls.reserve(1)?;
         self.callers.reserve(1)?;
-        let SetupCall {
-            call,
-            client,
-            expect,
-        } = row;
         self.calls.push_reserved(call);
-        self.callers.push_reserved(Caller { client, expect });
+        self.callers.push_reserved(caller);
         Ok(())
     }
 
