@@ -12,4 +12,4 @@ pub use engine_core::{
     read_below, run_engine, status_of, write_all,
 };
 pub use migrating::migrate_run;
-pub use run::{refusal, text_of};
+pub use run::{refusal, text_of, verdict_on};

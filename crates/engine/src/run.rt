@@ -2,7 +2,6 @@
 ghost use Rattle.std.specs.Prelude.{◌≡◌, IfOk, codes, ◌++◌};
 ghost use Rattle.abstract_kernel.specs.Boot.{boot as boot_state};
 ghost use Rattle.abstract_kernel.specs.Plan.{IsPlan};
-ghost use Rattle.abstract_kernel.specs.Memory.{IsInMemory};
 ghost use Rattle.abstract_kernel.specs.State.{shown};
 ghost use Rattle.setup_format.specs.Refusal.{setup_fault_text};
 ghost use Rattle.engine.specs.Program.{program, outcome_of, replies_to, end_of, verdict_on as verdict_of_counts};
@@ -13,7 +12,7 @@ use ipc_core::MakeWaiters;
 use kernel_core::{BootPlan, Kernel, Reply};
 use setup_format::{Setup, SetupFault, read_setup};
 use setup_report::{ExpectationCount, counted_report};
-use slot_core::MakeStore;
+use slot_core::{DerivationStore, MakeStore};
 use std::alloc::{AllocError, Global};
 
 /// Boots a kernel. Out of line, as are the other parts of a run, so that a profile tells them apart.
@@ -23,8 +22,7 @@ fn boot<P: Profile, S: MakeStore<P>, W: MakeWaiters<P>>(
     plan: &BootPlan,
 ) -> Result<Kernel<P, S, W>, AllocError>
     requires { IsPlan P.the plan.now }
-    ensures shows { IfOk result (λ kernel. kernel ≡ shown (boot_state P.the plan.now)) }
-    ensures within { IfOk result (λ kernel. IsInMemory P.the plan.now.memory_bits kernel) }
+    ensures { IfOk result (λ kernel. kernel ≡ shown (boot_state P.the plan.now)) }
 {
     Kernel::boot(alloc, plan)
 }
@@ -39,7 +37,6 @@ fn run_calls<P: Profile, S: MakeStore<P>, W: MakeWaiters<P>>(
     requires { IsPlan P.the setup.now.plan }
     ensures kernel { IfOk result (λ r. r.0 ≡ shown (end_of P.the setup.now)) }
     ensures replies { IfOk result (λ r. r.1.items ≡ replies_to P.the setup.now) }
-    ensures within { IfOk result (λ r. IsInMemory P.the setup.now.plan.memory_bits r.0) }
 {
     let mut kernel = boot::<P, S, W>(alloc, setup.plan())?;
     let calls = setup.calls();
@@ -51,7 +48,7 @@ fn run_calls<P: Profile, S: MakeStore<P>, W: MakeWaiters<P>>(
 /// Runs the set-up in a profile, and reports on it.
 #[inline(never)]
 #[tactic(auto, unfolding(crate::specs::Program::outcome_of), using(crate::proofs::Runs::length_replies_to))]
-fn run_setup<P: Profile, S: MakeStore<P>, W: MakeWaiters<P>>(
+fn run_setup<P: Profile, S: MakeStore<P> + DerivationStore<P>, W: MakeWaiters<P>>(
     alloc: Global,
     setup: &Setup,
 ) -> Result<(Vec<u8>, Verdict), AllocError>
@@ -64,7 +61,7 @@ fn run_setup<P: Profile, S: MakeStore<P>, W: MakeWaiters<P>>(
 }
 
 /// Whether all expectations are met.
-fn verdict_on(count: ExpectationCount) -> Verdict
+pub fn verdict_on(count: ExpectationCount) -> Verdict
     ensures { result ≡ verdict_of_counts count.met count.expected }
 {
     if count.met == count.expected {
@@ -87,9 +84,9 @@ pub fn refusal(alloc: Global, fault: &SetupFault) -> Result<Vec<u8>, AllocError>
 /// same whatever stores it is made of.
 #[tactic(auto, unfolding(crate::specs::Program::program))]
 pub fn text_of<
-    S: MakeStore<Wide>,
+    S: MakeStore<Wide> + DerivationStore<Wide>,
     W: MakeWaiters<Wide>,
-    T: MakeStore<Narrow>,
+    T: MakeStore<Narrow> + DerivationStore<Narrow>,
     V: MakeWaiters<Narrow>,
 >(alloc: Global, bytes: &[u8]) -> Result<(Vec<u8>, Verdict), AllocError>
     ensures { IfOk result (λ made. (made.0.items, made.1) ≡ program bytes.now) }

@@ -4,7 +4,6 @@ use Rattle.std.proofs.lemmas.List.{length-map}
 use Rattle.std.proofs.Props.{props}
 use mathlib.Core.Logic.{∥∥₁_elim}
 use Rattle.cap_core.specs.declared.profile.ProfileName.{ProfileName}
-use Rattle.derivation.specs.Entries.{slots}
 use Rattle.abstract_kernel.specs.declared.call.Call.{Call}
 use Rattle.abstract_kernel.specs.declared.call.Reply.{Reply}
 use Rattle.abstract_kernel.specs.Boot.{boot}
@@ -13,7 +12,6 @@ use Rattle.abstract_kernel.specs.Reached.{IsReached}
 use Rattle.abstract_kernel.specs.Shown.{Shown}
 use Rattle.abstract_kernel.specs.State.{shown}
 use Rattle.abstract_kernel.specs.Step.{replies_of, state_after}
-use Rattle.abstract_kernel.proofs.Reached.Simulation.{reached_is}
 use Rattle.kernel_book.specs.declared.entry.Entry.{Entry}
 use Rattle.kernel_shared.specs.declared.driving.Stop.{Stop}
 use Rattle.kernel_shared.specs.Driving.{EachThree, IsDriven}
@@ -27,21 +25,6 @@ use Rattle.engine_threads.specs.SharedRuns.{IsSharedRun, client_calls, state_of}
 use Rattle.engine_threads.proofs.Histories.{IsMade, beginnings, each_made, unless_full, whole}
 
 -- ---- the kernel of a book
-
--- the slots of a reached state lie in the plan's memory
-slots_lie : (p : ProfileName) (plan : Plan) → IsPlan p plan → (calls : List Call) → All (λ a. a < 2 ^ plan.memory_bits) (slots (shown (state_after p (boot p plan) calls)).derivations)
-unfolding shown
-slots_lie p plan lawful calls =
-    let r : IsReached p (state_after p (boot p plan) calls) = record { plan = plan; lawful = lawful; calls = calls; is = refl } in
-    λ i d lt. ((reached_is p (state_after p (boot p plan) calls) r).store.slots_placed i d lt).within
-
-lie_set : (m : ℕ) (xs : List ℕ) → IsProp (All (λ a. a < 2 ^ m) xs)
-lie_set m xs = hlevel props
-
-pub book_lies : (p : ProfileName) (plan : Plan) (o k : Shown) (h : List Entry) → IsPlan p plan → o ≡ shown (boot p plan) → ∥ StandsAfter p o h k ∥₁ → All (λ a. a < 2 ^ plan.memory_bits) (slots k.derivations)
-book_lies p plan o k h lawful is b =
-    ∥∥₁_elim b (lie_set plan.memory_bits (slots k.derivations))
-    (λ s. subst (λ (v : Shown). All (λ a. a < 2 ^ plan.memory_bits) (slots v.derivations)) (sym (s.stands (boot p plan) (boot_reached p plan lawful) is)) (slots_lie p plan lawful (calls_of h)))
 
 text_set : (x y : List ℕ) → IsProp (x ≡ y)
 text_set x y = hlevel props

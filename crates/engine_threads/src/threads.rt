@@ -20,7 +20,7 @@ use ipc_core::{LinkedWaiters, MakeWaiters};
 use kernel_shared::{Gate, Naming};
 use setup_format::{Setup, SetupFault, read_setup};
 use setup_shared_report::shared_report;
-use slot_core::{LinkedStore, MakeStore};
+use slot_core::{DerivationStore, LinkedStore, MakeStore};
 use std::alloc::Global;
 use std::marker::Brand;
 use std::sync::Wait;
@@ -42,7 +42,7 @@ fn verdict_on(entries: usize, calls: usize) -> Verdict
 fn report_on<
     N: Naming + Send + Sync,
     P: Profile + Send + Sync,
-    S: MakeStore<P> + Send + Sync,
+    S: MakeStore<P> + DerivationStore<P> + Send + Sync,
     W: MakeWaiters<P> + Send + Sync,
     R: Threads + Wait + Sync,
     G: Gate + Sync,

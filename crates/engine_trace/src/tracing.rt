@@ -2,31 +2,18 @@
 ghost use Rattle.std.specs.Prelude.{◌≡◌, ◌≢◌, IfOk, false};
 ghost use Rattle.abstract_kernel.specs.Plan.{IsPlan};
 ghost use Rattle.setup_values.specs.Names.{names_view};
-ghost use Rattle.engine.specs.Program.{verdict_on as verdict_of_counts};
 ghost use Rattle.engine_core.specs.Runs.{IsRun};
 ghost use Rattle.engine_trace.specs.Traces.{traced_in, trace_of_bytes};
 
 use cap_core::{Narrow, Profile, ProfileName, Wide};
-use engine::refusal;
+use engine::{refusal, verdict_on};
 use engine_core::{Engine, RunFault, Sink, Source, Verdict, run_engine};
 use ipc_core::{LinkedWaiters, MakeWaiters};
 use setup_format::{NamedSetup, Setup, SetupFault, read_named_setup};
-use setup_report::ExpectationCount;
 use setup_trace::trace;
 use setup_values::Name;
 use slot_core::{DerivationStore, LinkedStore, MakeStore};
 use std::alloc::{AllocError, Global};
-
-/// Whether all expectations are met.
-fn verdict_on(count: ExpectationCount) -> Verdict
-    ensures { result ≡ verdict_of_counts count.met count.expected }
-{
-    if count.met == count.expected {
-        Verdict::AllMet
-    } else {
-        Verdict::NotMet
-    }
-}
 
 /// Runs the set-up in a profile, and tells what each call changes.
 #[tactic(auto, unfolding(crate::specs::Traces::traced_in))]

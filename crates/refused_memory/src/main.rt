@@ -11,7 +11,7 @@ use engine::text_of;
 use ipc_core::{LinkedWaiters, MakeWaiters, RowWaiters};
 use kernel_core::{BootPlan, Call, Kernel, Op, ThreadState};
 use setup_read::{SetupFault, read_setup};
-use slot_core::{LinkedStore, MakeStore, RowStore};
+use slot_core::{DerivationStore, LinkedStore, MakeStore, RowStore};
 use std::alloc::Global;
 use std::process::ExitCode;
 use stored::{REPORT, SETUP};
@@ -88,9 +88,12 @@ fn copy_outcome<S: MakeStore<Wide>, W: MakeWaiters<Wide>>(alloc: Global) -> Outc
 }
 
 /// The run of the stored set-up.
-fn run<S: MakeStore<Wide>, W: MakeWaiters<Wide>, T: MakeStore<Narrow>, V: MakeWaiters<Narrow>>(
-    alloc: Global,
-) -> Option<bool> {
+fn run<
+    S: MakeStore<Wide> + DerivationStore<Wide>,
+    W: MakeWaiters<Wide>,
+    T: MakeStore<Narrow> + DerivationStore<Narrow>,
+    V: MakeWaiters<Narrow>,
+>(alloc: Global) -> Option<bool> {
     let (report, _) = text_of::<S, W, T, V>(alloc, SETUP).ok()?;
     Some(report.as_slice() == REPORT)
 }
@@ -129,9 +132,9 @@ fn tell<R: Print>(rt: &R, name: &str, outcome: Outcome) -> anyhow::Result<bool> 
 
 /// The calls over one pair of a capability store and a store of waiting threads.
 fn tell_pair<
-    S: MakeStore<Wide>,
+    S: MakeStore<Wide> + DerivationStore<Wide>,
     W: MakeWaiters<Wide>,
-    T: MakeStore<Narrow>,
+    T: MakeStore<Narrow> + DerivationStore<Narrow>,
     V: MakeWaiters<Narrow>,
     R: Print + AllocGlobal,
 >(rt: &R, pair: &str) -> anyhow::Result<bool> {

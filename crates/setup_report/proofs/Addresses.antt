@@ -1,4 +1,4 @@
--- Addresses in rising order, and where slots lie.
-pub mod InMemory
+-- Addresses in rising order, full slots by their addresses, and what they name.
+pub mod Named
 pub mod Rising
 pub mod Slots

@@ -1,4 +1,5 @@
--- The text of a report; Private has what serves the proofs alone.
+-- The text of a report; State has what is told of a state, and Private what serves the proofs alone.
 pub mod Text
+pub mod State
 pub mod Report
 pub mod Private

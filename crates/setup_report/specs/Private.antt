@@ -1,3 +1,4 @@
 -- What only private contracts cite, in proofs of the public ones: nobody has to believe it.
 pub mod Verdicts
 pub mod Roles
+pub mod Rows

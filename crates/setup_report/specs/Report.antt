@@ -1,15 +1,9 @@
 -- The report of a run: a line for each call, then what the kernel shows of its memory, then how many expectations are met.
-use Rattle.std.specs.Prelude.{codes, ℕ, ◌+◌, ◌-◌, ◌/◌, ◌^◌, nat_le, nat_lt, List, [], ◌∷◌, ◌++◌, map, filter, Bool, true, false, not, ◌==◌, ◌&&◌, cond, if◌then◌else◌, Option, Some, None, is_some}
-use Rattle.std.specs.List.{flat_map, filter_map, list_any}
-use Rattle.std.specs.Ordering.{nat_cmp}
-use Rattle.std.specs.BTreeSet.{insert_key}
+use Rattle.std.specs.Prelude.{codes, ℕ, ◌+◌, List, [], ◌∷◌, ◌++◌, map, Bool, false, if◌then◌else◌, Option, Some, None, is_some}
+use Rattle.std.specs.List.{flat_map}
 use Rattle.std.specs.Fmt.{decimal}
 use Rattle.cap_core.specs.declared.profile.ProfileName.{ProfileName}
-use Rattle.cap_core.specs.Numbers.{slot_bits}
 use Rattle.cap_core.specs.declared.capability.Cap.{Cap}
-use Rattle.cap_core.specs.declared.capability.Cap.TheVariants.{Null, Untyped, Endpoint, CNode, Tcb}
-use Rattle.cap_core.specs.Objects.{is_null}
-use Rattle.derivation.specs.Entries.{slots, cap_at}
 use Rattle.ipc_core.specs.declared.waiter.Waiter.{Waiter}
 use Rattle.ipc_core.specs.Waits.{thread_of}
 use Rattle.ipc_core.specs.Agreement.{is_sender}
@@ -17,9 +11,9 @@ use Rattle.abstract_kernel.specs.declared.call.Call.{Call}
 use Rattle.abstract_kernel.specs.declared.call.Reply.{Reply}
 use Rattle.abstract_kernel.specs.declared.call.ThreadState.{ThreadState}
 use Rattle.abstract_kernel.specs.declared.call.Inbox.{Inbox}
-use Rattle.abstract_kernel.specs.Shown.{Shown, tcb_base, endpoint_base, state_at, inbox_at, waiting_at, has_child}
+use Rattle.abstract_kernel.specs.Shown.{Shown, state_at, inbox_at, waiting_at, has_child}
 use Rattle.setup_format.specs.Views.{CallView}
-use Rattle.setup_report.specs.declared.naming.Naming.{Naming}
+use Rattle.setup_report.specs.State.{Derived, slot_of, threads, endpoints, slot_rows, selfheld}
 use Rattle.setup_report.specs.Text.{cap_text, numbers_text, answered_text, reply_text, begins_as, verdict_text, state_text, inbox_text}
 
 abbrev pub line : List ℕ → List ℕ
@@ -63,61 +57,17 @@ abbrev pub expectation_line : List CallView → List Reply → List ℕ
 expectation_line calls replies =
     line (codes "expected " ++ (decimal (met_count calls replies) ++ (codes " of " ++ decimal (expectation_count calls replies))))
 
--- ---- addresses
-
-abbrev pub is_in : ℕ → List ℕ → Bool
-is_in address list = list_any (λ a. address == a) list
-
--- each of some addresses once, in rising order
-abbrev pub rising : List ℕ → List ℕ
-rising [] = []
-rising (address ∷ addresses) = insert_key nat_cmp (rising addresses) address
-
 -- ---- slots: a line for each full slot, by rising address
-
--- the slots that hold a capability
-abbrev pub is_full : Shown → ℕ → Bool
-is_full v slot = not (is_null (cap_at v.derivations slot))
-
-abbrev pub full_slots : Shown → List ℕ
-full_slots v = filter (is_full v) (slots v.derivations)
 
 abbrev pub slot_text : ℕ → Cap → Bool → List ℕ
 slot_text address cap has_children =
     codes "slot " ++ (decimal address ++ (codes " " ++ (cap_text cap ++ (if has_children then codes " children" else []))))
 
-abbrev pub slot_line : Shown → ℕ → List ℕ
-slot_line v slot = line (slot_text slot (cap_at v.derivations slot) (has_child slot v.derivations))
+abbrev pub slot_line : Shown → Derived → List ℕ
+slot_line v d = line (slot_text (slot_of d) d.0.cap (has_child (slot_of d) v.derivations))
 
 abbrev pub slot_lines : Shown → List ℕ
-slot_lines v = flat_map (slot_line v) (rising (full_slots v))
-
--- ---- the objects that the full slots name, which are those that are live
-
--- a slot is one of the 2^radix slots of a CNode at a base
-abbrev pub is_slot_of : ProfileName → ℕ → ℕ → ℕ → Bool
-is_slot_of p base radix slot = nat_le base slot && nat_lt ((slot - base) / 2 ^ slot_bits p) (2 ^ radix)
-
--- the CNode that a capability names, where its base and its radix pass a test
-abbrev pub node_base : (ℕ → ℕ → Bool) → Cap → Option ℕ
-node_base test Null = None
-node_base test (Untyped base bits free) = None
-node_base test (Endpoint base badge rights) = None
-node_base test (CNode base radix guard) = cond (test base radix) (Some base) None
-node_base test (Tcb base) = None
-
--- the object that a slot names with its capability: a thread; an endpoint; a CNode to which the slot belongs; or another CNode
-abbrev pub base_named : ProfileName → Naming → ℕ → Cap → Option ℕ
-base_named p Naming.Thread slot cap = tcb_base cap
-base_named p Naming.Endpoint slot cap = endpoint_base cap
-base_named p Naming.OwnNode slot cap = node_base (λ base radix. is_slot_of p base radix slot) cap
-base_named p Naming.OtherNode slot cap = node_base (λ base radix. not (is_slot_of p base radix slot)) cap
-
-abbrev pub base_at : ProfileName → Naming → Shown → ℕ → Option ℕ
-base_at p naming v slot = base_named p naming slot (cap_at v.derivations slot)
-
-abbrev pub bases_named : ProfileName → Naming → Shown → List ℕ
-bases_named p naming v = filter_map (base_at p naming v) (full_slots v)
+slot_lines v = flat_map (slot_line v) (slot_rows v)
 
 -- ---- threads: a line for each live thread, by rising address
 
@@ -133,7 +83,7 @@ abbrev pub thread_line : Shown → ℕ → List ℕ
 thread_line v address = thread_line_with address (state_at v address) (inbox_at v address)
 
 abbrev pub thread_lines : ProfileName → Shown → List ℕ
-thread_lines p v = flat_map (thread_line v) (rising (bases_named p Naming.Thread v))
+thread_lines p v = flat_map (thread_line v) (threads p v)
 
 -- ---- endpoints: a line for each live endpoint, by rising address
 
@@ -159,18 +109,15 @@ abbrev pub endpoint_line : Shown → ℕ → List ℕ
 endpoint_line v address = line (endpoint_text address (first_sends (waiting_at v address)) (threads_at v address))
 
 abbrev pub endpoint_lines : ProfileName → Shown → List ℕ
-endpoint_lines p v = flat_map (endpoint_line v) (rising (bases_named p Naming.Endpoint v))
+endpoint_lines p v = flat_map (endpoint_line v) (endpoints p v)
 
 -- ---- selfheld CNodes, those that slots of their own name and no other slots: a line for each, by rising address
-
-abbrev pub selfheld : ProfileName → Shown → List ℕ
-selfheld p v = filter (λ base. not (is_in base (bases_named p Naming.OtherNode v))) (bases_named p Naming.OwnNode v)
 
 abbrev pub selfheld_line : ℕ → List ℕ
 selfheld_line address = line (codes "selfheld " ++ decimal address)
 
 abbrev pub selfheld_lines : ProfileName → Shown → List ℕ
-selfheld_lines p v = flat_map selfheld_line (rising (selfheld p v))
+selfheld_lines p v = flat_map selfheld_line (selfheld p v)
 
 -- ---- what a kernel shows of its memory
 

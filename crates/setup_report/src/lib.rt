@@ -1,50 +1,49 @@
 //! The report of a run: each call with its reply, what the kernel shows at the end, and how many expectations are met.
 #![tactic(auto)]
 
-ghost use Rattle.std.specs.Prelude.{◌≡◌, ◌++◌, ◌<◌, ◌^◌, All, length, IfOk, OnOk, string_bytes};
-ghost use Rattle.derivation.specs.Entries.{slots as slots_of};
-ghost use Rattle.setup_report.specs.Report.{report_of, state_lines, met_count, expectation_count};
+ghost use Rattle.std.specs.Prelude.{◌≡◌, length, IfOk};
+ghost use Rattle.setup_report.specs.Report.{report_of, met_count, expectation_count};
 
 mod calls;
 mod lines;
 mod memory;
 mod naming;
-mod readable;
-mod slots;
+mod state;
 mod text;
 
 pub use calls::{ExpectationCount, add_call, expectations};
 use cap_core::Profile;
 use ipc_core::Waiters;
 use kernel_core::{Kernel, Reply};
-pub use lines::EndpointLine;
-pub use memory::{first_sends, waiting_threads};
+pub use lines::{EndpointLine, SlotLine, ThreadLine};
+pub use memory::{add_state, first_sends, waiting_threads};
 pub use naming::{Naming, base_named};
-pub use readable::Readable;
 use setup_format::Setup;
-use slot_core::CapStore;
+use slot_core::DerivationStore;
+pub use state::{StateRows, state_rows};
 use std::alloc::{AllocError, Global};
 use std::fmt::Write;
-pub use text::{AnsweredText, CapText, MessageText, StateText};
+pub use text::{
+    AnsweredText, CapText, InboxText, MessageText, NumbersText, RefusalText, ReplyText, RightsText,
+    StateText, op_text,
+};
 
 /// The report of a run as text: a line for each call of the set-up with its reply; of the memory, as `kernel` shows it,
 /// a line for each live thread, each live endpoint, each full slot and each CNode that only slots of its own name, each
 /// by rising address; and how many of the expectations are met.
 ///
-/// `replies` has the reply to each call, in order, and the full slots of `kernel` lie in the set-up's memory. The
-/// lines, and what is read of a kernel, are this project's profile.
+/// `replies` has the reply to each call, in order. The lines, and what is read of a kernel, are this project's profile.
 ///
 /// # Errors
 ///
 /// Memory was refused.
-pub fn report<P: Profile, S: CapStore<P> + Drop, W: Waiters<P> + Drop>(
+pub fn report<P: Profile, S: DerivationStore<P> + Drop, W: Waiters<P> + Drop>(
     alloc: Global,
     setup: &Setup,
     replies: &[Reply],
     kernel: &Kernel<P, S, W>,
 ) -> Result<Vec<u8>, AllocError>
     requires replies { length replies.now ≡ length setup.now.calls }
-    requires slots { All (λ a. a < 2 ^ setup.now.plan.memory_bits) (slots_of kernel.now.derivations) }
     ensures { IfOk result (λ v. v.items ≡ report_of P.the setup.now.calls replies.now kernel.now) }
 {
     let (text, _) = counted_report(alloc, setup, replies, kernel)?;
@@ -57,41 +56,22 @@ pub fn report<P: Profile, S: CapStore<P> + Drop, W: Waiters<P> + Drop>(
 ///
 /// Memory was refused.
 #[tactic(auto, unfolding(crate::specs::Report::report_of))]
-pub fn counted_report<P: Profile, S: CapStore<P> + Drop, W: Waiters<P> + Drop>(
+pub fn counted_report<P: Profile, S: DerivationStore<P> + Drop, W: Waiters<P> + Drop>(
     alloc: Global,
     setup: &Setup,
     replies: &[Reply],
     kernel: &Kernel<P, S, W>,
 ) -> Result<(Vec<u8>, ExpectationCount), AllocError>
     requires replies { length replies.now ≡ length setup.now.calls }
-    requires slots { All (λ a. a < 2 ^ setup.now.plan.memory_bits) (slots_of kernel.now.derivations) }
     ensures report { IfOk result (λ r. r.0.items ≡ report_of P.the setup.now.calls replies.now kernel.now) }
     ensures met { IfOk result (λ r. r.1.met ≡ met_count setup.now.calls replies.now) }
     ensures expected { IfOk result (λ r. r.1.expected ≡ expectation_count setup.now.calls replies.now) }
 {
     let mut out = String::new(alloc);
     let count = calls::add_calls(alloc, &mut out, setup, replies)?;
-    add_state(alloc, &mut out, setup, kernel)?;
+    add_state::<P, S, W>(alloc, &mut out, kernel)?;
     let met = count.met;
     let expected = count.expected;
     writeln!(out, "expected {met} of {expected}")?;
     Ok((out.into_bytes(), count))
-}
-
-/// Adds what a kernel shows of a set-up's memory, in which all its full slots lie: a line for each live thread, each
-/// live endpoint, each full slot and each CNode that only slots of its own name, each by rising address.
-///
-/// # Errors
-///
-/// Memory was refused.
-pub fn add_state<P: Profile, S: CapStore<P> + Drop, W: Waiters<P> + Drop>(
-    alloc: Global,
-    out: &mut String,
-    setup: &Setup,
-    kernel: &Kernel<P, S, W>,
-) -> Result<(), AllocError>
-    requires slots { All (λ a. a < 2 ^ setup.now.plan.memory_bits) (slots_of kernel.now.derivations) }
-    ensures { OnOk result (string_bytes out.new ≡ string_bytes out.old ++ state_lines P.the kernel.now) }
-{
-    memory::add_state::<P, Kernel<P, S, W>>(alloc, out, setup.plan().memory_bits(), kernel)
 }

@@ -1,30 +1,27 @@
 //! What a kernel shows of its memory, a line for each thing that is there.
-ghost use Rattle.std.specs.Prelude.{◌≡◌, ◌++◌, ◌≤◌, ◌<◌, ◌^◌, All, OnOk, IfOk, flat_map, string_bytes};
-ghost use Rattle.std.specs.BTreeSet.{difference};
-ghost use Rattle.std.specs.Ordering.{nat_cmp};
-ghost use Rattle.derivation.specs.Entries.{slots as slots_of};
+ghost use Rattle.std.specs.Prelude.{◌≡◌, ◌++◌, OnOk, IfOk, flat_map, string_bytes};
+ghost use Rattle.slot_core.specs.Calls.{derivation_view};
 ghost use Rattle.abstract_kernel.specs.Shown.{waiting_at};
 ghost use Rattle.setup_report.specs.Report as spec;
 ghost use Rattle.setup_report.specs.Private.Roles.{is_sending};
 
 use crate::lines::{EndpointLine, SlotLine, ThreadLine};
-use crate::naming::{Naming, bases_named};
-use crate::readable::Readable;
-use crate::slots::full_slots;
+use crate::state::state_rows;
 use cap_core::Profile;
-use cap_core::limits::{MAX_MEMORY_BITS, MIN_MEMORY_BITS};
-use kernel_core::ThreadState;
+use ipc_core::Waiters;
+use kernel_core::{Kernel, ThreadState};
+use slot_core::{CapStore, Derivation, DerivationStore};
 use std::alloc::{AllocError, Global};
 use std::collections::BTreeSet;
 use std::fmt::Write;
 
-fn add_thread<P: Profile, K: Readable<P>>(
+fn add_thread<P: Profile, S: CapStore<P> + Drop, W: Waiters<P> + Drop>(
     out: &mut String,
     address: u64,
-    kernel: &K,
+    kernel: &Kernel<P, S, W>,
 ) -> Result<(), AllocError>
     ensures { OnOk result (string_bytes out.new ≡ string_bytes out.old
-        ++ spec.thread_line (K.shown kernel.now) address) }
+        ++ spec.thread_line kernel.now address) }
 {
     match kernel.thread_state(address) {
         None => Ok(()),
@@ -40,46 +37,48 @@ fn add_thread<P: Profile, K: Readable<P>>(
 }
 
 /// Adds a line for each of some threads.
-fn add_threads<P: Profile, K: Readable<P>>(
+fn add_threads<P: Profile, S: CapStore<P> + Drop, W: Waiters<P> + Drop>(
     out: &mut String,
     threads: &BTreeSet<u64>,
-    kernel: &K,
+    kernel: &Kernel<P, S, W>,
 ) -> Result<(), AllocError>
     ensures { OnOk result (string_bytes out.new ≡ string_bytes out.old
-        ++ flat_map (spec.thread_line (K.shown kernel.now)) threads.now.keys) }
+        ++ flat_map (spec.thread_line kernel.now) threads.now.keys) }
 {
     for thread in threads {
-        add_thread::<P, K>(out, *thread, kernel)?;
+        add_thread::<P, S, W>(out, *thread, kernel)?;
     }
     Ok(())
 }
 
-fn add_slot<P: Profile, K: Readable<P>>(
+fn add_slot<P: Profile, S: CapStore<P> + Drop, W: Waiters<P> + Drop>(
     out: &mut String,
-    address: u64,
-    kernel: &K,
+    derivation: &Derivation,
+    kernel: &Kernel<P, S, W>,
 ) -> Result<(), AllocError>
-    ensures { OnOk result (string_bytes out.new ≡ string_bytes out.old ++ spec.slot_line (K.shown kernel.now) address) }
+    ensures { OnOk result (string_bytes out.new ≡ string_bytes out.old
+        ++ spec.slot_line kernel.now (derivation_view P.the derivation.now)) }
 {
+    let address = derivation.slot.address::<P>();
     let line = SlotLine {
         address,
-        cap: kernel.cap_at(address),
+        cap: derivation.cap,
         has_children: kernel.has_children(address),
     };
     writeln!(out, "{line}")
 }
 
-/// Adds a line for each of some slots.
-fn add_slots<P: Profile, K: Readable<P>>(
+/// Adds a line for each of some full slots.
+fn add_slots<P: Profile, S: CapStore<P> + Drop, W: Waiters<P> + Drop>(
     out: &mut String,
-    slots: &[u64],
-    kernel: &K,
+    slots: &[Derivation],
+    kernel: &Kernel<P, S, W>,
 ) -> Result<(), AllocError>
     ensures { OnOk result (string_bytes out.new ≡ string_bytes out.old
-        ++ flat_map (spec.slot_line (K.shown kernel.now)) slots.now) }
+        ++ flat_map (λ d. spec.slot_line kernel.now (derivation_view P.the d)) slots.now) }
 {
     for slot in slots {
-        add_slot::<P, K>(out, *slot, kernel)?;
+        add_slot::<P, S, W>(out, slot, kernel)?;
     }
     Ok(())
 }
@@ -89,12 +88,12 @@ fn add_slots<P: Profile, K: Readable<P>>(
 /// # Errors
 ///
 /// Memory was refused.
-pub fn waiting_threads<P: Profile, K: Readable<P>>(
+pub fn waiting_threads<P: Profile, S: CapStore<P> + Drop, W: Waiters<P> + Drop>(
     alloc: Global,
     endpoint: u64,
-    kernel: &K,
+    kernel: &Kernel<P, S, W>,
 ) -> Result<Vec<u64>, AllocError>
-    ensures { IfOk result (λ v. v.items ≡ spec.threads_at (K.shown kernel.now) endpoint) }
+    ensures { IfOk result (λ v. v.items ≡ spec.threads_at kernel.now endpoint) }
 {
     let mut threads = Vec::new(alloc);
     let mut next = kernel.waiting(endpoint, 0);
@@ -112,8 +111,11 @@ fn is_sending(state: Option<ThreadState>) -> bool
 }
 
 /// Whether the thread that waits first on an endpoint sends, as all that wait there then do.
-pub fn first_sends<P: Profile, K: Readable<P>>(endpoint: u64, kernel: &K) -> bool
-    ensures { result ≡ spec.first_sends (waiting_at (K.shown kernel.now) endpoint) }
+pub fn first_sends<P: Profile, S: CapStore<P> + Drop, W: Waiters<P> + Drop>(
+    endpoint: u64,
+    kernel: &Kernel<P, S, W>,
+) -> bool
+    ensures { result ≡ spec.first_sends (waiting_at kernel.now endpoint) }
 {
     match kernel.waiting(endpoint, 0) {
         Some(first) => is_sending(kernel.thread_state(first)),
@@ -121,76 +123,67 @@ pub fn first_sends<P: Profile, K: Readable<P>>(endpoint: u64, kernel: &K) -> boo
     }
 }
 
-fn add_endpoint<P: Profile, K: Readable<P>>(
+fn add_endpoint<P: Profile, S: CapStore<P> + Drop, W: Waiters<P> + Drop>(
     alloc: Global,
     out: &mut String,
     address: u64,
-    kernel: &K,
+    kernel: &Kernel<P, S, W>,
 ) -> Result<(), AllocError>
     ensures { OnOk result (string_bytes out.new ≡ string_bytes out.old
-        ++ spec.endpoint_line (K.shown kernel.now) address) }
+        ++ spec.endpoint_line kernel.now address) }
 {
-    let threads = waiting_threads::<P, K>(alloc, address, kernel)?;
+    let threads = waiting_threads::<P, S, W>(alloc, address, kernel)?;
     let line = EndpointLine {
         address,
-        sending: first_sends::<P, K>(address, kernel),
+        sending: first_sends::<P, S, W>(address, kernel),
         threads: threads.as_slice(),
     };
     writeln!(out, "{line}")
 }
 
 /// Adds a line for each of some endpoints.
-fn add_endpoints<P: Profile, K: Readable<P>>(
+fn add_endpoints<P: Profile, S: CapStore<P> + Drop, W: Waiters<P> + Drop>(
     alloc: Global,
     out: &mut String,
     endpoints: &BTreeSet<u64>,
-    kernel: &K,
+    kernel: &Kernel<P, S, W>,
 ) -> Result<(), AllocError>
     ensures { OnOk result (string_bytes out.new ≡ string_bytes out.old
-        ++ flat_map (spec.endpoint_line (K.shown kernel.now)) endpoints.now.keys) }
+        ++ flat_map (spec.endpoint_line kernel.now) endpoints.now.keys) }
 {
     for endpoint in endpoints {
-        add_endpoint::<P, K>(alloc, out, *endpoint, kernel)?;
+        add_endpoint::<P, S, W>(alloc, out, *endpoint, kernel)?;
     }
     Ok(())
 }
 
-/// Adds a line for each CNode that slots of its own name and no other slots.
-fn add_selfheld(
-    out: &mut String,
-    own: &BTreeSet<u64>,
-    others: &BTreeSet<u64>,
-) -> Result<(), AllocError>
-    ensures { OnOk result (string_bytes out.new ≡ string_bytes out.old
-        ++ flat_map spec.selfheld_line (difference nat_cmp own.now others.now)) }
+/// Adds a line for each of some CNodes that only slots of their own name.
+fn add_selfheld(out: &mut String, nodes: &[u64]) -> Result<(), AllocError>
+    ensures { OnOk result (string_bytes out.new ≡ string_bytes out.old ++ flat_map spec.selfheld_line nodes.now) }
 {
-    for node in own.difference(others) {
+    for node in nodes {
         writeln!(out, "selfheld {node}")?;
     }
     Ok(())
 }
 
-/// Adds what a kernel shows of its memory, in which all its full slots lie.
-pub fn add_state<P: Profile, K: Readable<P>>(
+/// Adds what a kernel shows of its memory: a line for each live thread, each live endpoint, each full slot and each CNode
+/// that only slots of its own name, each by rising address.
+///
+/// # Errors
+///
+/// Memory was refused.
+pub fn add_state<P: Profile, S: DerivationStore<P> + Drop, W: Waiters<P> + Drop>(
     alloc: Global,
     out: &mut String,
-    memory_bits: u32,
-    kernel: &K,
+    kernel: &Kernel<P, S, W>,
 ) -> Result<(), AllocError>
-    requires least { MIN_MEMORY_BITS ≤ memory_bits }
-    requires most { memory_bits ≤ MAX_MEMORY_BITS }
-    requires slots { All (λ a. a < 2 ^ memory_bits) (slots_of (K.shown kernel.now).derivations) }
-    ensures { OnOk result (string_bytes out.new ≡ string_bytes out.old ++ spec.state_lines P.the (K.shown kernel.now)) }
+    ensures { OnOk result (string_bytes out.new ≡ string_bytes out.old ++ spec.state_lines P.the kernel.now) }
 {
-    let full = full_slots::<P, K>(alloc, memory_bits, kernel)?;
-    let slots = full.as_slice();
-    let threads = bases_named::<P, K>(alloc, Naming::Thread, slots, kernel)?;
-    let endpoints = bases_named::<P, K>(alloc, Naming::Endpoint, slots, kernel)?;
-    let own = bases_named::<P, K>(alloc, Naming::OwnNode, slots, kernel)?;
-    let others = bases_named::<P, K>(alloc, Naming::OtherNode, slots, kernel)?;
-    add_threads::<P, K>(out, &threads, kernel)?;
-    add_endpoints::<P, K>(alloc, out, &endpoints, kernel)?;
-    add_slots::<P, K>(out, slots, kernel)?;
-    add_selfheld(out, &own, &others)?;
+    let rows = state_rows::<P, S, W>(alloc, kernel)?;
+    add_threads::<P, S, W>(out, &rows.threads, kernel)?;
+    add_endpoints::<P, S, W>(alloc, out, &rows.endpoints, kernel)?;
+    add_slots::<P, S, W>(out, rows.slots.as_slice(), kernel)?;
+    add_selfheld(out, rows.selfheld.as_slice())?;
     Ok(())
 }

@@ -1,9 +1,12 @@
 //! The objects that slots name.
-ghost use Rattle.std.specs.Prelude.{◌≡◌, ◌^◌, IfOk, filter_map, nat_lt};
-ghost use Rattle.setup_report.specs.Report as spec;
+ghost use Rattle.std.specs.Prelude.{◌≡◌, ◌^◌, IfOk, map, nat_lt};
+ghost use Rattle.std.specs.BTreeSet.{difference};
+ghost use Rattle.std.specs.Ordering.{nat_cmp};
+ghost use Rattle.slot_core.specs.Calls.{derivation_view};
+ghost use Rattle.setup_report.specs.State as spec;
 
-use crate::readable::Readable;
 use cap_core::{Cap, Profile};
+use slot_core::Derivation;
 use std::alloc::{AllocError, Global};
 use std::collections::BTreeSet;
 
@@ -61,21 +64,45 @@ pub fn base_named<P: Profile>(naming: Naming, slot: u64, cap: Cap) -> Option<u64
     }
 }
 
-/// The bases of the objects that slots name.
-pub fn bases_named<P: Profile, K: Readable<P>>(
+/// The objects that full slots name with their capabilities.
+pub fn named<P: Profile>(
     alloc: Global,
     naming: Naming,
-    slots: &[u64],
-    kernel: &K,
+    list: &[Derivation],
 ) -> Result<BTreeSet<u64>, AllocError>
-    ensures { IfOk result (λ s. s.keys
-        ≡ spec.rising (filter_map (spec.base_at P.the naming (K.shown kernel.now)) slots.now)) }
+    ensures { IfOk result (λ s. s.keys ≡ spec.rising (spec.named P.the naming (map (derivation_view P.the) list.now))) }
 {
     let mut bases = BTreeSet::new(alloc);
-    for slot in slots {
-        if let Some(base) = base_named::<P>(naming, *slot, kernel.cap_at(*slot)) {
+    for derivation in list {
+        let slot = derivation.slot.address::<P>();
+        if let Some(base) = base_named::<P>(naming, slot, derivation.cap) {
             bases.insert(base)?;
         }
     }
     Ok(bases)
+}
+
+/// The addresses of a set that are not of another one, in their order.
+fn only_in(
+    alloc: Global,
+    own: &BTreeSet<u64>,
+    others: &BTreeSet<u64>,
+) -> Result<Vec<u64>, AllocError>
+    ensures { IfOk result (λ v. v.items ≡ difference nat_cmp own.now others.now) }
+{
+    let mut only = Vec::new(alloc);
+    for address in own.difference(others) {
+        only.push(*address)?;
+    }
+    Ok(only)
+}
+
+/// The CNodes that slots of their own name and no other slots, by rising address.
+pub fn selfheld<P: Profile>(alloc: Global, list: &[Derivation]) -> Result<Vec<u64>, AllocError>
+    ensures { IfOk result (λ v. v.items
+        ≡ spec.rising (spec.holding_themselves P.the (map (derivation_view P.the) list.now))) }
+{
+    let own = named::<P>(alloc, Naming::OwnNode, list)?;
+    let others = named::<P>(alloc, Naming::OtherNode, list)?;
+    only_in(alloc, &own, &others)
 }

@@ -1,8 +1,7 @@
 //! The report of a kernel that clients shared: the history of their calls, and what the kernel shows at the end.
 #![tactic(auto)]
 
-ghost use Rattle.std.specs.Prelude.{◌≡◌, ◌++◌, ◌<◌, ◌^◌, All, Some, length, IfOk, OnOk, string_bytes};
-ghost use Rattle.derivation.specs.Entries.{slots as slots_of};
+ghost use Rattle.std.specs.Prelude.{◌≡◌, ◌++◌, Some, length, IfOk, OnOk, string_bytes};
 ghost use Rattle.setup_shared_report.specs.SharedReport.{entry_text, entry_lines, shared_report_of};
 
 use cap_core::Profile;
@@ -10,7 +9,7 @@ use ipc_core::Waiters;
 use kernel_shared::{Book, Entry, Naming};
 use setup_format::Setup;
 use setup_report::{AnsweredText, add_state};
-use slot_core::CapStore;
+use slot_core::DerivationStore;
 use std::alloc::{AllocError, Global};
 use std::fmt;
 use std::fmt::Write;
@@ -56,23 +55,20 @@ fn add_entries(out: &mut String, history: &[Entry]) -> Result<(), AllocError>
 /// kernel shows of the memory, as `setup_report::report` tells it; and how many entries there are, of how many calls of the
 /// set-up. Expectations are not looked at.
 ///
-/// The full slots of the book's kernel lie in the set-up's memory.
-///
 /// # Errors
 ///
 /// Memory was refused.
 #[tactic(auto, unfolding(crate::specs::SharedReport::shared_report_of))]
-pub fn shared_report<N: Naming, P: Profile, S: CapStore<P> + Drop, W: Waiters<P> + Drop>(
+pub fn shared_report<N: Naming, P: Profile, S: DerivationStore<P> + Drop, W: Waiters<P> + Drop>(
     alloc: Global,
     setup: &Setup,
     book: &Book<N, P, S, W>,
 ) -> Result<Vec<u8>, AllocError>
-    requires slots { All (λ a. a < 2 ^ setup.now.plan.memory_bits) (slots_of book.now.kernel.derivations) }
     ensures { IfOk result (λ v. v.items ≡ shared_report_of P.the (length setup.now.calls) book.now.history.items book.now.kernel) }
 {
     let mut out = String::new(alloc);
     add_entries(&mut out, book.history.as_slice())?;
-    add_state(alloc, &mut out, setup, &book.kernel)?;
+    add_state::<P, S, W>(alloc, &mut out, &book.kernel)?;
     let entries = book.history.len();
     let calls = setup.calls().len();
     writeln!(out, "entries {entries} of {calls}")?;

@@ -9,7 +9,7 @@ use Rattle.std.specs.declared.cmp.Ordering.TheVariants.{Less, Equal, Greater}
 use Rattle.std.proofs.lemmas.Bool.{ne_eqb}
 use Rattle.std.proofs.lemmas.Slice.Eq.{bytes_eq-Decides}
 use lib.Pointwise.{pointwise}
-use Rattle.setup_report.specs.Report.{rising}
+use Rattle.setup_report.specs.State.{rising}
 use Rattle.setup_trace.specs.Lines.{Lines}
 use Rattle.setup_trace.specs.Changes.{text_at, removed, added, change, change_at, addresses, line_changes}
 use Rattle.setup_trace.specs.Laws.{Difference, difference_at, is_difference, differences, told, without, with_line, apply, applied, Rise}

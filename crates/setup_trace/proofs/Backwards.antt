@@ -11,7 +11,7 @@ use Rattle.abstract_kernel.specs.Plan.{Plan}
 use Rattle.abstract_kernel.specs.Shown.{Shown}
 use Rattle.abstract_kernel.specs.State.{State, shown}
 use Rattle.abstract_kernel.specs.Step.{step, state_after}
-use Rattle.setup_report.specs.Report.{is_in, rising}
+use Rattle.setup_report.specs.State.{is_in, rising}
 use Rattle.setup_report.proofs.Addresses.Rising.{rising_same}
 use Rattle.setup_trace.specs.Lines.{Lines}
 use Rattle.setup_trace.specs.Changes.{StateLines, addresses, text_at, state_lines, no_lines}

@@ -11,7 +11,7 @@ use Rattle.derivation.proofs.Trees.Built.{Absent, Once, once-right_part}
 use Rattle.derivation.proofs.Trees.Lines.{once-left_part}
 use Rattle.derivation.proofs.Slots.Distinct.{once_at}
 use Rattle.abstract_kernel.specs.Shown.{has_child}
-use Rattle.setup_trace.specs.Lines.{Derived, slot_of}
+use Rattle.setup_report.specs.State.{Derived, slot_of, found}
 use Rattle.setup_trace.specs.Laws.{is_under, has_slot_under}
 
 abbrev viewed : Entry × Option Entry → Derived
@@ -76,7 +76,7 @@ child_is_under slot f distinct = children_under slot None f refl (once_at slot (
 -- ---- capabilities
 
 -- a slot that is found holds the capability of what is found there
-pub held_there : (list : List Derived) (slot : ℕ) (d : Derived) → find (λ (e : Derived). slot_of e == slot) list ≡ Some d → cap_in slot (map (λ (e : Derived). e.0) list) ≡ d.0.cap
+pub held_there : (list : List Derived) (slot : ℕ) (d : Derived) → found list slot ≡ Some d → cap_in slot (map (λ (e : Derived). e.0) list) ≡ d.0.cap
 held_there [] slot d is = cc
 held_there (e ∷ list) slot d is =
     elim (slot_of e == slot) as (λ b. cond b (Some e) (find (λ (a : Derived). slot_of a == slot) list) ≡ Some d → cond b e.0.cap (cap_in slot (map (λ (a : Derived). a.0) list)) ≡ d.0.cap) [

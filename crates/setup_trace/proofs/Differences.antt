@@ -9,7 +9,7 @@ use Rattle.std.specs.FinMap.{nat_cmp-IsAntisymmetric}
 use Rattle.std.specs.declared.cmp.Ordering.TheVariants.{Less, Equal, Greater}
 use Rattle.std.specs.BTreeSet.{insert_key}
 use Rattle.std.proofs.lemmas.Bool.{ne_eqb}
-use Rattle.setup_report.specs.Report.{rising}
+use Rattle.setup_report.specs.State.{rising}
 use Rattle.setup_trace.specs.Lines.{Lines}
 use Rattle.setup_trace.specs.Changes.{text_at, change, change_at, addresses, line_changes, removed, added}
 use Rattle.setup_trace.specs.Private.Listed.{order_of}

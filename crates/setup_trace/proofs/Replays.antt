@@ -12,8 +12,9 @@ use Rattle.abstract_kernel.specs.State.{State, shown}
 use Rattle.abstract_kernel.specs.Step.{step, replies_of, state_after}
 use Rattle.setup_format.specs.Views.{CallView}
 use Rattle.setup_report.specs.declared.naming.Naming.{Naming}
+use Rattle.setup_report.specs.State.{slot_of, named, holding_themselves}
 use Rattle.setup_report.specs.Report.{line, call_text, call_lines}
-use Rattle.setup_trace.specs.Lines.{slot_of, named, thread_at, inbox_line_at, endpoint_at, slot_at, selfheld, selfheld_at}
+use Rattle.setup_trace.specs.Lines.{thread_at, inbox_line_at, endpoint_at, slot_at, selfheld_at}
 use Rattle.setup_trace.specs.Changes.{StateLines, state_lines, no_lines, changes}
 use Rattle.setup_trace.specs.Trace.{words_line, calls_lines}
 use Rattle.setup_trace.specs.Laws.{Rise, state_differences, state_told, state_applied, lines_in, call_changes, boot_differences, run_differences, replayed, report_lines, details, followed}
@@ -47,7 +48,7 @@ lines_rise p v =
       inboxes = rises_at (inbox_line_at v) (named p Naming.Thread list) _ refl;
       endpoints = rises_at (endpoint_at v) (named p Naming.Endpoint list) _ refl;
       slots = rises_at (slot_at list) (map slot_of list) _ refl;
-      selfheld = rises_at selfheld_at (selfheld p list) _ refl;
+      selfheld = rises_at selfheld_at (holding_themselves p list) _ refl;
     }
 
 nil_rises : Rise []

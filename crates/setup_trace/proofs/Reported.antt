@@ -11,18 +11,20 @@ use Rattle.derivation.specs.Forest.Forest.{none, tree}
 use Rattle.derivation.proofs.Trees.Forests.{each-weaker}
 use Rattle.derivation.specs.Entries.{Entry, slots, caps, cap_at, cap_in, slot_of as entry_slot, derivations_of}
 use Rattle.abstract_kernel.specs.Reached.{IsReached}
-use Rattle.abstract_kernel.specs.Shown.{Shown, state_at, inbox_at}
+use Rattle.abstract_kernel.specs.Shown.{Shown, state_at, inbox_at, has_child}
 use Rattle.abstract_kernel.specs.State.{State, shown}
 use Rattle.abstract_kernel.specs.Waiting.{offer_at}
 use Rattle.abstract_kernel.specs.declared.call.ThreadState.{ThreadState}
 use Rattle.abstract_kernel.proofs.Reached.Simulation.{reached_is}
-use Rattle.setup_report.specs.declared.naming.Naming.{Naming}
-use Rattle.setup_report.specs.Report.{is_in, rising, is_full, full_slots, base_named, base_at, bases_named, thread_line, thread_line_with, endpoint_line, slot_line, slot_text as report_slot_text, line, selfheld_line, selfheld as report_selfheld}
+use Rattle.setup_report.specs.State.{Derived, slot_of, found, rising, threads, endpoints, selfheld}
+use Rattle.setup_report.specs.Report.{thread_line, thread_line_with, endpoint_line, slot_line, slot_text as report_slot_text, line, selfheld_line}
 use Rattle.setup_report.proofs.Addresses.Rising.{all_rising}
-use Rattle.setup_trace.specs.Lines.{Derived, slot_of, slot_text, slot_at, slot_lines, line_of, line_at, named_by, named, thread_at, thread_text, endpoint_at, selfheld, selfheld_at}
+use Rattle.setup_report.proofs.Addresses.Slots.{slots_are}
+use Rattle.setup_trace.specs.Lines.{slot_text, slot_at, slot_lines, line_of, line_at, thread_at, thread_text, endpoint_at, selfheld_at}
 use Rattle.setup_trace.specs.Changes.{addresses}
-use Rattle.setup_trace.specs.Laws.{lines_text, TellsTheThreads, TellsTheEndpoints, TellsTheSlots, TellsTheSlotLines, TellsTheSelfheld, slot_line_of, report_slot_line}
+use Rattle.setup_trace.specs.Laws.{lines_text, TellsTheThreads, TellsTheEndpoints, TellsTheSlots, TellsTheSlotLines, TellsTheCapabilities, TellsTheSelfheld, slot_line_of, report_slot_line, held_slot_line, is_full, full_slots}
 use Rattle.setup_trace.proofs.Children.{child_is_under, held_there}
+use Rattle.setup_trace.proofs.Listed.{found_is}
 
 -- ---- the entries of the derivations are those of the forest
 
@@ -40,13 +42,6 @@ entries_parented above (tree a under others) =
 entries_are : (f : Forest Entry) → map (λ (d : Derived). d.0) (derivations_of f) ≡ preorder f
 entries_are f = entries_parented None f
 
-slots_mapped : (list : List Derived) → map slot_of list ≡ map (λ (e : Entry). e.slot) (map (λ (d : Derived). d.0) list)
-slots_mapped [] = refl
-slots_mapped (d ∷ list) = ap (λ l. slot_of d ∷ l) (slots_mapped list)
-
-slots_are : (f : Forest Entry) → map slot_of (derivations_of f) ≡ slots f
-slots_are f = slots_mapped (derivations_of f) ∙ ap (map (λ (e : Entry). e.slot)) (entries_are f)
-
 -- ---- each slot holds the capability of its entry
 
 held_past : (e : Entry) (all es : List Entry) → Each (λ (n : ℕ). (e.slot == n) ≡ false) (map (λ (a : Entry). a.slot) es) → Each (λ (a : Entry). cap_in a.slot all ≡ a.cap) es →
@@ -59,47 +54,6 @@ unfolding IsDistinct
 each_held [] apart = tt
 each_held (e ∷ es) apart =
     (ap (λ b. cond b e.cap (cap_in e.slot es)) (eq-eqb e.slot e.slot refl), held_past e es es apart.0 (each_held es apart.1))
-
--- ---- what the slots name
-
-abbrev names : ProfileName → Naming → Entry → Option ℕ
-names p naming e = base_named p naming e.slot e.cap
-
-entries_named : (p : ProfileName) (naming : Naming) (list : List Derived) → named p naming list ≡ filter_map (names p naming) (map (λ (d : Derived). d.0) list)
-entries_named p naming [] = refl
-entries_named p naming (d ∷ list) = ap (cons_option (named_by p naming d)) (entries_named p naming list)
-
-slots_named : (p : ProfileName) (naming : Naming) (held : ℕ → Cap) (es : List Entry) → Each (λ (e : Entry). held e.slot ≡ e.cap) es →
-    filter_map (λ slot. base_named p naming slot (held slot)) (map (λ (e : Entry). e.slot) es) ≡ filter_map (names p naming) es
-slots_named p naming held [] h = refl
-slots_named p naming held (e ∷ es) h = λ i. cons_option (base_named p naming e.slot (h.0 i)) (slots_named p naming held es h.1 i)
-
-null_names : (p : ProfileName) (naming : Naming) (slot : ℕ) (cap : Cap) → not (is_null cap) ≡ false → base_named p naming slot cap ≡ None
-null_names p Naming.Thread slot Null h = refl
-null_names p Naming.Endpoint slot Null h = refl
-null_names p Naming.OwnNode slot Null h = refl
-null_names p Naming.OtherNode slot Null h = refl
-null_names p naming slot (Untyped base bits free) h = cc
-null_names p naming slot (Endpoint base badge rights) h = cc
-null_names p naming slot (CNode base radix guard) h = cc
-null_names p naming slot (Tcb base) h = cc
-
-full_named : (h : ℕ → Option ℕ) (full : ℕ → Bool) (xs : List ℕ) → ((x : ℕ) → full x ≡ false → h x ≡ None) → filter_map h (filter full xs) ≡ filter_map h xs
-full_named h full [] empty = refl
-full_named h full (x ∷ xs) empty =
-    elim (full x) as (λ b. full x ≡ b → filter_map h (cond b (x ∷ filter full xs) (filter full xs)) ≡ cons_option (h x) (filter_map h xs)) [
-      | true ↦ λ e. ap (cons_option (h x)) (full_named h full xs empty)
-      | false ↦ λ e. full_named h full xs empty ∙ ap (λ o. cons_option o (filter_map h xs)) (sym (empty x e))
-    ] refl
-
-pub named_alike : (p : ProfileName) (naming : Naming) (v : Shown) → IsDistinct (λ (a b : ℕ). a == b) (slots v.derivations) →
-    named p naming (derivations_of v.derivations) ≡ bases_named p naming v
-named_alike p naming v apart =
-    let es = preorder v.derivations in
-    entries_named p naming (derivations_of v.derivations)
-    ∙ ap (filter_map (names p naming)) (entries_are v.derivations)
-    ∙ sym (slots_named p naming (cap_at v.derivations) es (each_held es apart))
-    ∙ sym (full_named (base_at p naming v) (is_full v) (slots v.derivations) (λ x e. null_names p naming x (cap_at v.derivations x) e))
 
 -- ---- threads
 
@@ -124,10 +78,6 @@ endpoints_told v (x ∷ xs) = ap (λ l. endpoint_line v x ++ l) (endpoints_told 
 selfheld_told : (xs : List ℕ) → lines_text (flat_map (line_at selfheld_at) xs) ≡ flat_map selfheld_line xs
 selfheld_told [] = refl
 selfheld_told (x ∷ xs) = ap (λ l. selfheld_line x ++ l) (selfheld_told xs)
-
-selfheld_alike : (p : ProfileName) (v : Shown) → IsDistinct (λ (a b : ℕ). a == b) (slots v.derivations) → selfheld p (derivations_of v.derivations) ≡ report_selfheld p v
-selfheld_alike p v apart =
-    λ i. filter (λ base. not (is_in base (named_alike p Naming.OtherNode v apart i))) (named_alike p Naming.OwnNode v apart i)
 
 -- ---- slots
 
@@ -164,13 +114,26 @@ slots_told : (list : List Derived) → addresses (slot_lines list) ≡ rising (m
 slots_told list = addresses_of (slot_at list) (rising (map slot_of list)) (all_rising (HasLine list) (map slot_of list) (each_found list))
 
 -- the report's line of a slot that has a line
-slot_alike : (v : Shown) → IsDistinct (λ (a b : ℕ). a == b) (slots v.derivations) → (slot : ℕ) → HasLine (derivations_of v.derivations) slot → report_slot_line (derivations_of v.derivations) slot ≡ slot_line v slot
+slot_alike : (v : Shown) → IsDistinct (λ (a b : ℕ). a == b) (slots v.derivations) → (slot : ℕ) → HasLine (derivations_of v.derivations) slot → report_slot_line (derivations_of v.derivations) slot ≡ held_slot_line v slot
 slot_alike v apart slot has =
     let list = derivations_of v.derivations in
-    elim (find (λ (d : Derived). slot_of d == slot) list) as (λ o. find (λ (d : Derived). slot_of d == slot) list ≡ o → is_some (option_map slot_text o) ≡ true → slot_line_of list slot o ≡ slot_line v slot) [
+    elim (found list slot) as (λ o. found list slot ≡ o → is_some (option_map slot_text o) ≡ true → slot_line_of list slot o ≡ held_slot_line v slot) [
       | None ↦ λ there some. cc
       | Some d ↦ λ there some. λ i. line (report_slot_text slot ((sym (held_there list slot d there) ∙ ap (cap_in slot) (entries_are v.derivations)) i) (child_is_under slot v.derivations apart i))
     ] refl has
+
+-- the report's lines of slots, by what the trace tells of them
+rows_alike : (v : Shown) → IsDistinct (λ (a b : ℕ). a == b) (slots v.derivations) → (xs : List ℕ) →
+    flat_map (report_slot_line (derivations_of v.derivations)) xs ≡ flat_map (slot_line v) (filter_map (found (derivations_of v.derivations)) xs)
+rows_alike v apart [] = refl
+rows_alike v apart (x ∷ xs) =
+    let list = derivations_of v.derivations in
+    elim (found list x) as (λ o. found list x ≡ o → slot_line_of list x o ++ flat_map (report_slot_line list) xs ≡ flat_map (slot_line v) (cons_option o (filter_map (found list) xs))) [
+      | None ↦ λ is. rows_alike v apart xs
+      | Some d ↦ λ is.
+          (λ i. line (report_slot_text x d.0.cap (child_is_under x v.derivations apart i)) ++ rows_alike v apart xs i)
+          ∙ ap (λ slot. line (report_slot_text slot d.0.cap (has_child slot v.derivations)) ++ flat_map (slot_line v) (filter_map (found list) xs)) (sym (found_is list x d is))
+    ] refl
 
 flat_alike : (f g : ℕ → List ℕ) (xs : List ℕ) → Each (λ x. f x ≡ g x) xs → flat_map f xs ≡ flat_map g xs
 flat_alike f g [] h = refl
@@ -198,14 +161,10 @@ module _ (p : ProfileName) (A : State) (reached : IsReached p A) where
   lawful = (reached_is p A reached).store.lawful
 
   pub same_threads : TellsTheThreads p (shown A)
-  same_threads =
-      threads_told (shown A) (rising (named p Naming.Thread (derivations_of (shown A).derivations)))
-      ∙ ap (λ xs. flat_map (thread_line (shown A)) (rising xs)) (named_alike p Naming.Thread (shown A) apart)
+  same_threads = threads_told (shown A) (threads p (shown A))
 
   pub same_endpoints : TellsTheEndpoints p (shown A)
-  same_endpoints =
-      endpoints_told (shown A) (rising (named p Naming.Endpoint (derivations_of (shown A).derivations)))
-      ∙ ap (λ xs. flat_map (endpoint_line (shown A)) (rising xs)) (named_alike p Naming.Endpoint (shown A) apart)
+  same_endpoints = endpoints_told (shown A) (endpoints p (shown A))
 
   pub same_slots : TellsTheSlots (shown A)
   same_slots =
@@ -216,14 +175,17 @@ module _ (p : ProfileName) (A : State) (reached : IsReached p A) where
 
   pub same_slot_lines : TellsTheSlotLines (shown A)
   same_slot_lines =
+      let list = derivations_of (shown A).derivations in
+      ap (flat_map (report_slot_line list)) (slots_told list) ∙ rows_alike (shown A) apart (rising (map slot_of list))
+
+  pub same_capabilities : TellsTheCapabilities (shown A)
+  same_capabilities =
       let v = shown A in
       let list = derivations_of v.derivations in
-      let each = each-weaker (HasLine list) (λ slot. report_slot_line list slot ≡ slot_line v slot) (slot_alike v apart) (rising (map slot_of list)) (all_rising (HasLine list) (map slot_of list) (each_found list)) in
-      ap (flat_map (report_slot_line list)) (slots_told list)
-      ∙ flat_alike (report_slot_line list) (slot_line v) (rising (map slot_of list)) each
-      ∙ ap (flat_map (slot_line v)) (sym (slots_told list) ∙ same_slots)
+      let each = each-weaker (HasLine list) (λ slot. report_slot_line list slot ≡ held_slot_line v slot) (slot_alike v apart) (rising (map slot_of list)) (all_rising (HasLine list) (map slot_of list) (each_found list)) in
+      ap (flat_map (held_slot_line v)) (sym same_slots ∙ slots_told list)
+      ∙ sym (flat_alike (report_slot_line list) (held_slot_line v) (rising (map slot_of list)) each)
+      ∙ rows_alike v apart (rising (map slot_of list))
 
   pub same_selfheld : TellsTheSelfheld p (shown A)
-  same_selfheld =
-      selfheld_told (rising (selfheld p (derivations_of (shown A).derivations)))
-      ∙ ap (λ xs. flat_map selfheld_line (rising xs)) (selfheld_alike p (shown A) apart)
+  same_selfheld = selfheld_told (selfheld p (shown A))

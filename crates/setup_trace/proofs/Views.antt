@@ -1,47 +1,22 @@
 -- What is kept of a state: its lines rise, and where nothing changed there is nothing to tell.
 use Rattle.std.proofs.Common.{◌≡◌, ℕ, ◌==◌, ◌&&◌, true, cond, List, [], ◌∷◌, ◌++◌, map, Option, None, Some, option_map, refl, sym, ap, subst, ◌∙◌, append-nil, eq-eqb, nat_eq}
-use Rattle.std.specs.List.{AllByRecursion, IsDistinct, flat_map}
+use Rattle.std.specs.List.{AllByRecursion, flat_map}
 use Rattle.std.specs.List.Sorted.{IsStrictlySortedBy}
 use Rattle.std.specs.Ordering.{nat_cmp}
 use Rattle.std.specs.declared.cmp.Ordering.TheVariants.{Less}
-use Rattle.std.proofs.lemmas.List.{map-append}
 use lib.Pointwise.{pointwise}
 use Rattle.cap_core.specs.declared.profile.ProfileName.{ProfileName}
-use Rattle.derivation.specs.Forest.{Forest, preorder, parented}
-use Rattle.derivation.specs.Forest.Forest.{none, tree}
-use Rattle.derivation.specs.Entries.{Entry, slots, slot_of as entry_slot, derivations_of}
-use Rattle.slot_core.specs.declared.derivations.Derivation.{Derivation}
-use Rattle.slot_core.specs.Calls.{derivation_view}
+use Rattle.derivation.specs.Entries.{derivations_of}
 use Rattle.abstract_kernel.specs.Shown.{Shown}
 use Rattle.setup_report.specs.declared.naming.Naming.{Naming}
-use Rattle.setup_report.specs.Report.{rising}
+use Rattle.setup_report.specs.State.{slot_of, named, holding_themselves, rising}
 use Rattle.setup_report.proofs.Addresses.Rising.{sorted_rising}
 use Rattle.setup_trace.specs.declared.state.Memory.{Memory}
 use Rattle.setup_trace.specs.declared.state.Messages.{Messages}
 use Rattle.setup_trace.specs.declared.state.View.{View}
-use Rattle.setup_trace.specs.Lines.{Lines, slot_of, line_of, line_at, lines_at, named, thread_at, inbox_line_at, endpoint_at, slot_at, slot_lines, selfheld, selfheld_at, selfheld_lines}
+use Rattle.setup_trace.specs.Lines.{Lines, line_of, line_at, lines_at, thread_at, inbox_line_at, endpoint_at, slot_at, slot_lines, selfheld_at, selfheld_lines}
 use Rattle.setup_trace.specs.Changes.{StateLines, no_lines, addresses, text_at, removed, added, change, change_at, line_changes, changes, state_lines}
-use Rattle.setup_trace.specs.Private.Listed.{slot_address}
 use Rattle.setup_trace.specs.Private.Views.{seen, view_lines, message_changes, HasRisingMemory, HasRisingMessages, ShowsMemory, ShowsMessages, IsViewOf}
-use Rattle.setup_trace.proofs.Listed.{slots_of}
-
--- ---- the slots of the derivations are the full slots
-
-slots_parented : (above : Option Entry) (f : Forest Entry) → map slot_of (map (λ (e : Entry × Option Entry). (e.0, option_map entry_slot e.1)) (parented above f)) ≡ map (λ (e : Entry). e.slot) (preorder f)
-slots_parented above none = refl
-slots_parented above (tree a under others) =
-    ap (λ l. a.slot ∷ l)
-    (ap (map slot_of) (map-append (λ (e : Entry × Option Entry). (e.0, option_map entry_slot e.1)) (parented (Some a) under) (parented above others))
-    ∙ map-append slot_of (map (λ (e : Entry × Option Entry). (e.0, option_map entry_slot e.1)) (parented (Some a) under)) (map (λ (e : Entry × Option Entry). (e.0, option_map entry_slot e.1)) (parented above others))
-    ∙ (λ i. slots_parented (Some a) under i ++ slots_parented above others i)
-    ∙ sym (map-append (λ (e : Entry). e.slot) (preorder under) (preorder others)))
-
-pub slots_apart : (p : ProfileName) (list given : List Derivation) (f : Forest Entry) → given ≡ list → map (derivation_view p) list ≡ derivations_of f →
-    IsDistinct (λ (a b : ℕ). a == b) (slots f) → IsDistinct (λ (a b : ℕ). a == b) (map (slot_address p) given)
-slots_apart p list given f same is apart =
-    subst (IsDistinct (λ (a b : ℕ). a == b))
-    (sym (ap (map (slot_address p)) same ∙ sym (slots_of p list) ∙ ap (map slot_of) is ∙ slots_parented None f))
-    apart
 
 -- ---- lines at rising addresses rise
 
@@ -70,7 +45,7 @@ memory_rises p v m h =
     let list = derivations_of v.derivations in
     record {
       slots = rises_at (slot_at list) (map slot_of list) _ h.slots;
-      selfheld = rises_at selfheld_at (selfheld p list) _ h.selfheld;
+      selfheld = rises_at selfheld_at (holding_themselves p list) _ h.selfheld;
     }
 
 pub messages_rise : (p : ProfileName) (v : Shown) (m : Messages) → ShowsMessages p v m → HasRisingMessages m

@@ -5,7 +5,8 @@ use lib.Pointwise.{pointwise}
 use Rattle.cap_core.specs.declared.profile.ProfileName.{ProfileName}
 use Rattle.derivation.specs.Entries.{derivations_of}
 use Rattle.abstract_kernel.specs.Shown.{Shown}
-use Rattle.setup_report.specs.Report.{line, rising}
+use Rattle.setup_report.specs.State.{rising}
+use Rattle.setup_report.specs.Report.{line}
 use Rattle.setup_trace.specs.Lines.{Lines, thread_lines, inbox_lines, endpoint_lines, slot_lines, selfheld_lines}
 
 -- the line at an address, if there is one

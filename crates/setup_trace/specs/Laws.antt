@@ -1,23 +1,25 @@
 -- What the laws of a trace say: its changes as data, a state's lines after them, and the report within it.
 use Rattle.std.specs.Prelude.{◌≡◌, ℕ, ◌+◌, Bool, true, false, not, ◌==◌, nat_eq, List, [], ◌∷◌, ◌++◌, map, Option, None, Some}
-use Rattle.std.specs.List.{filter, find, flat_map, list_any}
+use Rattle.std.specs.List.{filter, flat_map, list_any}
 use Rattle.std.specs.List.Sorted.{IsStrictlySortedBy}
 use Rattle.std.specs.Ordering.{nat_cmp}
 use Rattle.std.specs.BTreeMap.{insert_entry}
 use lib.Pointwise.{pointwise}
 use Rattle.cap_core.specs.declared.profile.ProfileName.{ProfileName}
-use Rattle.derivation.specs.Entries.{derivations_of}
+use Rattle.cap_core.specs.Objects.{is_null}
+use Rattle.derivation.specs.Entries.{slots, cap_at, derivations_of}
 use Rattle.abstract_kernel.specs.declared.call.Call.{Call}
 use Rattle.abstract_kernel.specs.declared.call.Reply.{Reply}
 use Rattle.abstract_kernel.specs.Boot.{boot}
 use Rattle.abstract_kernel.specs.Plan.{Plan}
-use Rattle.abstract_kernel.specs.Shown.{Shown}
+use Rattle.abstract_kernel.specs.Shown.{Shown, has_child}
 use Rattle.abstract_kernel.specs.State.{State, shown}
 use Rattle.abstract_kernel.specs.Step.{step}
 use Rattle.setup_format.specs.Views.{CallView}
-use Rattle.setup_report.specs.Report.{line, rising, call_text, full_slots, thread_line}
+use Rattle.setup_report.specs.State.{Derived, slot_of, found, rising}
+use Rattle.setup_report.specs.Report.{line, call_text, thread_line}
 use Rattle.setup_report.specs.Report as report
-use Rattle.setup_trace.specs.Lines.{Lines, Derived, slot_of, thread_lines, endpoint_lines, slot_lines, selfheld_lines}
+use Rattle.setup_trace.specs.Lines.{Lines, thread_lines, endpoint_lines, slot_lines, selfheld_lines}
 use Rattle.setup_trace.specs.Changes.{StateLines, state_lines, no_lines, addresses, text_at, removed, added, changes}
 use Rattle.setup_trace.specs.Trace.{words_line}
 
@@ -175,6 +177,13 @@ TellsTheEndpoints p v = lines_text (endpoint_lines p v) ≡ report.endpoint_line
 abbrev pub TellsTheSelfheld : ProfileName → Shown → Type 0
 TellsTheSelfheld p v = lines_text (selfheld_lines p (derivations_of v.derivations)) ≡ report.selfheld_lines p v
 
+-- the slots that hold a capability
+abbrev pub is_full : Shown → ℕ → Bool
+is_full v slot = not (is_null (cap_at v.derivations slot))
+
+abbrev pub full_slots : Shown → List ℕ
+full_slots v = filter (is_full v) (slots v.derivations)
+
 -- the slots that have a line are the full ones
 abbrev pub TellsTheSlots : Shown → Type 0
 TellsTheSlots v = addresses (slot_lines (derivations_of v.derivations)) ≡ rising (full_slots v)
@@ -194,12 +203,19 @@ slot_line_of list slot None = []
 slot_line_of list slot (Some d) = line (report.slot_text slot d.0.cap (has_slot_under slot list))
 
 abbrev pub report_slot_line : List Derived → ℕ → List ℕ
-report_slot_line list slot = slot_line_of list slot (find (λ (d : Derived). slot_of d == slot) list)
+report_slot_line list slot = slot_line_of list slot (found list slot)
 
 -- the report's lines of slots are those, of the slots that have a line
 abbrev pub TellsTheSlotLines : Shown → Type 0
 TellsTheSlotLines v =
     flat_map (report_slot_line (derivations_of v.derivations)) (addresses (slot_lines (derivations_of v.derivations))) ≡ report.slot_lines v
+
+-- each of them tells the capability that its slot holds, and whether the slot has a child
+abbrev pub held_slot_line : Shown → ℕ → List ℕ
+held_slot_line v slot = line (report.slot_text slot (cap_at v.derivations slot) (has_child slot v.derivations))
+
+abbrev pub TellsTheCapabilities : Shown → Type 0
+TellsTheCapabilities v = flat_map (held_slot_line v) (rising (full_slots v)) ≡ report.slot_lines v
 
 -- ---- the report within a trace
 

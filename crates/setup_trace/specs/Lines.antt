@@ -1,17 +1,18 @@
 -- What a trace tells of a state: lines of five kinds, each by the address of what it is about.
-use Rattle.std.specs.Prelude.{codes, ℕ, List, [], ◌∷◌, ◌++◌, map, not, ◌==◌, if◌then◌else◌, Option, Some, None, option_map}
-use Rattle.std.specs.List.{filter, filter_map, flat_map, find}
+use Rattle.std.specs.Prelude.{codes, ℕ, List, [], ◌∷◌, ◌++◌, map, if◌then◌else◌, Option, Some, None, option_map}
+use Rattle.std.specs.List.{flat_map}
 use Rattle.std.specs.Fmt.{decimal}
 use Rattle.cap_core.specs.declared.profile.ProfileName.{ProfileName}
-use Rattle.derivation.specs.Entries.{Entry, derivations_of}
+use Rattle.derivation.specs.Entries.{derivations_of}
 use Rattle.ipc_core.specs.declared.waiter.Offer.{Offer}
 use Rattle.abstract_kernel.specs.declared.call.ThreadState.{ThreadState}
 use Rattle.abstract_kernel.specs.declared.call.Inbox.{Inbox}
 use Rattle.abstract_kernel.specs.Shown.{Shown, state_at, inbox_at, waiting_at}
 use Rattle.abstract_kernel.specs.Waiting.{offer_at}
 use Rattle.setup_report.specs.declared.naming.Naming.{Naming}
+use Rattle.setup_report.specs.State.{Derived, slot_of, found, named, holding_themselves, rising}
 use Rattle.setup_report.specs.Text.{cap_text, message_text, state_text}
-use Rattle.setup_report.specs.Report.{is_in, rising, base_named, endpoint_text, first_sends, threads_at}
+use Rattle.setup_report.specs.Report.{endpoint_text, first_sends, threads_at}
 
 -- the text of each line, by its address, in rising order
 abbrev pub Lines : Type 0
@@ -28,22 +29,6 @@ line_at text address = line_of address (text address)
 -- a line for each of some addresses that has one
 abbrev pub lines_at : (ℕ → Option (List ℕ)) → List ℕ → Lines
 lines_at text addresses = flat_map (line_at text) (rising addresses)
-
--- ---- what the full slots are, and what they name
-
--- a full slot with the slot that it stands right below
-abbrev pub Derived : Type 0
-Derived = Entry × Option ℕ
-
-abbrev pub slot_of : Derived → ℕ
-slot_of d = d.0.slot
-
--- the objects that slots name with their capabilities: threads, endpoints, CNodes with those slots and other CNodes
-abbrev pub named_by : ProfileName → Naming → Derived → Option ℕ
-named_by p naming d = base_named p naming d.0.slot d.0.cap
-
-abbrev pub named : ProfileName → Naming → List Derived → List ℕ
-named p naming list = filter_map (named_by p naming) list
 
 -- ---- threads: what each live thread does, and what it sends where it waits to send
 
@@ -91,18 +76,15 @@ slot_text (e, parent) =
     codes "slot " ++ (decimal e.slot ++ (codes " " ++ (cap_text e.cap ++ (parent_text parent ++ (if e.original then codes " original" else [])))))
 
 abbrev pub slot_at : List Derived → ℕ → Option (List ℕ)
-slot_at list slot = option_map slot_text (find (λ (d : Derived). slot_of d == slot) list)
+slot_at list slot = option_map slot_text (found list slot)
 
 abbrev pub slot_lines : List Derived → Lines
 slot_lines list = lines_at (slot_at list) (map slot_of list)
 
 -- ---- selfheld CNodes, those that slots of their own name and no other slots
 
-abbrev pub selfheld : ProfileName → List Derived → List ℕ
-selfheld p list = filter (λ base. not (is_in base (named p Naming.OtherNode list))) (named p Naming.OwnNode list)
-
 abbrev pub selfheld_at : ℕ → Option (List ℕ)
 selfheld_at address = Some (codes "selfheld " ++ decimal address)
 
 abbrev pub selfheld_lines : ProfileName → List Derived → Lines
-selfheld_lines p list = lines_at selfheld_at (selfheld p list)
+selfheld_lines p list = lines_at selfheld_at (holding_themselves p list)

@@ -17,7 +17,7 @@ ghost use Rattle.setup_report.specs.Report.{call_lines, expectation_line, met_co
 ghost use Rattle.setup_trace.specs.Lines.{Lines};
 ghost use Rattle.setup_trace.specs.Changes.{StateLines, changes, line_changes, no_lines, state_lines};
 ghost use Rattle.setup_trace.specs.Trace.{calls_lines, count_line};
-ghost use Rattle.setup_trace.specs.Laws.{Rise, applied, backwards, boot_differences, call_changes, details, differences, flipped, followed, lines_in, replayed, report_lines, run_differences, state_applied, state_differences, state_flipped, state_told, told, TellsTheThreads, TellsTheEndpoints, TellsTheSlots, TellsTheSlotLines, TellsTheSelfheld};
+ghost use Rattle.setup_trace.specs.Laws.{Rise, applied, backwards, boot_differences, call_changes, details, differences, flipped, followed, lines_in, replayed, report_lines, run_differences, state_applied, state_differences, state_flipped, state_told, told, TellsTheThreads, TellsTheEndpoints, TellsTheSlots, TellsTheSlotLines, TellsTheCapabilities, TellsTheSelfheld};
 
 /// The changes that are told of lines, applied to the old ones, give the new ones; and so with all lines of two states.
 /// The changes of boot and of any calls behind it, applied one after another to nothing, give the lines of the state
@@ -50,12 +50,13 @@ pub fn changes_lead_back()
 /// What a trace tells of a state that a run reaches is what the report tells of it: the lines of endpoints and of
 /// CNodes that hold themselves are the report's, and the lines of threads and of slots are of the same threads and
 /// slots. The report's line of a slot tells no more of it than the trace's: its `children` stands where some slot is
-/// under it.
+/// under it. It tells the capability that the slot holds, and whether the slot has a child.
 pub fn lines_are_those_of_the_report()
     ensures threads { (p : ProfileName) (A : State) → IsReached p A → TellsTheThreads p (shown A) }
     ensures endpoints { (p : ProfileName) (A : State) → IsReached p A → TellsTheEndpoints p (shown A) }
     ensures slots { (p : ProfileName) (A : State) → IsReached p A → TellsTheSlots (shown A) }
     ensures slot_lines { (p : ProfileName) (A : State) → IsReached p A → TellsTheSlotLines (shown A) }
+    ensures capabilities { (p : ProfileName) (A : State) → IsReached p A → TellsTheCapabilities (shown A) }
     ensures selfheld { (p : ProfileName) (A : State) → IsReached p A → TellsTheSelfheld p (shown A) }
 {}
 

@@ -101,10 +101,10 @@ fn endpoint_text<P: Profile, S: CapStore<P> + Drop, W: Waiters<P> + Drop>(
 ) -> Result<String, AllocError>
     ensures { IfOk result (λ text. Some (string_bytes text) ≡ spec.endpoint_at kernel.now address) }
 {
-    let threads = waiting_threads::<P, Kernel<P, S, W>>(alloc, address, kernel)?;
+    let threads = waiting_threads::<P, S, W>(alloc, address, kernel)?;
     let line = EndpointLine {
         address,
-        sending: first_sends::<P, Kernel<P, S, W>>(address, kernel),
+        sending: first_sends::<P, S, W>(address, kernel),
         threads: threads.as_slice(),
     };
     line.to_string(alloc)

@@ -6,11 +6,11 @@ ghost use Rattle.setup_trace.specs.Private.Views.{memory_changes, message_change
 
 use crate::changes::{Line, add_changes};
 use crate::messages::{endpoint_lines, inbox_lines, thread_lines};
-use crate::slots::{named as objects_named, selfheld_lines, slot_lines};
+use crate::slots::{selfheld_lines, slot_lines};
 use cap_core::Profile;
 use ipc_core::Waiters;
 use kernel_core::{Kernel, Reply};
-use setup_report::Naming;
+use setup_report::{StateRows, state_rows};
 use slot_core::DerivationStore;
 use std::alloc::{AllocError, Global};
 use std::collections::BTreeSet;
@@ -45,13 +45,19 @@ fn memory_of<P: Profile, S: DerivationStore<P> + Drop, W: Waiters<P> + Drop>(
 ) -> Result<Memory, AllocError>
     ensures { IfOk result (ShowsMemory P.the kernel.now) }
 {
-    let derivations = kernel.derivations(alloc)?;
-    let list = derivations.as_slice();
+    let rows = state_rows::<P, S, W>(alloc, kernel)?;
+    let slots = slot_lines::<P>(alloc, rows.slots.as_slice())?;
+    let selfheld = selfheld_lines(alloc, rows.selfheld.as_slice())?;
+    let StateRows {
+        threads,
+        endpoints,
+        ..
+    } = rows;
     Ok(Memory {
-        threads: objects_named::<P>(alloc, Naming::Thread, list)?,
-        endpoints: objects_named::<P>(alloc, Naming::Endpoint, list)?,
-        slots: slot_lines::<P>(alloc, list)?,
-        selfheld: selfheld_lines::<P>(alloc, list)?,
+        threads,
+        endpoints,
+        slots,
+        selfheld,
     })
 }
 

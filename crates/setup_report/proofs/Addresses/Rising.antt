@@ -9,14 +9,9 @@ use Rattle.std.specs.BTreeSet.{BTreeSet, contains, difference, insert_key}
 use Rattle.std.specs.FinMap.{nat_cmp-IsAntisymmetric}
 use Rattle.std.proofs.lemmas.Bool.Decides.{eqb_tells}
 use Rattle.std.proofs.lemmas.List.Folds.{list_any-append}
-use Rattle.std.proofs.lemmas.List.{take_more}
-use Rattle.std.proofs.lemmas.List.Elements.{filter_map-append}
 use Rattle.std.proofs.lemmas.List.Kept.{IsStrictlySortedBy-filter}
 use Rattle.std.proofs.lemmas.Map.Lookups.{btree_set_from_contains, exact_unsigned}
-use Rattle.cap_core.specs.declared.profile.ProfileName.{ProfileName}
-use Rattle.abstract_kernel.specs.Shown.{Shown}
-use Rattle.setup_report.specs.declared.naming.Naming.{Naming}
-use Rattle.setup_report.specs.Report.{is_in, rising, full_slots, base_at, bases_named, selfheld}
+use Rattle.setup_report.specs.State.{is_in, rising}
 
 -- ---- tests
 
@@ -145,56 +140,12 @@ filter_rising test xs =
     same_rising (filter test (rising xs)) (rising (filter test xs)) (IsStrictlySortedBy-filter nat_cmp test (rising xs) (sorted_rising xs)) (sorted_rising (filter test xs))
     (λ q. in_filter test q (rising xs) ∙ ap (λ b. test q && b) (any_rising (λ a. q == a) xs) ∙ sym (in_filter test q xs) ∙ sym (any_rising (λ a. q == a) (filter test xs)))
 
--- whether a number is named
-abbrev is_named : ℕ → Option ℕ → Bool
-is_named q None = false
-is_named q (Some base) = q == base
-
-named_first : (q : ℕ) (o : Option ℕ) (f : ℕ → Option ℕ) (a : ℕ) (xs : List ℕ) → f a ≡ o → is_in q (filter_map f (a ∷ xs)) ≡ (is_named q o || is_in q (filter_map f xs))
-named_first q None f a xs e = rw e refl
-named_first q (Some base) f a xs e = rw e refl
-
-named_any : (f : ℕ → Option ℕ) (q : ℕ) (xs : List ℕ) → is_in q (filter_map f xs) ≡ list_any (λ a. is_named q (f a)) xs
-named_any f q [] = refl
-named_any f q (x ∷ xs) = named_first q (f x) f x xs refl ∙ ap (λ b. is_named q (f x) || b) (named_any f q xs)
-
-pub named_rising : (f : ℕ → Option ℕ) (xs : List ℕ) → rising (filter_map f (rising xs)) ≡ rising (filter_map f xs)
-named_rising f xs =
-    rising_same (filter_map f (rising xs)) (filter_map f xs)
-    (λ q. named_any f q (rising xs) ∙ any_rising (λ a. is_named q (f a)) xs ∙ sym (named_any f q xs))
-
--- one slot more: what it names, where it names something
-named_last : (f : ℕ → Option ℕ) (xs : List ℕ) (x : ℕ) (o : Option ℕ) → f x ≡ o → filter_map f (xs ++ x ∷ []) ≡ filter_map f xs ++ cons_option o []
-named_last f xs x o e = filter_map-append f xs (x ∷ []) ∙ ap (λ o. filter_map f xs ++ cons_option o []) e
-
-pub named_some : (f : ℕ → Option ℕ) (xs : List ℕ) (i d base : ℕ) (before after : List ℕ) → i < length xs → before ≡ rising (filter_map f (take i xs)) → f (get_or xs i d) ≡ Some base → after ≡ insert_key nat_cmp before base → after ≡ rising (filter_map f (take (i + 1) xs))
-named_some f xs i d base before after lt e is h =
-    h ∙ ap (λ l. insert_key nat_cmp l base) e
-    ∙ sym (rising_push (filter_map f (take i xs)) base)
-    ∙ ap rising (sym (ap (filter_map f) (take_more xs i d lt) ∙ named_last f (take i xs) (get_or xs i d) (Some base) is))
-
-pub named_none : (f : ℕ → Option ℕ) (xs : List ℕ) (i d : ℕ) (before : List ℕ) → i < length xs → before ≡ rising (filter_map f (take i xs)) → f (get_or xs i d) ≡ None → before ≡ rising (filter_map f (take (i + 1) xs))
-named_none f xs i d before lt e is =
-    e ∙ ap rising (sym (ap (filter_map f) (take_more xs i d lt) ∙ named_last f (take i xs) (get_or xs i d) None is ∙ append-nil (filter_map f (take i xs))))
-
--- ---- what the full slots name
-
-pub rising_named : (p : ProfileName) (naming : Naming) (v : Shown) (keys full : List ℕ) → full ≡ rising (full_slots v) → keys ≡ rising (filter_map (base_at p naming v) full) → keys ≡ rising (bases_named p naming v)
-rising_named p naming v keys full e h = h ∙ ap (λ l. rising (filter_map (base_at p naming v) l)) e ∙ named_rising (base_at p naming v) (full_slots v)
-
 pub filter_alike : (f g : ℕ → Bool) (xs : List ℕ) → ((q : ℕ) → f q ≡ g q) → filter f xs ≡ filter g xs
 filter_alike f g [] h = refl
 filter_alike f g (x ∷ xs) h = λ i. cond (h x i) (x ∷ filter_alike f g xs h i) (filter_alike f g xs h i)
 
-pub rising_difference : (p : ProfileName) (v : Shown) (own others : BTreeSet ℕ) → own.keys ≡ rising (bases_named p Naming.OwnNode v) → others.keys ≡ rising (bases_named p Naming.OtherNode v) → difference nat_cmp own others ≡ rising (selfheld p v)
-rising_difference p v own others e h =
-    filter_alike _ (λ base. not (is_in base (bases_named p Naming.OtherNode v))) own.keys
-    (λ q. ap not (tied_in q others.keys ∙ ap (is_in q) h ∙ any_rising (λ a. q == a) (bases_named p Naming.OtherNode v)))
-    ∙ ap (filter (λ base. not (is_in base (bases_named p Naming.OtherNode v)))) e
-    ∙ filter_rising (λ base. not (is_in base (bases_named p Naming.OtherNode v))) (bases_named p Naming.OwnNode v)
-
--- lines of addresses that are told in another way
-pub added_lines : (line : ℕ → List ℕ) (before after keys addresses : List ℕ) → after ≡ before ++ flat_map line keys → keys ≡ addresses → after ≡ before ++ flat_map line addresses
+-- lines of what is told in another way
+pub added_lines : {X : Type 0} (line : X → List ℕ) (before after : List ℕ) (keys addresses : List X) → after ≡ before ++ flat_map line keys → keys ≡ addresses → after ≡ before ++ flat_map line addresses
 added_lines line before after keys addresses h e = h ∙ ap (λ l. before ++ flat_map line l) e
 
 -- four texts that are added in turn

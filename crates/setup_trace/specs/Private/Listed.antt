@@ -1,5 +1,5 @@
 -- Lines as the code keeps them.
-use Rattle.std.specs.Prelude.{ℕ, List, string_bytes, Option, Some, None, slice_get, ◌≡◌}
+use Rattle.std.specs.Prelude.{ℕ, List, string_bytes, Option, Some, None}
 use Rattle.std.specs.Ordering.{nat_cmp}
 use Rattle.std.specs.declared.cmp.Ordering.{Ordering}
 use Rattle.std.specs.declared.cmp.Ordering.TheVariants.{Less, Greater}
@@ -23,14 +23,6 @@ order_of None new = Greater
 order_of (Some old) None = Less
 order_of (Some old) (Some new) = nat_cmp old.0 new.0
 
--- the address of a full slot
-abbrev pub slot_address : ProfileName → Derivation → ℕ
-slot_address p d = address_of p d.slot
-
--- one of a list, at its address
-abbrev pub IsEntryOf : ProfileName → List Derivation → ℕ × Derivation → Type 0
-IsEntryOf p list e = (e.0 ≡ slot_address p e.1) × ((i : ℕ) × (slice_get list i ≡ Some e.1))
-
 -- the line of a full slot
 abbrev pub derivation_line : ProfileName → Derivation → ℕ × List ℕ
-derivation_line p d = (slot_address p d, slot_text (derivation_view p d))
+derivation_line p d = (address_of p d.slot, slot_text (derivation_view p d))

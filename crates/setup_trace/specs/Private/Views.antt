@@ -7,9 +7,8 @@ use Rattle.derivation.specs.Entries.{derivations_of}
 use Rattle.abstract_kernel.specs.declared.call.Reply.{Reply}
 use Rattle.abstract_kernel.specs.declared.call.Reply.TheVariants.{Done, Delivered, Waiting, Dropped, Empty, Refused}
 use Rattle.abstract_kernel.specs.Shown.{Shown}
-use Rattle.setup_report.specs.declared.naming.Naming.{Naming}
-use Rattle.setup_report.specs.Report.{rising}
-use Rattle.setup_trace.specs.Lines.{Lines, named, thread_lines, inbox_lines, endpoint_lines, slot_lines, selfheld_lines}
+use Rattle.setup_report.specs.State.{threads as live_threads, endpoints as live_endpoints}
+use Rattle.setup_trace.specs.Lines.{Lines, thread_lines, inbox_lines, endpoint_lines, slot_lines, selfheld_lines}
 use Rattle.setup_trace.specs.Changes.{StateLines, addresses, line_changes}
 use Rattle.setup_trace.specs.declared.changes.Line.{Line}
 use Rattle.setup_trace.specs.declared.state.Memory.{Memory}
@@ -54,8 +53,8 @@ pub record HasRisingMessages (m : Messages) : Type 0 where
   pub endpoints : Rises m.endpoints.items
 
 pub record ShowsMemory (p : ProfileName) (v : Shown) (m : Memory) : Type 0 where
-  pub threads : m.threads.keys ≡ rising (named p Naming.Thread (derivations_of v.derivations))
-  pub endpoints : m.endpoints.keys ≡ rising (named p Naming.Endpoint (derivations_of v.derivations))
+  pub threads : m.threads.keys ≡ live_threads p v
+  pub endpoints : m.endpoints.keys ≡ live_endpoints p v
   pub slots : seen m.slots.items ≡ slot_lines (derivations_of v.derivations)
   pub selfheld : seen m.selfheld.items ≡ selfheld_lines p (derivations_of v.derivations)
 

@@ -1,8 +1,6 @@
 -- A run from a booted kernel gives the replies and the end state of the abstract kernel from its boot.
-use Rattle.std.proofs.Common.{◌≡◌, ◌++◌, [], ap, subst, ◌∙◌}
-use Rattle.abstract_kernel.specs.Plan.{Plan}
+use Rattle.std.proofs.Common.{◌≡◌, ◌++◌, [], ap, ◌∙◌}
 use Rattle.abstract_kernel.specs.Boot.{boot}
-use Rattle.abstract_kernel.specs.Memory.{IsInMemory}
 use Rattle.abstract_kernel.specs.State.{shown}
 use Rattle.abstract_kernel.specs.Step.{replies_of, state_after}
 use Rattle.engine.specs.Program.{calls_of, replies_to, end_of}
@@ -16,7 +14,7 @@ returns-clause-kernel g c =
     let plan : c.plan.result.now ≡ setup.plan = c.plan.ensures.plan in
     let calls : c.calls-calls.result.now ≡ calls_of setup = c.calls-calls.ensures in
     let shows : c.in_ok-kernel.kernel ≡ shown (boot g.P.Profile.the setup.plan) =
-    c.in_ok-kernel.ensures.shows ∙ ap (λ q. shown (boot g.P.Profile.the q)) plan in
+    c.in_ok-kernel.ensures ∙ ap (λ q. shown (boot g.P.Profile.the q)) plan in
     c.run.ensures.stands (boot g.P.Profile.the setup.plan) (boot_reached g.P.Profile.the setup.plan c.requires) shows
     ∙ ap (λ l. shown (state_after g.P.Profile.the (boot g.P.Profile.the setup.plan) l)) calls
 
@@ -27,14 +25,8 @@ returns-clause-replies g c =
     let plan : c.plan.result.now ≡ setup.plan = c.plan.ensures.plan in
     let calls : c.calls-calls.result.now ≡ calls_of setup = c.calls-calls.ensures in
     let shows : c.in_ok-kernel.kernel ≡ shown (boot g.P.Profile.the setup.plan) =
-    c.in_ok-kernel.ensures.shows ∙ ap (λ q. shown (boot g.P.Profile.the q)) plan in
+    c.in_ok-kernel.ensures ∙ ap (λ q. shown (boot g.P.Profile.the q)) plan in
     let none : c.in_ok-replies.replies.items ≡ [] = c.in_ok-replies.ensures.items in
     c.run.ensures.replies (boot g.P.Profile.the setup.plan) (boot_reached g.P.Profile.the setup.plan c.requires) shows
     ∙ ap (λ l. l ++ replies_of g.P.Profile.the (boot g.P.Profile.the setup.plan) c.calls-calls.result.now) none
     ∙ ap (λ l. replies_of g.P.Profile.the (boot g.P.Profile.the setup.plan) l) calls
-
-pub returns-clause-within : goal.returns-clause-within
-returns-clause-within g c =
-    let setup = c.args.setup.now in
-    c.run.ensures.within setup.plan.memory_bits
-    (subst (λ (q : Plan). IsInMemory g.P.Profile.the q.memory_bits c.in_ok-kernel.kernel) c.plan.ensures.plan c.in_ok-kernel.ensures.within)

@@ -1,13 +1,8 @@
--- What is reported on is the abstract kernel's: its replies, its end state, and slots in the set-up's memory.
+-- What is reported on is the abstract kernel's: its replies and its end state.
 use Rattle.std.proofs.Common.{◌∙◌, ap, ap₂}
 use Rattle.setup_report.specs.Report.{report_of, met_count, expectation_count}
-use Rattle.setup_report.proofs.Addresses.InMemory.{slots_within}
 use Rattle.engine.specs.Program.{outcome_of, verdict_on}
 use Rattle.engine.proofs.run.run_setup.Goals as goal
-
-pub counted_report-requires-clause-slots : goal.counted_report-requires-clause-slots
-counted_report-requires-clause-slots g c =
-    slots_within g.P.Profile.the c.args.setup.now.plan.memory_bits c.in_ok-kernel.kernel c.in_ok-kernel.ensures.within
 
 pub returns : goal.returns
 unfolding outcome_of

@@ -2,13 +2,8 @@ use Rattle.std.proofs.Common.{rules, ◌≡◌, length, sym, ap, ◌∙◌}
 use Rattle.std.proofs.lemmas.List.{length-map}
 use Rattle.setup_format.specs.Views.{CallView}
 use Rattle.engine.specs.Program.{verdict_on}
-use Rattle.engine_threads.proofs.Reports.{book_lies, book_shows}
+use Rattle.engine_threads.proofs.Reports.{book_shows}
 use Rattle.engine_threads.proofs.threads.report_on.Goals as goal
-
-pub shared_report-requires : goal.shared_report-requires
-shared_report-requires g c =
-    let b = c.in_ok-book.book in
-    record { slots = book_lies g.P.Profile.the c.args.setup.now.plan g.N.Naming.opening b.kernel b.history.items c.requires.plan c.requires.opening b.stands }
 
 pub returns-clause-made : goal.returns-clause-made
 returns-clause-made g c =

@@ -5,4 +5,4 @@ use Rattle.setup_report.specs.Report.{endpoint_line}
 use Rattle.setup_report.proofs.memory.add_endpoints.Given as goal
 
 abbrev pub invariant-loop-endpoint : goal.invariant-loop-endpoint
-invariant-loop-endpoint g l = string_bytes l.out ≡ string_bytes l.initial.out ++ flat_map (endpoint_line (g.K.Readable.shown l.kernel)) (map deref l.yielded)
+invariant-loop-endpoint g l = string_bytes l.out ≡ string_bytes l.initial.out ++ flat_map (endpoint_line l.kernel) (map deref l.yielded)

@@ -5,4 +5,4 @@ use Rattle.setup_report.specs.Report.{thread_line}
 use Rattle.setup_report.proofs.memory.add_threads.Given as goal
 
 abbrev pub invariant-loop-thread : goal.invariant-loop-thread
-invariant-loop-thread g l = string_bytes l.out ≡ string_bytes l.initial.out ++ flat_map (thread_line (g.K.Readable.shown l.kernel)) (map deref l.yielded)
+invariant-loop-thread g l = string_bytes l.out ≡ string_bytes l.initial.out ++ flat_map (thread_line l.kernel) (map deref l.yielded)

@@ -7,7 +7,7 @@ use Rattle.setup_report.proofs.memory.waiting_threads.Goals as goal
 
 pub loop-next-preserved : goal.loop-next-preserved
 loop-next-preserved g c =
-    let v = g.K.Readable.shown c.args.kernel.now in
+    let v = c.args.kernel.now in
     let e = c.args.endpoint in
     let before = c.loop-next.threads.items in
     let found : thread_waiting v e (length before) ≡ Some c.in-Some.thread = sym c.loop-next.invariant.next ∙ c.in-Some.is in
@@ -19,7 +19,7 @@ loop-next-preserved g c =
 
 pub returns : goal.returns
 returns g c =
-    let v = g.K.Readable.shown c.args.kernel.now in
+    let v = c.args.kernel.now in
     let e = c.args.endpoint in
     let gone : c.loop-next.next ≡ None = search rules in
     let none : thread_waiting v e (length c.loop-next.threads.items) ≡ None = sym c.loop-next.invariant.next ∙ gone in

@@ -6,9 +6,9 @@ use Rattle.setup_report.proofs.memory.waiting_threads.Given as goal
 abbrev pub invariant-loop-next : goal.invariant-loop-next
 invariant-loop-next g l =
     record {
-      front : threads_at (g.K.Readable.shown l.kernel) l.endpoint ≡ l.threads.items ++ drop (length l.threads.items) (threads_at (g.K.Readable.shown l.kernel) l.endpoint);
-      next : l.next ≡ thread_waiting (g.K.Readable.shown l.kernel) l.endpoint (length l.threads.items);
+      front : threads_at l.kernel l.endpoint ≡ l.threads.items ++ drop (length l.threads.items) (threads_at l.kernel l.endpoint);
+      next : l.next ≡ thread_waiting l.kernel l.endpoint (length l.threads.items);
     }
 
 abbrev pub decreases-loop-next : goal.decreases-loop-next
-decreases-loop-next g l = length (threads_at (g.K.Readable.shown l.kernel) l.endpoint) - length l.threads.items
+decreases-loop-next g l = length (threads_at l.kernel l.endpoint) - length l.threads.items

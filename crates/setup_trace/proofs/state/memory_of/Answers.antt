@@ -1,9 +1,20 @@
-use Rattle.setup_trace.proofs.Views.{slots_apart}
+use Rattle.std.proofs.Common.{map, ap, ◌∙◌}
+use Rattle.std.specs.List.{flat_map}
+use Rattle.derivation.specs.Entries.{derivations_of}
+use Rattle.slot_core.specs.Calls.{derivation_view}
+use Rattle.setup_trace.specs.Lines.{line_at, selfheld_at}
+use Rattle.setup_trace.specs.Private.Listed.{derivation_line}
+use Rattle.setup_trace.proofs.Listed.{rows_told}
 use Rattle.setup_trace.proofs.state.memory_of.Goals as goal
 
-pub slot_lines-requires : goal.slot_lines-requires
-slot_lines-requires g c =
+pub returns : goal.returns
+returns g c =
+    let p = g.P.Profile.the in
+    let rows = c.in_ok-rows.ensures in
     record {
-      apart = slots_apart g.P.Profile.the c.in_ok-derivations.derivations.items c.as_slice-list.result.now c.args.kernel.now.derivations c.as_slice-list.ensures.value
-          c.in_ok-derivations.ensures.list c.in_ok-derivations.ensures.apart;
+      threads = rows.threads;
+      endpoints = rows.endpoints;
+      slots = c.in_ok-slots.ensures
+          ∙ rows_told p c.as_slice.result.now (derivations_of c.args.kernel.now.derivations) (ap (map (derivation_view p)) c.as_slice.ensures.value ∙ rows.slots);
+      selfheld = c.in_ok-selfheld.ensures ∙ ap (flat_map (line_at selfheld_at)) (c.as_slice-2.ensures.value ∙ rows.selfheld);
     }

@@ -2,11 +2,10 @@ use Rattle.std.proofs.Common.{◌≡◌, Some, None, sym, ap, ◌∙◌, rules, 
 use Rattle.std.specs.BTreeSet.{insert_key}
 use Rattle.slot_core.specs.declared.derivations.Derivation.{Derivation}
 use Rattle.slot_core.specs.Calls.{derivation_view}
-use Rattle.setup_report.specs.Report.{base_named}
-use Rattle.setup_trace.specs.Lines.{named_by}
-use Rattle.setup_trace.proofs.Listed.{named_some, named_none}
-use Rattle.setup_trace.proofs.slots.named.Goals.{in-Some+in_ok-insert, in_default}
-use Rattle.setup_trace.proofs.slots.named.Goals as goal
+use Rattle.setup_report.specs.State.{base_named, named_by}
+use Rattle.setup_report.proofs.Addresses.Named.{named_some, named_none}
+use Rattle.setup_report.proofs.naming.named.Goals.{in-Some+in_ok-insert, in_default}
+use Rattle.setup_report.proofs.naming.named.Goals as goal
 
 pub loop-derivation-preserved : goal.loop-derivation-preserved
 loop-derivation-preserved g c =

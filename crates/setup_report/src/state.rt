@@ -1,0 +1,63 @@
+//! What is told of a state, read once from the kernel.
+ghost use Rattle.std.specs.Prelude.{◌≡◌, ◌==◌, ℕ, IfOk, map};
+ghost use Rattle.std.specs.List.{IsDistinct};
+ghost use Rattle.slot_core.specs.Calls.{derivation_view};
+ghost use Rattle.setup_report.specs.State as spec;
+ghost use Rattle.setup_report.specs.Private.Rows.{slot_address};
+
+use crate::naming::{Naming, named, selfheld};
+use cap_core::Profile;
+use ipc_core::Waiters;
+use kernel_core::Kernel;
+use slot_core::{Derivation, DerivationStore};
+use std::alloc::{AllocError, Global};
+use std::collections::BTreeSet;
+
+/// What a state's capabilities tell, each kind by rising address. What a thread does, what was delivered to it, and who
+/// waits on an endpoint is asked of the kernel.
+#[derive(Drop)]
+pub struct StateRows {
+    /// The live threads.
+    pub threads: BTreeSet<u64>,
+    /// The live endpoints.
+    pub endpoints: BTreeSet<u64>,
+    /// The full slots, each with the slot that it is derived from.
+    pub slots: Vec<Derivation>,
+    /// The CNodes that only slots of their own name.
+    pub selfheld: Vec<u64>,
+}
+
+/// Puts full slots in the order of their addresses.
+fn sort_by_address<P: Profile>(slots: &mut [Derivation])
+    requires apart { IsDistinct (λ (a b : ℕ). a == b) (map (slot_address P.the) slots.old) }
+    ensures { map (derivation_view P.the) slots.new ≡ spec.by_address (map (derivation_view P.the) slots.old) }
+{
+    slots.sort_unstable_by_key(|derivation| derivation.slot.address::<P>());
+}
+
+/// The rows of a kernel's state.
+///
+/// # Errors
+///
+/// Memory was refused.
+pub fn state_rows<P: Profile, S: DerivationStore<P> + Drop, W: Waiters<P> + Drop>(
+    alloc: Global,
+    kernel: &Kernel<P, S, W>,
+) -> Result<StateRows, AllocError>
+    ensures threads { IfOk result (λ r. r.threads.keys ≡ spec.threads P.the kernel.now) }
+    ensures endpoints { IfOk result (λ r. r.endpoints.keys ≡ spec.endpoints P.the kernel.now) }
+    ensures slots { IfOk result (λ r. map (derivation_view P.the) r.slots.items ≡ spec.slot_rows kernel.now) }
+    ensures selfheld { IfOk result (λ r. r.selfheld.items ≡ spec.selfheld P.the kernel.now) }
+{
+    let mut slots = kernel.derivations(alloc)?;
+    let threads = named::<P>(alloc, Naming::Thread, slots.as_slice())?;
+    let endpoints = named::<P>(alloc, Naming::Endpoint, slots.as_slice())?;
+    let selfheld = selfheld::<P>(alloc, slots.as_slice())?;
+    sort_by_address::<P>(slots.as_mut_slice());
+    Ok(StateRows {
+        threads,
+        endpoints,
+        slots,
+        selfheld,
+    })
+}
