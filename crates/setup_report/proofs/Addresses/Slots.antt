@@ -14,7 +14,7 @@ use Rattle.derivation.specs.Forest.Forest.{none, tree}
 use Rattle.derivation.specs.Entries.{Entry, slots, slot_of as entry_slot, derivations_of}
 use Rattle.slot_core.specs.declared.derivations.Derivation.{Derivation}
 use Rattle.slot_core.specs.Calls.{derivation_view}
-use Rattle.setup_report.specs.State.{Derived, slot_of, found, by_address, is_in, rising}
+use Rattle.setup_report.specs.State.{Derived, slot_of, found, by_address, rising}
 use Rattle.setup_report.specs.Private.Rows.{slot_address}
 use Rattle.setup_report.proofs.Addresses.Rising.{any_rising, same_rising, sorted_rising}
 
