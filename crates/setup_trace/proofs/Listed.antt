@@ -1,5 +1,5 @@
 -- The lines of what stands at some addresses.
-use Rattle.std.proofs.Common.{◌≡◌, ℕ, ◌+◌, ◌<◌, ◌==◌, length, take, get_or, true, false, cond, List, [], ◌∷◌, ◌++◌, map, filter_map, Option, None, Some, option_map, refl, sym, ap, ◌∙◌, append-nil}
+use Rattle.std.proofs.Common.{◌≡◌, ℕ, ◌+◌, ◌<◌, ◌==◌, length, take, get_or, true, false, cond, List, [], ◌∷◌, ◌++◌, map, filter_map, None, Some, option_map, refl, sym, ap, ◌∙◌, append-nil}
 use Rattle.std.proofs.lemmas.Bool.{eqb-true}
 use Rattle.std.specs.List.{flat_map, find, cons_option}
 use Rattle.std.proofs.lemmas.List.{map-append, take_more}

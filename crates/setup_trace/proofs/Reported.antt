@@ -1,10 +1,10 @@
 -- What a trace tells of a state and what the report tells of it are of the same threads, endpoints, slots and CNodes.
-use Rattle.std.proofs.Common.{◌≡◌, ℕ, zero, suc, ◌<◌, ◌==◌, Bool, true, false, cond, not, is_some, List, [], ◌∷◌, ◌++◌, map, length, get_or, All, Option, None, Some, option_map, refl, sym, ap, subst, ◌∙◌, eq-eqb, arith}
+use Rattle.std.proofs.Common.{◌≡◌, ℕ, suc, ◌==◌, true, false, cond, not, is_some, List, [], ◌∷◌, ◌++◌, map, All, Option, None, Some, option_map, refl, sym, ap, ◌∙◌, eq-eqb, arith}
 use Rattle.std.specs.List.{AllByRecursion as Each, IsDistinct, filter, filter_map, find, flat_map, cons_option}
 use Rattle.std.proofs.lemmas.List.{map-append}
 use Rattle.cap_core.specs.declared.profile.ProfileName.{ProfileName}
 use Rattle.cap_core.specs.declared.capability.Cap.{Cap}
-use Rattle.cap_core.specs.declared.capability.Cap.TheVariants.{Null, Untyped, Endpoint, CNode, Tcb}
+use Rattle.cap_core.specs.declared.capability.Cap.TheVariants.{Null}
 use Rattle.cap_core.specs.Objects.{IsLawful, is_null}
 use Rattle.derivation.specs.Forest.{Forest, preorder, parented}
 use Rattle.derivation.specs.Forest.Forest.{none, tree}
@@ -22,7 +22,7 @@ use Rattle.setup_report.proofs.Addresses.Rising.{all_rising}
 use Rattle.setup_report.proofs.Addresses.Slots.{slots_are}
 use Rattle.setup_trace.specs.Lines.{slot_text, slot_at, slot_lines, line_of, line_at, thread_at, thread_text, endpoint_at, selfheld_at}
 use Rattle.setup_trace.specs.Changes.{addresses}
-use Rattle.setup_trace.specs.Laws.{lines_text, TellsTheThreads, TellsTheEndpoints, TellsTheSlots, TellsTheSlotLines, TellsTheCapabilities, TellsTheSelfheld, slot_line_of, report_slot_line, held_slot_line, is_full, full_slots}
+use Rattle.setup_trace.specs.Laws.{lines_text, TellsTheThreads, TellsTheEndpoints, TellsTheSlots, TellsTheSlotLines, TellsTheCapabilities, TellsTheSelfheld, slot_line_of, report_slot_line, held_slot_line}
 use Rattle.setup_trace.proofs.Children.{child_is_under, held_there}
 use Rattle.setup_trace.proofs.Listed.{found_is}
 

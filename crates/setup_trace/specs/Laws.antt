@@ -16,7 +16,7 @@ use Rattle.abstract_kernel.specs.Shown.{Shown, has_child}
 use Rattle.abstract_kernel.specs.State.{State, shown}
 use Rattle.abstract_kernel.specs.Step.{step}
 use Rattle.setup_format.specs.Views.{CallView}
-use Rattle.setup_report.specs.State.{Derived, slot_of, found, rising}
+use Rattle.setup_report.specs.State.{Derived, found, rising}
 use Rattle.setup_report.specs.Report.{line, call_text, thread_line}
 use Rattle.setup_report.specs.Report as report
 use Rattle.setup_trace.specs.Lines.{Lines, thread_lines, endpoint_lines, slot_lines, selfheld_lines}

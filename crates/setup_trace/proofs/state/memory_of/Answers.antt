@@ -3,7 +3,6 @@ use Rattle.std.specs.List.{flat_map}
 use Rattle.derivation.specs.Entries.{derivations_of}
 use Rattle.slot_core.specs.Calls.{derivation_view}
 use Rattle.setup_trace.specs.Lines.{line_at, selfheld_at}
-use Rattle.setup_trace.specs.Private.Listed.{derivation_line}
 use Rattle.setup_trace.proofs.Listed.{rows_told}
 use Rattle.setup_trace.proofs.state.memory_of.Goals as goal
 
