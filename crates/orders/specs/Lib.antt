@@ -1,0 +1,5 @@
+pub mod World
+pub mod Orders
+pub mod Answers
+pub mod Ends
+pub mod Laws
