@@ -1,0 +1,241 @@
+-- What a note leaves in a table, and notes one after another.
+use Rattle.std.proofs.Common.{◌≡◌, ◌≢◌, ℕ, zero, suc, ◌+◌, ◌<◌, ◌≤◌, ◌⊎◌, inl, inr, refl, sym, ap, ◌∙◌, arith, List, [], ◌∷◌, ◌++◌, length, map, get_or, Option, None, Some, option_map, unwrap_or, min, set}
+use Rattle.std.specs.List.{slice_get}
+use Rattle.std.proofs.lemmas.Bool.{cases_eq, cases_lt}
+use Rattle.std.proofs.lemmas.List.{map-set, length-set}
+use Rattle.std.proofs.lemmas.Option.{slice_get-map, slice_get_read, slice_get_within, slice_get-get_or}
+use Rattle.std.specs.Option.{option_and_then}
+use Rattle.cap_core.specs.declared.profile.ProfileName.{ProfileName}
+use Rattle.cap_core.specs.declared.capability.Cap.{Cap}
+use Rattle.reach_core.specs.declared.filled.FullSlot.{FullSlot}
+use Rattle.reach_core.specs.Private.Nodes.{IsNext}
+use Rattle.reach_core.specs.Private.Tables.{word_in, row_at, word_at, least_with, noted_in, noted}
+use Rattle.reach_core.specs.Private.Search.{IsAtMost, IsNextAt, SameShape, Visits, Spreads, RowLeads, RowSpreads}
+
+slice_get-set_same : {X : Type 0} (xs : List X) (i : ℕ) (v : X) → i < length xs → slice_get (set xs i v) i ≡ Some v
+slice_get-set_same [] i v h = absurd (omega arith)
+slice_get-set_same (x ∷ xs) zero v h = refl
+slice_get-set_same (x ∷ xs) (suc i) v h = slice_get-set_same xs i v (omega arith)
+
+slice_get-set_other : {X : Type 0} (xs : List X) (i j : ℕ) (v : X) → j ≢ i → slice_get (set xs i v) j ≡ slice_get xs j
+slice_get-set_other [] i j v h = refl
+slice_get-set_other (x ∷ xs) zero zero v h = absurd (h refl)
+slice_get-set_other (x ∷ xs) zero (suc j) v h = refl
+slice_get-set_other (x ∷ xs) (suc i) zero v h = refl
+slice_get-set_other (x ∷ xs) (suc i) (suc j) v h = slice_get-set_other xs i j v (λ e. h (ap suc e))
+
+-- the code's write of a row is a note
+pub note_is : {A : Type 0} (items : A → List (Option ℕ)) (rows : List A) (left place word : ℕ) (row row' : A) → left < length rows → row ≡ get_or rows left row →
+    items row' ≡ noted_in (items row) place word → map items (set rows left row') ≡ noted (map items rows) left place word
+note_is items rows left place word row row' h read e =
+    let there : slice_get (map items rows) left ≡ Some (items row) = slice_get-map items rows left ∙ ap (option_map items) (slice_get_read rows (length rows) left row refl h read) in
+    let row_is : row_at (map items rows) left ≡ items row = ap (λ (o : Option (List (Option ℕ))). unwrap_or o []) there in
+    map-set items rows left row' ∙ ap (set (map items rows) left) (e ∙ ap (λ (r : List (Option ℕ)). noted_in r place word) (sym row_is))
+
+row-set_same : (rows : List (List (Option ℕ))) (left : ℕ) (row : List (Option ℕ)) → left < length rows → row_at (set rows left row) left ≡ row
+row-set_same rows left row h = ap (λ (o : Option (List (Option ℕ))). unwrap_or o []) (slice_get-set_same rows left row h)
+
+row-set_other : (rows : List (List (Option ℕ))) (left t : ℕ) (row : List (Option ℕ)) → t ≢ left → row_at (set rows left row) t ≡ row_at rows t
+row-set_other rows left t row h = ap (λ (o : Option (List (Option ℕ))). unwrap_or o []) (slice_get-set_other rows left t row h)
+
+-- the three facts of a note
+noted_there : (rows : List (List (Option ℕ))) (left place word : ℕ) → left < length rows → place < length (row_at rows left) →
+    word_at (noted rows left place word) left place ≡ Some (least_with word (word_at rows left place))
+noted_there rows left place word h h' = rw (row-set_same rows left (noted_in (row_at rows left) place word) h, slice_get-set_same (row_at rows left) place (Some (least_with word (word_at rows left place))) h') refl
+
+noted_beside : (rows : List (List (Option ℕ))) (left place word k : ℕ) → left < length rows → k ≢ place →
+    word_at (noted rows left place word) left k ≡ word_at rows left k
+noted_beside rows left place word k h ne = rw (row-set_same rows left (noted_in (row_at rows left) place word) h, slice_get-set_other (row_at rows left) place k (Some (least_with word (word_at rows left place))) ne) refl
+
+noted_elsewhere : (rows : List (List (Option ℕ))) (left place word t k : ℕ) → t ≢ left →
+    word_at (noted rows left place word) t k ≡ word_at rows t k
+noted_elsewhere rows left place word t k ne = ap (λ (r : List (Option ℕ)). word_in r k) (row-set_other rows left t (noted_in (row_at rows left) place word) ne)
+
+least-below : (word : ℕ) (known : Option ℕ) → least_with word known ≤ word
+least-below word None = omega arith
+least-below word (Some v) = omega arith
+
+least-is : (word v : ℕ) (known : Option ℕ) → Some (least_with word known) ≡ Some v → (known ≡ Some v) ⊎ (v ≡ word)
+least-is word v None e = let s : word ≡ v = cc in inr (sym s)
+least-is word v (Some old) e =
+    let s : min old word ≡ v = cc in
+    elim (cases_lt word old) [ inl less ↦ inr (omega arith) | inr more ↦ (let m : old ≡ v = omega arith in inl (ap Some m)) ]
+
+least-keeps : (word v : ℕ) (known : Option ℕ) → known ≡ Some v → least_with word known ≤ v
+least-keeps word v None e = cc
+least-keeps word v (Some old) e = let s : old ≡ v = cc in omega arith
+
+pub noted-kept : (rows : List (List (Option ℕ))) (left place word : ℕ) → left < length rows → place < length (row_at rows left) →
+    (t k w : ℕ) → word_at rows t k ≡ Some w → IsAtMost (noted rows left place word) t k w
+noted-kept rows left place word h h' t k w e = elim (cases_eq t left) [
+  | inr ne ↦ (w, (omega arith, noted_elsewhere rows left place word t k ne ∙ e))
+  | inl is ↦ elim (cases_eq k place) [
+    | inr ne ↦ (w, (omega arith, rw is (noted_beside rows left place word k h ne ∙ rw is at e)))
+    | inl is' ↦ (let e' : word_at rows left place ≡ Some w = rw (is, is') at e in
+        (least_with word (word_at rows left place), (least-keeps word w (word_at rows left place) e', rw (is, is') (noted_there rows left place word h h'))))
+  ]
+]
+
+pub noted-only : (rows : List (List (Option ℕ))) (left place word : ℕ) → left < length rows → place < length (row_at rows left) →
+    (t k w : ℕ) → word_at (noted rows left place word) t k ≡ Some w → (word_at rows t k ≡ Some w) ⊎ ((t ≡ left) × ((k ≡ place) × (w ≡ word)))
+noted-only rows left place word h h' t k w e = elim (cases_eq t left) [
+  | inr ne ↦ inl (sym (noted_elsewhere rows left place word t k ne) ∙ e)
+  | inl is ↦ elim (cases_eq k place) [
+    | inr ne ↦ inl (rw is (sym (noted_beside rows left place word k h ne) ∙ rw is at e))
+    | inl is' ↦ elim (least-is word w (word_at rows left place) (sym (noted_there rows left place word h h') ∙ rw (is, is') at e)) [
+      | inl old ↦ inl (rw (is, is') old)
+      | inr new ↦ inr (is, (is', new))
+    ]
+  ]
+]
+
+pub noted-at : (rows : List (List (Option ℕ))) (left place word : ℕ) → left < length rows → place < length (row_at rows left) →
+    IsAtMost (noted rows left place word) left place word
+noted-at rows left place word h h' = (least_with word (word_at rows left place), (least-below word (word_at rows left place), noted_there rows left place word h h'))
+
+pub noted-shape : (rows : List (List (Option ℕ))) (left place word : ℕ) → left < length rows → SameShape rows (noted rows left place word)
+noted-shape rows left place word h = record {
+  height = length-set rows left (noted_in (row_at rows left) place word);
+  width = λ t. elim (cases_eq t left) [
+    | inr ne ↦ ap length (row-set_other rows left t (noted_in (row_at rows left) place word) ne)
+    | inl is ↦ rw is (ap length (row-set_same rows left (noted_in (row_at rows left) place word) h) ∙ length-set (row_at rows left) place (Some (least_with word (word_at rows left place))))
+  ];
+}
+
+pub same_shape : (rows : List (List (Option ℕ))) → SameShape rows rows
+same_shape rows = record { height = refl; width = λ t. refl }
+
+pub shapes : (a b c : List (List (Option ℕ))) → SameShape a b → SameShape b c → SameShape a c
+shapes a b c s t = record { height = t.height ∙ s.height; width = λ left. t.width left ∙ s.width left }
+
+pub at_most : (rows : List (List (Option ℕ))) (t k w v : ℕ) → w ≤ v → IsAtMost rows t k w → IsAtMost rows t k v
+at_most rows t k w v h m = (m.0, (omega (arith, m.1.0), m.1.1))
+
+at_least_kept : (new : List (List (Option ℕ))) (old : List (List (Option ℕ))) → ((t k w : ℕ) → word_at old t k ≡ Some w → IsAtMost new t k w) →
+    (t k w : ℕ) → IsAtMost old t k w → IsAtMost new t k w
+at_least_kept new old kept t k w m = at_most new t k m.0 w m.1.0 (kept t k m.0 m.1.1)
+
+-- one place more
+pub spread_none : (p : ProfileName) (from : Cap) (left word : ℕ) (filled : List FullSlot) (rows : List (List (Option ℕ))) → Spreads p from left word filled 0 rows rows
+spread_none p from left word filled rows = record {
+  kept = λ t k w e. (w, (omega arith, e));
+  only = λ t k w e. inl e;
+  noted = λ t k w h n. absurd (omega arith);
+}
+
+pub spread_more : (p : ProfileName) (from : Cap) (left word : ℕ) (filled : List FullSlot) (count : ℕ) (a b c : List (List (Option ℕ))) (to : FullSlot) →
+    slice_get filled count ≡ Some to → Spreads p from left word filled count a b → Visits p from left word count to.address to.cap b c →
+    Spreads p from left word filled (count + 1) a c
+spread_more p from left word filled count a b c to is s v = record {
+  kept = λ t k w e. at_least_kept c b v.kept t k w (s.kept t k w e);
+  only = λ t k w e. elim (v.only t k w e) [
+    | inl old ↦ s.only t k w old
+    | inr new ↦ inr (to, (rw new.0 is, new.1))
+  ];
+  noted = λ t k w h n. elim (cases_eq k count) [
+    | inr ne ↦ at_least_kept c b v.kept t k w (s.noted t k w (omega arith) n)
+    | inl e ↦ (let found : slice_get filled count ≡ Some n.0 = rw e at n.1.0 in
+        let same : to ≡ n.0 = cc in
+        rw e (v.noted t w (rw same n.1.1)))
+  ];
+}
+
+-- one entry more
+pub row_spread_none : (p : ProfileName) (row : List (Option ℕ)) (left : ℕ) (filled : List FullSlot) (rows : List (List (Option ℕ))) → RowSpreads p row left filled 0 rows rows
+row_spread_none p row left filled rows = record {
+  kept = λ t k w e. (w, (omega arith, e));
+  only = λ t k w e. inl e;
+  noted = λ holder t k w h n. absurd (omega arith);
+}
+
+pub row_spread_more : (p : ProfileName) (row : List (Option ℕ)) (left : ℕ) (filled : List FullSlot) (count : ℕ) (a b c : List (List (Option ℕ))) (from : FullSlot) (word : ℕ) →
+    slice_get filled count ≡ Some from → word_in row count ≡ Some word → RowSpreads p row left filled count a b →
+    Spreads p from.cap left word filled (length filled) b c → RowSpreads p row left filled (count + 1) a c
+row_spread_more p row left filled count a b c from word is has s v = record {
+  kept = λ t k w e. at_least_kept c b v.kept t k w (s.kept t k w e);
+  only = λ t k w e. elim (v.only t k w e) [
+    | inl old ↦ s.only t k w old
+    | inr new ↦ inr (count, record { from = from; word = word; holds = is; entered = has; next = new })
+  ];
+  noted = λ holder t k w h n. elim (cases_eq holder count) [
+    | inr ne ↦ at_least_kept c b v.kept t k w (s.noted holder t k w (omega arith) n)
+    | inl e ↦ (let found : slice_get filled count ≡ Some n.from = rw e at n.holds in
+        let had : word_in row count ≡ Some n.word = rw e at n.entered in
+        let same : from ≡ n.from = cc in
+        let same' : word ≡ n.word = cc in
+        v.noted t k w (slice_get_within filled k n.next.0 n.next.1.0) (rw (same, same') n.next))
+  ];
+}
+
+pub row_spread_skip : (p : ProfileName) (row : List (Option ℕ)) (left : ℕ) (filled : List FullSlot) (count : ℕ) (a b : List (List (Option ℕ))) →
+    word_in row count ≡ None → RowSpreads p row left filled count a b → RowSpreads p row left filled (count + 1) a b
+row_spread_skip p row left filled count a b has s = record {
+  kept = s.kept;
+  only = s.only;
+  noted = λ holder t k w h n. elim (cases_eq holder count) [
+    | inr ne ↦ s.noted holder t k w (omega arith) n
+    | inl e ↦ (let none : word_in row count ≡ Some n.word = rw e at n.entered in cc)
+  ];
+}
+
+-- what the code does at one place
+pub visit_noted : (p : ProfileName) (from : Cap) (left word place slot : ℕ) (to : Cap) (rows : List (List (Option ℕ))) (more next : ℕ) →
+    more < length rows → place < length (row_at rows more) → IsNext p from left word slot to more next →
+    ((t w : ℕ) → IsNext p from left word slot to t w → ◌≡◌ {A = Option (ℕ × ℕ)} (Some (more, next)) (Some (t, w))) →
+    Visits p from left word place slot to rows (noted rows more place next)
+visit_noted p from left word place slot to rows more next h h' is each = record {
+  kept = noted-kept rows more place next h h';
+  only = λ t k w e. elim (noted-only rows more place next h h' t k w e) [
+    | inl old ↦ inl old
+    | inr new ↦ inr (new.1.0, rw (new.0, new.1.1) is)
+  ];
+  noted = λ t w n. (
+      let pair : ◌≡◌ {A = Option (ℕ × ℕ)} (Some (more, next)) (Some (t, w)) = each t w n in
+      let both : ◌≡◌ {A = ℕ × ℕ} (more, next) (t, w) = cc in
+      let more' : more ≡ t = ap (λ (x : ℕ × ℕ). x.0) both in
+      let next' : next ≡ w = ap (λ (x : ℕ × ℕ). x.1) both in
+      rw (← more', ← next') (noted-at rows more place next h h'));
+}
+
+pub visit_none : (p : ProfileName) (from : Cap) (left word place slot : ℕ) (to : Cap) (rows : List (List (Option ℕ))) →
+    ((t w : ℕ) → IsNext p from left word slot to t w → ⊥) → Visits p from left word place slot to rows rows
+visit_none p from left word place slot to rows none = record {
+  kept = λ t k w e. (w, (omega arith, e));
+  only = λ t k w e. inl e;
+  noted = λ t w n. absurd (none t w n);
+}
+
+-- a row as the code reads it
+pub word_read : (row : List (Option ℕ)) (place : ℕ) (d o : Option ℕ) → place < length row → get_or row place d ≡ o → word_in row place ≡ o
+word_read row place d o h e = ap (option_and_then (λ (word : Option ℕ). word)) (slice_get-get_or row place d h ∙ ap Some e)
+
+-- where no next word is at a place in front of the first one looked at, or behind the last one
+pub spread_from : (p : ProfileName) (from : Cap) (left word : ℕ) (filled : List FullSlot) (start : ℕ) (rows : List (List (Option ℕ))) →
+    ((k t w : ℕ) → IsNextAt p from left word filled k t w → start ≤ k) → Spreads p from left word filled start rows rows
+spread_from p from left word filled start rows front = record {
+  kept = λ t k w e. (w, (omega arith, e));
+  only = λ t k w e. inl e;
+  noted = λ t k w h n. absurd (let f = front k t w n in omega arith);
+}
+
+pub spread_all : (p : ProfileName) (from : Cap) (left word : ℕ) (filled : List FullSlot) (count more : ℕ) (a b : List (List (Option ℕ))) →
+    ((k t w : ℕ) → IsNextAt p from left word filled k t w → k < count) → Spreads p from left word filled count a b → Spreads p from left word filled more a b
+spread_all p from left word filled count more a b back s = record {
+  kept = s.kept;
+  only = s.only;
+  noted = λ t k w h n. s.noted t k w (back k t w n) n;
+}
+
+pub behind_start : (filled : List FullSlot) (start k base : ℕ) (u : FullSlot) → slice_get filled k ≡ Some u → base ≤ u.address →
+    ((k : ℕ) (u : FullSlot) → k < start → slice_get filled k ≡ Some u → u.address < base) → start ≤ k
+behind_start filled start k base u is low below = elim (cases_lt k start) [
+  | inl early ↦ absurd (let b = below k u early is in omega arith)
+  | inr late ↦ late
+]
+
+pub before_stop : (filled : List FullSlot) (stop k past : ℕ) (u : FullSlot) → slice_get filled k ≡ Some u → u.address < past →
+    ((k : ℕ) (u : FullSlot) → stop ≤ k → slice_get filled k ≡ Some u → past ≤ u.address) → k < stop
+before_stop filled stop k past u is low from = elim (cases_lt k stop) [
+  | inl early ↦ early
+  | inr late ↦ absurd (let f = from k u late is in omega arith)
+]

@@ -1,0 +1,9 @@
+use Rattle.std.proofs.Common.{map}
+use Rattle.reach_core.specs.Private.Search.{SameShape, Spreads}
+use Rattle.reach_core.proofs.search.expand.Given as goal
+
+abbrev pub invariant-loop-place : goal.invariant-loop-place
+invariant-loop-place g l = record {
+  shape : SameShape (map (λ r. r.items) l.fn.rows.items) (map (λ r. r.items) l.rows.items);
+  spreads : Spreads g.P.Profile.the l.from l.left l.word l.filled l.place (map (λ r. r.items) l.fn.rows.items) (map (λ r. r.items) l.rows.items);
+}

@@ -1,0 +1,5 @@
+-- These serve the proofs of private functions, no public contract cites them.
+pub mod Nodes
+pub mod Tables
+pub mod Rows
+pub mod Search

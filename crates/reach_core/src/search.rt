@@ -1,0 +1,163 @@
+//! The search of a thread's capability space.
+ghost use Rattle.std.specs.Prelude.{◌≡◌, ◌≢◌, ℕ, ◌+◌, ◌^◌, ◌<◌, ◌≤◌, ◌⊎◌, Some, IfSome, IfNone, slice_get, length, map, vec_len};
+ghost use Rattle.cap_core.specs.declared.capability.Cap.TheVariants.{Null};
+ghost use Rattle.cap_core.specs.Numbers.{word_bits};
+ghost use Rattle.cap_core.specs.Objects.{IsLawful};
+ghost use Rattle.reach_core.specs.Private.Tables.{word_in, row_at};
+ghost use Rattle.derivation.specs.Forest.{Forest};
+ghost use Rattle.derivation.specs.Entries.{Entry, cap_at};
+ghost use Rattle.reach_core.specs.declared.filled.FullSlot.{FullSlot as FullSlotOf};
+ghost use Rattle.reach_core.specs.FullSlots.{AreLawful, AreRising, AreFullSlots};
+ghost use Rattle.reach_core.specs.Private.Search.{SameShape, Visits, Spreads, RowSpreads, IsBounded, IsNextAt, IsSearch};
+
+use crate::filled::FullSlot;
+use crate::nodes::next_word;
+use crate::table::note;
+use cap_core::{Cap, Profile};
+
+/// Notes the next word of an entry at one full slot.
+fn visit<P: Profile>(
+    from: Cap,
+    left: u32,
+    word: u64,
+    to: &FullSlot,
+    place: usize,
+    rows: &mut Vec<Vec<Option<u64>>>,
+)
+    requires lawful { (from ≡ Null) ⊎ IsLawful P.the (word_bits P.the) from }
+    requires left { left ≤ word_bits P.the }
+    requires word { word + 2 ^ left ≤ 2 ^ word_bits P.the }
+    requires some { 0 < left }
+    requires rows { left ≤ vec_len rows.old }
+    requires place { (t : ℕ) → t < vec_len rows.old → place < length (row_at (map (λ r. r.items) rows.old.items) t) }
+    ensures shape { SameShape (map (λ r. r.items) rows.old.items) (map (λ r. r.items) rows.new.items) }
+    ensures visits { Visits P.the from left word place to.now.address to.now.cap (map (λ r. r.items) rows.old.items) (map (λ r. r.items) rows.new.items) }
+{
+    if let Some((more, next)) = next_word::<P>(from, left, word, to) {
+        note(rows, more as usize, place, next);
+    }
+}
+
+/// How many slots, of the first ones, lie below an address.
+fn count_below(filled: &[FullSlot], address: u64) -> usize
+    requires { AreRising filled.now }
+    ensures within { result ≤ length filled.now }
+    ensures below { (k : ℕ) (u : FullSlotOf) → k < result → slice_get filled.now k ≡ Some u → u.address < address }
+    ensures from { (k : ℕ) (u : FullSlotOf) → result ≤ k → slice_get filled.now k ≡ Some u → address ≤ u.address }
+{
+    let mut low = 0;
+    let mut high = filled.len();
+    while low < high {
+        let middle = low + (high - low) / 2;
+        if filled[middle].address < address {
+            low = middle + 1;
+        } else {
+            high = middle;
+        }
+    }
+    low
+}
+
+/// The places of the full slots of a CNode: from the first one on, and below the second one.
+fn places_in<P: Profile>(filled: &[FullSlot], from: Cap) -> (usize, usize)
+    requires lawful { (from ≡ Null) ⊎ IsLawful P.the (word_bits P.the) from }
+    requires rising { AreRising filled.now }
+    ensures within { result.1 ≤ length filled.now }
+    ensures all { (left word k t w : ℕ) → IsNextAt P.the from left word filled.now k t w → (result.0 ≤ k) × (k < result.1) }
+{
+    let Cap::CNode { base, radix, .. } = from else {
+        return (0, 0);
+    };
+    let last = base + (((1 << radix) - 1) << P::SLOT_BITS);
+    let start = count_below(filled, base);
+    if last == u64::MAX {
+        (start, filled.len())
+    } else {
+        (start, count_below(filled, last + 1))
+    }
+}
+
+/// Notes the next words of an entry at all full slots.
+fn expand<P: Profile>(
+    filled: &[FullSlot],
+    from: Cap,
+    left: u32,
+    word: u64,
+    rows: &mut Vec<Vec<Option<u64>>>,
+)
+    requires rising { AreRising filled.now }
+    requires lawful { (from ≡ Null) ⊎ IsLawful P.the (word_bits P.the) from }
+    requires left { left ≤ word_bits P.the }
+    requires word { word + 2 ^ left ≤ 2 ^ word_bits P.the }
+    requires some { 0 < left }
+    requires rows { left ≤ vec_len rows.old }
+    requires places { (t : ℕ) → t < vec_len rows.old → length (row_at (map (λ r. r.items) rows.old.items) t) ≡ length filled.now }
+    ensures shape { SameShape (map (λ r. r.items) rows.old.items) (map (λ r. r.items) rows.new.items) }
+    ensures spreads { Spreads P.the from left word filled.now (length filled.now) (map (λ r. r.items) rows.old.items) (map (λ r. r.items) rows.new.items) }
+{
+    let (start, stop) = places_in::<P>(filled, from);
+    for place in start..stop {
+        visit::<P>(from, left, word, &filled[place], place, rows);
+    }
+}
+
+/// Notes the next words of the entries of a row, which were entered with `left` bits.
+fn expand_row<P: Profile>(
+    filled: &[FullSlot],
+    row: &[Option<u64>],
+    left: u32,
+    rows: &mut Vec<Vec<Option<u64>>>,
+)
+    requires lawful { AreLawful P.the filled.now }
+    requires rising { AreRising filled.now }
+    requires left { left ≤ word_bits P.the }
+    requires some { 0 < left }
+    requires rows { left ≡ vec_len rows.old }
+    requires width { length row.now ≡ length filled.now }
+    requires words { (k w : ℕ) → word_in row.now k ≡ Some w → w + 2 ^ left ≤ 2 ^ word_bits P.the }
+    requires places { (t : ℕ) → t < vec_len rows.old → length (row_at (map (λ r. r.items) rows.old.items) t) ≡ length filled.now }
+    ensures shape { SameShape (map (λ r. r.items) rows.old.items) (map (λ r. r.items) rows.new.items) }
+    ensures spreads { RowSpreads P.the row.now left filled.now (length filled.now) (map (λ r. r.items) rows.old.items) (map (λ r. r.items) rows.new.items) }
+{
+    for place in 0..filled.len() {
+        if let Some(word) = row[place] {
+            expand::<P>(filled, filled[place].cap, left, word, rows);
+        }
+    }
+}
+
+/// Empties the rows of a table from the last one on, until the first one alone is left: whatever was entered with bits left
+/// has then been followed to the slots that are found.
+pub fn search<P: Profile>(filled: &[FullSlot], rows: &mut Vec<Vec<Option<u64>>>)
+    requires lawful { AreLawful P.the filled.now }
+    requires rising { AreRising filled.now }
+    requires some { 0 < vec_len rows.old }
+    requires rows { vec_len rows.old ≤ word_bits P.the + 1 }
+    requires bounded { IsBounded P.the (map (λ r. r.items) rows.old.items) }
+    requires places { (t : ℕ) → t < vec_len rows.old → length (row_at (map (λ r. r.items) rows.old.items) t) ≡ length filled.now }
+    ensures one { vec_len rows.new ≡ 1 }
+    ensures width { length (row_at (map (λ r. r.items) rows.new.items) 0) ≡ length filled.now }
+    ensures bounded { IsBounded P.the (map (λ r. r.items) rows.new.items) }
+    ensures found { (memory : ℕ) (f : Forest Entry) (thread : ℕ) → ((s : ℕ) → (cap_at f s ≡ Null) ⊎ IsLawful P.the memory (cap_at f s)) → AreFullSlots f filled.now
+        → IsSearch P.the f thread filled.now (map (λ r. r.items) rows.old.items) → IsSearch P.the f thread filled.now (map (λ r. r.items) rows.new.items) }
+{
+    while rows.len() > 1 {
+        let Some(row) = rows.pop() else {
+            unreachable!();
+        };
+        expand_row::<P>(filled, row.as_slice(), rows.len() as u32, rows);
+    }
+}
+
+/// The place of the slot at an address.
+pub fn place_of(filled: &[FullSlot], address: u64) -> Option<usize>
+    ensures some { IfSome result (λ k. (u : FullSlotOf) × ((slice_get filled.now k ≡ Some u) × (u.address ≡ address))) }
+    ensures none { IfNone result ((k : ℕ) (u : FullSlotOf) → slice_get filled.now k ≡ Some u → u.address ≢ address) }
+{
+    for place in 0..filled.len() {
+        if filled[place].address == address {
+            return Some(place);
+        }
+    }
+    None
+}
