@@ -1,5 +1,5 @@
 -- The list of the full slots of a forest.
-use Rattle.std.proofs.Common.{◌≡◌, ℕ, zero, suc, ◌+◌, ◌<◌, ◌≤◌, ◌⊎◌, inl, inr, refl, sym, ap, ◌∙◌, arith, Bool, true, false, cond, ◌==◌, ◌||◌, List, [], ◌∷◌, ◌++◌, length, map, take, get_or, Option, Some, None, option_map, replicate, eq-eqb}
+use Rattle.std.proofs.Common.{◌≡◌, ◌≢◌, ℕ, zero, suc, ◌+◌, ◌<◌, ◌≤◌, ◌⊎◌, inl, inr, refl, sym, ap, ◌∙◌, arith, Bool, true, false, cond, ◌==◌, ◌||◌, List, [], ◌∷◌, ◌++◌, length, map, take, get_or, Option, Some, None, option_map, replicate, eq-eqb}
 use Rattle.std.proofs.lemmas.List.{map-append, take_more, length-replicate}
 use Rattle.std.specs.List.{slice_get, list_any, Contains, Any, All, IsDistinct}
 use Rattle.std.specs.List.Sorted.{IsStrictlySortedBy}
@@ -195,3 +195,32 @@ rising_in_order filled order i j u v less hi hj =
     let there : get_or filled j u ≡ v = get_or_from_slice_get filled j v u hj in
     let e' : nat_cmp u.address v.address ≡ Less = rw (here, there) at e in
     ranked u.address v.address Less (sym e')
+
+-- a slot is at the first place that is not below it, or nowhere
+pub no_place : (filled : List FullSlot) (place address : ℕ) → AreRising filled →
+    ((k : ℕ) (u : FullSlot) → k < place → slice_get filled k ≡ Some u → u.address < address) →
+    ((k : ℕ) (u : FullSlot) → place ≤ k → slice_get filled k ≡ Some u → address ≤ u.address) →
+    ((u : FullSlot) → slice_get filled place ≡ Some u → u.address ≢ address) →
+    (k : ℕ) (u : FullSlot) → slice_get filled k ≡ Some u → u.address ≢ address
+no_place filled place address up below from other k u is same = elim (cases_lt k place) [
+  | inl early ↦ absurd (let h = below k u early is in omega arith)
+  | inr late ↦ elim (cases_eq k place) [
+    | inl here ↦ other u (rw here at is) same
+    | inr behind ↦ absurd (let v : FullSlot = get_or filled place u in
+        let within : place < length filled = (let h = slice_get_within filled k u is in omega arith) in
+        let at : slice_get filled place ≡ Some v = slice_get-get_or filled place u within in
+        let h = up place k v u (omega arith) at is in
+        let h' = from place v (omega arith) at in
+        omega arith)
+  ]
+]
+
+-- and at one place alone
+pub one_place : (filled : List FullSlot) → AreRising filled → (j k : ℕ) (u v : FullSlot) → slice_get filled j ≡ Some u → slice_get filled k ≡ Some v → u.address ≡ v.address → j ≡ k
+one_place filled up j k u v hj hk e = elim (cases_lt j k) [
+  | inl less ↦ absurd (let l = up j k u v less hj hk in omega arith)
+  | inr more ↦ elim (cases_lt k j) [
+    | inl less ↦ absurd (let l = up k j v u less hk hj in omega arith)
+    | inr more' ↦ omega arith
+  ]
+]

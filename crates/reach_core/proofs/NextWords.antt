@@ -4,9 +4,10 @@ use Rattle.cap_core.specs.declared.profile.ProfileName.{ProfileName}
 use Rattle.cap_core.specs.declared.profile.ProfileName.TheVariants.{Wide, Narrow}
 use Rattle.cap_core.specs.declared.capability.Guard.{Guard}
 use Rattle.cap_core.specs.declared.capability.Cap.{Cap}
-use Rattle.cap_core.specs.declared.capability.Cap.TheVariants.{Null, CNode}
+use Rattle.cap_core.specs.declared.capability.Cap.TheVariants.{Null, Untyped, Endpoint, CNode, Tcb}
 use Rattle.cap_core.specs.Numbers.{word_bits, slot_bits, slot_size}
 use Rattle.cap_core.specs.Objects.{IsLawful}
+use Rattle.cspace_core.specs.Inside.{IsSlotOf}
 use Rattle.cspace_core.specs.Resolution.{is_cnode, slot_of}
 use Rattle.cspace_core.proofs.Nodes.{lawful_node, slot_within, starts_within, radix_small}
 use Rattle.std.proofs.Math.Nat.{mod-eq_of_lt, mul-le-mul_right}
@@ -112,13 +113,15 @@ spanned p base radix i address low is =
     (omega (arith, is), omega (arith, is, most))
 
 -- a next word is at a slot of the CNode
-pub next_spanned : (p : ProfileName) (from : Cap) (base radix left word slot : ℕ) (guard : Guard) (to : Cap) (more next : ℕ) → from ≡ CNode base radix guard →
-    IsNext p from left word slot to more next → (base ≤ slot) × (slot ≤ base + (2 ^ radix - 1) * 2 ^ slot_bits p)
-next_spanned p from base radix left word slot guard to more next e n =
-    let same : CNode base radix guard ≡ CNode n.base n.radix n.guard = sym e ∙ n.node in
-    let base' : n.base ≡ base = cc in
-    let radix' : n.radix ≡ radix = cc in
-    spanned p base radix n.index slot (rw radix' at n.within) (rw base' at n.chosen)
+pub next_inside : (p : ProfileName) (from : Cap) (left word slot : ℕ) (to : Cap) (more next : ℕ) → IsNext p from left word slot to more next → IsSlotOf p from slot
+next_inside p from left word slot to more next n = rw n.node (n.index, (n.within, n.chosen))
+
+pub no_slot_of : (p : ProfileName) (cap : Cap) (slot : ℕ) → ((base radix : ℕ) (guard : Guard) → cap ≡ CNode base radix guard → ⊥) → IsSlotOf p cap slot → ⊥
+no_slot_of p Null slot none h = h
+no_slot_of p (Untyped base bits free) slot none h = h
+no_slot_of p (Endpoint base badge rights) slot none h = h
+no_slot_of p (CNode base radix guard) slot none h = none base radix guard refl
+no_slot_of p (Tcb base) slot none h = h
 
 pub not_next : (p : ProfileName) (from : Cap) (left word slot : ℕ) (to : Cap) (more next : ℕ) →
     ((base radix : ℕ) (guard : Guard) → from ≡ CNode base radix guard → ⊥) → IsNext p from left word slot to more next → ⊥

@@ -20,7 +20,7 @@ use Rattle.abstract_kernel.specs.Lookups.{slot_found}
 use Rattle.reach_core.specs.Private.Nodes.{goes_on}
 
 -- the first step: a fault, or the slot that the bits behind the guard choose
-data FirstStep (p : ProfileName) (cap : Cap) (n word : ℕ) : Type 0 where
+pub data FirstStep (p : ProfileName) (cap : Cap) (n word : ℕ) : Type 0 where
   faults : (fault : LookupFault) → choice p cap (low_bits n word) ≡ Err fault → FirstStep p cap n word
   chooses : (base radix : ℕ) (guard : Guard) → cap ≡ CNode base radix guard → 1 ≤ radix → guard.size ≤ n → radix ≤ n - guard.size →
       word / 2 ^ (n - guard.size) % 2 ^ guard.size ≡ guard.value →
@@ -28,7 +28,7 @@ data FirstStep (p : ProfileName) (cap : Cap) (n word : ℕ) : Type 0 where
       ≡ Ok (record { slot = slot_of p base (word / 2 ^ (n - guard.size - radix) % 2 ^ radix); left = low_bits (n - guard.size - radix) word }) →
       FirstStep p cap n word
 
-first_step : (p : ProfileName) (memory : ℕ) (cap : Cap) (n word : ℕ) → (cap ≡ Null) ⊎ IsLawful p memory cap → FirstStep p cap n word
+pub first_step : (p : ProfileName) (memory : ℕ) (cap : Cap) (n word : ℕ) → (cap ≡ Null) ⊎ IsLawful p memory cap → FirstStep p cap n word
 first_step p memory Null n word lawful = faults InvalidRoot refl
 first_step p memory (Untyped base bits free) n word lawful = faults InvalidRoot refl
 first_step p memory (Endpoint base badge rights) n word lawful = faults InvalidRoot refl

@@ -12,12 +12,12 @@ use Rattle.reach_core.specs.Private.Nodes.{IsNext}
 use Rattle.reach_core.specs.Private.Tables.{word_in, row_at, word_at, least_with, noted_in, noted}
 use Rattle.reach_core.specs.Private.Search.{IsAtMost, IsNextAt, SameShape, Visits, Spreads, RowLeads, RowSpreads}
 
-slice_get-set_same : {X : Type 0} (xs : List X) (i : ℕ) (v : X) → i < length xs → slice_get (set xs i v) i ≡ Some v
+pub slice_get-set_same : {X : Type 0} (xs : List X) (i : ℕ) (v : X) → i < length xs → slice_get (set xs i v) i ≡ Some v
 slice_get-set_same [] i v h = absurd (omega arith)
 slice_get-set_same (x ∷ xs) zero v h = refl
 slice_get-set_same (x ∷ xs) (suc i) v h = slice_get-set_same xs i v (omega arith)
 
-slice_get-set_other : {X : Type 0} (xs : List X) (i j : ℕ) (v : X) → j ≢ i → slice_get (set xs i v) j ≡ slice_get xs j
+pub slice_get-set_other : {X : Type 0} (xs : List X) (i j : ℕ) (v : X) → j ≢ i → slice_get (set xs i v) j ≡ slice_get xs j
 slice_get-set_other [] i j v h = refl
 slice_get-set_other (x ∷ xs) zero zero v h = absurd (h refl)
 slice_get-set_other (x ∷ xs) zero (suc j) v h = refl

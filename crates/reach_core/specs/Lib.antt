@@ -1,8 +1,11 @@
--- What threads can name. Reaching says which slots a word leads to, Lists what a list of them is, FullSlots what such a
--- list is made from; Laws and Listed have what its laws say.
+-- What threads can name. Reaching says which slots a word leads to, Lists what a list of them is, Holding which an
+-- index and a depth name besides, FullSlots what such a list is made from; Laws, Listed and
+-- OneCall have what the laws say.
 pub mod Reaching
 pub mod FullSlots
 pub mod Lists
+pub mod Holding
 pub mod Laws
 pub mod Listed
+pub mod OneCall
 pub mod Private

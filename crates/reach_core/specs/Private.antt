@@ -3,3 +3,6 @@ pub mod Nodes
 pub mod Tables
 pub mod Rows
 pub mod Search
+pub mod Paths
+pub mod Entries
+pub mod Exploring

@@ -1,12 +1,16 @@
 //! Which slots a thread can name, and by which words: a search of its capability space.
 #![tactic(auto)]
 
+mod explore;
 mod filled;
+mod held;
 pub mod laws;
 mod nodes;
+mod paths;
 mod reached;
 mod search;
 mod table;
 
 pub use filled::{FullSlot, full_slots};
+pub use held::{Held, held_slots};
 pub use reached::{Reached, reached_slots};

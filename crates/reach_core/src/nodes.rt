@@ -10,7 +10,7 @@ use crate::filled::FullSlot;
 use cap_core::{Cap, Profile};
 
 /// The index of the slot at an address in a CNode.
-fn index_in<P: Profile>(base: u64, radix: u32, address: u64) -> Option<u64>
+pub fn index_in<P: Profile>(base: u64, radix: u32, address: u64) -> Option<u64>
     requires { radix < 64 }
     ensures some { IfSome result (λ i. (i < 2 ^ radix) × (address ≡ slot_of P.the base i)) }
     ensures each { (i : ℕ) → i < 2 ^ radix → address ≡ slot_of P.the base i → result ≡ Some i }

@@ -45,7 +45,7 @@ fn found(
 }
 
 /// Puts the items into their order, each once.
-fn put_in_order<T: Ord + Drop>(list: &mut Vec<T>) -> Result<(), AllocError>
+pub fn put_in_order<T: Ord + Drop>(list: &mut Vec<T>) -> Result<(), AllocError>
     ensures kept { OnOk result ((x : T) → Contains list.old.items x → Any (λ y. T.eq x y ≡ true) list.new.items) }
     ensures only { OnOk result ((x : T) → Contains list.new.items x → Contains list.old.items x) }
     ensures order { OnOk result (IsStrictlySortedBy T.cmp list.new.items) }

@@ -3,6 +3,7 @@ ghost use Rattle.std.specs.Prelude.{◌≡◌, ◌≢◌, ℕ, ◌+◌, ◌^◌,
 ghost use Rattle.cap_core.specs.declared.capability.Cap.TheVariants.{Null};
 ghost use Rattle.cap_core.specs.Numbers.{word_bits};
 ghost use Rattle.cap_core.specs.Objects.{IsLawful};
+ghost use Rattle.cspace_core.specs.Inside.{IsSlotOf};
 ghost use Rattle.reach_core.specs.Private.Tables.{word_in, row_at};
 ghost use Rattle.derivation.specs.Forest.{Forest};
 ghost use Rattle.derivation.specs.Entries.{Entry, cap_at};
@@ -59,11 +60,11 @@ fn count_below(filled: &[FullSlot], address: u64) -> usize
 }
 
 /// The places of the full slots of a CNode: from the first one on, and below the second one.
-fn places_in<P: Profile>(filled: &[FullSlot], from: Cap) -> (usize, usize)
+pub fn places_in<P: Profile>(filled: &[FullSlot], from: Cap) -> (usize, usize)
     requires lawful { (from ≡ Null) ⊎ IsLawful P.the (word_bits P.the) from }
     requires rising { AreRising filled.now }
     ensures within { result.1 ≤ length filled.now }
-    ensures all { (left word k t w : ℕ) → IsNextAt P.the from left word filled.now k t w → (result.0 ≤ k) × (k < result.1) }
+    ensures all { (k : ℕ) (u : FullSlotOf) → slice_get filled.now k ≡ Some u → IsSlotOf P.the from u.address → (result.0 ≤ k) × (k < result.1) }
 {
     let Cap::CNode { base, radix, .. } = from else {
         return (0, 0);
@@ -151,13 +152,14 @@ pub fn search<P: Profile>(filled: &[FullSlot], rows: &mut Vec<Vec<Option<u64>>>)
 
 /// The place of the slot at an address.
 pub fn place_of(filled: &[FullSlot], address: u64) -> Option<usize>
+    requires { AreRising filled.now }
     ensures some { IfSome result (λ k. (u : FullSlotOf) × ((slice_get filled.now k ≡ Some u) × (u.address ≡ address))) }
     ensures none { IfNone result ((k : ℕ) (u : FullSlotOf) → slice_get filled.now k ≡ Some u → u.address ≢ address) }
 {
-    for place in 0..filled.len() {
-        if filled[place].address == address {
-            return Some(place);
-        }
+    let place = count_below(filled, address);
+    if place < filled.len() && filled[place].address == address {
+        Some(place)
+    } else {
+        None
     }
-    None
 }

@@ -1,0 +1,14 @@
+use Rattle.std.proofs.Common.{◌≡◌, ◌+◌, arith, replicate, None, ◌∙◌}
+use Rattle.cap_core.specs.Numbers.{word_bits}
+use Rattle.reach_core.proofs.PathTables.{rows_more}
+use Rattle.reach_core.proofs.held.empty_rows.Goals as goal
+
+pub loop-read-preserved : goal.loop-read-preserved
+loop-read-preserved g c =
+    rw c.in_ok-push.ensures.items (rows_more (λ r. r.items) c.loop-read.rows.items c.in_ok-empty_row.field-0 c.loop-read.read (replicate c.args.width None) c.loop-read.invariant c.in_ok-empty_row.ensures)
+
+pub returns : goal.returns
+returns g c =
+    let bits : c.WORD_BITS-read-end.result ≡ word_bits g.P.Profile.the = c.WORD_BITS-read-end.ensures ∙ g.met.P.Profile.word_bits_is in
+    let done : word_bits g.P.Profile.the + 1 ≡ c.loop-read.read = omega (arith, bits, c.loop-read-test.false, c.loop-read.auto.read-end) in
+    rw done c.loop-read.invariant

@@ -1,0 +1,101 @@
+//! The search of what indexes and depths name, from many capabilities at once.
+ghost use Rattle.std.specs.Prelude.{◌≡◌, ℕ, ◌+◌, ◌^◌, ◌<◌, ◌≤◌, ◌⊎◌, Some, IfSome, length, map, vec_len};
+ghost use Rattle.cap_core.specs.declared.capability.Cap.TheVariants.{Null};
+ghost use Rattle.cap_core.specs.Numbers.{word_bits};
+ghost use Rattle.cap_core.specs.Objects.{IsLawful};
+ghost use Rattle.derivation.specs.Forest.{Forest};
+ghost use Rattle.derivation.specs.Entries.{Entry};
+ghost use Rattle.reach_core.specs.declared.paths.Path.{Path as PathOf};
+ghost use Rattle.reach_core.specs.FullSlots.{AreFullSlots, AreLawful, AreRising};
+ghost use Rattle.reach_core.specs.Private.Paths.{path_at, IsWide, AreWithinBits};
+ghost use Rattle.reach_core.specs.Private.Exploring.{IsStep, Extends, ExtendsRow, IsExplored, AreStarts};
+
+use crate::filled::FullSlot;
+use crate::nodes::index_in;
+use crate::paths::{Path, put_path};
+use crate::search::places_in;
+use cap_core::{Cap, Profile};
+
+/// Where a capability that a path of `read` bits leads to leads on, at the slot at an address: how many bits are read then,
+/// and the path.
+fn next_path<P: Profile>(from: Cap, read: u32, path: Path, slot: u64) -> Option<(u32, Path)>
+    requires lawful { (from ≡ Null) ⊎ IsLawful P.the (word_bits P.the) from }
+    requires read { read ≤ word_bits P.the }
+    requires index { path.index < 2 ^ read }
+    ensures some { IfSome result (λ r. IsStep P.the from read path slot r.0 r.1) }
+    ensures each { (more : ℕ) (next : PathOf) → IsStep P.the from read path slot more next → result ≡ Some (more, next) }
+{
+    let Cap::CNode { base, radix, guard } = from else {
+        return None;
+    };
+    let more = read + guard.size + radix;
+    if more > P::WORD_BITS {
+        return None;
+    }
+    let number = index_in::<P>(base, radix, slot)?;
+    let index = (((path.index << guard.size) + guard.value) << radix) + number;
+    Some((
+        more,
+        Path {
+            word: path.word,
+            index,
+        },
+    ))
+}
+
+/// Puts the steps of a path to all full slots.
+fn extend<P: Profile>(
+    filled: &[FullSlot],
+    from: Cap,
+    read: u32,
+    path: Path,
+    rows: &mut Vec<Vec<Option<Path>>>,
+)
+    requires rising { AreRising filled.now }
+    requires lawful { (from ≡ Null) ⊎ IsLawful P.the (word_bits P.the) from }
+    requires read { read ≤ word_bits P.the }
+    requires index { path.index < 2 ^ read }
+    requires wide { IsWide (word_bits P.the + 1) (length filled.now) (map (λ r. r.items) rows.old.items) }
+    ensures wide { IsWide (word_bits P.the + 1) (length filled.now) (map (λ r. r.items) rows.new.items) }
+    ensures extends { Extends P.the from read path filled.now (length filled.now) (map (λ r. r.items) rows.old.items) (map (λ r. r.items) rows.new.items) }
+{
+    let (start, stop) = places_in::<P>(filled, from);
+    for place in start..stop {
+        if let Some((more, next)) = next_path::<P>(from, read, path, filled[place].address) {
+            put_path(rows, more as usize, place, next);
+        }
+    }
+}
+
+/// Puts the steps of the paths of a row, which have read `read` bits.
+fn extend_row<P: Profile>(filled: &[FullSlot], read: usize, rows: &mut Vec<Vec<Option<Path>>>)
+    requires lawful { AreLawful P.the filled.now }
+    requires rising { AreRising filled.now }
+    requires read { read ≤ word_bits P.the }
+    requires bits { AreWithinBits (map (λ r. r.items) rows.old.items) }
+    requires wide { IsWide (word_bits P.the + 1) (length filled.now) (map (λ r. r.items) rows.old.items) }
+    ensures wide { IsWide (word_bits P.the + 1) (length filled.now) (map (λ r. r.items) rows.new.items) }
+    ensures extends { ExtendsRow P.the read filled.now (length filled.now) (map (λ r. r.items) rows.old.items) (map (λ r. r.items) rows.new.items) }
+{
+    for place in 0..filled.len() {
+        if let Some(path) = rows[read][place] {
+            extend::<P>(filled, filled[place].cap, read as u32, path, rows);
+        }
+    }
+}
+
+/// Follows the paths of a table, row by row: a CNode takes at least one bit, so a row is whole when its turn comes.
+pub fn explore<P: Profile>(filled: &[FullSlot], rows: &mut Vec<Vec<Option<Path>>>)
+    requires lawful { AreLawful P.the filled.now }
+    requires rising { AreRising filled.now }
+    requires starts { AreStarts (map (λ r. r.items) rows.old.items) }
+    requires wide { IsWide (word_bits P.the + 1) (length filled.now) (map (λ r. r.items) rows.old.items) }
+    ensures wide { IsWide (word_bits P.the + 1) (length filled.now) (map (λ r. r.items) rows.new.items) }
+    ensures bits { AreWithinBits (map (λ r. r.items) rows.new.items) }
+    ensures front { (place : ℕ) → path_at (map (λ r. r.items) rows.new.items) 0 place ≡ path_at (map (λ r. r.items) rows.old.items) 0 place }
+    ensures explored { (f : Forest Entry) → AreFullSlots f filled.now → IsExplored P.the f filled.now (map (λ r. r.items) rows.old.items) (map (λ r. r.items) rows.new.items) (word_bits P.the + 1) }
+{
+    for read in 0..rows.len() {
+        extend_row::<P>(filled, read, rows);
+    }
+}
