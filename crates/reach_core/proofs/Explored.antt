@@ -229,9 +229,12 @@ explored_first p f filled rows starts = record {
     split = omega arith;
     there = e;
     holds = holds;
-    low = inr (refl, (let zero : start.index * 2 ^ depth ≡ 0 = ap (λ (x : ℕ). x * 2 ^ depth) (starts 0 place start e).1 ∙ omega arith in
-        let some : 0 < 2 ^ depth = pow_pos depth in
-        omega arith));
+    low = inr (
+      refl,
+      (let zero : start.index * 2 ^ depth ≡ 0 = ap (λ (x : ℕ). x * 2 ^ depth) (starts 0 place start e).1 ∙ omega arith in
+          let some : 0 < 2 ^ depth = pow_pos depth in
+          omega arith),
+    );
     leads = led;
   };
 }

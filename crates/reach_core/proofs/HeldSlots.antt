@@ -173,16 +173,18 @@ best_skip rows place address count best none b = record {
     | inr ne ↦ b.none e depth path some (omega arith) is
     | inl here ↦ (let at : path_at rows count place ≡ Some path = rw here at is in cc)
   ];
-  some = λ h e. (let s = b.some h e in
-      (s.0, record {
-        some = s.1.some;
-        within = (let w = s.1.within in omega arith);
-        there = s.1.there;
-        first = λ more other some low is. elim (cases_eq more count) [
-          | inr ne ↦ s.1.first more other some (omega arith) is
-          | inl here ↦ (let at : path_at rows count place ≡ Some other = rw here at is in cc)
-        ];
-      }));
+  some = λ h e. (let s = b.some h e in (
+    s.0,
+    record {
+      some = s.1.some;
+      within = (let w = s.1.within in omega arith);
+      there = s.1.there;
+      first = λ more other some low is. elim (cases_eq more count) [
+        | inr ne ↦ s.1.first more other some (omega arith) is
+        | inl here ↦ (let at : path_at rows count place ≡ Some other = rw here at is in cc)
+      ];
+    },
+  ));
 }
 
 best_next : (rows : List (List (Option Path))) (place address count : ℕ) (next : Held) → 1 ≤ count → next.depth ≡ count → next.slot ≡ address →
@@ -192,17 +194,20 @@ best_next : (rows : List (List (Option Path))) (place address count : ℕ) (next
 best_next rows place address count next some depth slot here before = record {
   none = λ e. cc;
   some = λ h e. (let same : next ≡ h = cc in
-      rw (← same) (slot, record {
-        some = omega arith;
-        within = omega arith;
-        there = rw depth here;
-        first = λ more other least low is. elim (cases_eq more count) [
-          | inr ne ↦ inl (before more other least (omega arith) is)
-          | inl at ↦ (let is' : path_at rows count place ≡ Some other = rw at at is in
-              let other_is : path_of next ≡ other = cc in
-              inr (ap (λ (x : Path). x.word) other_is, omega arith))
-        ];
-      }));
+      rw (← same) (
+        slot,
+        record {
+          some = omega arith;
+          within = omega arith;
+          there = rw depth here;
+          first = λ more other least low is. elim (cases_eq more count) [
+            | inr ne ↦ inl (before more other least (omega arith) is)
+            | inl at ↦ (let is' : path_at rows count place ≡ Some other = rw at at is in
+                let other_is : path_of next ≡ other = cc in
+                inr (ap (λ (x : Path). x.word) other_is, omega arith))
+          ];
+        },
+      ));
 }
 
 pub best_more : (rows : List (List (Option Path))) (place address count : ℕ) (best : Option Held) (next : Held) → 1 ≤ count → next.depth ≡ count → next.slot ≡ address →
@@ -218,19 +223,22 @@ best_more rows place address count (Some known) next some depth slot here b = by
         record {
           none = λ e'. cc;
           some = λ h e'. (let same : known ≡ h = cc in
-              rw (← same) (s.0, record {
-                some = s.1.some;
-                within = (let w = s.1.within in omega arith);
-                there = s.1.there;
-                first = λ more other least low' is. elim (cases_eq more count) [
-                  | inr ne ↦ s.1.first more other least (omega arith) is
-                  | inl at ↦ (let is' : path_at rows count place ≡ Some other = rw at at is in
-                      let other_is : path_of next ≡ other = cc in
-                      let word : next.word ≡ other.word = ap (λ (x : Path). x.word) other_is in
-                      let early : known.depth < count = s.1.within in
-                      elim (cases_lt known.word other.word) [ inl less ↦ inl less | inr same' ↦ inr (omega arith, omega arith) ])
-                ];
-              }));
+              rw (← same) (
+                s.0,
+                record {
+                  some = s.1.some;
+                  within = (let w = s.1.within in omega arith);
+                  there = s.1.there;
+                  first = λ more other least low' is. elim (cases_eq more count) [
+                    | inr ne ↦ s.1.first more other least (omega arith) is
+                    | inl at ↦ (let is' : path_at rows count place ≡ Some other = rw at at is in
+                        let other_is : path_of next ≡ other = cc in
+                        let word : next.word ≡ other.word = ap (λ (x : Path). x.word) other_is in
+                        let early : known.depth < count = s.1.within in
+                        elim (cases_lt known.word other.word) [ inl less ↦ inl less | inr same' ↦ inr (omega arith, omega arith) ])
+                  ];
+                },
+              ));
         }
     by_word false e =
         let low : next.word < known.word = leb-false known.word next.word e in
@@ -407,13 +415,15 @@ held_named p f thread filled reached first rows s h l =
     let word : r.0.word ≡ h.word = r.1.1.1 ∙ c.word in
     let so = s.reach.sound r.0 r.1.0 in
     let reaches : Reaches p f thread h.word c.from.address = reaches_same p f thread r.0.word h.word r.0.slot c.from.address word r.1.1.0 so.1 in
-    let small : h.word < 2 ^ word_bits p = (let below = so.0 in omega arith) in
-    (small, record {
-      holder = c.from.address;
-      reaches = reaches;
-      named = target_named p (word_bits p) f s.lawful c.from.address h.depth h.index l.at.address fst.some short led' ∙ ap (λ (x : ℕ). ok_slot x) (sym l.held.slot_is);
-      full = ap (λ (x : ℕ). is_full x f) l.held.slot_is ∙ s.are.full l.place l.at l.holds;
-    })
+    let small : h.word < 2 ^ word_bits p = (let below = so.0 in omega arith) in (
+      small,
+      record {
+        holder = c.from.address;
+        reaches = reaches;
+        named = target_named p (word_bits p) f s.lawful c.from.address h.depth h.index l.at.address fst.some short led' ∙ ap (λ (x : ℕ). ok_slot x) (sym l.held.slot_is);
+        full = ap (λ (x : ℕ). is_full x f) l.held.slot_is ∙ s.are.full l.place l.at l.holds;
+      },
+    )
 
 held_unreached : (p : ProfileName) (f : Forest Entry) (thread : ℕ) (filled : List FullSlot) (reached : List Reached) (first rows : List (List (Option Path))) → IsSearched p f thread filled reached first rows →
     (h : Held) → IsListed rows filled h → IsUnreached p f thread h.slot
@@ -441,14 +451,17 @@ no_later rows place h path word depth index fst some there low = elim (fst.first
   | inl less ↦ inl (elim low [ inl l ↦ omega arith | inr l ↦ (let e = l.0 in omega arith) ])
   | inr same ↦ elim low [
     | inl l ↦ inl (let e = same.0 in omega arith)
-    | inr l ↦ inr (same.0 ∙ l.0, elim (cases_lt h.depth depth) [
-      | inl less ↦ inl less
-      | inr more ↦ (let depth_is : h.depth ≡ depth = (let d = same.1 in omega arith) in
-          let mine : path_at rows depth place ≡ Some (path_of h) = rw depth_is at fst.there in
-          let path_is : path_of h ≡ path = cc in
-          let index_is : h.index ≡ path.index = ap (λ (x : Path). x.index) path_is in
-          inr (depth_is, (let i = l.1 in omega arith)))
-    ])
+    | inr l ↦ inr (
+      same.0 ∙ l.0,
+      elim (cases_lt h.depth depth) [
+        | inl less ↦ inl less
+        | inr more ↦ (let depth_is : h.depth ≡ depth = (let d = same.1 in omega arith) in
+            let mine : path_at rows depth place ≡ Some (path_of h) = rw depth_is at fst.there in
+            let path_is : path_of h ≡ path = cc in
+            let index_is : h.index ≡ path.index = ap (λ (x : Path). x.index) path_is in
+            inr (depth_is, (let i = l.1 in omega arith)))
+      ],
+    )
   ]
 ]
 

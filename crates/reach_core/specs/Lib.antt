@@ -5,6 +5,8 @@ pub mod Reaching
 pub mod FullSlots
 pub mod Lists
 pub mod Holding
+pub mod Endpoints
+pub mod Channels
 pub mod Laws
 pub mod Listed
 pub mod OneCall

@@ -40,10 +40,7 @@ fn empty_row(alloc: Global, width: usize) -> Result<Vec<Option<Path>>, AllocErro
 }
 
 /// A table with no paths.
-fn empty_rows<P: Profile>(
-    alloc: Global,
-    width: usize,
-) -> Result<Vec<Vec<Option<Path>>>, AllocError>
+fn empty_rows<P: Profile>(alloc: Global, width: usize) -> Result<Vec<Vec<Option<Path>>>, AllocError>
     ensures { IfOk result (λ rows. map (λ r. r.items) rows.items ≡ replicate (word_bits P.the + 1) (replicate width None)) }
 {
     let mut rows = Vec::new(alloc);

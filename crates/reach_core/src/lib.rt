@@ -1,6 +1,7 @@
 //! Which slots a thread can name, and by which words: a search of its capability space.
 #![tactic(auto)]
 
+mod endpoints;
 mod explore;
 mod filled;
 mod held;
@@ -9,8 +10,11 @@ mod nodes;
 mod paths;
 mod reached;
 mod search;
+mod senders;
 mod table;
 
+pub use endpoints::{EndpointWord, endpoint_words};
 pub use filled::{FullSlot, full_slots};
 pub use held::{Held, held_slots};
 pub use reached::{Reached, reached_slots};
+pub use senders::{Channel, channels};

@@ -26,16 +26,16 @@ loop-place-preserved g c =
     let wide = c.loop-place.invariant.wide in
     elim c.match-next_path.branch [
       | in-Some w ↦ rw (w.rows-is, w.put_path.ensures) (
-        let step = w.in-Some.ensures.some in
-        let above = step_above g.P.Profile.the (word_bits g.P.Profile.the) c.args.from c.args.read c.args.path at.address w.in-Some.more w.in-Some.next c.requires.lawful step in
-        let high : w.in-Some.more < word_bits g.P.Profile.the + 1 = omega (arith, above.1) in
-        let row : length (row_of rows w.in-Some.more) ≡ length c.args.filled.now = wide.wide w.in-Some.more high in
-        let put = is_put rows w.in-Some.more c.loop-place.place w.in-Some.next (omega (arith, high, wide.high)) (omega (arith, row, within)) in
-        record {
-          wide = put_wide (word_bits g.P.Profile.the + 1) (length c.args.filled.now) rows w.in-Some.more c.loop-place.place w.in-Some.next high wide;
-          extends = extend_more g.P.Profile.the c.args.from c.args.read c.args.path c.args.filled.now c.loop-place.place _ _ _ at is c.loop-place.invariant.extends
-              (add_put g.P.Profile.the c.args.from c.args.read c.args.path c.loop-place.place at.address w.in-Some.more w.in-Some.next rows _ above.0 put step w.in-Some.ensures.each);
-        })
+          let step = w.in-Some.ensures.some in
+          let above = step_above g.P.Profile.the (word_bits g.P.Profile.the) c.args.from c.args.read c.args.path at.address w.in-Some.more w.in-Some.next c.requires.lawful step in
+          let high : w.in-Some.more < word_bits g.P.Profile.the + 1 = omega (arith, above.1) in
+          let row : length (row_of rows w.in-Some.more) ≡ length c.args.filled.now = wide.wide w.in-Some.more high in
+          let put = is_put rows w.in-Some.more c.loop-place.place w.in-Some.next (omega (arith, high, wide.high)) (omega (arith, row, within)) in
+          record {
+            wide = put_wide (word_bits g.P.Profile.the + 1) (length c.args.filled.now) rows w.in-Some.more c.loop-place.place w.in-Some.next high wide;
+            extends = extend_more g.P.Profile.the c.args.from c.args.read c.args.path c.args.filled.now c.loop-place.place _ _ _ at is c.loop-place.invariant.extends
+                (add_put g.P.Profile.the c.args.from c.args.read c.args.path c.loop-place.place at.address w.in-Some.more w.in-Some.next rows _ above.0 put step w.in-Some.ensures.each);
+          })
       | in_default w ↦ rw w.rows-is (record {
         wide = wide;
         extends = extend_more g.P.Profile.the c.args.from c.args.read c.args.path c.args.filled.now c.loop-place.place _ _ _ at is c.loop-place.invariant.extends

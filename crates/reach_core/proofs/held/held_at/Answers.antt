@@ -31,8 +31,8 @@ loop-depth-preserved g c =
     (omega (arith, row, c.requires.1.0)) (sym c.index-in-loop-depth.ensures ∙ e) in
     elim c.match-index.branch [
       | in-Some w ↦ rw (w.best-is, w.earlier_of.ensures) (
-        let next : Held = record { word = w.in-Some.path.word; depth = c.loop-depth.depth; index = w.in-Some.path.index; slot = c.args.slot } in
-        best_more rows c.args.place c.args.slot c.loop-depth.depth c.loop-depth.best next c.loop-depth.auto.depth refl refl (read (Some w.in-Some.path) w.in-Some.is) c.loop-depth.invariant)
+          let next : Held = record { word = w.in-Some.path.word; depth = c.loop-depth.depth; index = w.in-Some.path.index; slot = c.args.slot } in
+          best_more rows c.args.place c.args.slot c.loop-depth.depth c.loop-depth.best next c.loop-depth.auto.depth refl refl (read (Some w.in-Some.path) w.in-Some.is) c.loop-depth.invariant)
       | in_default w ↦ rw w.best-is (best_skip rows c.args.place c.args.slot c.loop-depth.depth c.loop-depth.best (read None w.in_default.is) c.loop-depth.invariant)
     ]
 

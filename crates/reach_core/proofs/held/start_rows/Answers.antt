@@ -35,16 +35,16 @@ loop-r-preserved g c =
     let wide = c.loop-r.invariant.wide in
     elim c.match-place_of.branch [
       | in-Some w ↦ rw (w.rows-is, w.put_path.ensures) (
-        let at = w.in-Some.ensures.some in
-        let within = slice_get_within c.args.filled.now w.in-Some.place at.0 at.1.0 in
-        let row : length (row_of rows 0) ≡ length c.args.filled.now = wide.wide 0 (omega arith) in
-        let path : Path = record { word = r.word; index = 0 } in
-        let put = is_put rows 0 w.in-Some.place path (omega (arith, wide.high)) (omega (arith, row, within)) in
-        record {
-          wide = put_wide (word_bits g.P.Profile.the + 1) (length c.args.filled.now) rows 0 w.in-Some.place path (omega arith) wide;
-          starts = starts_put rows _ w.in-Some.place r.word put c.loop-r.invariant.starts;
-          of = starts_more c.args.filled.now c.args.reached.now c.loop-r.r-index w.in-Some.place rows _ r at.0 c.requires here at.1.0 at.1.1 put c.loop-r.invariant.of;
-        })
+          let at = w.in-Some.ensures.some in
+          let within = slice_get_within c.args.filled.now w.in-Some.place at.0 at.1.0 in
+          let row : length (row_of rows 0) ≡ length c.args.filled.now = wide.wide 0 (omega arith) in
+          let path : Path = record { word = r.word; index = 0 } in
+          let put = is_put rows 0 w.in-Some.place path (omega (arith, wide.high)) (omega (arith, row, within)) in
+          record {
+            wide = put_wide (word_bits g.P.Profile.the + 1) (length c.args.filled.now) rows 0 w.in-Some.place path (omega arith) wide;
+            starts = starts_put rows _ w.in-Some.place r.word put c.loop-r.invariant.starts;
+            of = starts_more c.args.filled.now c.args.reached.now c.loop-r.r-index w.in-Some.place rows _ r at.0 c.requires here at.1.0 at.1.1 put c.loop-r.invariant.of;
+          })
       | in_default w ↦ rw w.rows-is (record {
         wide = wide;
         starts = c.loop-r.invariant.starts;

@@ -1,0 +1,91 @@
+//! Who can send to whom.
+ghost use Rattle.std.specs.Prelude.{◌≡◌, ◌++◌, IfOk, OnOk, filter};
+ghost use Rattle.reach_core.specs.Channels.{receivers as receivers_of, is_receiver, others, channels_to, channels as all_channels};
+
+use crate::endpoints::EndpointWord;
+use bitflags::Flags;
+use cap_core::Rights;
+use std::alloc::{AllocError, Global};
+
+/// A way of messages: a word by which a thread may send to an endpoint, and the first word by which another thread may
+/// receive from it, or none where no other thread may. What is received has the badge of the sender's capability.
+#[derive(Clone, Copy)]
+pub struct Channel {
+    pub sender: EndpointWord,
+    pub receiver: Option<EndpointWord>,
+}
+
+/// The words by which threads may receive from an endpoint.
+fn receiving(
+    alloc: Global,
+    words: &[EndpointWord],
+    endpoint: u64,
+) -> Result<Vec<EndpointWord>, AllocError>
+    ensures { IfOk result (λ list. list.items ≡ filter (is_receiver endpoint) words.now) }
+{
+    words
+        .iter()
+        .filter(|word| word.endpoint == endpoint && word.rights.contains(Rights::READ))
+        .copied()
+        .collect(alloc)
+}
+
+/// The first of these words of each thread.
+fn receivers(
+    alloc: Global,
+    words: &[EndpointWord],
+    endpoint: u64,
+) -> Result<Vec<EndpointWord>, AllocError>
+    ensures { IfOk result (λ list. list.items ≡ receivers_of words.now endpoint) }
+{
+    let mut list = receiving(alloc, words, endpoint)?;
+    list.dedup_by_key(|word| word.thread);
+    Ok(list)
+}
+
+/// Adds the channels of a sender to the receivers of its endpoint.
+fn add_channels(
+    channels: &mut Vec<Channel>,
+    receivers: &[EndpointWord],
+    sender: EndpointWord,
+) -> Result<(), AllocError>
+    ensures { OnOk result (channels.new.items ≡ channels.old.items ++ channels_to sender (others sender.thread receivers.now)) }
+{
+    let mut alone = true;
+    for receiver in receivers {
+        if receiver.thread != sender.thread {
+            alone = false;
+            channels.push(Channel {
+                sender,
+                receiver: Some(*receiver),
+            })?;
+        }
+    }
+    if alone {
+        channels.push(Channel {
+            sender,
+            receiver: None,
+        })?;
+    }
+    Ok(())
+}
+
+/// The channels between threads: of each word by which a thread may send, to each other thread that may receive from its
+/// endpoint, and where there is none, to nobody. `words` has the words of all threads, as `endpoint_words` gives them, each
+/// thread's together; the channels stand in the order of the senders, and of one sender in that of the receivers.
+///
+/// # Errors
+///
+/// `AllocError` where memory was wanted and not there.
+pub fn channels(alloc: Global, words: &[EndpointWord]) -> Result<Vec<Channel>, AllocError>
+    ensures { IfOk result (λ list. list.items ≡ all_channels words.now) }
+{
+    let mut list = Vec::new(alloc);
+    for word in words {
+        if word.rights.contains(Rights::WRITE) {
+            let receivers = receivers(alloc, words, word.endpoint)?;
+            add_channels(&mut list, receivers.as_slice(), *word)?;
+        }
+    }
+    Ok(list)
+}
