@@ -1,9 +1,9 @@
 -- A row of a search by index and depth is followed: what its paths lead to is in the rows behind it.
-use Rattle.std.proofs.Common.{◌≡◌, ℕ, zero, suc, ◌+◌, ◌-◌, ◌*◌, ◌/◌, ◌%◌, ◌^◌, ◌<◌, ◌≤◌, ◌⊎◌, inl, inr, refl, sym, ap, ◌∙◌, arith, Bool, true, false, List, [], length, Option, Some, None, unwrap_or}
+use Rattle.std.proofs.Common.{◌≡◌, ℕ, zero, suc, ◌+◌, ◌-◌, ◌*◌, ◌/◌, ◌%◌, ◌^◌, ◌<◌, ◌≤◌, ◌⊎◌, inl, inr, refl, sym, ap, ◌∙◌, arith, Bool, true, false, List, length, Option, Some}
 use Rattle.std.specs.List.{slice_get}
 use Rattle.std.proofs.lemmas.Bool.{cases_eq, cases_lt}
 use Rattle.std.proofs.lemmas.Nat.{pow-add, pow_pos, mod_below}
-use Rattle.std.proofs.lemmas.Option.{slice_get_within, slice_get_past}
+use Rattle.std.proofs.lemmas.Option.{slice_get_within}
 use Rattle.std.proofs.Math.Nat.{mul-le-mul_right, mod-eq_of_lt}
 use Rattle.std.proofs.Math.Pow.{pow_mono}
 use Rattle.cap_core.specs.declared.profile.ProfileName.{ProfileName}
@@ -19,7 +19,7 @@ use Rattle.cspace_core.proofs.Nodes.{lawful_node}
 use Rattle.reach_core.specs.declared.filled.FullSlot.{FullSlot}
 use Rattle.reach_core.specs.declared.paths.Path.{Path}
 use Rattle.reach_core.specs.FullSlots.{AreFullSlots, AreLawful}
-use Rattle.reach_core.specs.Private.Paths.{path_in, row_of, path_at, IsUpTo, HasUpTo, AreWithinBits}
+use Rattle.reach_core.specs.Private.Paths.{path_at, IsUpTo, HasUpTo, AreWithinBits}
 use Rattle.reach_core.specs.Private.Exploring.{target_from, IsStep, StepsFrom, ExtendsRow, ComesFrom, StandsForIndex, IsExplored, AreStarts}
 use Rattle.reach_core.proofs.Numbers.{taken_below, word_below, word_made}
 use Rattle.reach_core.proofs.Searched.{node_is_full}

@@ -1,5 +1,5 @@
 -- What the table of a search says of the slots that a thread holds.
-use Rattle.std.proofs.Common.{◌≡◌, ◌≢◌, ℕ, zero, suc, ◌+◌, ◌*◌, ◌%◌, ◌^◌, ◌<◌, ◌≤◌, ◌⊎◌, inl, inr, refl, sym, ap, ◌∙◌, arith, Bool, true, false, cond, nat_le, ◌==◌, ◌&&◌, List, [], ◌∷◌, ◌++◌, length, map, get_or, Option, Some, None, Result, Ok, Err, replicate, unwrap_or, le-leb}
+use Rattle.std.proofs.Common.{◌≡◌, ◌≢◌, ℕ, ◌+◌, ◌*◌, ◌%◌, ◌^◌, ◌<◌, ◌≤◌, ◌⊎◌, inl, inr, refl, sym, ap, ◌∙◌, arith, Bool, true, false, cond, nat_le, ◌==◌, ◌&&◌, List, [], ◌∷◌, ◌++◌, length, get_or, Option, Some, None, Result, Ok, Err, unwrap_or, le-leb}
 use Rattle.std.specs.Prelude.{IfSome, IfNone, is_some}
 use Rattle.std.specs.List.{slice_get, Contains, Any, AllPairs}
 use Rattle.std.specs.List.Sorted.{IsStrictlySortedBy}
@@ -29,11 +29,11 @@ use Rattle.reach_core.specs.FullSlots.{AreFullSlots, AreRising}
 use Rattle.reach_core.specs.Reaching.{Reaches}
 use Rattle.reach_core.specs.Lists.{AreReached}
 use Rattle.reach_core.specs.Holding.{Names, IsUnreached, IsNoLater, IsEarlier, AreHeld}
-use Rattle.reach_core.specs.Private.Paths.{path_in, row_of, path_at, IsUpTo, HasUpTo, IsWide, AreWithinBits, IsFirstAt, IsFirstBelow}
+use Rattle.reach_core.specs.Private.Paths.{path_in, row_of, path_at, IsUpTo, AreWithinBits, IsFirstAt}
 use Rattle.reach_core.specs.Private.Exploring.{whole_slot, target_from, IsExplored, AreStarts, StandsForIndex}
-use Rattle.reach_core.specs.Private.Entries.{HasStarts, path_of, earlier, IsHeldAt, HasNone, IsBest, IsListed, HasEntry}
+use Rattle.reach_core.specs.Private.Entries.{HasStarts, path_of, earlier, IsHeldAt, IsBest, IsListed, HasEntry}
 use Rattle.reach_core.proofs.FullSlots.{one_place, got_contains, contains_got}
-use Rattle.reach_core.proofs.PathTables.{IsPut, up_to_itself}
+use Rattle.reach_core.proofs.PathTables.{IsPut}
 use Rattle.reach_core.proofs.Targets.{LeadsTo, leads_to, leading_to, entered_whole}
 
 -- the slot of a call's index and depth, and of the search

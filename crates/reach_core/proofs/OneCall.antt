@@ -1,21 +1,19 @@
 -- What one call of a thread names is in its lists.
-use Rattle.std.proofs.Common.{◌≡◌, ℕ, zero, suc, ◌+◌, ◌%◌, ◌^◌, ◌<◌, ◌⊎◌, inl, inr, refl, sym, ap, ◌∙◌, arith, Bool, true, false, List, [], ◌∷◌, get_or, length, nat_le, Ok}
+use Rattle.std.proofs.Common.{◌≡◌, ℕ, zero, suc, ◌%◌, ◌^◌, ◌<◌, ◌⊎◌, inl, inr, refl, ap, ◌∙◌, arith, Bool, true, false, List, [], ◌∷◌, get_or, length, Ok}
 use Rattle.std.specs.List.{Contains}
 use Rattle.std.proofs.lemmas.Bool.{cases_eq}
 use Rattle.std.proofs.lemmas.Nat.{mod_below, pow_pos}
 use Rattle.cap_core.specs.declared.profile.ProfileName.{ProfileName}
 use Rattle.cap_core.specs.Numbers.{word_bits}
 use Rattle.derivation.specs.Forest.{Forest}
-use Rattle.derivation.specs.Entries.{Entry, cap_at, is_full}
+use Rattle.derivation.specs.Entries.{Entry, cap_at}
 use Rattle.cspace_core.specs.Resolution.{is_cnode}
 use Rattle.cspace_core.specs.Target.{target_slot}
-use Rattle.abstract_kernel.specs.declared.call.Op.{Op}
 use Rattle.reach_core.specs.declared.held.Held.{Held}
 use Rattle.reach_core.specs.declared.reached.Reached.{Reached}
-use Rattle.reach_core.specs.Reaching.{leads, Reaches}
-use Rattle.reach_core.specs.Lists.{AreReached}
-use Rattle.reach_core.specs.Holding.{Names, IsUnreached, AreHeld}
-use Rattle.reach_core.specs.OneCall.{NamesSlot, by_word, by_index, IsTold, AreAllThatAreNamed}
+use Rattle.reach_core.specs.Reaching.{Reaches}
+use Rattle.reach_core.specs.Holding.{Names, IsUnreached}
+use Rattle.reach_core.specs.OneCall.{by_word, by_index, AreAllThatAreNamed}
 use Rattle.reach_core.proofs.Refused.{leads-mod}
 use Rattle.reach_core.proofs.Searched.{node_is_full}
 

@@ -1,7 +1,7 @@
 -- What a path that is put leaves in a table, and paths put one after another.
-use Rattle.std.proofs.Common.{◌≡◌, ◌≢◌, ℕ, zero, suc, ◌+◌, ◌*◌, ◌^◌, ◌<◌, ◌≤◌, ◌⊎◌, inl, inr, refl, sym, ap, ◌∙◌, arith, Bool, true, false, cond, ◌==◌, ◌&&◌, ◌||◌, nat_lt, List, [], ◌∷◌, ◌++◌, length, map, get_or, Option, None, Some, option_map, unwrap_or, set, replicate, eq-eqb}
+use Rattle.std.proofs.Common.{◌≡◌, ◌≢◌, ℕ, zero, suc, ◌+◌, ◌<◌, ◌≤◌, ◌⊎◌, inl, inr, refl, sym, ap, ◌∙◌, arith, Bool, true, false, cond, ◌==◌, ◌&&◌, ◌||◌, nat_lt, List, [], ◌∷◌, ◌++◌, length, map, get_or, Option, None, Some, option_map, unwrap_or, set, replicate, eq-eqb}
 use Rattle.std.specs.List.{slice_get}
-use Rattle.std.proofs.lemmas.Bool.{cases_eq, cases_lt, ltb-true, ltb-false, eqb-true}
+use Rattle.std.proofs.lemmas.Bool.{cases_eq, ltb-true, ltb-false, eqb-true}
 use Rattle.std.proofs.lemmas.List.{map-append, map-set, length-set, length-replicate}
 use Rattle.std.proofs.lemmas.Option.{slice_get-map, slice_get_read, slice_get_within, slice_get-get_or}
 use Rattle.std.specs.Option.{option_and_then}
@@ -15,7 +15,7 @@ use Rattle.cspace_core.proofs.Nodes.{lawful_node}
 use Rattle.reach_core.specs.declared.filled.FullSlot.{FullSlot}
 use Rattle.reach_core.specs.declared.paths.Path.{Path}
 use Rattle.reach_core.specs.Private.Paths.{path_in, row_of, path_at, IsUpTo, lesser_path, first_with, put_in, put, HasUpTo, IsWide}
-use Rattle.reach_core.specs.Private.Exploring.{IsStep, IsStepAt, Adds, Extends, StepsFrom, ExtendsRow}
+use Rattle.reach_core.specs.Private.Exploring.{IsStep, IsStepAt, Adds, Extends, ExtendsRow}
 use Rattle.reach_core.proofs.Tabled.{slice_get-set_same, slice_get-set_other}
 
 -- the order of paths

@@ -1,5 +1,5 @@
 -- What resolution does at its first CNode, and that it goes on from there as from anywhere.
-use Rattle.std.proofs.Common.{◌≡◌, ◌≢◌, ℕ, zero, suc, ◌+◌, ◌-◌, ◌*◌, ◌/◌, ◌%◌, ◌^◌, ◌<◌, ◌≤◌, ◌⊎◌, inl, inr, refl, sym, ap, ◌∙◌, arith, Bool, true, false, cond, not, ◌==◌, ◌&&◌, List, length, Result, Ok, Err}
+use Rattle.std.proofs.Common.{◌≡◌, ◌≢◌, ℕ, zero, suc, ◌-◌, ◌/◌, ◌%◌, ◌^◌, ◌<◌, ◌≤◌, ◌⊎◌, inl, inr, refl, sym, ap, ◌∙◌, arith, Bool, true, false, cond, not, ◌==◌, ◌&&◌, List, length, Result, Ok, Err}
 use Rattle.std.proofs.lemmas.Bool.{cases_lt, cases_eq, ne_eqb}
 use Rattle.std.proofs.Math.Bool.{and-false}
 use Rattle.cap_core.specs.declared.profile.ProfileName.{ProfileName}
@@ -12,7 +12,7 @@ use Rattle.cap_core.specs.Objects.{IsLawful}
 use Rattle.derivation.specs.Forest.{Forest}
 use Rattle.derivation.specs.Entries.{Entry, cap_at}
 use Rattle.cspace_core.specs.Bits.{low_bits}
-use Rattle.cspace_core.specs.Resolution.{Choice, Found, is_cnode, slot_of, choice, found_or, resolution_within, resolution}
+use Rattle.cspace_core.specs.Resolution.{Found, is_cnode, slot_of, choice, found_or, resolution_within, resolution}
 use Rattle.cspace_core.proofs.Bits.{length-low_bits}
 use Rattle.cspace_core.proofs.Nodes.{lawful_node, too_short_for_guard, other_guard, too_short_for_radix, slot_chosen}
 use Rattle.cspace_core.proofs.Steps.{choice_is}

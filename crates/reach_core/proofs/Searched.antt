@@ -1,17 +1,14 @@
 -- One row of a search: what its entries lead to takes their place.
-use Rattle.std.proofs.Common.{◌≡◌, ℕ, zero, suc, ◌+◌, ◌-◌, ◌*◌, ◌/◌, ◌%◌, ◌^◌, ◌<◌, ◌≤◌, ◌⊎◌, inl, inr, refl, sym, ap, ◌∙◌, arith, Bool, true, false, cond, ◌==◌, ◌||◌, List, [], ◌∷◌, ◌++◌, length, length-append, map, Option, Some, None, unwrap_or, Result, Ok, Err}
+use Rattle.std.proofs.Common.{◌≡◌, ℕ, zero, suc, ◌+◌, ◌-◌, ◌*◌, ◌/◌, ◌%◌, ◌^◌, ◌<◌, ◌≤◌, ◌⊎◌, inl, inr, refl, sym, ap, ◌∙◌, arith, Bool, true, false, cond, ◌==◌, ◌||◌, List, [], ◌∷◌, ◌++◌, length, length-append, map, Option, Some, None, unwrap_or, Ok}
 use Rattle.std.specs.List.{slice_get, list_any}
-use Rattle.std.proofs.lemmas.Bool.{cases_eq, cases_lt}
+use Rattle.std.proofs.lemmas.Bool.{cases_lt}
 use Rattle.std.proofs.lemmas.Nat.{pow_pos, mod_below}
 use Rattle.std.proofs.lemmas.Option.{slice_get_within, slice_get_past}
 use Rattle.std.proofs.lemmas.List.{map-append}
-use Rattle.std.proofs.Math.Pow.{pow_mono}
 use Rattle.std.proofs.Math.Nat.{mod-eq_of_lt}
 use Rattle.cap_core.specs.declared.profile.ProfileName.{ProfileName}
-use Rattle.cap_core.specs.declared.capability.Guard.{Guard}
 use Rattle.cap_core.specs.declared.capability.Cap.{Cap}
 use Rattle.cap_core.specs.declared.capability.Cap.TheVariants.{Null, CNode}
-use Rattle.cap_core.specs.declared.refusal.LookupFault.{LookupFault}
 use Rattle.cap_core.specs.Numbers.{word_bits}
 use Rattle.cap_core.specs.Objects.{IsLawful}
 use Rattle.derivation.specs.Forest.{Forest, preorder}
@@ -22,12 +19,12 @@ use Rattle.cspace_core.proofs.Bits.{low_bits-mod}
 use Rattle.cspace_core.proofs.Nodes.{lawful_node}
 use Rattle.abstract_kernel.specs.Lookups.{slot_found}
 use Rattle.reach_core.specs.declared.filled.FullSlot.{FullSlot}
-use Rattle.reach_core.specs.Reaching.{leads, Reaches}
+use Rattle.reach_core.specs.Reaching.{leads}
 use Rattle.reach_core.specs.Private.Nodes.{goes_on, IsNext}
 use Rattle.reach_core.specs.Private.Tables.{word_in, row_at, word_at}
 use Rattle.reach_core.specs.FullSlots.{AreLawful, AreFullSlots}
-use Rattle.reach_core.specs.Private.Search.{IsAtMost, IsNextAt, RowLeads, RowSpreads, IsBounded, StandsFor, IsSearch}
-use Rattle.reach_core.proofs.Numbers.{taken_below, word_below, guard_read, index_read, rest_read, word_made, Made}
+use Rattle.reach_core.specs.Private.Search.{IsAtMost, RowLeads, RowSpreads, IsBounded, StandsFor, IsSearch}
+use Rattle.reach_core.proofs.Numbers.{taken_below, word_below, guard_read, index_read, rest_read, word_made}
 use Rattle.reach_core.proofs.Resolved.{from_node, LeadsOn, leads_on, leading}
 use Rattle.reach_core.proofs.NextWords.{next_made}
 

@@ -1,6 +1,6 @@
 -- The words of threads that lead to endpoints, and the channels between them.
 use Rattle.std.proofs.Common.{◌≡◌, ◌≢◌, ℕ, zero, suc, ◌+◌, ◌<◌, ◌≤◌, refl, sym, ap, ◌∙◌, arith, Bool, true, false, cond, not, ◌==◌, List, [], ◌∷◌, ◌++◌, length, take, get_or, map, filter, Option, Some, None}
-use Rattle.std.specs.List.{slice_get, filter_map, cons_option, flat_map}
+use Rattle.std.specs.List.{slice_get, cons_option, flat_map}
 use Rattle.std.proofs.lemmas.Bool.{eqb-true, eq-eqb, ne_eqb}
 use Rattle.std.proofs.lemmas.Grind.{flat_map-append}
 use Rattle.std.proofs.lemmas.List.{take_more, append-nil, map-append, length-append}

@@ -1,5 +1,5 @@
 -- What a note leaves in a table, and notes one after another.
-use Rattle.std.proofs.Common.{◌≡◌, ◌≢◌, ℕ, zero, suc, ◌+◌, ◌<◌, ◌≤◌, ◌⊎◌, inl, inr, refl, sym, ap, ◌∙◌, arith, List, [], ◌∷◌, ◌++◌, length, map, get_or, Option, None, Some, option_map, unwrap_or, min, set}
+use Rattle.std.proofs.Common.{◌≡◌, ◌≢◌, ℕ, zero, suc, ◌+◌, ◌<◌, ◌≤◌, ◌⊎◌, inl, inr, refl, sym, ap, ◌∙◌, arith, List, [], ◌∷◌, length, map, get_or, Option, None, Some, option_map, unwrap_or, min, set}
 use Rattle.std.specs.List.{slice_get}
 use Rattle.std.proofs.lemmas.Bool.{cases_eq, cases_lt}
 use Rattle.std.proofs.lemmas.List.{map-set, length-set}
@@ -10,7 +10,7 @@ use Rattle.cap_core.specs.declared.capability.Cap.{Cap}
 use Rattle.reach_core.specs.declared.filled.FullSlot.{FullSlot}
 use Rattle.reach_core.specs.Private.Nodes.{IsNext}
 use Rattle.reach_core.specs.Private.Tables.{word_in, row_at, word_at, least_with, noted_in, noted}
-use Rattle.reach_core.specs.Private.Search.{IsAtMost, IsNextAt, SameShape, Visits, Spreads, RowLeads, RowSpreads}
+use Rattle.reach_core.specs.Private.Search.{IsAtMost, IsNextAt, SameShape, Visits, Spreads, RowSpreads}
 
 pub slice_get-set_same : {X : Type 0} (xs : List X) (i : ℕ) (v : X) → i < length xs → slice_get (set xs i v) i ≡ Some v
 slice_get-set_same [] i v h = absurd (omega arith)

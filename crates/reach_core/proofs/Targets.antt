@@ -1,5 +1,5 @@
 -- What an index and a depth name is found at the first CNode, and then as from there.
-use Rattle.std.proofs.Common.{◌≡◌, ◌≢◌, ℕ, zero, suc, ◌+◌, ◌-◌, ◌*◌, ◌/◌, ◌%◌, ◌^◌, ◌<◌, ◌≤◌, ◌⊎◌, refl, sym, ap, ◌∙◌, arith, Bool, true, false, List, Option, Some, None, Result, Ok, Err}
+use Rattle.std.proofs.Common.{◌≡◌, ◌≢◌, ℕ, zero, suc, ◌+◌, ◌-◌, ◌*◌, ◌/◌, ◌%◌, ◌^◌, ◌<◌, ◌≤◌, ◌⊎◌, refl, sym, ap, ◌∙◌, arith, Bool, true, false, List, Some, None, Ok, Err}
 use Rattle.std.proofs.lemmas.Bool.{ne_eqb}
 use Rattle.std.proofs.Math.Bool.{and-false}
 use Rattle.std.proofs.Math.Nat.{mod-eq_of_lt}
@@ -7,7 +7,6 @@ use Rattle.cap_core.specs.declared.profile.ProfileName.{ProfileName}
 use Rattle.cap_core.specs.declared.capability.Guard.{Guard}
 use Rattle.cap_core.specs.declared.capability.Cap.{Cap}
 use Rattle.cap_core.specs.declared.capability.Cap.TheVariants.{Null, Untyped, Endpoint, CNode, Tcb}
-use Rattle.cap_core.specs.declared.refusal.LookupFault.{LookupFault}
 use Rattle.cap_core.specs.declared.refusal.LookupFault.TheVariants.{InvalidRoot}
 use Rattle.cap_core.specs.Objects.{IsLawful}
 use Rattle.derivation.specs.Forest.{Forest}
@@ -18,7 +17,7 @@ use Rattle.cspace_core.proofs.Bits.{length-low_bits, low_bits-mod}
 use Rattle.cspace_core.proofs.Nodes.{lawful_node, slot_chosen}
 use Rattle.cspace_core.proofs.Steps.{choice_is}
 use Rattle.reach_core.specs.Private.Exploring.{whole_slot, target_from}
-use Rattle.reach_core.proofs.Numbers.{taken_below, guard_read, index_read, rest_read}
+use Rattle.reach_core.proofs.Numbers.{guard_read, index_read, rest_read}
 use Rattle.reach_core.proofs.Resolved.{FirstStep, faults, chooses, first_step, first_choice}
 
 no_choice : (p : ProfileName) (cap : Cap) (bits : List ℕ) → is_cnode cap ≡ false → choice p cap bits ≡ Err InvalidRoot

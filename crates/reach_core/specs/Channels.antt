@@ -1,5 +1,5 @@
 -- Who can send to whom.
-use Rattle.std.specs.Prelude.{ℕ, Bool, not, ◌==◌, ◌&&◌, List, [], ◌∷◌, ◌++◌, map, filter, Option, Some, None}
+use Rattle.std.specs.Prelude.{ℕ, Bool, not, ◌==◌, ◌&&◌, List, [], ◌∷◌, map, filter, Option, Some, None}
 use Rattle.std.specs.List.{dedup, flat_map}
 use Rattle.cap_core.specs.Rights.{write_bit, read_bit}
 use Rattle.abstract_kernel.specs.Decode.{has_right}

@@ -1,4 +1,4 @@
-use Rattle.std.proofs.Common.{◌≡◌, ◌≤◌, arith, length, ap, ◌∙◌}
+use Rattle.std.proofs.Common.{arith, ap, ◌∙◌}
 use Rattle.reach_core.specs.declared.reached.Reached.{Reached}
 use Rattle.reach_core.specs.Endpoints.{endpoint_words}
 use Rattle.reach_core.proofs.Sending.{words_some, words_none, all_of}

@@ -1,6 +1,6 @@
 use Rattle.std.proofs.Common.{◌≡◌, ◌+◌, ◌≤◌, arith, ◌∙◌}
 use Rattle.cap_core.specs.Numbers.{word_bits}
-use Rattle.reach_core.proofs.Explored.{StepMade, path_made, step_is, step_only}
+use Rattle.reach_core.proofs.Explored.{path_made, step_is, step_only}
 use Rattle.reach_core.proofs.explore.next_path.Goals as goal
 
 pub overflow_add-index : goal.overflow_add-index

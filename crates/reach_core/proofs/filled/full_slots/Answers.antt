@@ -1,4 +1,3 @@
-use Rattle.std.proofs.Common.{◌∙◌}
 use Rattle.reach_core.proofs.FullSlots.{are_full_slots, are_lawful, full_in_order, lawful_in_order, rising_in_order}
 use Rattle.reach_core.proofs.filled.full_slots.Goals as goal
 

@@ -1,4 +1,4 @@
-use Rattle.std.proofs.Common.{◌≡◌, ◌+◌, ◌<◌, arith, length, map, get_or, List, Option, replicate, None, ◌∙◌}
+use Rattle.std.proofs.Common.{◌≡◌, ◌+◌, arith, length, map, get_or, List, Option}
 use Rattle.std.proofs.lemmas.Option.{slice_get-get_or, slice_get_within}
 use Rattle.cap_core.specs.Numbers.{word_bits}
 use Rattle.reach_core.specs.declared.paths.Path.{Path}

@@ -1,4 +1,4 @@
-use Rattle.std.proofs.Common.{◌≡◌, ◌≤◌, arith, length}
+use Rattle.std.proofs.Common.{arith}
 use Rattle.reach_core.proofs.Sending.{senders_all}
 use Rattle.reach_core.proofs.senders.channels.Goals as goal
 

@@ -1,4 +1,4 @@
-use Rattle.std.proofs.Common.{rules, ◌≡◌, ◌==◌, ap, ◌∙◌}
+use Rattle.std.proofs.Common.{rules, ◌==◌, ap}
 use Rattle.std.specs.List.{dedup}
 use Rattle.std.proofs.lemmas.Fn.{dedup_same}
 use Rattle.reach_core.specs.declared.endpoints.EndpointWord.{EndpointWord}
