@@ -1,6 +1,6 @@
 -- Who can send to whom.
 use Rattle.std.specs.Prelude.{ℕ, Bool, not, ◌==◌, ◌&&◌, List, [], ◌∷◌, map, filter, Option, Some, None}
-use Rattle.std.specs.List.{dedup, flat_map}
+use Rattle.std.specs.List.{dedup, flat_map, list_any}
 use Rattle.cap_core.specs.Rights.{write_bit, read_bit}
 use Rattle.abstract_kernel.specs.Decode.{has_right}
 use Rattle.reach_core.specs.declared.endpoints.EndpointWord.{EndpointWord}
@@ -34,3 +34,12 @@ channels_of words u = channels_to u (others u.thread (receivers words u.endpoint
 -- all channels between the threads whose words are listed, in the order of the senders
 abbrev pub channels : List EndpointWord → List Channel
 channels words = flat_map (channels_of words) (filter is_sender words)
+
+-- a word by which another thread may send to a receiver
+abbrev pub sends_to : EndpointWord → EndpointWord → Bool
+sends_to v u = is_sender u && ((u.endpoint == v.endpoint) && not (u.thread == v.thread))
+
+-- the receivers of an endpoint to which no other thread may send
+abbrev pub receivers_without_sender : List EndpointWord → ℕ → List EndpointWord
+receivers_without_sender words e =
+    filter (λ (v : EndpointWord). not (list_any (sends_to v) words)) (receivers words e)

@@ -17,4 +17,4 @@ pub use endpoints::{EndpointWord, endpoint_words};
 pub use filled::{FullSlot, full_slots};
 pub use held::{Held, held_slots};
 pub use reached::{Reached, reached_slots};
-pub use senders::{Channel, channels};
+pub use senders::{Channel, channels, receivers_without_sender};

@@ -1,6 +1,7 @@
 //! Who can send to whom.
 ghost use Rattle.std.specs.Prelude.{◌≡◌, ◌++◌, IfOk, OnOk, filter};
-ghost use Rattle.reach_core.specs.Channels.{receivers as receivers_of, is_receiver, others, channels_to, channels as all_channels};
+ghost use Rattle.std.specs.List.{list_any};
+ghost use Rattle.reach_core.specs.Channels.{receivers as receivers_of, is_receiver, others, channels_to, channels as all_channels, sends_to, receivers_without_sender as unserved};
 
 use crate::endpoints::EndpointWord;
 use bitflags::Flags;
@@ -88,4 +89,36 @@ pub fn channels(alloc: Global, words: &[EndpointWord]) -> Result<Vec<Channel>, A
         }
     }
     Ok(list)
+}
+
+/// Whether another thread may send to a receiver.
+fn has_sender(words: &[EndpointWord], receiver: &EndpointWord) -> bool
+    ensures { result ≡ list_any (sends_to receiver.now) words.now }
+{
+    words.iter().any(|word| {
+        word.rights.contains(Rights::WRITE)
+            && word.endpoint == receiver.endpoint
+            && word.thread != receiver.thread
+    })
+}
+
+/// The words by which threads may receive from an endpoint, each thread's first, to which no other thread may send.
+/// `words` has the words of all threads, each thread's together.
+///
+/// # Errors
+///
+/// `AllocError` where memory was wanted and not there.
+pub fn receivers_without_sender(
+    alloc: Global,
+    words: &[EndpointWord],
+    endpoint: u64,
+) -> Result<Vec<EndpointWord>, AllocError>
+    ensures { IfOk result (λ list. list.items ≡ unserved words.now endpoint) }
+{
+    let list = receivers(alloc, words, endpoint)?;
+    list.as_slice()
+        .iter()
+        .filter(|receiver| !has_sender(words, receiver))
+        .copied()
+        .collect(alloc)
 }
