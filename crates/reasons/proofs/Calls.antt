@@ -1,9 +1,8 @@
 -- The checks of a call, with their reasons: the refusal is the abstract kernel's, and what is told is so.
-use Rattle.std.proofs.Common.{◌≡◌, ℕ, refl, sym, ap, ◌∙◌, Bool, true, false, cond, Option, None, Some, Result, Ok, Err}
+use Rattle.std.proofs.Common.{◌≡◌, ℕ, refl, sym, ap, ◌∙◌, Bool, true, false, Option, None, Some, Result, Ok, Err}
 use Rattle.std.specs.Prelude.{option_map, IfSome}
 use Rattle.std.specs.FinMap.{get}
 use Rattle.cap_core.specs.declared.profile.ProfileName.{ProfileName}
-use Rattle.cap_core.specs.declared.refusal.Refusal.{Refusal}
 use Rattle.derivation.specs.Forest.{Forest}
 use Rattle.derivation.specs.Entries.{Entry}
 use Rattle.ipc_core.specs.Records.{SendRecord, ReceiveRecord}
@@ -16,7 +15,7 @@ use Rattle.abstract_kernel.specs.declared.invocation.Invocation.TheVariants as i
 use Rattle.abstract_kernel.specs.Decode as plain
 use Rattle.abstract_kernel.specs.Decode.{decoded_op, decoded_call}
 use Rattle.abstract_kernel.specs.Shown.{Shown, ThreadView}
-use Rattle.abstract_kernel.specs.State.{State, shown, endpoint_at, sends_to, receives_of}
+use Rattle.abstract_kernel.specs.State.{State, shown, endpoint_at}
 use Rattle.abstract_kernel.specs.Step.{Outcome, send_record, receive_record, reply_to_send, reply_to_receive, where_awaited, is_send_awaited, is_receive_awaited, send_accepted, receive_accepted, performed, outcome, step}
 use Rattle.abstract_kernel.specs.declared.call.Reply.TheVariants.{Dropped, Empty}
 use Rattle.reasons.specs.declared.reason.Reason.{Reason}

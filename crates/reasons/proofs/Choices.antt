@@ -1,5 +1,5 @@
 -- What one CNode makes of the low bits of a word, with the reason where it chooses no slot.
-use Rattle.std.proofs.Common.{◌≡◌, ◌≢◌, ℕ, zero, suc, ◌+◌, ◌-◌, ◌*◌, ◌/◌, ◌%◌, ◌^◌, ◌<◌, ◌≤◌, refl, sym, ap, ◌∙◌, arith, Bool, true, false, cond, ◌==◌, List, [], ◌∷◌, ◌++◌, length, take, drop, Option, Some, None, Result, Ok, Err, eq-eqb, length-append}
+use Rattle.std.proofs.Common.{◌≡◌, ◌≢◌, ℕ, ◌+◌, ◌-◌, ◌/◌, ◌%◌, ◌^◌, ◌<◌, ◌≤◌, refl, ap, ◌∙◌, arith, Bool, true, false, cond, ◌==◌, List, [], ◌∷◌, ◌++◌, length, take, drop, Some, None, Ok, Err, eq-eqb}
 use Rattle.std.proofs.lemmas.Bool.{eqb-true, lt-ltb, le-ltb}
 use Rattle.std.proofs.lemmas.List.{take_all}
 use Rattle.std.proofs.Math.Seq.{take-append_seam, drop-append_seam}
@@ -9,11 +9,10 @@ use Rattle.cap_core.specs.declared.capability.Guard.{Guard}
 use Rattle.cap_core.specs.declared.capability.Cap.{Cap}
 use Rattle.cap_core.specs.declared.capability.Cap.TheVariants.{Null, Untyped, Endpoint, CNode, Tcb}
 use Rattle.cspace_core.specs.Bits.{low_bits, after_front}
-use Rattle.cspace_core.specs.Resolution.{is_cnode, guard_bits, slot_of}
+use Rattle.cspace_core.specs.Resolution.{guard_bits, slot_of}
 use Rattle.cspace_core.proofs.Bits.{length-low_bits, low_bits-add, number-low_bits, begins, begins_length, begins_only}
-use Rattle.reasons.specs.declared.reason.Held.{Held}
 use Rattle.reasons.specs.declared.reason.Miss.TheVariants.{NoRoot, OtherGuard, TooFewBits}
-use Rattle.reasons.specs.Lookups.{chosen_by_radix, chosen}
+use Rattle.reasons.specs.Lookups.{chosen}
 
 after_front-append : (front rest : List ℕ) → after_front front (front ++ rest) ≡ Some rest
 after_front-append [] rest = refl
@@ -60,21 +59,21 @@ not_a_node p slot (Tcb base) bits h = refl
 
 pub shorter_than_guard : (p : ProfileName) (slot base radix : ℕ) (guard : Guard) (n word : ℕ) → n < guard.size →
     Err (OtherGuard (record { slot = slot; cap = CNode base radix guard }) n (word / 2 ^ 0 % 2 ^ n))
-      ≡ chosen p slot (CNode base radix guard) (low_bits n word)
+    ≡ chosen p slot (CNode base radix guard) (low_bits n word)
 shorter_than_guard p slot base radix guard n word h =
     let none : after_front (guard_bits guard) (low_bits n word) ≡ None =
-      after_front-none (guard_bits guard) (low_bits n word)
-      (λ rest e. let l : guard.size + length rest ≡ n = begins_length n word guard.size guard.value rest e in omega arith) in
+    after_front-none (guard_bits guard) (low_bits n word)
+    (λ rest e. let l : guard.size + length rest ≡ n = begins_length n word guard.size guard.value rest e in omega arith) in
     rw (none, length-low_bits n word, read_all guard.size n word h) refl
 
 pub unlike_guard : (p : ProfileName) (slot base radix : ℕ) (guard : Guard) (n word : ℕ) → guard.size ≤ n → guard.value < 2 ^ guard.size →
     (word / 2 ^ (n - guard.size) % 2 ^ guard.size ≡ guard.value → ⊥) →
     Err (OtherGuard (record { slot = slot; cap = CNode base radix guard }) n (word / 2 ^ (n - guard.size) % 2 ^ guard.size))
-      ≡ chosen p slot (CNode base radix guard) (low_bits n word)
+    ≡ chosen p slot (CNode base radix guard) (low_bits n word)
 unlike_guard p slot base radix guard n word enough cut h =
     let none : after_front (guard_bits guard) (low_bits n word) ≡ None =
-      after_front-none (guard_bits guard) (low_bits n word)
-      (λ rest e. h (begins_only n word guard.size guard.value rest cut e)) in
+    after_front-none (guard_bits guard) (low_bits n word)
+    (λ rest e. h (begins_only n word guard.size guard.value rest cut e)) in
     rw (none, length-low_bits n word, read_low guard.size n word enough) refl
 
 behind : (guard : Guard) (n word : ℕ) → guard.size ≤ n → word / 2 ^ (n - guard.size) % 2 ^ guard.size ≡ guard.value →
@@ -86,7 +85,7 @@ behind guard n word enough is =
 pub shorter_than_radix : (p : ProfileName) (slot base radix : ℕ) (guard : Guard) (n word : ℕ) → guard.size ≤ n →
     word / 2 ^ (n - guard.size) % 2 ^ guard.size ≡ guard.value → n - guard.size < radix →
     Err (TooFewBits (record { slot = slot; cap = CNode base radix guard }) (n - guard.size))
-      ≡ chosen p slot (CNode base radix guard) (low_bits n word)
+    ≡ chosen p slot (CNode base radix guard) (low_bits n word)
 shorter_than_radix p slot base radix guard n word enough is few =
     rw (behind guard n word enough is, length-low_bits (n - guard.size) word, lt-ltb (n - guard.size) radix few) refl
 
@@ -102,7 +101,12 @@ drop_low s n word h =
 pub slot_taken : (p : ProfileName) (slot base radix : ℕ) (guard : Guard) (n word : ℕ) → guard.size ≤ n →
     word / 2 ^ (n - guard.size) % 2 ^ guard.size ≡ guard.value → radix ≤ n - guard.size →
     Ok (record { slot = slot_of p base (word / 2 ^ (n - guard.size - radix) % 2 ^ radix); left = low_bits (n - guard.size - radix) word })
-      ≡ chosen p slot (CNode base radix guard) (low_bits n word)
+    ≡ chosen p slot (CNode base radix guard) (low_bits n word)
 slot_taken p slot base radix guard n word enough is more =
-    rw (behind guard n word enough is, length-low_bits (n - guard.size) word, le-ltb (n - guard.size) radix more,
-      read_low radix (n - guard.size) word more, drop_low radix (n - guard.size) word more) refl
+    rw (
+      behind guard n word enough is,
+      length-low_bits (n - guard.size) word,
+      le-ltb (n - guard.size) radix more,
+      read_low radix (n - guard.size) word more,
+      drop_low radix (n - guard.size) word more,
+    ) refl

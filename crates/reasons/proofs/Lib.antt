@@ -4,3 +4,6 @@ pub mod Refusals
 pub mod Slots
 pub mod Truths
 pub mod Calls
+pub mod Ways
+pub mod Depths
+pub mod Nowhere

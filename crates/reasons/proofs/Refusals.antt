@@ -1,10 +1,8 @@
 -- Each check with a reason refuses as the same check of the abstract kernel does.
-use Rattle.std.proofs.Common.{◌≡◌, ℕ, zero, suc, refl, sym, ap, ◌∙◌, Bool, true, false, cond, not, ◌||◌, is_some, nat_lt, nat_le, ◌-◌, ◌^◌, ◌==◌, ◌&&◌, List, [], ◌∷◌, length, take, drop, Option, Some, None, Result, Ok, Err}
-use Rattle.std.specs.Int.Digits.{number_from_digits}
+use Rattle.std.proofs.Common.{◌≡◌, ℕ, zero, suc, refl, ap, ◌∙◌, Bool, true, false, cond, not, ◌||◌, is_some, nat_lt, nat_le, ◌-◌, ◌^◌, ◌==◌, ◌&&◌, List, [], ◌∷◌, length, Option, Some, None, Result, Ok, Err}
 use Rattle.std.specs.List.{find, list_any, range_with_len}
 use Rattle.cap_core.specs.Limits.{max_retype_count}
 use Rattle.cap_core.specs.declared.profile.ProfileName.{ProfileName}
-use Rattle.cap_core.specs.declared.message.Message.{Message}
 use Rattle.cap_core.specs.declared.capability.Guard.{Guard}
 use Rattle.cap_core.specs.declared.capability.Kind.{Kind}
 use Rattle.cap_core.specs.declared.capability.Kind.TheVariants as kind
@@ -17,12 +15,11 @@ use Rattle.cap_core.specs.declared.refusal.Refusal.TheVariants as refusal
 use Rattle.cap_core.specs.Numbers.{word_bits, max_object_bits}
 use Rattle.cap_core.specs.Objects.{is_null, is_untyped}
 use Rattle.cap_core.specs.Minting.{masked, with_data}
-use Rattle.cap_core.specs.Rights.{all_rights}
-use Rattle.cap_core.specs.Kinds.{kind_numbered, size_of, size_within}
+use Rattle.cap_core.specs.Kinds.{kind_numbered, size_of}
 use Rattle.cap_core.specs.Checks.{◌>>=◌}
 use Rattle.mem_core.specs.declared.objects.Shape.{Shape}
 use Rattle.mem_core.specs.declared.objects.Placed.{Placed}
-use Rattle.mem_core.specs.Shapes.{is_too_small, shape_sized, shape_named, shape_of}
+use Rattle.mem_core.specs.Shapes.{is_too_small, shape_sized, shape_named}
 use Rattle.mem_core.specs.Plans.{placed_in, room_of, start_of}
 use Rattle.derivation.specs.Forest.{Forest}
 use Rattle.derivation.specs.Entries.{Entry, cap_at, first_child}
@@ -43,7 +40,7 @@ use Rattle.abstract_kernel.specs.CNodes as cnodes
 use Rattle.abstract_kernel.specs.CNodes.{decoded_placement, changed_cap}
 use Rattle.abstract_kernel.specs.Deletion.{decoded_slot, decoded_badge}
 use Rattle.abstract_kernel.specs.Deletion as deletion
-use Rattle.abstract_kernel.specs.Threads.{decoded_tcb, space_cap, decoded_space}
+use Rattle.abstract_kernel.specs.Threads.{decoded_tcb, decoded_space}
 use Rattle.abstract_kernel.specs.Retyping as retyping
 use Rattle.abstract_kernel.specs.Retyping.{are_slots, some_full, node_cap, decoded_objects, decoded_retype}
 use Rattle.abstract_kernel.specs.Shown.{has_child}
@@ -57,7 +54,7 @@ use Rattle.reasons.specs.declared.reason.Miss.{Miss}
 use Rattle.reasons.specs.declared.reason.Reason.{Reason}
 use Rattle.reasons.specs.declared.reason.Reason.TheVariants.{NoSize, TooLarge, TooSmall, NoOffset, NoCount, FewSlots}
 use Rattle.reasons.specs.Reasons.{refusal_of, with_refusal, with_fault, held_at}
-use Rattle.reasons.specs.Lookups.{chosen_by_radix, chosen_after_guard, chosen, walked_on, walked_within, walked, reached, slot_by_word, reached_whole, slot_by_index, of_kind, where_empty, where_full}
+use Rattle.reasons.specs.Lookups.{chosen_by_radix, chosen_after_guard, chosen, walked_on, walked_within, walked, reached, slot_by_word, reached_whole, slot_by_index, where_empty, where_full}
 use Rattle.reasons.specs.Messages.{right_bit, service_in}
 use Rattle.reasons.specs.CNodes.{no_data, where_set, where_childless, where_derivable, changed, explained_placement}
 use Rattle.reasons.specs.Deletion.{explained_slot, where_all_rights, explained_badge}
@@ -75,7 +72,6 @@ first_then (Err reason) k k' h = refl
 after : {X Y : Type 0} (m : Result X Reason) (m' : Result X Refusal) (k : X → Result Y Reason) (k' : X → Result Y Refusal) →
     with_refusal m ≡ m' → ((x : X) → with_refusal (k x) ≡ k' x) → with_refusal (m >>= k) ≡ m' >>= k'
 after m m' k k' e h = first_then m k k' h ∙ ap (λ r. r >>= k') e
-
 
 with_refusal_cond : {X : Type 0} (t : Bool) (a b : Result X Reason) → with_refusal (cond t a b) ≡ cond t (with_refusal a) (with_refusal b)
 with_refusal_cond true a b = refl
@@ -149,8 +145,8 @@ slot_by_index_is p cap_in word root index depth =
     let no_depth : Result ℕ Refusal = Err refusal.RangeError in
     with_refusal_cond node _ _
     ∙ ap (λ r. cond node r no_root)
-      (with_refusal_cond deep _ _ ∙ ap (λ r. cond deep r no_depth)
-        (reached_whole_is cap_in word (held_at cap_in root) m ∙ ap found_whole (walked_is p cap_in root (low_bits depth index))))
+    (with_refusal_cond deep _ _ ∙ ap (λ r. cond deep r no_depth)
+    (reached_whole_is cap_in word (held_at cap_in root) m ∙ ap found_whole (walked_is p cap_in root (low_bits depth index))))
 
 where_empty_is : (f : Forest Entry) (m : Result ℕ Reason) → with_refusal (where_empty f m) ≡ plain.where_empty f (with_refusal m)
 where_empty_is f (Ok slot) = with_refusal_cond (is_null (cap_at f slot)) _ _
@@ -223,11 +219,11 @@ pub placement_is : (p : ProfileName) (f : Forest Entry) (thread at : ℕ) (asked
 placement_is p f thread at asked change =
     kind_cases (is_null (cap_at f at)) (is_of_kind kind.CNode (cap_at f at)) (cap_at f at) _ _ _ _
     (extra_after f (slot_by_word p f SourceRoot thread asked.src_root) _ _ _ (slot_by_word_is p f SourceRoot thread asked.src_root) (λ root.
-      after (where_empty f (slot_by_index p (cap_at f) Index at asked.index asked.depth)) _ _ _
-      (where_empty_is f (slot_by_index p (cap_at f) Index at asked.index asked.depth) ∙ ap (plain.where_empty f) (slot_by_index_is p (cap_at f) Index at asked.index asked.depth)) (λ slot.
-        after (where_full f (slot_by_index p (cap_at f) SourceIndex root asked.src_index asked.src_depth)) _ _ _
-        (where_full_is f (slot_by_index p (cap_at f) SourceIndex root asked.src_index asked.src_depth) ∙ ap (plain.where_full f) (slot_by_index_is p (cap_at f) SourceIndex root asked.src_index asked.src_depth)) (λ source.
-          after (changed p f source change (cap_at f source)) _ _ _ (changed_is p f source change (cap_at f source)) (λ cap. refl)))))
+    after (where_empty f (slot_by_index p (cap_at f) Index at asked.index asked.depth)) _ _ _
+    (where_empty_is f (slot_by_index p (cap_at f) Index at asked.index asked.depth) ∙ ap (plain.where_empty f) (slot_by_index_is p (cap_at f) Index at asked.index asked.depth)) (λ slot.
+    after (where_full f (slot_by_index p (cap_at f) SourceIndex root asked.src_index asked.src_depth)) _ _ _
+    (where_full_is f (slot_by_index p (cap_at f) SourceIndex root asked.src_index asked.src_depth) ∙ ap (plain.where_full f) (slot_by_index_is p (cap_at f) SourceIndex root asked.src_index asked.src_depth)) (λ source.
+    after (changed p f source change (cap_at f source)) _ _ _ (changed_is p f source change (cap_at f source)) (λ cap. refl)))))
 
 -- The others
 
@@ -263,9 +259,9 @@ pub space_is : (p : ProfileName) (f : Forest Entry) (thread slot root word : ℕ
     with_refusal (explained_space p f thread slot root word) ≡ decoded_space p f thread slot (cap_at f slot) root word
 space_is p f thread slot root word =
     after (explained_tcb slot (cap_at f slot)) _ _ _ (tcb_is slot (cap_at f slot)) (λ tcb.
-      after (slot_by_word p f Root thread root) _ _ _ (slot_by_word_is p f Root thread root) (λ source.
-        after (space_of p word source (cap_at f source)) _ _ _
-        (space_cases (is_cnode (cap_at f source)) (word == 0) (cap_at f source) _ _ (with_data p false word (cap_at f source)) (no_data_is p Root word source (cap_at f source)) refl) (λ cap. refl)))
+    after (slot_by_word p f Root thread root) _ _ _ (slot_by_word_is p f Root thread root) (λ source.
+    after (space_of p word source (cap_at f source)) _ _ _
+    (space_cases (is_cnode (cap_at f source)) (word == 0) (cap_at f source) _ _ (with_data p false word (cap_at f source)) (no_data_is p Root word source (cap_at f source)) refl) (λ cap. refl)))
 
 -- Retyping
 
@@ -327,8 +323,10 @@ first_is p f word offset count slot (CNode base radix guard) =
   where
     node : Held
     node = record { slot = slot; cap = CNode base radix guard }
+
     first : ℕ
     first = slot_of p base offset
+
     within : (a b c d : Bool) → with_refusal (cond a (cond (b && c) (cond d (Ok first) (Err (FewSlots word node))) (Err (NoCount max_retype_count))) (Err (NoOffset word node))
         >>= λ slot. where_none_full p f word node offset slot (first_full p f slot count))
         ≡ cond (a && (b && (c && d))) (retyping.where_all_empty p f first count) (Err refusal.RangeError)
@@ -362,20 +360,20 @@ objects_is : (p : ProfileName) (f : Forest Entry) (at : ℕ) (untyped : Cap) (ro
     with_refusal (explained_objects p f at untyped root shape asked) ≡ decoded_objects p f at untyped (cap_at f root) shape asked
 objects_is p f at untyped root shape asked =
     extra_then f (node_slot p f root asked.index asked.depth) _ _ (λ node.
-      after (first_slot p f (node_word asked.depth) asked.offset asked.count node (cap_at f node)) _ _ _ (first_is p f (node_word asked.depth) asked.offset asked.count node (cap_at f node)) (λ first.
-        after (because (no_room at (has_child at f) shape.bits untyped) (placed_in (has_child at f) shape.bits asked.count untyped)) _ _ _
-        (placed_is (no_room at (has_child at f) shape.bits untyped) (has_child at f) shape.bits asked.count untyped (no_room_is at (has_child at f) shape.bits untyped)) (λ placed. refl)))
+    after (first_slot p f (node_word asked.depth) asked.offset asked.count node (cap_at f node)) _ _ _ (first_is p f (node_word asked.depth) asked.offset asked.count node (cap_at f node)) (λ first.
+    after (because (no_room at (has_child at f) shape.bits untyped) (placed_in (has_child at f) shape.bits asked.count untyped)) _ _ _
+    (placed_is (no_room at (has_child at f) shape.bits untyped) (has_child at f) shape.bits asked.count untyped (no_room_is at (has_child at f) shape.bits untyped)) (λ placed. refl)))
     ∙ ap (λ r. r >>= λ node. retyping.first_slot p f asked.offset asked.count node >>= λ first.
-        placed_in (has_child at f) shape.bits asked.count untyped >>= λ placed.
-        Ok (record { untyped = at; shape = shape; placed = placed; first_slot = first; count = asked.count })) (node_is p f root asked.index asked.depth)
+    placed_in (has_child at f) shape.bits asked.count untyped >>= λ placed.
+    Ok (record { untyped = at; shape = shape; placed = placed; first_slot = first; count = asked.count })) (node_is p f root asked.index asked.depth)
 
 pub retype_is : (p : ProfileName) (f : Forest Entry) (thread at : ℕ) (asked : RetypeArguments) →
     with_refusal (explained_retype p f thread at asked) ≡ decoded_retype p f thread at (cap_at f at) asked
 retype_is p f thread at asked =
     kind_cases (is_null (cap_at f at)) (is_of_kind kind.Untyped (cap_at f at)) (cap_at f at) _ _ _ _
     (extra_after f (slot_by_word p f Root thread asked.root) _ _ _ (slot_by_word_is p f Root thread asked.root) (λ root.
-      after (explained_shape p asked.kind asked.size_bits) _ _ _ (shape_is p asked.size_bits (kind_numbered asked.kind)) (λ shape.
-        objects_is p f at (cap_at f at) root shape asked)))
+    after (explained_shape p asked.kind asked.size_bits) _ _ _ (shape_is p asked.size_bits (kind_numbered asked.kind)) (λ shape.
+    objects_is p f at (cap_at f at) root shape asked)))
 
 -- The operations
 

@@ -1,5 +1,5 @@
 -- The slots that a retype fills.
-use Rattle.std.proofs.Common.{◌≡◌, ℕ, ◌-◌, ◌+◌, ◌*◌, ◌^◌, ◌<◌, ◌≤◌, refl, arith, zero, suc, Bool, true, false, cond, Option, None, Some, IfSome, Err, Ok}
+use Rattle.std.proofs.Common.{◌≡◌, ℕ, ◌-◌, ◌+◌, ◌*◌, ◌^◌, ◌<◌, ◌≤◌, refl, arith, zero, suc, Bool, true, false, cond, Option, None, Some, IfSome, Err}
 use Rattle.std.specs.List.{find, range_with_len}
 use Rattle.std.proofs.lemmas.Bool.{lt-ltb, lt-leb, le-leb}
 use Rattle.cap_core.specs.Limits.{max_retype_count}

@@ -1,33 +1,26 @@
 -- What each reason tells is so.
-use Rattle.std.proofs.Common.{◌≡◌, ℕ, zero, suc, refl, sym, ap, ◌∙◌, Bool, true, false, cond, not, is_some, nat_lt, nat_le, ◌-◌, ◌^◌, ◌==◌, ◌&&◌, List, length, take, drop, Option, Some, None, Result, Ok, Err}
-use Rattle.std.specs.Int.Digits.{number_from_digits}
+use Rattle.std.proofs.Common.{◌≡◌, ℕ, zero, suc, refl, Bool, true, false, cond, not, nat_lt, nat_le, ◌-◌, ◌^◌, ◌==◌, ◌&&◌, List, length, Option, Some, None, Result, Ok, Err}
 use Rattle.cap_core.specs.Limits.{max_retype_count}
 use Rattle.cap_core.specs.declared.profile.ProfileName.{ProfileName}
-use Rattle.cap_core.specs.declared.message.Message.{Message}
 use Rattle.cap_core.specs.declared.capability.Guard.{Guard}
 use Rattle.cap_core.specs.declared.capability.Kind.{Kind}
 use Rattle.cap_core.specs.declared.capability.Kind.TheVariants as kind
 use Rattle.cap_core.specs.declared.capability.Cap.{Cap}
 use Rattle.cap_core.specs.declared.capability.Cap.TheVariants.{Null, Untyped, Endpoint, CNode, Tcb}
-use Rattle.cap_core.specs.declared.refusal.LookupFault.{LookupFault}
-use Rattle.cap_core.specs.declared.refusal.LookupFault.TheVariants as fault
 use Rattle.cap_core.specs.declared.refusal.Refusal.{Refusal}
-use Rattle.cap_core.specs.declared.refusal.Refusal.TheVariants as refusal
 use Rattle.cap_core.specs.Numbers.{word_bits, max_object_bits}
 use Rattle.cap_core.specs.Objects.{is_null, is_untyped}
 use Rattle.cap_core.specs.Minting.{masked, with_data}
 use Rattle.cap_core.specs.Rights.{all_rights}
-use Rattle.cap_core.specs.Kinds.{kind_numbered, size_of, size_within}
+use Rattle.cap_core.specs.Kinds.{kind_numbered, size_of}
 use Rattle.cap_core.specs.Checks.{◌>>=◌}
 use Rattle.mem_core.specs.declared.objects.Shape.{Shape}
-use Rattle.mem_core.specs.declared.objects.Placed.{Placed}
-use Rattle.mem_core.specs.Shapes.{is_too_small, shape_sized, shape_named, shape_of}
-use Rattle.mem_core.specs.Plans.{placed_in, room_of, start_of}
+use Rattle.mem_core.specs.Shapes.{shape_of}
+use Rattle.mem_core.specs.Plans.{placed_in}
 use Rattle.derivation.specs.Forest.{Forest}
 use Rattle.derivation.specs.Entries.{Entry, cap_at, first_child}
 use Rattle.cspace_core.specs.Bits.{low_bits, after_front}
-use Rattle.cspace_core.specs.Resolution.{Choice, Found, is_cnode, guard_bits, slot_of, choice, choice_after_guard, choice_by_radix, found_or, resolution_within, resolution}
-use Rattle.cspace_core.specs.Target.{found_whole, target_slot}
+use Rattle.cspace_core.specs.Resolution.{Choice, Found, is_cnode, guard_bits, slot_of}
 use Rattle.abstract_kernel.specs.declared.call.Op.{Op}
 use Rattle.abstract_kernel.specs.declared.call.Op.TheVariants as op
 use Rattle.abstract_kernel.specs.declared.invocation.Change.{Change}
@@ -36,17 +29,9 @@ use Rattle.abstract_kernel.specs.declared.invocation.SlotArguments.{SlotArgument
 use Rattle.abstract_kernel.specs.declared.invocation.RetypeArguments.{RetypeArguments}
 use Rattle.abstract_kernel.specs.declared.invocation.Invocation.{Invocation}
 use Rattle.abstract_kernel.specs.declared.invocation.Invocation.TheVariants as invocation
-use Rattle.abstract_kernel.specs.Lookups as plain
-use Rattle.abstract_kernel.specs.Lookups.{slot_found, slot_named, looked_up, invoked_slot, held_in, extra_cap, where_kind, is_of_kind}
-use Rattle.abstract_kernel.specs.CNodes as cnodes
-use Rattle.abstract_kernel.specs.CNodes.{decoded_placement, changed_cap}
-use Rattle.abstract_kernel.specs.Deletion.{decoded_slot, decoded_badge}
-use Rattle.abstract_kernel.specs.Deletion as deletion
-use Rattle.abstract_kernel.specs.Threads.{decoded_tcb, space_cap, decoded_space}
-use Rattle.abstract_kernel.specs.Retyping as retyping
-use Rattle.abstract_kernel.specs.Retyping.{are_slots, some_full, node_cap, decoded_objects, decoded_retype}
+use Rattle.abstract_kernel.specs.Lookups.{is_of_kind}
 use Rattle.abstract_kernel.specs.Shown.{has_child}
-use Rattle.abstract_kernel.specs.Decode.{has_right, service_of, decoded_invocation, decoded_op, service_word, objects_asked, slots_named}
+use Rattle.abstract_kernel.specs.Decode.{has_right, service_word, objects_asked, slots_named}
 use Rattle.reasons.specs.declared.reason.Word.{Word}
 use Rattle.reasons.specs.declared.reason.Word.TheVariants.{Invoked, Root, SourceRoot, Index, SourceIndex}
 use Rattle.reasons.specs.declared.reason.Right.{Right}
@@ -56,8 +41,8 @@ use Rattle.reasons.specs.declared.reason.Miss.{Miss}
 use Rattle.reasons.specs.declared.reason.Reason.{Reason}
 use Rattle.reasons.specs.declared.reason.Reason.TheVariants.{NoCapability, IsEmpty, OtherKind, NoRight, NoSize, TooLarge, TooSmall}
 use Rattle.reasons.specs.Reasons.{held_at}
-use Rattle.reasons.specs.Facts.{told_by, told_by_miss, IsThere, AreThere, TellsTruly, MissesTruly}
-use Rattle.reasons.specs.Lookups.{chosen_by_radix, chosen_after_guard, chosen, walked_on, walked_within, walked, reached, slot_by_word, reached_whole, slot_by_index, of_kind, where_empty, where_full}
+use Rattle.reasons.specs.Facts.{told_by, IsThere, AreThere, TellsTruly, MissesTruly}
+use Rattle.reasons.specs.Lookups.{chosen_after_guard, chosen, walked_on, walked_within, walked, reached, slot_by_word, reached_whole, slot_by_index, where_empty, where_full}
 use Rattle.reasons.specs.Messages.{right_bit, service_in}
 use Rattle.reasons.specs.CNodes.{no_data, where_set, where_childless, where_derivable, changed, explained_placement}
 use Rattle.reasons.specs.Deletion.{explained_slot, where_all_rights, explained_badge}
@@ -124,7 +109,7 @@ slot_by_index_truly : (p : ProfileName) (f : Forest Entry) (word : Word) (root i
 slot_by_index_truly p f word root index depth =
     tells_cond f (is_cnode (cap_at f root)) _ _
     (tells_cond f (nat_le 1 depth && nat_le depth (word_bits p)) _ _
-      (whole_truly f word root (walked p (cap_at f) root (low_bits depth index)) (walked_truly p f root (low_bits depth index))) (refl, tt))
+    (whole_truly f word root (walked p (cap_at f) root (low_bits depth index)) (walked_truly p f root (low_bits depth index))) (refl, tt))
     (refl, tt)
 
 empty_truly : (f : Forest Entry) (m : Result ℕ Reason) → TellsTruly f m → TellsTruly f (where_empty f m)
@@ -191,11 +176,11 @@ placement_truly : (p : ProfileName) (f : Forest Entry) (thread at : ℕ) (asked 
 placement_truly p f thread at asked change =
     kind_truly f (is_null (cap_at f at)) (is_of_kind kind.CNode (cap_at f at)) kind.CNode at _ refl
     (tells_then f (slot_by_word p f SourceRoot thread asked.src_root) _ (slot_by_word_truly p f SourceRoot thread asked.src_root) (λ root.
-      tells_then f (where_empty f (slot_by_index p (cap_at f) Index at asked.index asked.depth)) _
-      (empty_truly f (slot_by_index p (cap_at f) Index at asked.index asked.depth) (slot_by_index_truly p f Index at asked.index asked.depth)) (λ slot.
-        tells_then f (where_full f (slot_by_index p (cap_at f) SourceIndex root asked.src_index asked.src_depth)) _
-        (full_truly f (slot_by_index p (cap_at f) SourceIndex root asked.src_index asked.src_depth) (slot_by_index_truly p f SourceIndex root asked.src_index asked.src_depth)) (λ source.
-          tells_then f (changed p f source change (cap_at f source)) _ (changed_truly p f source change (cap_at f source) refl) (λ cap. tt)))))
+    tells_then f (where_empty f (slot_by_index p (cap_at f) Index at asked.index asked.depth)) _
+    (empty_truly f (slot_by_index p (cap_at f) Index at asked.index asked.depth) (slot_by_index_truly p f Index at asked.index asked.depth)) (λ slot.
+    tells_then f (where_full f (slot_by_index p (cap_at f) SourceIndex root asked.src_index asked.src_depth)) _
+    (full_truly f (slot_by_index p (cap_at f) SourceIndex root asked.src_index asked.src_depth) (slot_by_index_truly p f SourceIndex root asked.src_index asked.src_depth)) (λ source.
+    tells_then f (changed p f source change (cap_at f source)) _ (changed_truly p f source change (cap_at f source) refl) (λ cap. tt)))))
 
 slot_truly : (p : ProfileName) (f : Forest Entry) (at index depth : ℕ) → TellsTruly f (explained_slot p f at index depth)
 slot_truly p f at index depth =
@@ -222,11 +207,11 @@ tcb_truly f slot (Tcb base) h = tt
 space_truly : (p : ProfileName) (f : Forest Entry) (thread slot root word : ℕ) → TellsTruly f (explained_space p f thread slot root word)
 space_truly p f thread slot root word =
     tells_then f (explained_tcb slot (cap_at f slot)) _ (tcb_truly f slot (cap_at f slot) refl) (λ tcb.
-      tells_then f (slot_by_word p f Root thread root) _ (slot_by_word_truly p f Root thread root) (λ source.
-        tells_then f (space_of p word source (cap_at f source)) _
-        (tells_cond f (is_cnode (cap_at f source)) _ _
-          (tells_cond f (word == 0) _ _ tt (set_truly f (no_data p Root word source (cap_at f source)) (with_data p false word (cap_at f source)) (no_data_truly p f Root word source (cap_at f source) refl)))
-          (refl, tt)) (λ cap. tt)))
+    tells_then f (slot_by_word p f Root thread root) _ (slot_by_word_truly p f Root thread root) (λ source.
+    tells_then f (space_of p word source (cap_at f source)) _
+    (tells_cond f (is_cnode (cap_at f source)) _ _
+    (tells_cond f (word == 0) _ _ tt (set_truly f (no_data p Root word source (cap_at f source)) (with_data p false word (cap_at f source)) (no_data_truly p f Root word source (cap_at f source) refl)))
+    (refl, tt)) (λ cap. tt)))
 
 shape_truly : (p : ProfileName) (f : Forest Entry) (size_bits : ℕ) (o : Option Kind) → AreThere f (told_by (no_shape p size_bits o))
 shape_truly p f size_bits None = tt
@@ -255,7 +240,7 @@ first_truly p f word offset count slot (CNode base radix guard) h =
     tells_then f (within_node word (record { slot = slot; cap = CNode base radix guard }) radix offset count (slot_of p base offset))
     (λ first. where_none_full p f word (record { slot = slot; cap = CNode base radix guard }) offset first (first_full p f first count))
     (tells_cond f (nat_lt offset (2 ^ radix)) _ _
-      (tells_cond f (nat_le 1 count && nat_le count max_retype_count) _ _ (tells_cond f (nat_le count (2 ^ radix - offset)) _ _ tt (h, tt)) tt) (h, tt))
+    (tells_cond f (nat_le 1 count && nat_le count max_retype_count) _ _ (tells_cond f (nat_le count (2 ^ radix - offset)) _ _ tt (h, tt)) tt) (h, tt))
     (λ first. none_full_truly p f word (record { slot = slot; cap = CNode base radix guard }) offset first (first_full p f first count) h)
 first_truly p f word offset count slot (Tcb base) h = (h, tt)
 
@@ -270,18 +255,18 @@ objects_truly : (p : ProfileName) (f : Forest Entry) (at root : ℕ) (shape : Sh
 objects_truly p f at root shape asked =
     tells_then f (node_slot p f root asked.index asked.depth) _
     (tells_cond f (asked.depth == 0) _ _ tt (slot_by_index_truly p f Index root asked.index asked.depth)) (λ node.
-      tells_then f (first_slot p f (node_word asked.depth) asked.offset asked.count node (cap_at f node)) _ (first_truly p f (node_word asked.depth) asked.offset asked.count node (cap_at f node) refl) (λ first.
-        tells_then f (because (no_room at (has_child at f) shape.bits (cap_at f at)) (placed_in (has_child at f) shape.bits asked.count (cap_at f at))) _
-        (because_truly f (no_room at (has_child at f) shape.bits (cap_at f at)) (placed_in (has_child at f) shape.bits asked.count (cap_at f at))
-          (room_truly f at (has_child at f) shape.bits (cap_at f at) refl)) (λ placed. tt)))
+    tells_then f (first_slot p f (node_word asked.depth) asked.offset asked.count node (cap_at f node)) _ (first_truly p f (node_word asked.depth) asked.offset asked.count node (cap_at f node) refl) (λ first.
+    tells_then f (because (no_room at (has_child at f) shape.bits (cap_at f at)) (placed_in (has_child at f) shape.bits asked.count (cap_at f at))) _
+    (because_truly f (no_room at (has_child at f) shape.bits (cap_at f at)) (placed_in (has_child at f) shape.bits asked.count (cap_at f at))
+    (room_truly f at (has_child at f) shape.bits (cap_at f at) refl)) (λ placed. tt)))
 
 retype_truly : (p : ProfileName) (f : Forest Entry) (thread at : ℕ) (asked : RetypeArguments) → TellsTruly f (explained_retype p f thread at asked)
 retype_truly p f thread at asked =
     kind_truly f (is_null (cap_at f at)) (is_of_kind kind.Untyped (cap_at f at)) kind.Untyped at _ refl
     (tells_then f (slot_by_word p f Root thread asked.root) _ (slot_by_word_truly p f Root thread asked.root) (λ root.
-      tells_then f (explained_shape p asked.kind asked.size_bits) _
-      (because_truly f (no_shape p asked.size_bits (kind_numbered asked.kind)) (shape_of p asked.kind asked.size_bits) (shape_truly p f asked.size_bits (kind_numbered asked.kind))) (λ shape.
-        objects_truly p f at root shape asked)))
+    tells_then f (explained_shape p asked.kind asked.size_bits) _
+    (because_truly f (no_shape p asked.size_bits (kind_numbered asked.kind)) (shape_of p asked.kind asked.size_bits) (shape_truly p f asked.size_bits (kind_numbered asked.kind))) (λ shape.
+    objects_truly p f at root shape asked)))
 
 invoking_truly : {X : Type 0} (f : Forest Entry) (k : X → Invocation) (m : Result X Reason) → TellsTruly f m → TellsTruly f (invoking k m)
 invoking_truly f k m so = tells_then f m (λ x. Ok (k x)) so (λ x. tt)

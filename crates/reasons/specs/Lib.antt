@@ -10,3 +10,5 @@ pub mod Retyping
 pub mod Operations
 pub mod Calls
 pub mod Laws
+pub mod Paths
+pub mod Hints

@@ -73,7 +73,7 @@ abbrev pub slot_by_index : ProfileName → (ℕ → Cap) → Word → ℕ → �
 slot_by_index p cap_in word root index depth =
     cond (is_cnode (cap_in root))
     (cond (nat_le 1 depth && nat_le depth (word_bits p))
-      (reached_whole cap_in word (held_at cap_in root) (walked p cap_in root (low_bits depth index))) (Err (NoDepth word (held_at cap_in root) (word_bits p))))
+    (reached_whole cap_in word (held_at cap_in root) (walked p cap_in root (low_bits depth index))) (Err (NoDepth word (held_at cap_in root) (word_bits p))))
     (Err (NotFound word (held_at cap_in root) NoRoot))
 
 -- the invoked capability, where it is of the kind that the operation asks for

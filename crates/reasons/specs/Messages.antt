@@ -10,7 +10,6 @@ use Rattle.abstract_kernel.specs.declared.invocation.Service.{Service}
 use Rattle.abstract_kernel.specs.declared.invocation.Invocation.{Invocation}
 use Rattle.abstract_kernel.specs.declared.invocation.Invocation.TheVariants as invocation
 use Rattle.abstract_kernel.specs.Decode.{has_right}
-use Rattle.reasons.specs.declared.reason.Held.{Held}
 use Rattle.reasons.specs.declared.reason.Right.{Right}
 use Rattle.reasons.specs.declared.reason.Right.TheVariants.{Write, Read}
 use Rattle.reasons.specs.declared.reason.Reason.{Reason}

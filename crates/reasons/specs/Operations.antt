@@ -1,5 +1,5 @@
 -- The checks of an operation of a ready thread, with the reason where one fails.
-use Rattle.std.specs.Prelude.{ℕ, true, false, Result, Ok, Err}
+use Rattle.std.specs.Prelude.{ℕ, true, false, Result, Ok}
 use Rattle.cap_core.specs.declared.profile.ProfileName.{ProfileName}
 use Rattle.cap_core.specs.Checks.{◌>>=◌}
 use Rattle.derivation.specs.Forest.{Forest}

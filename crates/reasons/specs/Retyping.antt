@@ -13,7 +13,6 @@ use Rattle.cap_core.specs.Objects.{is_null}
 use Rattle.cap_core.specs.Kinds.{kind_numbered, size_of}
 use Rattle.cap_core.specs.Checks.{◌>>=◌}
 use Rattle.mem_core.specs.declared.objects.Shape.{Shape}
-use Rattle.mem_core.specs.declared.objects.Placed.{Placed}
 use Rattle.mem_core.specs.Shapes.{shape_of}
 use Rattle.mem_core.specs.Plans.{start_of, room_of, placed_in}
 use Rattle.derivation.specs.Forest.{Forest}
@@ -47,7 +46,7 @@ abbrev pub no_size : ProfileName → Kind → ℕ → Reason
 no_size p k size_bits =
     cond (nat_lt size_bits (word_bits p))
     (cond (nat_le (size_of p k size_bits) (max_object_bits p)) (TooSmall k (least_of p k))
-      (TooLarge k (size_of p k size_bits) (max_object_bits p)))
+    (TooLarge k (size_of p k size_bits) (max_object_bits p)))
     (NoSize (word_bits p))
 
 abbrev pub no_shape : ProfileName → ℕ → Option Kind → Reason
@@ -69,8 +68,8 @@ abbrev pub within_node : Word → Held → ℕ → ℕ → ℕ → ℕ → Resul
 within_node word node radix offset count first =
     cond (nat_lt offset (2 ^ radix))
     (cond (nat_le 1 count && nat_le count max_retype_count)
-      (cond (nat_le count (2 ^ radix - offset)) (Ok first) (Err (FewSlots word node)))
-      (Err (NoCount max_retype_count)))
+    (cond (nat_le count (2 ^ radix - offset)) (Ok first) (Err (FewSlots word node)))
+    (Err (NoCount max_retype_count)))
     (Err (NoOffset word node))
 
 -- the first full slot among those from one on, by its place among them

@@ -6,7 +6,7 @@ ghost use Rattle.slot_core.specs.Places.{address_of};
 ghost use Rattle.ipc_core.specs.Waits.{IsThreadAddress};
 ghost use Rattle.reasons.specs.CNodes.{no_data, where_set, where_derivable, changed as changed_by, explained_placement};
 
-use crate::lookup::{empty_slot, full_slot, held, slot_by_word, of_kind};
+use crate::lookup::{empty_slot, full_slot, held, of_kind, slot_by_word};
 use crate::reason::{Held, Reason, Word};
 use abstract_kernel::invocation::{CapPlacement, Change, SlotArguments};
 use cap_core::limits::MAX_MEMORY_BITS;
@@ -29,7 +29,13 @@ pub fn explain_placement<P: Profile, S: CapStore<P>>(
     let _node = of_kind(held::<P, S>(store, at), Kind::CNode)?;
     let root = slot_by_word::<P, S>(store, Word::SourceRoot, thread, asked.src_root)?;
     let slot = empty_slot::<P, S>(store, Word::Index, at, asked.index, asked.depth)?;
-    let source = full_slot::<P, S>(store, Word::SourceIndex, root, asked.src_index, asked.src_depth)?;
+    let source = full_slot::<P, S>(
+        store,
+        Word::SourceIndex,
+        root,
+        asked.src_index,
+        asked.src_depth,
+    )?;
     let cap = changed::<P, S>(store, source, change)?;
     Ok(CapPlacement {
         source: source.address::<P>(),
@@ -51,7 +57,13 @@ fn changed<P: Profile, S: CapStore<P>>(
     match change {
         Change::Copy(rights) => derivable::<P, S>(store, source, mask(found.cap, rights)),
         Change::Mint(rights, word) => {
-            let cap = with_word::<P>(Word::SourceIndex, false, word, mask(found.cap, rights), found)?;
+            let cap = with_word::<P>(
+                Word::SourceIndex,
+                false,
+                word,
+                mask(found.cap, rights),
+                found,
+            )?;
             derivable::<P, S>(store, source, cap)
         }
         Change::Move => Ok(found.cap),
@@ -82,7 +94,12 @@ fn refused_data<P: Profile>(of: Word, word: u64, found: Held) -> Reason
         Cap::CNode { .. } => {
             let size = word % (1 << P::GUARD_SIZE_BITS);
             let most = P::WORD_BITS;
-            Reason::LongGuard { word: of, node: found, size, most }
+            Reason::LongGuard {
+                word: of,
+                node: found,
+                size,
+                most,
+            }
         }
         _ => Reason::HasBadge(found),
     }

@@ -5,13 +5,17 @@
 
 mod cnodes;
 mod deletion;
+pub mod hints;
 pub mod laws;
 mod lookup;
 mod messages;
 mod operation;
+mod paths;
 pub mod reason;
 mod retyping;
 mod threads;
 
+pub use hints::{Hint, depth_hint, index_hint, word_hint};
 pub use operation::{reason_in, reason_op};
+pub use paths::path;
 pub use reason::{Held, Miss, Reason, Right, Word};

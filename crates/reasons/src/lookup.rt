@@ -55,15 +55,26 @@ pub fn choose<P: Profile>(at: Slot, cap: Cap, address: u64, bits: u32) -> Result
     let Cap::CNode { base, radix, guard } = cap else {
         return Err(Miss::NoRoot);
     };
-    let node = Held { slot: at.address::<P>(), cap };
+    let node = Held {
+        slot: at.address::<P>(),
+        cap,
+    };
     if guard.size > bits {
         let read = field(address, 0, bits);
-        return Err(Miss::OtherGuard { node, left: bits, read });
+        return Err(Miss::OtherGuard {
+            node,
+            left: bits,
+            read,
+        });
     }
     let rest = bits - guard.size;
     let read = field(address, rest, guard.size);
     if read != guard.value {
-        return Err(Miss::OtherGuard { node, left: bits, read });
+        return Err(Miss::OtherGuard {
+            node,
+            left: bits,
+            read,
+        });
     }
     if radix > rest {
         return Err(Miss::TooFewBits { node, left: rest });
@@ -179,7 +190,10 @@ pub fn of_kind(held: Held, kind: Kind) -> Result<Cap, Reason>
     if is_wanted {
         Ok(held.cap)
     } else {
-        Err(Reason::OtherKind { found: held, wanted: kind })
+        Err(Reason::OtherKind {
+            found: held,
+            wanted: kind,
+        })
     }
 }
 

@@ -55,9 +55,15 @@ fn service_in(held: Held, needed: Right) -> Result<Service, Reason>
                     badge,
                 })
             } else {
-                Err(Reason::NoRight { found: held, needed })
+                Err(Reason::NoRight {
+                    found: held,
+                    needed,
+                })
             }
         }
-        _ => Err(Reason::OtherKind { found: held, wanted }),
+        _ => Err(Reason::OtherKind {
+            found: held,
+            wanted,
+        }),
     }
 }

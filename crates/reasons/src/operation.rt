@@ -8,17 +8,17 @@ ghost use Rattle.reasons.specs.Facts.{TellsTruly};
 ghost use Rattle.reasons.specs.Operations.{explained_op, explained_invocation};
 ghost use Rattle.reasons.specs.Calls.{reason_in as reason_in_of};
 
+use crate::cnodes::explain_placement;
+use crate::deletion::{explain_badge, explain_slot};
 use crate::lookup::{held, slot_by_word};
 use crate::messages::{explain_receive, explain_send};
-use crate::deletion::{explain_badge, explain_slot};
-use crate::cnodes::explain_placement;
 use crate::reason::{Reason, Word};
 use crate::retyping::explain_retype;
 use crate::threads::{explain_space, explain_tcb};
 use abstract_kernel::call::Op;
 use abstract_kernel::invocation::{Change, Invocation, RetypeArguments, SlotArguments};
-use cap_core::limits::MAX_MEMORY_BITS;
 use cap_core::Profile;
+use cap_core::limits::MAX_MEMORY_BITS;
 use slot_core::{CapStore, Slot};
 
 /// What an operation of a ready thread does, or why it is refused: the first check that fails, with what was found there.

@@ -56,26 +56,53 @@ pub enum Reason {
     /// The calling thread is in this state, which is not ready.
     NotReady(ThreadState),
     /// The lookup of a word, from a slot on, fails.
-    NotFound { word: Word, from: Held, miss: Miss },
+    NotFound {
+        word: Word,
+        from: Held,
+        miss: Miss,
+    },
     /// The depth of an index, which is looked up from a slot on, is not from 1 to the bits of a word, `most`.
-    NoDepth { word: Word, from: Held, most: u32 },
+    NoDepth {
+        word: Word,
+        from: Held,
+        most: u32,
+    },
     /// The slot of the invoked capability is empty.
-    NoCapability { slot: u64, wanted: Kind },
+    NoCapability {
+        slot: u64,
+        wanted: Kind,
+    },
     /// The invoked capability is of another kind.
-    OtherKind { found: Held, wanted: Kind },
+    OtherKind {
+        found: Held,
+        wanted: Kind,
+    },
     /// The invoked endpoint's capability lacks the right.
-    NoRight { found: Held, needed: Right },
+    NoRight {
+        found: Held,
+        needed: Right,
+    },
     /// The slot to fill is full.
     IsFull(Held),
     /// The source is empty.
-    IsEmpty { slot: u64 },
+    IsEmpty {
+        slot: u64,
+    },
     /// The badge of the source, an endpoint's capability, can't be set.
     HasBadge(Held),
     /// The guard that the data word holds, of `size` bits, and the radix of this CNode are together more than `most`, the
     /// bits of a word.
-    LongGuard { word: Word, node: Held, size: u64, most: u32 },
+    LongGuard {
+        word: Word,
+        node: Held,
+        size: u64,
+        most: u32,
+    },
     /// An untyped capability has children, the one in the slot `child` the first of them.
-    HasChildren { source: Held, child: u64 },
+    HasChildren {
+        source: Held,
+        child: u64,
+    },
     /// It is no endpoint's capability with all rights.
     NotAllRights(Held),
     /// It is no CNode's capability, where a thread's capability space would begin.
@@ -83,24 +110,55 @@ pub enum Reason {
     /// No kind of objects has the number.
     NoKind,
     /// The size that is asked for is not below the bits of a word, `below`.
-    NoSize { below: u32 },
+    NoSize {
+        below: u32,
+    },
     /// The object would have 2^`bits` bytes, and the largest has 2^`most`.
-    TooLarge { kind: Kind, bits: u32, most: u32 },
+    TooLarge {
+        kind: Kind,
+        bits: u32,
+        most: u32,
+    },
     /// The size that is asked for is below `least`, the least of its kind.
-    TooSmall { kind: Kind, least: u32 },
+    TooSmall {
+        kind: Kind,
+        least: u32,
+    },
     /// What holds the slots to fill is no CNode. The word names it.
-    NoNode { word: Word, found: Held },
+    NoNode {
+        word: Word,
+        found: Held,
+    },
     /// The offset is past the slots of the CNode.
-    NoOffset { word: Word, node: Held },
+    NoOffset {
+        word: Word,
+        node: Held,
+    },
     /// The number of objects is not from 1 to `most`.
-    NoCount { most: u64 },
+    NoCount {
+        most: u64,
+    },
     /// From the offset on the CNode has fewer slots than there are objects.
-    FewSlots { word: Word, node: Held },
+    FewSlots {
+        word: Word,
+        node: Held,
+    },
     /// Of the slots to fill this one, which has the number `number` in its CNode, is the first that is full.
-    SomeFull { word: Word, node: Held, number: u64, full: Held },
+    SomeFull {
+        word: Word,
+        node: Held,
+        number: u64,
+        full: Held,
+    },
     /// The untyped region has room for `room` objects of 2^`bits` bytes, which are fewer than are asked for. `start` bytes
     /// of it count as used: none, where it has no children.
-    NoRoom { untyped: Held, has_children: bool, start: u64, bits: u32, room: u64 },
+    NoRoom {
+        untyped: Held,
+        has_children: bool,
+        start: u64,
+        bits: u32,
+        room: u64,
+    },
 }
 
 /// The kind of a lookup's failure.

@@ -15,7 +15,7 @@ ghost use Rattle.abstract_kernel.specs.Shown.{has_child};
 ghost use Rattle.reasons.specs.Lookups.{slot_seen};
 ghost use Rattle.reasons.specs.Retyping.{because, explained_shape, no_shape, least_of, node_slot, node_word, first_slot as first_slot_of, first_full as first_full_of, no_room as no_room_of, no_room, explained_objects, explained_retype};
 
-use crate::lookup::{slot_by_index, held, slot_by_word, of_kind};
+use crate::lookup::{held, of_kind, slot_by_index, slot_by_word};
 use crate::reason::{Held, Reason, Word};
 use abstract_kernel::invocation::{NewObjects, RetypeArguments};
 use cap_core::limits::{MAX_MEMORY_BITS, MAX_RETYPE_COUNT};
@@ -178,13 +178,23 @@ fn refused_room(untyped: Held, has_children: bool, shape: Shape) -> Reason
 {
     let bits = shape.bits;
     let (start, room) = match untyped.cap {
-        Cap::Untyped { bits: region, free, .. } => {
+        Cap::Untyped {
+            bits: region,
+            free,
+            ..
+        } => {
             let start = if has_children { free } else { 0 };
             (start, ((1u64 << region) - start) >> bits)
         }
         _ => (0, 0),
     };
-    Reason::NoRoom { untyped, has_children, start, bits, room }
+    Reason::NoRoom {
+        untyped,
+        has_children,
+        start,
+        bits,
+        room,
+    }
 }
 
 /// The address of the first slot that is filled, where all of them are slots of the CNode, and empty.
@@ -219,7 +229,12 @@ fn first_slot<P: Profile, S: CapStore<P>>(
     if let Some(place) = first_full::<P, S>(store, first, count) {
         let full = held::<P, S>(store, Slot::of_node::<P>(first, place));
         let number = offset + place;
-        return Err(Reason::SomeFull { word, node, number, full });
+        return Err(Reason::SomeFull {
+            word,
+            node,
+            number,
+            full,
+        });
     }
     Ok(first)
 }

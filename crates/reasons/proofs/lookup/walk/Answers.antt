@@ -1,10 +1,9 @@
 -- The proof of `trace`: the goals that a search leaves open.
-use Rattle.std.proofs.Common.{rules, ◌≡◌, inl, inr, sym, ap, Err, true}
+use Rattle.std.proofs.Common.{rules, ◌≡◌, inl, inr, ap, Err, true}
 use Rattle.derivation.specs.Entries.{cap_at}
 use Rattle.cspace_core.specs.Resolution.{is_cnode}
 use Rattle.cspace_core.proofs.Nodes.{no_cnode, lawful_in_words}
 use Rattle.reasons.proofs.Walks.{miss_here, found_here, found_further, all_within}
-use Rattle.reasons.specs.Lookups.{found_seen}
 use Rattle.slot_core.specs.Places.{address_of}
 use Rattle.reasons.proofs.lookup.walk.Goals as goal
 

@@ -1,5 +1,5 @@
 -- The proof of `first_slot`: the goals that a search leaves open.
-use Rattle.std.proofs.Common.{◌≡◌, ◌^◌, ◌<◌, ◌≤◌, ◌-◌, sym, ◌∙◌, arith, rules}
+use Rattle.std.proofs.Common.{◌≡◌, ◌^◌, ◌<◌, ◌-◌, sym, ◌∙◌, arith}
 use Rattle.std.proofs.lemmas.Nat.{pow_below}
 use Rattle.cap_core.specs.Numbers.{word_bits}
 use Rattle.cspace_core.specs.Resolution.{slot_of}
@@ -11,7 +11,7 @@ use Rattle.reasons.proofs.retyping.first_slot.Goals as goal
 pub returns-then-count-slots-clause-value : goal.returns-then-count-slots-clause-value
 returns-then-count-slots-clause-value g c =
     let small : 2 ^ c.in-CNode.radix < 2 ^ 64 = pow_below c.in-CNode.radix 64 (radix_small g.P.Profile.the _ c.in-CNode.base c.in-CNode.radix c.in-CNode.guard
-      (lawful_node g.P.Profile.the (g.S.CapStore.memory_bits c.args.store.now) c.in-CNode.base c.in-CNode.radix c.in-CNode.guard (rw c.in-CNode.is at c.get.ensures.lawful))) in
+    (lawful_node g.P.Profile.the (g.S.CapStore.memory_bits c.args.store.now) c.in-CNode.base c.in-CNode.radix c.in-CNode.guard (rw c.in-CNode.is at c.get.ensures.lawful))) in
     let low : c.args.offset < 2 ^ c.in-CNode.radix = omega arith in
     let few : 2 ^ c.in-CNode.radix - c.args.offset < c.args.count = omega arith in
     rw (c.held-node.ensures.value, sym c.get.ensures.cap ∙ c.in-CNode.is)
@@ -26,7 +26,7 @@ of_node-requires-clause-aligned g c =
 pub of_node-requires-clause-end : goal.of_node-requires-clause-end
 of_node-requires-clause-end g c =
     let small : 2 ^ c.in-CNode.radix < 2 ^ 64 = pow_below c.in-CNode.radix 64 (radix_small g.P.Profile.the _ c.in-CNode.base c.in-CNode.radix c.in-CNode.guard
-      (lawful_node g.P.Profile.the (g.S.CapStore.memory_bits c.args.store.now) c.in-CNode.base c.in-CNode.radix c.in-CNode.guard (rw c.in-CNode.is at c.get.ensures.lawful))) in
+    (lawful_node g.P.Profile.the (g.S.CapStore.memory_bits c.args.store.now) c.in-CNode.base c.in-CNode.radix c.in-CNode.guard (rw c.in-CNode.is at c.get.ensures.lawful))) in
     let words = lawful_in_words g.P.Profile.the (g.S.CapStore.memory_bits c.args.store.now) _ (rw c.in-CNode.is at c.get.ensures.lawful) in
     slot_within g.P.Profile.the (word_bits g.P.Profile.the) c.in-CNode.base c.in-CNode.radix c.args.offset c.in-CNode.guard
     (lawful_node g.P.Profile.the (word_bits g.P.Profile.the) c.in-CNode.base c.in-CNode.radix c.in-CNode.guard words) (omega arith)
@@ -34,7 +34,7 @@ of_node-requires-clause-end g c =
 pub first_full-requires-clause-end : goal.first_full-requires-clause-end
 first_full-requires-clause-end g c =
     let small : 2 ^ c.in-CNode.radix < 2 ^ 64 = pow_below c.in-CNode.radix 64 (radix_small g.P.Profile.the _ c.in-CNode.base c.in-CNode.radix c.in-CNode.guard
-      (lawful_node g.P.Profile.the (g.S.CapStore.memory_bits c.args.store.now) c.in-CNode.base c.in-CNode.radix c.in-CNode.guard (rw c.in-CNode.is at c.get.ensures.lawful))) in
+    (lawful_node g.P.Profile.the (g.S.CapStore.memory_bits c.args.store.now) c.in-CNode.base c.in-CNode.radix c.in-CNode.guard (rw c.in-CNode.is at c.get.ensures.lawful))) in
     let there : AreSlots c.in-CNode.radix c.args.offset c.args.count = record { some = omega arith; most = omega arith; within = omega arith } in
     let words = lawful_in_words g.P.Profile.the (g.S.CapStore.memory_bits c.args.store.now) _ (rw c.in-CNode.is at c.get.ensures.lawful) in
     let lawful = lawful_node g.P.Profile.the (word_bits g.P.Profile.the) c.in-CNode.base c.in-CNode.radix c.in-CNode.guard words in
@@ -44,7 +44,7 @@ first_full-requires-clause-end g c =
 pub of_node-requires-in-Some-clause-end : goal.of_node-requires-in-Some-clause-end
 of_node-requires-in-Some-clause-end g c =
     let small : 2 ^ c.in-CNode.radix < 2 ^ 64 = pow_below c.in-CNode.radix 64 (radix_small g.P.Profile.the _ c.in-CNode.base c.in-CNode.radix c.in-CNode.guard
-      (lawful_node g.P.Profile.the (g.S.CapStore.memory_bits c.args.store.now) c.in-CNode.base c.in-CNode.radix c.in-CNode.guard (rw c.in-CNode.is at c.get.ensures.lawful))) in
+    (lawful_node g.P.Profile.the (g.S.CapStore.memory_bits c.args.store.now) c.in-CNode.base c.in-CNode.radix c.in-CNode.guard (rw c.in-CNode.is at c.get.ensures.lawful))) in
     let there : AreSlots c.in-CNode.radix c.args.offset c.args.count = record { some = omega arith; most = omega arith; within = omega arith } in
     let words = lawful_in_words g.P.Profile.the (g.S.CapStore.memory_bits c.args.store.now) _ (rw c.in-CNode.is at c.get.ensures.lawful) in
     let lawful = lawful_node g.P.Profile.the (word_bits g.P.Profile.the) c.in-CNode.base c.in-CNode.radix c.in-CNode.guard words in
