@@ -9,8 +9,10 @@ mod ending;
 pub mod kernel;
 mod objects;
 mod placements;
+mod refusals;
 mod rows;
 
 pub use abstract_kernel::{Call, Inbox, Op, Reply, ThreadState, call, invocation};
 pub use boot_plan::{BootPlan, PlanDefect, plan};
 pub use kernel::Kernel;
+pub use reasons::{Held, Hint, Miss, Reason, Right, Word};

@@ -1,5 +1,5 @@
 //! Tests of the kernel: plans, boot, sends and receives, the calls that make, copy and move capabilities, and those by
-//! which objects end and threads wait no more.
+//! which objects end and threads wait no more; and why calls are refused.
 #![tactic(auto)]
 
 #[cfg(test)]
@@ -12,5 +12,7 @@ mod endings;
 mod looks;
 #[cfg(test)]
 mod plan;
+#[cfg(test)]
+mod refusals;
 #[cfg(test)]
 mod steps;
