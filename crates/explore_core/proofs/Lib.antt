@@ -1,0 +1,6 @@
+pub mod Steps
+pub mod WorldWords
+pub mod Told
+pub mod Tables
+pub mod Loops
+pub mod Explorations

@@ -1,0 +1,13 @@
+use Rattle.std.proofs.Common.{◌≡◌}
+use Rattle.std.specs.List.{flat_map}
+use Rattle.kinds.specs.Kinds.{with_firsts}
+use Rattle.orders.specs.Orders.{below}
+use Rattle.orders.specs.Answers.{same_answer}
+use Rattle.orders.specs.contracts.answer.AnswerPartialEq.TheImpl as answer_eq
+use Rattle.explore_core.specs.Nodes.{own_calls}
+use Rattle.explore_core.specs.Found.{answers_of, not_made_told}
+use Rattle.explore_core.proofs.ends.note_left.Given as goal
+
+abbrev pub invariant-loop-client : goal.invariant-loop-client
+invariant-loop-client l =
+    answers_of l.found.items ≡ with_firsts (same_answer answer_eq.ghosts.eq) (answers_of l.fn.found.items) (flat_map (not_made_told (own_calls l.calls) l.node.made.items l.node.order.items) (below l.client))

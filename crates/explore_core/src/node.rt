@@ -1,0 +1,143 @@
+//! A state that an order of calls leads to, and one call more.
+ghost use Rattle.std.specs.Prelude.{◌≡◌, ◌++◌, ◌∷◌, ◌+◌, ◌≤◌, [], ℕ, IfOk, IfSome, IsSome, Some, is_some, slice_get, nat_eq};
+ghost use Rattle.std.specs.Cmp.Lexicographic.{pointwise};
+ghost use Rattle.abstract_kernel.specs.Shown.{state_at};
+ghost use Rattle.abstract_kernel.specs.State.{State, shown};
+ghost use Rattle.abstract_kernel.specs.Reached.{IsReached, StepsTo};
+ghost use Rattle.abstract_kernel.specs.Step.{state_after};
+ghost use Rattle.orders.specs.World.{next_call, is_ready, can_be_made, one_more, place_of};
+ghost use Rattle.explore_core.specs.Nodes.{own_calls};
+
+use cap_core::Profile;
+use ipc_core::{MakeWaiters, Waiters};
+use kernel_core::{Call, Kernel, Reply, ThreadState};
+use orders::WaitingCall;
+use slot_core::{CapStore, MakeStore};
+use std::alloc::{AllocError, Global};
+
+/// A state: the first order of clients that leads to it, the calls that they make, how many calls each client has made then,
+/// which of these wait, and the words of all that, with what the kernel shows.
+#[derive(Drop)]
+pub struct Node {
+    pub order: Vec<usize>,
+    pub calls: Vec<Call>,
+    pub made: Vec<usize>,
+    pub waits: Vec<WaitingCall>,
+    pub words: Vec<u64>,
+}
+
+/// The next call of a client, by how many calls each has made.
+pub fn next_call(calls: &[Vec<Call>], made: &[usize], client: usize) -> Option<Call>
+    ensures call { result ≡ next_call (own_calls calls.now) made.now client }
+    ensures more { IsSome result → IfSome (slice_get made.now client) (λ (n : ℕ). n + 1 ≤ usize.MAX) }
+{
+    let place = made.get(client)?;
+    calls.get(client)?.get(*place).copied()
+}
+
+/// Whether a thread is ready.
+pub fn ready<P: Profile, S: CapStore<P> + Drop, W: Waiters<P> + Drop>(
+    kernel: &Kernel<P, S, W>,
+    thread: u64,
+) -> bool
+    ensures { result ≡ is_ready (state_at kernel.now thread) }
+{
+    matches!(&kernel.thread_state(thread), Some(ThreadState::Ready))
+}
+
+/// The next call of a client, where it can make it: it has one, and that call's thread is ready. `at` is the kernel of the node.
+pub fn callable<P: Profile, S: CapStore<P> + Drop, W: Waiters<P> + Drop>(
+    calls: &[Vec<Call>],
+    at: &Kernel<P, S, W>,
+    node: &Node,
+    client: usize,
+) -> Option<Call>
+    ensures may { is_some result ≡ can_be_made at.now (next_call (own_calls calls.now) node.now.made.items client) }
+    ensures call { IfSome result (λ call. next_call (own_calls calls.now) node.now.made.items client ≡ Some call) }
+    ensures more { IsSome result → IfSome (slice_get node.now.made.items client) (λ (n : ℕ). n + 1 ≤ usize.MAX) }
+{
+    let call = next_call(calls, node.made.as_slice(), client)?;
+    if ready(at, call.thread) {
+        Some(call)
+    } else {
+        None
+    }
+}
+
+/// A kernel, and what its last call was answered.
+#[derive(Drop)]
+pub struct Stepped<P: Profile, S: CapStore<P> + Drop, W: Waiters<P> + Drop> {
+    pub kernel: Kernel<P, S, W>,
+    pub reply: Reply,
+}
+
+/// A kernel after one more call, with the reply; the one that it is of stays.
+pub fn step_copy<P: Profile, S: MakeStore<P>, W: MakeWaiters<P>>(
+    alloc: Global,
+    kernel: &Kernel<P, S, W>,
+    call: Call,
+) -> Result<Stepped<P, S, W>, AllocError>
+    ensures { IfOk result (λ next. (A : State) → IsReached P.the A → kernel.now ≡ shown A → StepsTo P.the A call next.reply next.kernel) }
+{
+    let mut kernel = kernel.copy(alloc)?;
+    let reply = kernel.step(call);
+    Ok(Stepped { kernel, reply })
+}
+
+/// A kernel after calls; the one that it is of stays.
+pub fn kernel_after<P: Profile, S: MakeStore<P>, W: MakeWaiters<P>>(
+    alloc: Global,
+    kernel: &Kernel<P, S, W>,
+    calls: &[Call],
+) -> Result<Kernel<P, S, W>, AllocError>
+    ensures { IfOk result (λ after. (A : State) → IsReached P.the A → kernel.now ≡ shown A → after ≡ shown (state_after P.the A calls.now)) }
+{
+    let mut after = kernel.copy(alloc)?;
+    let mut replies = Vec::with_capacity(alloc, calls.len())?;
+    after.run(calls, &mut replies);
+    Ok(after)
+}
+
+/// One call more of a client.
+pub fn counted(alloc: Global, made: &[usize], client: usize) -> Result<Vec<usize>, AllocError>
+    requires { IfSome (slice_get made.now client) (λ (n : ℕ). n + 1 ≤ usize.MAX) }
+    ensures { IfOk result (λ more. more.items ≡ one_more client (slice_get made.now client) made.now) }
+{
+    let mut more = Vec::from_slice(alloc, made)?;
+    if let Some(place) = more.get_mut(client) {
+        *place += 1;
+    }
+    Ok(more)
+}
+
+/// How many calls a client has made.
+pub fn place_of(made: &[usize], client: usize) -> usize
+    ensures { result ≡ place_of made.now client }
+{
+    made.get(client).copied().unwrap_or(0)
+}
+
+/// An order with one more client.
+pub fn longer_order(alloc: Global, order: &[usize], client: usize) -> Result<Vec<usize>, AllocError>
+    ensures { IfOk result (λ longer. longer.items ≡ order.now ++ client ∷ []) }
+{
+    let mut longer = Vec::from_slice(alloc, order)?;
+    longer.push(client)?;
+    Ok(longer)
+}
+
+/// Calls with one more.
+pub fn longer_calls(alloc: Global, calls: &[Call], call: Call) -> Result<Vec<Call>, AllocError>
+    ensures { IfOk result (λ longer. longer.items ≡ calls.now ++ call ∷ []) }
+{
+    let mut longer = Vec::from_slice(alloc, calls)?;
+    longer.push(call)?;
+    Ok(longer)
+}
+
+/// Whether two nodes are of the same state.
+pub fn same(a: &Node, b: &Node) -> bool
+    ensures { result ≡ pointwise nat_eq a.now.words.items b.now.words.items }
+{
+    a.words == b.words
+}
