@@ -1,7 +1,9 @@
 //! Tests of `engine`, `engine_core`, `engine_trace` and `command_line`: reads and writes that fail, a source
-//! without an end, the command line, migrations, whole traces, and the exit statuses.
+//! without an end, a text that is cut off at each place, the command line, migrations, whole traces, and the exit statuses.
 #![tactic(auto)]
 
+#[cfg(test)]
+mod beginnings;
 #[cfg(test)]
 mod command_lines;
 #[cfg(test)]

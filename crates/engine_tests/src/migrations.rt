@@ -13,7 +13,7 @@ fn migrated(alloc: Global, setup: &[u8]) -> (Vec<u8>, u8) {
 }
 
 /// The report of a set-up, and the exit status.
-fn checked(alloc: Global, setup: &[u8]) -> (Vec<u8>, u8) {
+pub fn checked(alloc: Global, setup: &[u8]) -> (Vec<u8>, u8) {
     let mut out = writer(alloc, usize::MAX, usize::MAX, false);
     let mut source = ReaderSource::new(reader(setup, 64, usize::MAX));
     let answer = check(alloc, &mut source, &mut WriterSink::new(&mut out));
