@@ -1,0 +1,118 @@
+//! Whole command lines over inputs that a test made: what is written, the exit status and the text of a fault.
+ghost use Rattle.std.specs.Prelude.{⊤};
+
+use engine::{DeviceFault, ReaderSource, WriterSink};
+use program::{Inputs, run_words};
+use std::sync::Wait;
+use std::thread::Threads;
+
+/// A set-up of two calls, whose one expectation is met.
+const STORED: &[u8] =
+    b"format = 1\nmemory_bits = 16\nroot_radix = 4\nthreads = 2\nendpoints = 1\n[[call]]\nthread = 2048\nop = \"send\"\ncap = 4\n[[call]]\nthread = 4096\nop = \"recv\"\ncap = 4\nexpect = \"delivered 6144 from 2048\"\n";
+
+/// Standard input, and one file.
+#[derive(Clone, Copy)]
+struct TwoInputs<'a> {
+    standard: &'a [u8],
+    name: &'a str,
+    file: &'a [u8],
+}
+
+impl<'a> Inputs for TwoInputs<'a> {
+    type Standard = ReaderSource<&'a [u8]>;
+
+    type File = ReaderSource<&'a [u8]>;
+
+    type Fault = DeviceFault;
+
+    ghost is_standard = { λ inputs source. ⊤ };
+
+    ghost is_file = { λ inputs name source. ⊤ };
+
+    ghost is_fault = { λ inputs name fault. ⊤ };
+
+    fn standard(&self) -> ReaderSource<&'a [u8]> {
+        ReaderSource::new(self.standard)
+    }
+
+    fn open(&self, name: &str) -> Result<ReaderSource<&'a [u8]>, DeviceFault> {
+        if name == self.name {
+            Ok(ReaderSource::new(self.file))
+        } else {
+            Err(DeviceFault)
+        }
+    }
+}
+
+/// How a line is to end.
+#[derive(Clone, Copy)]
+struct Wanted<'a> {
+    status: u8,
+    fault: Option<&'a str>,
+    /// A part of what is written, or nothing where nothing is.
+    part: &'a str,
+}
+
+/// Whether the words end so, with the stored set-up on standard input and a text that is none in `text.toml`.
+fn ends<R: AllocGlobal + Threads + Wait + Sync>(
+    rt: &R,
+    words: &[&str],
+    wanted: Wanted<'_>,
+) -> bool {
+    let inputs = TwoInputs {
+        standard: STORED,
+        name: "text.toml",
+        file: b"format\n",
+    };
+    let mut out = Vec::new(rt.alloc());
+    let mut sink = WriterSink::new(&mut out);
+    let ended = run_words(rt, rt.alloc(), &inputs, words, &mut sink);
+    let is_told = ended.status() == wanted.status && ended.fault_text() == wanted.fault;
+    let Ok(text) = str::from_utf8(out.as_slice()) else {
+        return false;
+    };
+    is_told && text.contains(wanted.part) && text.is_empty() == wanted.part.is_empty()
+}
+
+/// A line that is done, with no fault.
+fn done(status: u8, part: &str) -> Wanted<'_> {
+    Wanted {
+        status,
+        fault: None,
+        part,
+    }
+}
+
+/// A line that ends in a fault, with nothing written.
+fn fault(status: u8, text: &str) -> Wanted<'_> {
+    Wanted {
+        status,
+        fault: Some(text),
+        part: "",
+    }
+}
+
+#[test]
+fn lines_end_as_they_ask(rt: HostRuntime) {
+    let refusal = "set-up refused 200 at text\n";
+    let forms: [(&[&str], Wanted<'_>); 9] = [
+        (&["sel4sim"], done(0, "1 2048 send: waiting\n")),
+        (
+            &["sel4sim", "trace"],
+            done(0, "  + endpoint 6144 sending 2048\n"),
+        ),
+        (&["sel4sim", "threads"], done(0, "entries 2 of 2\n")),
+        (&["sel4sim", "migrate"], done(0, "format = 2\n")),
+        (&["sel4sim", "check", "text.toml"], done(2, refusal)),
+        (&["sel4sim", "trace", "text.toml"], done(2, refusal)),
+        (
+            &["sel4sim", "check", "none.toml"],
+            fault(3, "reading failed"),
+        ),
+        (&["sel4sim", "chek"], fault(4, "command line refused")),
+        (&["sel4sim", "--help"], done(0, "Usage: sel4sim")),
+    ];
+    for (words, wanted) in forms {
+        assert!(rt; ends(&rt, words, wanted), "{words:?}");
+    }
+}
