@@ -7,12 +7,16 @@ mod boot;
 #[cfg(test)]
 mod capabilities;
 #[cfg(test)]
+mod case;
+#[cfg(test)]
 mod endings;
 #[cfg(test)]
-mod looks;
+mod messages;
 #[cfg(test)]
 mod plan;
 #[cfg(test)]
+mod played;
+#[cfg(test)]
 mod refusals;
 #[cfg(test)]
-mod steps;
+mod reuse;

@@ -36,17 +36,10 @@ fn tells_defects_of_regions<P: Profile>(rt: &impl Abort, alloc: Global) -> Resul
     region_has_defect::<P>(rt, alloc, 0, 12, Some(PlanDefect::Overlap(0)))
 }
 
-#[test]
-fn regions_have_their_defects(rt: HostRuntime) -> Result<(), Fail> {
-    tells_defects_of_regions::<Wide>(&rt, rt.alloc())?;
-    tells_defects_of_regions::<Narrow>(&rt, rt.alloc())
-}
-
-#[test]
-fn a_region_may_stand_before_the_threads(rt: HostRuntime) -> Result<(), Fail> {
-    region_has_defect::<Wide>(&rt, rt.alloc(), 1024, 10, None)?;
-    region_has_defect::<Narrow>(&rt, rt.alloc(), 512, 9, None)?;
-    region_has_defect::<Wide>(&rt, rt.alloc(), 256, 8, Some(PlanDefect::Overlap(0)))
+fn a_region_may_stand_before_the_threads(rt: &impl Abort, alloc: Global) -> Result<(), Fail> {
+    region_has_defect::<Wide>(rt, alloc, 1024, 10, None)?;
+    region_has_defect::<Narrow>(rt, alloc, 512, 9, None)?;
+    region_has_defect::<Wide>(rt, alloc, 256, 8, Some(PlanDefect::Overlap(0)))
 }
 
 /// What is wrong with a plan that should not be one.
@@ -54,17 +47,19 @@ fn is_defect(rt: &impl Abort, plan: Result<BootPlan, PlanDefect>, wanted: PlanDe
     assert_eq!(rt; plan.err(), Some(wanted));
 }
 
-#[test]
-fn objects_end_within_the_memory(rt: HostRuntime) -> Result<(), Fail> {
-    let none = vec![in rt.alloc()]?;
-    let plan = BootPlan::new::<Wide>(12, 4, 64, 0, none);
-    is_defect(&rt, plan, PlanDefect::Outside);
-    let none = vec![in rt.alloc()]?;
-    let plan = BootPlan::new::<Narrow>(12, 4, 3, 1, none);
-    is_defect(&rt, plan, PlanDefect::Outside);
-    let none = vec![in rt.alloc()]?;
-    assert!(rt; BootPlan::new::<Narrow>(12, 4, 3, 0, none).is_ok());
-    Ok(())
+fn objects_end_within_the_memory(rt: &impl Abort, alloc: Global) {
+    let outside = PlanDefect::Outside;
+    is_defect(
+        rt,
+        BootPlan::new::<Wide>(12, 4, 64, 0, Vec::new(alloc)),
+        outside,
+    );
+    is_defect(
+        rt,
+        BootPlan::new::<Narrow>(12, 4, 3, 1, Vec::new(alloc)),
+        outside,
+    );
+    assert!(rt; BootPlan::new::<Narrow>(12, 4, 3, 0, Vec::new(alloc)).is_ok());
 }
 
 /// The sizes that a plan was made with.
@@ -88,12 +83,15 @@ fn places(plan: &BootPlan) -> [u64; 3]
     ]
 }
 
-#[test]
-fn each_capability_has_a_slot(rt: HostRuntime) -> Result<(), Fail> {
-    let regions = vec![in rt.alloc(); (16384, 12)]?;
+fn each_capability_has_a_slot(rt: &impl Abort, alloc: Global) -> Result<(), Fail> {
+    let regions = vec![in alloc; (16384, 12)]?;
     let plan = BootPlan::new::<Wide>(16, 4, 2, 12, regions);
-    is_defect(&rt, plan, PlanDefect::Slots);
-    let regions = vec![in rt.alloc(); (16384, 12)]?;
+    is_defect(rt, plan, PlanDefect::Slots);
+    Ok(())
+}
+
+fn a_plan_has_its_numbers(rt: &impl Abort, alloc: Global) -> Result<(), Fail> {
+    let regions = vec![in alloc; (16384, 12)]?;
     let plan = BootPlan::new::<Wide>(16, 4, 2, 11, regions)?;
     assert_eq!(rt; sizes(&plan), [16, 4, 2, 11]);
     assert_eq!(rt; plan.untypeds(), [(16384, 12)].as_slice());
@@ -101,10 +99,20 @@ fn each_capability_has_a_slot(rt: HostRuntime) -> Result<(), Fail> {
     Ok(())
 }
 
-#[test]
-fn regions_stand_apart(rt: HostRuntime) -> Result<(), Fail> {
-    let regions = vec![in rt.alloc(); (16384, 12), (20480, 12), (20464, 4)]?;
+fn regions_stand_apart(rt: &impl Abort, alloc: Global) -> Result<(), Fail> {
+    let regions = vec![in alloc; (16384, 12), (20480, 12), (20464, 4)]?;
     let plan = BootPlan::new::<Wide>(16, 4, 2, 1, regions);
-    is_defect(&rt, plan, PlanDefect::Overlap(2));
+    is_defect(rt, plan, PlanDefect::Overlap(2));
     Ok(())
+}
+
+#[test]
+fn plans_have_their_defects(rt: HostRuntime) -> Result<(), Fail> {
+    tells_defects_of_regions::<Wide>(&rt, rt.alloc())?;
+    tells_defects_of_regions::<Narrow>(&rt, rt.alloc())?;
+    a_region_may_stand_before_the_threads(&rt, rt.alloc())?;
+    objects_end_within_the_memory(&rt, rt.alloc());
+    each_capability_has_a_slot(&rt, rt.alloc())?;
+    a_plan_has_its_numbers(&rt, rt.alloc())?;
+    regions_stand_apart(&rt, rt.alloc())
 }
