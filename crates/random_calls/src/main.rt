@@ -4,13 +4,17 @@
 //!
 //! After each call the reply is compared with that of a kernel over the linked forms, and so is all that the kernels
 //! show: threads, inboxes, waiting lists and slots. For each pair one line says that they agree, or at which call they
-//! do not. A line for each profile says what the calls reached. The exit status is 1 where kernels differ, or where the
-//! calls reached too little.
+//! do not. A line for each profile says what the calls reached.
+//!
+//! At the end each kernel makes calls of its own first, so that the two differ in one thing: a line for each such thing
+//! says at which call that is told. The exit status is 1 where kernels differ, where the calls reached too little, or where
+//! a difference that was planted is not told.
 #![tactic(auto)]
 
 use cap_core::{Narrow, Profile, ProfileName, Wide};
 use ipc_core::{LinkedWaiters, MakeWaiters, RowWaiters};
-use run::{CALLS, Difference, agree};
+use planted::PLANTED;
+use run::{CALLS, Difference, agree, told_at};
 use slot_core::{LinkedStore, MakeStore, RowStore};
 use std::io;
 use std::process::ExitCode;
@@ -20,6 +24,7 @@ mod drawn;
 mod layout;
 mod numbers;
 mod operations;
+mod planted;
 mod run;
 mod shown;
 mod tally;
@@ -87,8 +92,28 @@ fn run_profile<P: Profile, R: Print + AllocGlobal>(rt: &R) -> anyhow::Result<boo
     }
 }
 
+/// Says at which call a difference that was planted is told, if it is.
+fn say_planted<R: Print>(rt: &R, name: &str, place: Option<u32>) -> io::Result<bool> {
+    match place {
+        Some(place) => println!(rt; "planted in {name}: told at call {place}")?,
+        None => println!(rt; "planted in {name}: not told")?,
+    }
+    Ok(place.is_some())
+}
+
+/// Plants each difference: whether all are told.
+fn run_planted<R: Print + AllocGlobal>(rt: &R) -> anyhow::Result<bool> {
+    let mut all = true;
+    for planted in PLANTED {
+        let place = told_at::<Wide, RowStore<Wide>, RowWaiters<Wide>>(rt.alloc(), &planted)?;
+        all = say_planted(rt, planted.name, place)? && all;
+    }
+    Ok(all)
+}
+
 fn main(rt: HostRuntime) -> anyhow::Result<ExitCode> {
     let wide = run_profile::<Wide, HostRuntime>(&rt)?;
     let narrow = run_profile::<Narrow, HostRuntime>(&rt)?;
-    Ok(ExitCode::from(if wide && narrow { 0 } else { 1 }))
+    let told = run_planted::<HostRuntime>(&rt)?;
+    Ok(ExitCode::from(if wide && narrow && told { 0 } else { 1 }))
 }

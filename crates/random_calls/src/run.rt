@@ -1,6 +1,7 @@
 //! The same calls on two kernels.
 use crate::drawn::Drawn;
 use crate::layout::plan;
+use crate::planted::Planted;
 use crate::shown::{are_slots_same, are_threads_same};
 use crate::tally::Tally;
 use anyhow::Result;
@@ -42,6 +43,12 @@ impl<P: Profile, S: MakeStore<P>, W: MakeWaiters<P>> Both<P, S, W> {
         })
     }
 
+    /// Each makes calls of its own.
+    fn plant(&mut self, planted: &Planted) {
+        make(&mut self.linked, planted.linked);
+        make(&mut self.other, planted.other);
+    }
+
     /// Whether both show the same threads, waiting lists and slots.
     fn are_same(&self) -> bool {
         are_threads_same(&self.linked, &self.other) && are_slots_same(&self.linked, &self.other)
@@ -58,6 +65,16 @@ impl<P: Profile, S: MakeStore<P>, W: MakeWaiters<P>> Both<P, S, W> {
     }
 }
 
+/// Makes calls on one kernel.
+fn make<P: Profile, S: MakeStore<P>, W: MakeWaiters<P>>(
+    kernel: &mut Kernel<P, S, W>,
+    calls: &[Call],
+) {
+    for call in calls {
+        kernel.step(*call);
+    }
+}
+
 /// The calls so far: the kernels after them, the numbers that draw the next one, what they reached, and how many were
 /// refused since one was not.
 #[derive(Drop)]
@@ -69,6 +86,16 @@ struct Run<P: Profile, S: MakeStore<P>, W: MakeWaiters<P>> {
 }
 
 impl<P: Profile, S: MakeStore<P>, W: MakeWaiters<P>> Run<P, S, W> {
+    /// Before any call.
+    fn begin(alloc: Global) -> Result<Run<P, S, W>> {
+        Ok(Run {
+            kernels: Both::<P, S, W>::boot(alloc)?,
+            drawn: Drawn::new(SEED),
+            tally: Tally::new(),
+            refused: 0,
+        })
+    }
+
     /// Makes one more call: the call, where the kernels differ after it.
     fn step(&mut self) -> Option<Call> {
         let call = self.drawn.call(&self.kernels.linked);
@@ -111,16 +138,21 @@ impl<P: Profile, S: MakeStore<P>, W: MakeWaiters<P>> Run<P, S, W> {
 pub fn agree<P: Profile, S: MakeStore<P>, W: MakeWaiters<P>>(
     alloc: Global,
 ) -> Result<std::result::Result<Tally, Difference>> {
-    let mut run = Run {
-        kernels: Both::<P, S, W>::boot(alloc)?,
-        drawn: Drawn::new(SEED),
-        tally: Tally::new(),
-        refused: 0,
-    };
+    let mut run = Run::<P, S, W>::begin(alloc)?;
     let difference = run.make_all(alloc)?;
     let Run { tally, .. } = run;
     Ok(match difference {
         None => Ok(tally),
         Some(difference) => Err(difference),
     })
+}
+
+/// Makes the calls on two kernels that differ already: the place of the call after which that is told.
+pub fn told_at<P: Profile, S: MakeStore<P>, W: MakeWaiters<P>>(
+    alloc: Global,
+    planted: &Planted,
+) -> Result<Option<u32>> {
+    let mut run = Run::<P, S, W>::begin(alloc)?;
+    run.kernels.plant(planted);
+    Ok(run.make_all(alloc)?.map(|difference| difference.place))
 }
