@@ -7,7 +7,8 @@ of `crates/refused_memory`, which says how calls of the libraries end.
 Each answer of the program has to be that of a run with ample memory, or exit status 3 with `sel4sim: out of memory`, or
 where a thread wanted it `sel4sim: thread not started`, and nothing written. For the words that follow a fault's line on
 standard error there may be no memory. Each answer of CALLS has to be that of a run with ample memory, but that one call
-may end `out of memory, then done` in place of `done`; and each call has to end so at least once.
+may end `out of memory, then done` in place of `done`; and each call has to end so at least once, but for those that take
+no memory.
 The requests are counted, and one is refused, by a small library that stands before the C library's (gcc builds it).
 """
 import concurrent.futures
@@ -81,6 +82,7 @@ SUBCOMMANDS = ["check", "trace", "threads", "migrate"]
 POOL = 4
 MEMORY = (3, b"", b"sel4sim: out of memory\n")
 THREAD = (3, b"", b"sel4sim: thread not started\n")
+WITHOUT_MEMORY = [b"settle: done\n"]
 
 
 def answer_of(words, text, changed):
@@ -109,7 +111,7 @@ def answers_of_calls(ample):
     """The answers in which one of the calls was out of memory."""
     status, said, fault = ample
     lines = said.splitlines(keepends=True)
-    calls = [place for place, line in enumerate(lines) if line.endswith(b": done\n")]
+    calls = [place for place, line in enumerate(lines) if line.endswith(b": done\n") and line not in WITHOUT_MEMORY]
     ended = [line.replace(b": done", b": out of memory, then done") for line in lines]
     return [(status, b"".join(lines[:place] + [ended[place]] + lines[place + 1:]), fault) for place in calls]
 

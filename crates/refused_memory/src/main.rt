@@ -2,7 +2,8 @@
 //!
 //! For each call one line says how it ended: `done` where it gave what is wanted, and `out of memory, then done` where
 //! it answered want of memory, left what it was given as it was, and gave what is wanted when it was made again. With
-//! ample memory each is done. The exit status is 1 where one ended otherwise.
+//! ample memory each is done. The settling of a shared kernel takes no memory, and so is done whatever is refused. The
+//! exit status is 1 where one ended otherwise.
 #![tactic(auto)]
 
 use cap_core::{Narrow, Profile, Wide};
@@ -10,26 +11,25 @@ use command_line::line;
 use engine::text_of;
 use ipc_core::{LinkedWaiters, MakeWaiters, RowWaiters};
 use kernel_core::{BootPlan, Call, Kernel, Op, ThreadState};
+use outcome::Outcome;
+use reports::stored_outcome;
 use setup_read::{SetupFault, read_setup};
+use shared::{SharedOutcomes, shared_outcomes};
 use slot_core::{DerivationStore, LinkedStore, MakeStore, RowStore};
 use std::alloc::Global;
 use std::process::ExitCode;
+use std::sync::Wait;
 use stored::{REPORT, SETUP};
 
+mod outcome;
+mod reports;
+mod shared;
 mod stored;
 
 /// The address of the first thread that a boot with wide words makes, and that of the endpoint, which slot 4 has.
 const THREAD: u64 = 2048;
 
 const ENDPOINT: u64 = 6144;
-
-/// How a call ended.
-#[derive(Clone, Copy, PartialEq, Eq, Drop)]
-enum Outcome {
-    Done,
-    DoneAgain,
-    Wrong,
-}
 
 /// How a call ends that is made once more where it answered want of memory. A call is `None` where it did, and else
 /// whether it gave what is wanted.
@@ -130,13 +130,21 @@ fn tell<R: Print>(rt: &R, name: &str, outcome: Outcome) -> anyhow::Result<bool> 
     Ok(outcome != Outcome::Wrong)
 }
 
+/// Says how a start, calls and a settling ended.
+fn tell_shared<R: Print>(rt: &R, outcomes: SharedOutcomes) -> anyhow::Result<bool> {
+    let started = tell(rt, "start", outcomes.start)?;
+    let called = tell(rt, "call", outcomes.call)?;
+    let settled = tell(rt, "settle", outcomes.settle)?;
+    Ok(started && called && settled)
+}
+
 /// The calls over one pair of a capability store and a store of waiting threads.
 fn tell_pair<
     S: MakeStore<Wide> + DerivationStore<Wide>,
     W: MakeWaiters<Wide>,
     T: MakeStore<Narrow> + DerivationStore<Narrow>,
     V: MakeWaiters<Narrow>,
-    R: Print + AllocGlobal,
+    R: Print + AllocGlobal + Wait,
 >(rt: &R, pair: &str) -> anyhow::Result<bool> {
     let alloc = rt.alloc();
     println!(rt; "{pair}")?;
@@ -144,11 +152,13 @@ fn tell_pair<
     let narrow = tell(rt, "boot, narrow", outcome!(boot::<Narrow, T, V>(alloc)))?;
     let copied = tell(rt, "copy", copy_outcome::<S, W>(alloc))?;
     let ran = tell(rt, "run", outcome!(run::<S, W, T, V>(alloc)))?;
-    Ok(wide && narrow && copied && ran)
+    let reported = tell(rt, "report", stored_outcome::<S, W>(alloc))?;
+    let shared = tell_shared(rt, shared_outcomes::<S, W, R>(rt, alloc))?;
+    Ok(wide && narrow && copied && ran && reported && shared)
 }
 
 /// All calls, over each pair: whether each gave what is wanted.
-fn tell_all<R: Print + AllocGlobal>(rt: &R) -> anyhow::Result<bool> {
+fn tell_all<R: Print + AllocGlobal + Wait>(rt: &R) -> anyhow::Result<bool> {
     let taken = tell(rt, "command line", outcome!(words(rt.alloc())))?;
     let understood = tell(rt, "set-up", outcome!(read(rt.alloc())))?;
     let links = tell_pair::<
