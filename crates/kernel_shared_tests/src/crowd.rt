@@ -1,10 +1,13 @@
 //! Drives: clients that meet before their calls, and a history that is full.
-use crate::gates::{Meeting, Open};
-use crate::setup::{FIRST, LinkedClient, LinkedShared, SECOND, nb_send, settled};
+use crate::gates::Meeting;
+use crate::setup::{Caller, FIRST_CALL, SECOND_CALL, Shared, settled};
+use cap_core::Wide;
+use ipc_core::MakeWaiters;
 use kernel_core::Call;
 use kernel_shared::driving::Stop;
 use kernel_shared::fault::SharedFault;
 use kernel_shared::{Gate, Naming, drive};
+use slot_core::MakeStore;
 use std::alloc::{AllocError, Global};
 use std::sync::Wait;
 use std::thread::Threads;
@@ -12,22 +15,28 @@ use std::thread::Threads;
 /// What is left of a drive: how many calls were made, how many clients stopped, and how many of these by a full
 /// history.
 #[derive(Drop)]
-pub struct Outcome<N: Naming> {
+pub struct Outcome<N: Naming, S: MakeStore<Wide>, W: MakeWaiters<Wide>> {
     pub made: u32,
     pub stopped: u32,
     pub full: u32,
-    pub clients: Vec<LinkedClient<N>>,
+    pub clients: Vec<Caller<N, S, W>>,
 }
 
 /// Drives the clients, where there is a list for each.
-pub fn driven<N: Naming + Send + Sync, R: Threads + Wait + Sync, G: Gate + Sync>(
+pub fn driven<
+    N: Naming + Send + Sync,
+    S: MakeStore<Wide> + Send + Sync,
+    W: MakeWaiters<Wide> + Send + Sync,
+    R: Threads + Wait + Sync,
+    G: Gate + Sync,
+>(
     rt: &R,
     alloc: Global,
-    shared: &LinkedShared<N>,
-    clients: Vec<LinkedClient<N>>,
+    shared: &Shared<N, S, W>,
+    clients: Vec<Caller<N, S, W>>,
     lists: &[Vec<Call>],
     gate: &G,
-) -> Option<Outcome<N>> {
+) -> Option<Outcome<N, S, W>> {
     if lists.len() < clients.len() {
         return None;
     }
@@ -58,18 +67,62 @@ fn lists_of(alloc: Global, lists: &[&[Call]]) -> Result<Vec<Vec<Call>>, AllocErr
     Ok(all)
 }
 
-/// How many calls were made, how many clients stopped, how many by a full history, how many entries the book has, and
-/// whose the first one is.
-type Counts = (u32, u32, u32, u32, Option<u32>);
+/// What is left of a drive: how many calls were made, how many clients stopped, how many of these by a full history, and
+/// how many entries the book has.
+type Counts = (u32, u32, u32, u32);
 
-fn counts<N: Naming + Send + Sync, R: Threads + Wait + Sync, G: Gate + Sync>(
+/// Clients that are driven, each with a list of calls.
+#[derive(Clone, Copy)]
+pub struct Crowd {
+    pub lists: &'static [&'static [Call]],
+    /// How many of them wait for each other before each call.
+    pub meeting: usize,
+    /// Whether client 0 lets client 1 go first, and so whose the first entry is.
+    pub second_first: bool,
+    pub wanted: Counts,
+}
+
+/// Two clients meet; client 1 goes first.
+pub const SECOND_FIRST: Crowd = Crowd {
+    lists: &[&[FIRST_CALL], &[SECOND_CALL]],
+    meeting: 2,
+    second_first: true,
+    wanted: (2, 0, 0, 2),
+};
+
+/// The two calls of a client.
+const TWICE: &[Call] = &[FIRST_CALL, FIRST_CALL];
+
+/// Eight clients meet at each of their two calls.
+pub const EIGHT_AT_ONCE: Crowd = Crowd {
+    lists: &[TWICE; 8],
+    meeting: 8,
+    second_first: false,
+    wanted: (16, 0, 0, 16),
+};
+
+/// Two clients with two calls each, which wait for nobody, and room for three.
+pub const ONE_FINDS_IT_FULL: Crowd = Crowd {
+    lists: &[&[FIRST_CALL, FIRST_CALL], &[SECOND_CALL, SECOND_CALL]],
+    meeting: 0,
+    second_first: false,
+    wanted: (3, 1, 1, 3),
+};
+
+/// Drives clients and settles: the counts, and whose the first entry of the book is.
+fn counts<
+    N: Naming + Send + Sync,
+    S: MakeStore<Wide> + Send + Sync,
+    W: MakeWaiters<Wide> + Send + Sync,
+    R: Threads + Wait + Sync,
+>(
     rt: &R,
     alloc: Global,
-    shared: LinkedShared<N>,
-    clients: Vec<LinkedClient<N>>,
+    shared: Shared<N, S, W>,
+    clients: Vec<Caller<N, S, W>>,
     lists: &[Vec<Call>],
-    gate: &G,
-) -> Option<Counts> {
+    gate: &Meeting,
+) -> Option<(Counts, Option<u32>)> {
     let Some(outcome) = driven(rt, alloc, &shared, clients, lists, gate) else {
         shared.give_up(rt);
         return None;
@@ -82,54 +135,29 @@ fn counts<N: Naming + Send + Sync, R: Threads + Wait + Sync, G: Gate + Sync>(
     } = outcome;
     let book = settled(rt, shared, clients)?;
     let first = book.entry(0).map(|entry| entry.client);
-    Some((made, stopped, full, book.length(), first))
+    Some(((made, stopped, full, book.length()), first))
 }
 
-/// Two clients meet; client 1 goes first.
-pub fn second_first<N: Naming + Send + Sync, R: Threads + Wait + Sync>(
+/// Whether a crowd comes out as it should.
+pub fn crowd_comes_out<
+    N: Naming + Send + Sync,
+    S: MakeStore<Wide> + Send + Sync,
+    W: MakeWaiters<Wide> + Send + Sync,
+    R: Threads + Wait + Sync,
+>(
     rt: &R,
     alloc: Global,
-    shared: LinkedShared<N>,
-    clients: Vec<LinkedClient<N>>,
+    shared: Shared<N, S, W>,
+    clients: Vec<Caller<N, S, W>>,
+    crowd: Crowd,
 ) -> bool {
-    let Ok(lists) = lists_of(alloc, &[&[nb_send(FIRST)], &[nb_send(SECOND)]]) else {
+    let Ok(lists) = lists_of(alloc, crowd.lists) else {
         shared.give_up(rt);
         return false;
     };
-    let gate = Meeting::of(2, true);
-    counts(rt, alloc, shared, clients, lists.as_slice(), &gate) == Some((2, 0, 0, 2, Some(1)))
-}
-
-/// Eight clients meet at each of their two calls.
-pub fn eight_at_once<N: Naming + Send + Sync, R: Threads + Wait + Sync>(
-    rt: &R,
-    alloc: Global,
-    shared: LinkedShared<N>,
-    clients: Vec<LinkedClient<N>>,
-) -> bool {
-    let list = [nb_send(FIRST), nb_send(FIRST)];
-    let Ok(lists) = lists_of(alloc, &[list.as_slice(); 8]) else {
-        shared.give_up(rt);
-        return false;
-    };
-    let gate = Meeting::of(8, false);
-    let counts = counts(rt, alloc, shared, clients, lists.as_slice(), &gate);
-    matches!(counts, Some((16, 0, 0, 16, _)))
-}
-
-/// Two clients with two calls each, and room for three.
-pub fn one_finds_it_full<N: Naming + Send + Sync, R: Threads + Wait + Sync>(
-    rt: &R,
-    alloc: Global,
-    shared: LinkedShared<N>,
-    clients: Vec<LinkedClient<N>>,
-) -> bool {
-    let first = [nb_send(FIRST), nb_send(FIRST)];
-    let second = [nb_send(SECOND), nb_send(SECOND)];
-    let Ok(lists) = lists_of(alloc, &[first.as_slice(), second.as_slice()]) else {
-        shared.give_up(rt);
-        return false;
-    };
-    let counts = counts(rt, alloc, shared, clients, lists.as_slice(), &Open);
-    matches!(counts, Some((3, 1, 1, 3, _)))
+    let gate = Meeting::of(crowd.meeting, crowd.second_first);
+    match counts(rt, alloc, shared, clients, lists.as_slice(), &gate) {
+        Some((given, first)) => given == crowd.wanted && (first == Some(1) || !crowd.second_first),
+        None => false,
+    }
 }

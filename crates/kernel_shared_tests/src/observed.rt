@@ -4,17 +4,25 @@ ghost use Rattle.abstract_kernel.specs.Plan.{IsPlan};
 
 use crate::crowd::driven;
 use crate::gates::{Open, TURNS};
-use crate::setup::{
-    EMPTY, ENDPOINT, FIRST, LinkedBook, LinkedClient, LinkedKernel, LinkedShared, SECOND, settled,
-};
-use cap_core::Rights;
-use kernel_core::{BootPlan, Call, Op};
+use crate::setup::{Caller, EMPTY, ENDPOINT, FIRST, History, SECOND, Shared, settled};
+use cap_core::{Rights, Wide};
+use ipc_core::LinkedWaiters;
+use kernel_core::{BootPlan, Call, Kernel, Op};
 use kernel_shared::{Answer, Naming, Query};
+use slot_core::LinkedStore;
 use std::alloc::{AllocError, Global};
 use std::sync::Wait;
 use std::sync::atomic::{AtomicBool, Ordering};
 use std::thread;
 use std::thread::Threads;
+
+type LinkedKernel = Kernel<Wide, LinkedStore<Wide>, LinkedWaiters<Wide>>;
+
+type LinkedShared<N> = Shared<N, LinkedStore<Wide>, LinkedWaiters<Wide>>;
+
+type LinkedClient<N> = Caller<N, LinkedStore<Wide>, LinkedWaiters<Wide>>;
+
+type LinkedBook<N> = History<N, LinkedStore<Wide>, LinkedWaiters<Wide>>;
 
 const CALLERS: u64 = 8;
 

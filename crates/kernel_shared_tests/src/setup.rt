@@ -5,11 +5,11 @@ ghost use Rattle.abstract_kernel.specs.Plan.{IsPlan};
 ghost use Rattle.abstract_kernel.specs.Boot.{boot};
 ghost use Rattle.abstract_kernel.specs.State.{shown};
 
-use cap_core::{Badge, Message, Wide};
-use ipc_core::LinkedWaiters;
-use kernel_core::{BootPlan, Call, Kernel, Op, Reply};
+use cap_core::{Message, Wide};
+use ipc_core::MakeWaiters;
+use kernel_core::{BootPlan, Call, Kernel, Op};
 use kernel_shared::{Book, Client, Naming, SharedKernel, StartFault, settle};
-use slot_core::LinkedStore;
+use slot_core::MakeStore;
 use std::alloc::{AllocError, Global};
 use std::process::Abort;
 use std::sync::Wait;
@@ -24,13 +24,12 @@ pub const ENDPOINT: u64 = 6144;
 
 pub const ENDPOINT_SLOT: u64 = 128;
 
-pub type LinkedKernel = Kernel<Wide, LinkedStore<Wide>, LinkedWaiters<Wide>>;
+/// With wide words, over a capability store and a store of waiting threads: a shared kernel, a client of it and its book.
+pub type Shared<N, S, W> = SharedKernel<N, Wide, S, W>;
 
-pub type LinkedShared<N> = SharedKernel<N, Wide, LinkedStore<Wide>, LinkedWaiters<Wide>>;
+pub type Caller<N, S, W> = Client<N, Wide, S, W>;
 
-pub type LinkedClient<N> = Client<N, Wide, LinkedStore<Wide>, LinkedWaiters<Wide>>;
-
-pub type LinkedBook<N> = Book<N, Wide, LinkedStore<Wide>, LinkedWaiters<Wide>>;
+pub type History<N, S, W> = Book<N, Wide, S, W>;
 
 pub const EMPTY: Message = Message {
     label: 0,
@@ -38,44 +37,22 @@ pub const EMPTY: Message = Message {
     count: 0,
 };
 
-/// A call of a thread that sends an empty message through the endpoint where a receiver waits.
-pub fn nb_send(thread: u64) -> Call {
-    Call {
-        thread,
-        op: Op::NbSend {
-            cap: 4,
-            message: EMPTY,
-        },
-    }
-}
-
-pub fn send(thread: u64) -> Call {
-    Call {
-        thread,
-        op: Op::Send {
-            cap: 4,
-            message: EMPTY,
-        },
-    }
-}
-
-pub fn recv(thread: u64) -> Call {
-    Call {
-        thread,
-        op: Op::Recv { cap: 4 },
-    }
-}
-
-/// The reply to an empty message from the first thread to the second.
-pub fn delivered() -> Reply {
-    Reply::Delivered {
-        endpoint: ENDPOINT,
-        from: FIRST,
-        to: SECOND,
-        badge: Badge(0),
+/// Calls of the first thread and of the second that send an empty message through the endpoint where a receiver waits.
+pub const FIRST_CALL: Call = Call {
+    thread: FIRST,
+    op: Op::NbSend {
+        cap: 4,
         message: EMPTY,
-    }
-}
+    },
+};
+
+pub const SECOND_CALL: Call = Call {
+    thread: SECOND,
+    op: Op::NbSend {
+        cap: 4,
+        message: EMPTY,
+    },
+};
 
 pub fn plan(rt: &impl Abort, alloc: Global) -> Result<BootPlan, AllocError>
     ensures { IfOk result (λ plan. IsPlan Name.Wide plan) }
@@ -86,14 +63,14 @@ pub fn plan(rt: &impl Abort, alloc: Global) -> Result<BootPlan, AllocError>
 }
 
 /// Boots a kernel and shares it among so many clients, at least one.
-pub fn begin<N: Naming, R: Wait>(
+pub fn begin<N: Naming, S: MakeStore<Wide>, W: MakeWaiters<Wide>, R: Wait>(
     rt: &R,
     alloc: Global,
     blank: Blank,
     plan: &BootPlan,
     clients: u32,
     limit: u32,
-) -> Result<(LinkedShared<N>, Vec<LinkedClient<N>>), StartFault>
+) -> Result<(Shared<N, S, W>, Vec<Caller<N, S, W>>), StartFault>
     requires name { blank.name ≡ N.name }
     requires parts { (blank.parts ≡ N.parts) × (blank.parts ≡ clients) }
     requires plan { IsPlan Name.Wide plan.now }
@@ -106,16 +83,16 @@ pub fn begin<N: Naming, R: Wait>(
     if clients == 0 {
         return Err(StartFault::Reader);
     }
-    let kernel = LinkedKernel::boot(alloc, plan)?;
+    let kernel = Kernel::<Wide, S, W>::boot(alloc, plan)?;
     SharedKernel::start(rt, alloc, blank, kernel, clients, limit)
 }
 
 /// The book of a shared kernel that is settled. Where it cannot be, it is given up.
-pub fn settled<N: Naming, R: Wait>(
+pub fn settled<N: Naming, S: MakeStore<Wide>, W: MakeWaiters<Wide>, R: Wait>(
     rt: &R,
-    shared: LinkedShared<N>,
-    clients: Vec<LinkedClient<N>>,
-) -> Option<LinkedBook<N>> {
+    shared: Shared<N, S, W>,
+    clients: Vec<Caller<N, S, W>>,
+) -> Option<History<N, S, W>> {
     match settle(rt, shared, clients) {
         Ok(book) => Some(book),
         Err(unsettled) => {

@@ -3,8 +3,8 @@ use Rattle.abstract_kernel.specs.Boot.{boot}
 use Rattle.abstract_kernel.specs.State.{shown}
 use Rattle.kernel_shared_tests.proofs.played.cases_come_out.Given as goal
 
-abbrev pub ghosts-play-N-Naming : goal.ghosts-play-N-Naming
-ghosts-play-N-Naming g a = record { profile = Wide; opening = shown (boot Wide a.plan.now); start = boot Wide a.plan.now; limit = a.limit }
+abbrev pub ghosts-observe-N-Naming : goal.ghosts-observe-N-Naming
+ghosts-observe-N-Naming g a = record { profile = Wide; opening = shown (boot Wide a.plan.now); start = boot Wide a.plan.now; limit = a.limit }
 
-abbrev pub ghosts-play-N-Ledger : goal.ghosts-play-N-Ledger
-ghosts-play-N-Ledger g a = record { name = a.blank.name; parts = a.blank.parts }
+abbrev pub ghosts-observe-N-Ledger : goal.ghosts-observe-N-Ledger
+ghosts-observe-N-Ledger g a = record { name = a.blank.name; parts = a.blank.parts }
