@@ -1,15 +1,14 @@
 //! What set-ups of the first format are migrated to.
 use setup_read::migrate;
 use std::alloc::Global;
+use std::process::Abort;
 use std::test::Fail;
 use toml::{Table, Value};
 
-/// A set-up with one untyped region.
-const SIZES: &str = "format = 1\nmemory_bits = 16\nroot_radix = 4\nthreads = 2\nendpoints = 1\n\
-    [[untyped]]\nbase = 16384\nbits = 12\n";
-
-/// A send by the first boot thread, and a receive by the second.
-const MESSAGE: &str = "[[call]]\nthread = 2048\nop = \"send\"\ncap = 4\nlabel = 7\nwords = [1, 2]\n\
+/// A set-up with one untyped region: a send by the first boot thread, and a receive by the second.
+const MESSAGE: &str = "format = 1\nmemory_bits = 16\nroot_radix = 4\nthreads = 2\nendpoints = 1\n\
+    [[untyped]]\nbase = 16384\nbits = 12\n\
+    [[call]]\nthread = 2048\nop = \"send\"\ncap = 4\nlabel = 7\nwords = [1, 2]\n\
     [[call]]\nthread = 4096\nop = \"recv\"\ncap = 4\nexpect = \"delivered 6144 from 2048\"\n";
 
 /// The same sizes in the narrow profile, and calls by both boot threads and by none.
@@ -20,7 +19,9 @@ const NARROW: &str =
     [[call]]\nthread = 4096\nop = \"nbsend\"\ncap = 4\n";
 
 /// Calls by the first boot thread in two spellings, and by addresses at which a boot puts no thread.
-const SPELT: &str = "[[call]]\nthread = \"0x800\"\nop = \"nbsend\"\ncap = \"0x4\"\n\
+const SPELT: &str = "format = 1\nmemory_bits = 16\nroot_radix = 4\nthreads = 2\nendpoints = 1\n\
+    [[untyped]]\nbase = 16384\nbits = 12\n\
+    [[call]]\nthread = \"0x800\"\nop = \"nbsend\"\ncap = \"0x4\"\n\
     [[call]]\nthread = \"0x0000000000000800\"\nop = \"nbsend\"\ncap = 4\n\
     [[call]]\nthread = 6144\nop = \"nbsend\"\ncap = 4\n\
     [[call]]\nthread = \"0x1001\"\nop = \"nbsend\"\ncap = 4\n";
@@ -68,81 +69,101 @@ fn at_call(alloc: Global, table: &Table, place: usize, key: &str) -> Result<Stri
     }
 }
 
-#[test]
-fn boot_objects_have_names(rt: HostRuntime) -> Result<(), Fail> {
-    let text = format!(in rt.alloc(); "{SIZES}{MESSAGE}")?;
-    let table = migrated(rt.alloc(), text.as_str())?;
-    for (name, word) in [
-        ("ep_0", 4),
-        ("tcb_0", 2),
-        ("tcb_1", 3),
-        ("thread_0", 2048),
-        ("thread_1", 4096),
-        ("untyped_0", 5),
-    ] {
-        assert!(rt; named(&table, name) == (6, word));
+/// Names that a migration gives: of a set-up how many, and of each of these its word.
+const NAMED: &[(&str, usize, &[(&str, i64)])] = &[
+    (
+        MESSAGE,
+        6,
+        &[
+            ("ep_0", 4),
+            ("tcb_0", 2),
+            ("tcb_1", 3),
+            ("thread_0", 2048),
+            ("thread_1", 4096),
+            ("untyped_0", 5),
+        ],
+    ),
+    (
+        NARROW,
+        5,
+        &[
+            ("ep_0", 4),
+            ("tcb_1", 3),
+            ("thread_0", 1024),
+            ("thread_1", 2048),
+        ],
+    ),
+];
+
+/// What stands at a key of a call, of a set-up that was migrated.
+const IN_CALLS: &[(&str, usize, &str, &str)] = &[
+    (MESSAGE, 0, "thread", "@thread_0"),
+    (MESSAGE, 1, "thread", "@thread_1"),
+    (MESSAGE, 0, "label", "7"),
+    (NARROW, 0, "thread", "@thread_0"),
+    (NARROW, 1, "thread", "@thread_1"),
+    (NARROW, 2, "thread", "4096"),
+    (SPELT, 0, "thread", "@thread_0"),
+    (SPELT, 0, "cap", "0x4"),
+    (SPELT, 1, "thread", "@thread_0"),
+    (SPELT, 2, "thread", "6144"),
+    (SPELT, 3, "thread", "0x1001"),
+];
+
+/// Set-ups that the first format refuses.
+const REFUSED: &[(&str, &str)] = &[
+    ("format = 1\nthreads", "200: set-up refused 200 at text"),
+    (
+        "format = 2\nnames = {}\n",
+        "204: set-up refused 204 at top key format",
+    ),
+    (
+        "format = 1\nnames = {}\n",
+        "201: set-up refused 201 at top key names",
+    ),
+    (
+        "format = 1\nmemory_bits = 12\nroot_radix = 12\nthreads = 1\nendpoints = 0\n",
+        "205: set-up refused 205 at layout outside",
+    ),
+];
+
+/// Whether a set-up that was migrated gives so many names, among them these, and keeps its sizes in format 2.
+fn are_named(table: &Table, count: usize, names: &[(&str, i64)]) -> bool {
+    let has_sizes = number(table, "format") == 2 && number(table, "memory_bits") == 16;
+    has_sizes
+        && names
+            .iter()
+            .all(|(name, word)| named(table, name) == (count, *word))
+}
+
+fn boot_objects_have_names(rt: &impl Abort, alloc: Global) -> Result<(), Fail> {
+    for (text, count, names) in NAMED {
+        let table = migrated(alloc, text)?;
+        assert!(rt; are_named(&table, *count, names), "names of {text}");
     }
-    assert!(rt; number(&table, "format") == 2 && number(&table, "memory_bits") == 16);
+    Ok(())
+}
+
+fn boot_threads_of_calls_stand_by_their_names(rt: &impl Abort, alloc: Global) -> Result<(), Fail> {
+    for (text, place, key, want) in IN_CALLS {
+        let table = migrated(alloc, text)?;
+        let found = at_call(alloc, &table, *place, key)?;
+        assert!(rt; found.as_str() == *want, "{key} of call {place} of {text}");
+    }
+    Ok(())
+}
+
+fn set_ups_that_the_first_format_refuses(rt: &impl Abort, alloc: Global) -> Result<(), Fail> {
+    for (text, want) in REFUSED {
+        let found = refused(alloc, text.as_bytes())?;
+        assert!(rt; found.as_str() == *want, "{text}: {found}");
+    }
     Ok(())
 }
 
 #[test]
-fn boot_objects_of_a_narrow_set_up_have_names(rt: HostRuntime) -> Result<(), Fail> {
-    let table = migrated(rt.alloc(), NARROW)?;
-    for (name, word) in [
-        ("ep_0", 4),
-        ("tcb_1", 3),
-        ("thread_0", 1024),
-        ("thread_1", 2048),
-    ] {
-        assert!(rt; named(&table, name) == (5, word));
-    }
-    Ok(())
-}
-
-#[test]
-fn boot_threads_of_calls_stand_by_their_names(rt: HostRuntime) -> Result<(), Fail> {
-    let message = format!(in rt.alloc(); "{SIZES}{MESSAGE}")?;
-    let spelt = format!(in rt.alloc(); "{SIZES}{SPELT}")?;
-    for (text, place, key, want) in [
-        (message.as_str(), 0, "thread", "@thread_0"),
-        (message.as_str(), 1, "thread", "@thread_1"),
-        (message.as_str(), 0, "label", "7"),
-        (NARROW, 0, "thread", "@thread_0"),
-        (NARROW, 1, "thread", "@thread_1"),
-        (NARROW, 2, "thread", "4096"),
-        (spelt.as_str(), 0, "thread", "@thread_0"),
-        (spelt.as_str(), 0, "cap", "0x4"),
-        (spelt.as_str(), 1, "thread", "@thread_0"),
-        (spelt.as_str(), 2, "thread", "6144"),
-        (spelt.as_str(), 3, "thread", "0x1001"),
-    ] {
-        let table = migrated(rt.alloc(), text)?;
-        let found = at_call(rt.alloc(), &table, place, key)?;
-        assert!(rt; found.as_str() == want);
-    }
-    Ok(())
-}
-
-#[test]
-fn set_ups_that_the_first_format_refuses(rt: HostRuntime) -> Result<(), Fail> {
-    for (text, want) in [
-        ("format = 1\nthreads", "200: set-up refused 200 at text"),
-        (
-            "format = 2\nnames = {}\n",
-            "204: set-up refused 204 at top key format",
-        ),
-        (
-            "format = 1\nnames = {}\n",
-            "201: set-up refused 201 at top key names",
-        ),
-        (
-            "format = 1\nmemory_bits = 12\nroot_radix = 12\nthreads = 1\nendpoints = 0\n",
-            "205: set-up refused 205 at layout outside",
-        ),
-    ] {
-        let found = refused(rt.alloc(), text.as_bytes())?;
-        assert!(rt; found.as_str() == want);
-    }
-    Ok(())
+fn set_ups_are_migrated(rt: HostRuntime) -> Result<(), Fail> {
+    boot_objects_have_names(&rt, rt.alloc())?;
+    boot_threads_of_calls_stand_by_their_names(&rt, rt.alloc())?;
+    set_ups_that_the_first_format_refuses(&rt, rt.alloc())
 }

@@ -3,34 +3,22 @@ use cap_core::ProfileName;
 use kernel_core::Op;
 use setup_read::read_setup;
 use std::alloc::Global;
+use std::process::Abort;
 use std::test::Fail;
 
-/// Which profile a text names, or the line of its refusal.
-fn answer(alloc: Global, text: &str) -> Result<String, Fail> {
-    match read_setup(alloc, text.as_bytes()) {
-        Ok(setup) => {
-            let name = match setup.profile() {
-                ProfileName::Wide => "wide",
-                ProfileName::Narrow => "narrow",
-            };
-            Ok(String::from_str(alloc, name)?)
-        }
-        Err(fault) => Ok(format!(in alloc; "{fault}")?),
-    }
-}
-
-/// What is answered where lines stand below sizes that either profile can lay out.
-fn below_sizes(alloc: Global, lines: &str) -> Result<String, Fail> {
-    let text = format!(in alloc;
-        "format = 1\nmemory_bits = 16\nroot_radix = 4\nthreads = 2\nendpoints = 1\n{lines}"
-    )?;
-    answer(alloc, text.as_str())
+/// Texts in one place of a set-up, each with what the set-up is: a profile, or the line of its refusal.
+struct Table {
+    name: &'static str,
+    before: &'static str,
+    texts: &'static [(&'static str, &'static str)],
+    after: &'static str,
 }
 
 /// The profile is read after the keys were looked through and before the others are read.
-#[test]
-fn which_profile_a_set_up_names(rt: HostRuntime) -> Result<(), Fail> {
-    for (lines, want) in [
+const WHICH: Table = Table {
+    name: "which profile a set-up names",
+    before: "format = 1\nmemory_bits = 16\nroot_radix = 4\nthreads = 2\nendpoints = 1\n",
+    texts: &[
         ("", "wide"),
         ("profile = \"wide\"", "wide"),
         ("profile = \"narrow\"", "narrow"),
@@ -56,22 +44,30 @@ fn which_profile_a_set_up_names(rt: HostRuntime) -> Result<(), Fail> {
             "profile = 32\nzeta = 1",
             "set-up refused 201 at top key zeta",
         ),
-    ] {
-        let got = below_sizes(rt.alloc(), lines)?;
-        assert_eq!(rt; got.as_str(), want, "of {lines}");
-    }
-    let got = answer(rt.alloc(), "format = 1\nprofile = \"thin\"\n")?;
-    assert_eq!(rt; got.as_str(), "set-up refused 204 at top key profile");
-    let got = answer(rt.alloc(), "format = 3\nprofile = 32\n")?;
-    assert_eq!(rt; got.as_str(), "set-up refused 204 at top key format");
-    Ok(())
-}
+    ],
+    after: "",
+};
+
+/// The format is read before the profile, and the profile before the keys that are missing.
+const BEFORE_THE_SIZES: Table = Table {
+    name: "which profile a set-up without sizes names",
+    before: "format = ",
+    texts: &[
+        (
+            "1\nprofile = \"thin\"\n",
+            "set-up refused 204 at top key profile",
+        ),
+        ("3\nprofile = 32\n", "set-up refused 204 at top key format"),
+    ],
+    after: "",
+};
 
 /// Of each bound the last region that a narrow set-up may have, and the first that it may not. A region that is larger
 /// than the memory is a fault of the layout.
-#[test]
-fn bounds_of_a_narrow_untyped_region(rt: HostRuntime) -> Result<(), Fail> {
-    for (region, want) in [
+const REGIONS: Table = Table {
+    name: "bounds of a narrow untyped region",
+    before: "format = 1\nmemory_bits = 16\nroot_radix = 4\nthreads = 2\nendpoints = 1\nprofile = \"narrow\"\nuntyped = [{ ",
+    texts: &[
         (
             "base = 16384, bits = 3",
             "set-up refused 204 at untyped 1 key bits",
@@ -101,18 +97,15 @@ fn bounds_of_a_narrow_untyped_region(rt: HostRuntime) -> Result<(), Fail> {
             "base = \"0x100000000\", bits = 4",
             "set-up refused 204 at untyped 1 key base",
         ),
-    ] {
-        let lines = format!(in rt.alloc(); "profile = \"narrow\"\nuntyped = [{{ {region} }}]")?;
-        let got = below_sizes(rt.alloc(), lines.as_str())?;
-        assert_eq!(rt; got.as_str(), want, "of {region}");
-    }
-    Ok(())
-}
+    ],
+    after: " }]",
+};
 
 /// Of each bound the last word that a call of a narrow set-up may have, and the first that it may not.
-#[test]
-fn bounds_of_the_words_of_a_narrow_call(rt: HostRuntime) -> Result<(), Fail> {
-    for (call, want) in [
+const WORDS: Table = Table {
+    name: "bounds of the words of a narrow call",
+    before: "format = 1\nmemory_bits = 16\nroot_radix = 4\nthreads = 2\nendpoints = 1\nprofile = \"narrow\"\ncall = [{ ",
+    texts: &[
         ("thread = 4294967295, op = \"recv\", cap = 4", "narrow"),
         (
             "thread = 4294967296, op = \"recv\", cap = 4",
@@ -158,19 +151,16 @@ fn bounds_of_the_words_of_a_narrow_call(rt: HostRuntime) -> Result<(), Fail> {
             "thread = 1024, op = \"mint\", cap = 1, index = 8, src_index = 4, word = 4294967296",
             "set-up refused 204 at call 1 key word",
         ),
-    ] {
-        let lines = format!(in rt.alloc(); "profile = \"narrow\"\ncall = [{{ {call} }}]")?;
-        let got = below_sizes(rt.alloc(), lines.as_str())?;
-        assert_eq!(rt; got.as_str(), want, "of {call}");
-    }
-    Ok(())
-}
+    ],
+    after: " }]",
+};
 
 /// The most objects that a memory holds in each profile, and one more. A CNode has 2^radix slots of 32 or 16 bytes, and
 /// a thread control block 2048 or 1024 bytes; the slots of the root CNode suffice.
-#[test]
-fn what_a_memory_holds_in_each_profile(rt: HostRuntime) -> Result<(), Fail> {
-    for (sizes, want) in [
+const OBJECTS: Table = Table {
+    name: "what a memory holds in each profile",
+    before: "format = 1\n",
+    texts: &[
         (
             "memory_bits = 12\nroot_radix = 4\nthreads = 1\nendpoints = 0",
             "wide",
@@ -195,38 +185,67 @@ fn what_a_memory_holds_in_each_profile(rt: HostRuntime) -> Result<(), Fail> {
             "profile = \"narrow\"\nmemory_bits = 12\nroot_radix = 7\nthreads = 1\nendpoints = 65",
             "set-up refused 205 at layout outside",
         ),
-    ] {
-        let text = format!(in rt.alloc(); "format = 1\n{sizes}\n")?;
-        let got = answer(rt.alloc(), text.as_str())?;
-        assert_eq!(rt; got.as_str(), want, "of {sizes}");
+    ],
+    after: "\n",
+};
+
+/// Which profile a text names, or the line of its refusal.
+fn answer(alloc: Global, text: &str) -> Result<String, Fail> {
+    match read_setup(alloc, text.as_bytes()) {
+        Ok(setup) => {
+            let name = match setup.profile() {
+                ProfileName::Wide => "wide",
+                ProfileName::Narrow => "narrow",
+            };
+            Ok(String::from_str(alloc, name)?)
+        }
+        Err(fault) => Ok(format!(in alloc; "{fault}")?),
+    }
+}
+
+/// Each text of a table is answered as it says.
+fn comes_out(rt: &impl Abort, alloc: Global, table: &Table) -> Result<(), Fail> {
+    let Table {
+        name,
+        before,
+        after,
+        ..
+    } = *table;
+    for (text, want) in table.texts {
+        let setup = format!(in alloc; "{before}{text}{after}")?;
+        let got = answer(alloc, setup.as_str())?;
+        assert!(rt; got.as_str() == *want, "{name}: {text}: {got}");
     }
     Ok(())
 }
 
-/// The depths of the one call of a set-up, which is a copy, or zeros.
-fn depths(alloc: Global, profile: &str) -> Result<(u64, u64), Fail> {
+/// Whether the one call of a set-up with this profile is a copy, whose depths are these where it gives none.
+fn depths_are(alloc: Global, profile: &str, want: u64) -> Result<bool, Fail> {
     let text = format!(in alloc;
         "format = 1\nprofile = \"{profile}\"\nmemory_bits = 16\nroot_radix = 4\nthreads = 2\nendpoints = 1\ncall = [{{ thread = 1024, op = \"copy\", cap = 1, index = 8, src_index = 4 }}]\n"
     )?;
     let Ok(setup) = read_setup(alloc, text.as_bytes()) else {
-        return Err("a set-up was wanted")?;
+        return Ok(false);
     };
-    match setup.calls() {
-        [call] => match call.op {
-            Op::CapCopy {
-                depth,
-                src_depth,
-                ..
-            } => Ok((depth, src_depth)),
-            _ => Ok((0, 0)),
-        },
-        _ => Ok((0, 0)),
-    }
+    Ok(match setup.calls() {
+        [call] => {
+            matches!(call.op, Op::CapCopy { depth, src_depth, .. } if depth == want && src_depth == want)
+        }
+        _ => false,
+    })
 }
 
+/// Profiles and bounds; and depths that are not given are all the bits of a word.
 #[test]
-fn depths_that_are_not_given_are_all_the_bits_of_a_word(rt: HostRuntime) -> Result<(), Fail> {
-    assert!(rt; depths(rt.alloc(), "wide")? == (64, 64));
-    assert!(rt; depths(rt.alloc(), "narrow")? == (32, 32));
+fn profiles_bound_what_a_set_up_may_say(rt: HostRuntime) -> Result<(), Fail> {
+    for table in [&WHICH, &BEFORE_THE_SIZES, &REGIONS, &WORDS, &OBJECTS] {
+        comes_out(&rt, rt.alloc(), table)?;
+    }
+    for (profile, depth) in [("wide", 64), ("narrow", 32)] {
+        assert!(rt;
+            depths_are(rt.alloc(), profile, depth)?,
+            "depths that are not given: {profile}"
+        );
+    }
     Ok(())
 }

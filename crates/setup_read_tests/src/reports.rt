@@ -1,46 +1,22 @@
 //! Whole reports, byte for byte.
+ghost use Rattle.cap_core.specs.declared.profile.ProfileName.TheVariants as Name;
+ghost use Rattle.abstract_kernel.specs.Plan.{IsPlan};
+
 use cap_core::{ProfileName, Wide};
 use ipc_core::RowWaiters;
 use kernel_core::Kernel;
-use setup_read::{expectations, read_setup, report};
+use setup_read::{Setup, expectations, read_setup, report};
 use slot_core::RowStore;
 use std::alloc::Global;
-use std::process::Abort;
 use std::test::Fail;
 
-/// The report of a wide set-up's run, and how many of its expectations are met and how many it has.
-fn ran(alloc: Global, text: &str) -> Result<(String, usize, usize), Fail> {
-    let Ok(setup) = read_setup(alloc, text.as_bytes()) else {
-        return Err("a set-up was wanted")?;
-    };
-    if setup.profile() != ProfileName::Wide {
-        return Err("a wide set-up was wanted")?;
-    }
-    let mut kernel = Kernel::<Wide, RowStore<Wide>, RowWaiters<Wide>>::boot(alloc, setup.plan())?;
-    let calls = setup.calls();
-    let mut replies = Vec::with_capacity(alloc, calls.len())?;
-    kernel.run(calls, &mut replies);
-    if replies.len() != calls.len() {
-        return Err("a reply to each call was wanted")?;
-    }
-    let bytes = report(alloc, &setup, replies.as_slice(), &kernel)?;
-    let count = expectations(alloc, &setup, replies.as_slice())?;
-    let text = std::str::from_utf8(bytes.as_slice())?;
-    Ok((String::from_str(alloc, text)?, count.met, count.expected))
-}
-
-/// A set-up gives exactly this report, in which so many expectations are met of so many.
-fn gives(
-    rt: &(impl Abort + AllocGlobal),
-    text: &str,
-    wanted: &str,
+/// A set-up, its report, and how many of its expectations are met of how many.
+struct Case {
+    name: &'static str,
+    setup: &'static str,
+    report: &'static str,
     met: usize,
     expected: usize,
-) -> Result<(), Fail> {
-    let (report, got_met, got_expected) = ran(rt.alloc(), text)?;
-    assert!(rt; report.as_str() == wanted, "{report}");
-    assert!(rt; got_met == met && got_expected == expected, "{report}");
-    Ok(())
 }
 
 const DELIVERY: &str = "format = 1
@@ -74,11 +50,6 @@ slot 2048 cnode 0 radix 4 guard 0 size 60
 slot 4096 cnode 0 radix 4 guard 0 size 60
 expected 1 of 1
 ";
-
-#[test]
-fn delivered_message_is_in_the_inbox(rt: HostRuntime) -> Result<(), Fail> {
-    gives(&rt, DELIVERY, DELIVERY_REPORT, 1, 1)
-}
 
 const NOT_DELIVERED: &str = "format = 1
 memory_bits = 16
@@ -121,11 +92,6 @@ slot 2048 cnode 0 radix 4 guard 0 size 60
 slot 4096 cnode 0 radix 4 guard 0 size 60
 expected 1 of 3
 ";
-
-#[test]
-fn refusals_have_their_kind_and_expectations_are_told(rt: HostRuntime) -> Result<(), Fail> {
-    gives(&rt, NOT_DELIVERED, NOT_DELIVERED_REPORT, 1, 3)
-}
 
 const TWO_SENDERS: &str = "format = 1
 memory_bits = 16
@@ -188,11 +154,6 @@ slot 4096 cnode 0 radix 4 guard 0 size 60
 expected 0 of 0
 ";
 
-#[test]
-fn senders_wait_in_turn(rt: HostRuntime) -> Result<(), Fail> {
-    gives(&rt, TWO_SENDERS, TWO_SENDERS_REPORT, 0, 0)
-}
-
 const WITHOUT_CALLS: &str = "format = 1
 memory_bits = 16
 root_radix = 4
@@ -216,7 +177,71 @@ slot 4096 cnode 0 radix 4 guard 0 size 60
 expected 0 of 0
 ";
 
+const CASES: [Case; 4] = [
+    Case {
+        name: "a delivered message is in the inbox",
+        setup: DELIVERY,
+        report: DELIVERY_REPORT,
+        met: 1,
+        expected: 1,
+    },
+    Case {
+        name: "refusals have their kind, and expectations are told",
+        setup: NOT_DELIVERED,
+        report: NOT_DELIVERED_REPORT,
+        met: 1,
+        expected: 3,
+    },
+    Case {
+        name: "senders wait in turn",
+        setup: TWO_SENDERS,
+        report: TWO_SENDERS_REPORT,
+        met: 0,
+        expected: 0,
+    },
+    Case {
+        name: "the report of a boot without calls",
+        setup: WITHOUT_CALLS,
+        report: AFTER_BOOT,
+        met: 0,
+        expected: 0,
+    },
+];
+
+/// The report of a wide set-up's run, and how many of its expectations are met and how many it has.
+fn ran(alloc: Global, setup: &Setup) -> Result<(Vec<u8>, usize, usize), Fail>
+    requires { IsPlan Name.Wide setup.now.plan }
+{
+    let calls = setup.calls();
+    let mut replies = Vec::with_capacity(alloc, calls.len())?;
+    let mut kernel = Kernel::<Wide, RowStore<Wide>, RowWaiters<Wide>>::boot(alloc, setup.plan())?;
+    kernel.run(calls, &mut replies);
+    if replies.len() != calls.len() {
+        return Err("a reply to each call was wanted")?;
+    }
+    let count = expectations(alloc, setup, replies.as_slice())?;
+    let text = report(alloc, setup, replies.as_slice(), &kernel)?;
+    Ok((text, count.met, count.expected))
+}
+
+/// Whether a case comes out exactly so.
+fn comes_out(alloc: Global, case: &Case) -> Result<bool, Fail> {
+    let Ok(setup) = read_setup(alloc, case.setup.as_bytes()) else {
+        return Ok(false);
+    };
+    if setup.profile() != ProfileName::Wide {
+        return Ok(false);
+    }
+    let (text, met, expected) = ran(alloc, &setup)?;
+    let is_counted = met == case.met && expected == case.expected;
+    Ok(is_counted && text.as_slice() == case.report.as_bytes())
+}
+
 #[test]
-fn report_of_a_boot_without_calls(rt: HostRuntime) -> Result<(), Fail> {
-    gives(&rt, WITHOUT_CALLS, AFTER_BOOT, 0, 0)
+fn reports_are_whole(rt: HostRuntime) -> Result<(), Fail> {
+    for case in &CASES {
+        let name = case.name;
+        assert!(rt; comes_out(rt.alloc(), case)?, "{name}");
+    }
+    Ok(())
 }

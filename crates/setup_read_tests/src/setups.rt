@@ -1,6 +1,7 @@
 //! What whole set-ups are read as.
 use setup_read::{Setup, read_setup, read_table};
 use std::alloc::Global;
+use std::process::Abort;
 use std::test::Fail;
 
 /// A set-up with no untyped region and no call.
@@ -43,27 +44,30 @@ fn expected(setup: &Setup, place: usize) -> &str {
     }
 }
 
-#[test]
-fn one_message_from_thread_to_thread(rt: HostRuntime) -> Result<(), Fail> {
-    let setup = setup(rt.alloc(), MESSAGE)?;
-    assert!(rt; counts(&setup) == (2, 2, 2));
-    assert!(rt; setup.plan().untypeds() == [(16384, 12)].as_slice());
-    assert!(rt; caller(&setup, 0) == (2048, 0) && caller(&setup, 1) == (4096, 1));
-    assert!(rt; expected(&setup, 0) == "-" && expected(&setup, 1) == "delivered 6144 from 2048");
+fn is_one_message(setup: &Setup) -> bool {
+    let is_laid_out = counts(setup) == (2, 2, 2)
+        && setup.plan().untypeds() == [(16384, 12)].as_slice();
+    let are_called = caller(setup, 0) == (2048, 0) && caller(setup, 1) == (4096, 1);
+    let are_expected = expected(setup, 0) == "-"
+        && expected(setup, 1) == "delivered 6144 from 2048";
+    is_laid_out && are_called && are_expected
+}
+
+fn one_message_from_thread_to_thread(rt: &impl Abort, alloc: Global) -> Result<(), Fail> {
+    let setup = setup(alloc, MESSAGE)?;
+    assert!(rt; is_one_message(&setup));
     Ok(())
 }
 
-#[test]
-fn limit_is_one_where_there_is_no_call(rt: HostRuntime) -> Result<(), Fail> {
-    let setup = setup(rt.alloc(), "")?;
+fn limit_is_one_where_there_is_no_call(rt: &impl Abort, alloc: Global) -> Result<(), Fail> {
+    let setup = setup(alloc, "")?;
     assert!(rt; counts(&setup) == (1, 1, 0));
     Ok(())
 }
 
-#[test]
-fn table_of_a_document_is_read_as_the_document(rt: HostRuntime) -> Result<(), Fail> {
-    let table = toml::table_from_str(rt.alloc(), SIZES)?;
-    let Ok(setup) = read_table(rt.alloc(), &table) else {
+fn table_of_a_document_is_read_as_the_document(rt: &impl Abort, alloc: Global) -> Result<(), Fail> {
+    let table = toml::table_from_str(alloc, SIZES)?;
+    let Ok(setup) = read_table(alloc, &table) else {
         return Err("a set-up was wanted")?;
     };
     assert!(rt; setup.plan().threads() == 2);
@@ -71,13 +75,21 @@ fn table_of_a_document_is_read_as_the_document(rt: HostRuntime) -> Result<(), Fa
 }
 
 /// The answer is the set-up or `Memory`, and nothing else, whichever growth is refused.
-#[test]
-fn memory_alone_is_refused_in_place_of_a_good_set_up(rt: HostRuntime) {
+fn memory_alone_is_refused_in_place_of_a_good_set_up(rt: &impl Abort, alloc: Global) {
     let text = b"format = 1\nmemory_bits = 16\nroot_radix = 4\nthreads = 2\nendpoints = 1\n\
         untyped = [{ base = 16384, bits = 12 }]\n\
         call = [{ op = \"send\", thread = 2048, cap = 4, expect = \"waiting\" }]\n";
-    match read_setup(rt.alloc(), text.as_slice()) {
+    match read_setup(alloc, text.as_slice()) {
         Ok(setup) => assert!(rt; setup.calls().len() == 1),
         Err(fault) => assert!(rt; fault.code() == 206),
     }
+}
+
+#[test]
+fn set_ups_are_read(rt: HostRuntime) -> Result<(), Fail> {
+    one_message_from_thread_to_thread(&rt, rt.alloc())?;
+    limit_is_one_where_there_is_no_call(&rt, rt.alloc())?;
+    table_of_a_document_is_read_as_the_document(&rt, rt.alloc())?;
+    memory_alone_is_refused_in_place_of_a_good_set_up(&rt, rt.alloc());
+    Ok(())
 }
