@@ -1,4 +1,4 @@
--- How the two forms keep the threads that wait. Nothing here has to be believed: only the forms' own functions cite it.
+-- How the two forms keep the threads that wait. The clauses of `Waiters` name none of it.
 pub mod Rows
 pub mod Chains
 pub mod Linked
