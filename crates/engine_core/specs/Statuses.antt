@@ -1,7 +1,7 @@
 -- The program's exit status after a run, and what it says of a fault.
 use Rattle.std.specs.Prelude.{ℕ, List, codes, Result, Ok, Err}
 use Rattle.engine_core.specs.declared.fault.Verdict.{Verdict}
-use Rattle.engine_core.specs.declared.fault.Verdict.TheVariants.{AllMet, NotMet, Refused}
+use Rattle.engine_core.specs.declared.fault.Verdict.TheVariants.{AllMet, NotMet, Refused, Absent}
 use Rattle.engine_core.specs.declared.fault.RunFault.{RunFault}
 use Rattle.engine_core.specs.declared.fault.RunFault.TheVariants.{Reading, Writing, Memory, Thread}
 
@@ -9,6 +9,7 @@ abbrev pub run_status : Result Verdict RunFault → ℕ
 run_status (Ok AllMet) = 0
 run_status (Ok NotMet) = 1
 run_status (Ok Refused) = 2
+run_status (Ok Absent) = 4
 run_status (Err fault) = 3
 
 abbrev pub run_fault_text : RunFault → List ℕ

@@ -13,6 +13,8 @@ pub enum Verdict {
     NotMet,
     /// The set-up is refused, and nothing was run.
     Refused,
+    /// The command line names a call, a slot or an order that the set-up does not have.
+    Absent,
 }
 
 /// Why a run came to no verdict. It is shown as its `text`.
@@ -45,8 +47,8 @@ impl RunFault {
     }
 }
 
-/// The program's exit status: 0 where all expectations are met, 1 where one is not, 2 where the set-up is refused, 3
-/// after a fault.
+/// The program's exit status: 0 where all expectations are met, 1 where one is not, 2 where the set-up is refused, 4
+/// where it does not have what the command line names, 3 after a fault.
 pub fn status_of(answer: &Result<Verdict, RunFault>) -> u8
     ensures { result ≡ run_status answer.now }
 {
@@ -54,6 +56,7 @@ pub fn status_of(answer: &Result<Verdict, RunFault>) -> u8
         Ok(Verdict::AllMet) => 0,
         Ok(Verdict::NotMet) => 1,
         Ok(Verdict::Refused) => 2,
+        Ok(Verdict::Absent) => 4,
         Err(_) => 3,
     }
 }

@@ -124,6 +124,7 @@ fn statuses_are_as_documented(rt: HostRuntime) {
         (Verdict::AllMet, 0),
         (Verdict::NotMet, 1),
         (Verdict::Refused, 2),
+        (Verdict::Absent, 4),
     ];
     for (verdict, status) in verdicts {
         assert!(rt; status_of(&Ok(verdict)) == status, "{status}");
