@@ -10,13 +10,13 @@ use Rattle.cap_core.specs.declared.capability.Cap.TheVariants.{Null, Untyped, En
 use Rattle.cap_core.specs.declared.refusal.Refusal.{Refusal}
 use Rattle.cap_core.specs.Refusals.{refusal_code, refusal_kind}
 use Rattle.abstract_kernel.specs.declared.call.Call.{Call}
-use Rattle.abstract_kernel.specs.declared.call.Op.{Op}
-use Rattle.abstract_kernel.specs.declared.call.Op.TheVariants.{Retype, CapCopy, CapMint, CapMove, CapMutate, CapDelete, CapRevoke, CancelBadged, Send, NbSend, Recv, NbRecv, SetSpace, Suspend, Resume}
 use Rattle.abstract_kernel.specs.declared.call.Reply.{Reply}
 use Rattle.abstract_kernel.specs.declared.call.Reply.TheVariants.{Done, Delivered, Waiting, Dropped, Empty, Refused}
 use Rattle.abstract_kernel.specs.declared.call.ThreadState.{ThreadState}
 use Rattle.abstract_kernel.specs.declared.call.ThreadState.TheVariants.{Ready, Inactive, Sending, Receiving}
 use Rattle.abstract_kernel.specs.declared.call.Inbox.{Inbox}
+use Rattle.setup_values.specs.Operations.{op_text}
+use Rattle.setup_format.specs.Operations.{op_name}
 
 -- ---- capabilities and messages
 
@@ -47,23 +47,6 @@ cap_text (Tcb base) = codes "tcb " ++ decimal base
 
 -- ---- calls and replies
 
-abbrev pub op_text : Op → List ℕ
-op_text (Retype cap kind size_bits root index depth offset count) = codes "retype"
-op_text (CapCopy cap index depth src_root src_index src_depth rights) = codes "copy"
-op_text (CapMint cap index depth src_root src_index src_depth rights word) = codes "mint"
-op_text (CapMove cap index depth src_root src_index src_depth) = codes "move"
-op_text (CapMutate cap index depth src_root src_index src_depth word) = codes "mutate"
-op_text (CapDelete cap index depth) = codes "delete"
-op_text (CapRevoke cap index depth) = codes "revoke"
-op_text (CancelBadged cap index depth) = codes "cancel_badged"
-op_text (Send cap message) = codes "send"
-op_text (NbSend cap message) = codes "nbsend"
-op_text (Recv cap) = codes "recv"
-op_text (NbRecv cap) = codes "nbrecv"
-op_text (SetSpace cap root word) = codes "set_space"
-op_text (Suspend cap) = codes "suspend"
-op_text (Resume cap) = codes "resume"
-
 -- the number of a refusal, and after a stroke the number of a lookup failure's kind
 abbrev pub refusal_text : Refusal → List ℕ
 refusal_text r = decimal (refusal_code r) ++ (if refusal_kind r == 0 then [] else codes "/" ++ decimal (refusal_kind r))
@@ -79,7 +62,7 @@ reply_text (Delivered endpoint from to badge message) =
 
 -- the thread that makes a call, the operation, and what it is answered
 abbrev pub answered_text : Call → Reply → List ℕ
-answered_text call reply = decimal call.thread ++ (codes " " ++ (op_text call.op ++ (codes ": " ++ reply_text reply)))
+answered_text call reply = decimal call.thread ++ (codes " " ++ (op_text (op_name call.op) ++ (codes ": " ++ reply_text reply)))
 
 -- a text equals the expected one, or begins with it followed by a space
 abbrev pub begins_as : List ℕ → List ℕ → Bool

@@ -25,7 +25,7 @@ use std::alloc::{AllocError, Global};
 use std::fmt::Write;
 pub use text::{
     AnsweredText, CapText, InboxText, MessageText, NumbersText, RefusalText, ReplyText, RightsText,
-    StateText, op_text,
+    StateText,
 };
 
 /// The report of a run as text: a line for each call of the set-up with its reply; of the memory, as `kernel` shows it,

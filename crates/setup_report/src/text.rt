@@ -5,7 +5,8 @@ ghost use Rattle.setup_report.specs.Text as text;
 use bitflags::Flags;
 use cap_core::limits::MAX_MESSAGE_WORDS;
 use cap_core::{Cap, Message, Refusal, Rights};
-use kernel_core::{Call, Inbox, Op, Reply, ThreadState};
+use kernel_core::{Call, Inbox, Reply, ThreadState};
+use setup_format::op_name;
 use std::fmt;
 
 /// The rights of an endpoint capability: a letter for each right, or `-` where it is missing.
@@ -103,29 +104,6 @@ impl fmt::Display for CapText {
     }
 }
 
-/// The name of an operation in a set-up.
-pub fn op_text(op: &Op) -> &'static str
-    ensures { result.now ≡ text.op_text op.now }
-{
-    match op {
-        Op::Retype { .. } => "retype",
-        Op::CapCopy { .. } => "copy",
-        Op::CapMint { .. } => "mint",
-        Op::CapMove { .. } => "move",
-        Op::CapMutate { .. } => "mutate",
-        Op::CapDelete { .. } => "delete",
-        Op::CapRevoke { .. } => "revoke",
-        Op::CancelBadged { .. } => "cancel_badged",
-        Op::Send { .. } => "send",
-        Op::NbSend { .. } => "nbsend",
-        Op::Recv { .. } => "recv",
-        Op::NbRecv { .. } => "nbrecv",
-        Op::SetSpace { .. } => "set_space",
-        Op::Suspend { .. } => "suspend",
-        Op::Resume { .. } => "resume",
-    }
-}
-
 /// The number of a refusal, and of a lookup failure the number of its kind.
 #[derive(Clone, Copy)]
 pub struct RefusalText(pub Refusal);
@@ -191,7 +169,7 @@ impl fmt::Display for AnsweredText<'_> {
 
     fn fmt<W: fmt::Write>(&self, f: &mut fmt::Formatter<W>) -> fmt::Result {
         let thread = self.call.thread;
-        let op = op_text(&self.call.op);
+        let op = op_name(&self.call.op).text();
         let reply = ReplyText(self.reply);
         write!(f, "{thread} {op}: {reply}")
     }
