@@ -1,5 +1,6 @@
 //! What the keys of a set-up accept.
-use crate::document::profile_of;
+use crate::document::Formats;
+use crate::message::Spot;
 use cap_core::limits::{
     MAX_BOOT_ENDPOINTS, MAX_BOOT_THREADS, MAX_BOOT_UNTYPEDS, MAX_CLIENTS, MAX_HISTORY_LIMIT,
     MAX_MEMORY_BITS, MAX_MESSAGE_WORDS, MAX_ROOT_RADIX, MIN_BOOT_THREADS, MIN_MEMORY_BITS,
@@ -10,16 +11,6 @@ use setup_format::Place;
 use setup_format::limits::{FIRST_FORMAT, MAX_CALLS, MAX_EXPECT_BYTES, NEWEST_FORMAT};
 use setup_values::OpName;
 use std::fmt;
-use toml::Table;
-
-/// By which formats a set-up is read.
-#[derive(Clone, Copy)]
-pub enum Formats {
-    /// By all, as a check reads it.
-    All,
-    /// By the first alone, as a migration reads it.
-    First,
-}
 
 /// What a name has.
 pub const A_NAME: &str = "1 to 40 of the letters a to z, the digits and _";
@@ -33,114 +24,80 @@ const A_WORD: &str =
 pub const A_NUMBER: &str =
     "a number from 0 on, or a text of 0x and 1 to 16 hexadecimal digits; in a narrow set-up it is below 2^32";
 
-/// What a key accepts.
+/// What a key of a document accepts, or an element of the array there.
 #[derive(Clone, Copy)]
-pub enum Accepted {
-    /// A number from one to another.
-    Number(u32, u32),
-    /// The number of bits of a region's size, from one to another.
-    Size(u32, u32),
-    /// As the text says.
-    Told(&'static str),
-    Operation,
-    Word,
-    Words,
-    Label,
-    Expectation,
-    Names,
-    /// At most so many tables.
-    Tables(usize),
-}
+pub struct Accepted<'a>(pub Spot<'a>);
 
-/// What a key of a table of the document accepts. A key of a call that is not named here holds a word.
-pub fn accepted_at(document: &Table, formats: Formats, place: Place, key: &str) -> Accepted {
-    match place {
-        Place::Top => in_top(formats, key),
-        Place::Untyped(_) if key == "bits" => match profile_of(document) {
-            ProfileName::Wide => Accepted::Size(Wide::MIN_UNTYPED_BITS, Wide::MAX_OBJECT_BITS),
-            ProfileName::Narrow => Accepted::Size(
-                Narrow::MIN_UNTYPED_BITS,
-                Narrow::MAX_OBJECT_BITS,
-            ),
-        },
-        Place::Untyped(_) => Accepted::Told(A_NUMBER),
-        Place::Call(_) => match key {
-            "op" => Accepted::Operation,
-            "words" => Accepted::Words,
-            "client" => Accepted::Told("a number from 0 on and below the number of clients"),
-            "rights" => Accepted::Told(
-                "a number from 0 to 15, the sum of 1 for w, 2 for r, 4 for g and 8 for p",
-            ),
-            "label" => Accepted::Label,
-            "expect" => Accepted::Expectation,
-            _ => Accepted::Word,
-        },
+impl fmt::Display for Accepted<'_> {
+    fn fmt<W: fmt::Write>(&self, f: &mut fmt::Formatter<W>) -> fmt::Result {
+        let Accepted(spot) = *self;
+        let (document, key) = (spot.document, spot.key);
+        match spot.place {
+            _ if spot.element.is_some() => write!(f, "{A_WORD}"),
+            Place::Top => write_in_top(f, document.formats, key),
+            Place::Untyped(_) if key == "bits" => write_bits(f, document.profile()),
+            Place::Untyped(_) => write!(f, "{A_NUMBER}"),
+            Place::Call(_) if key == "op" => write_operations(f),
+            Place::Call(_) => write_in_call(f, key),
+        }
     }
 }
 
-fn in_top(formats: Formats, key: &str) -> Accepted {
+/// Writes what a key of the top table accepts.
+#[rattlefmt::skip]
+fn write_in_top<W: fmt::Write>(f: &mut fmt::Formatter<W>, formats: Formats, key: &str) -> fmt::Result {
     match (key, formats) {
-        ("format", Formats::First) => Accepted::Told(
-            "1, since only a set-up of format 1 is migrated",
-        ),
-        ("format", Formats::All) => Accepted::Number(FIRST_FORMAT, NEWEST_FORMAT),
-        ("profile", _) => Accepted::Told("\"wide\" or \"narrow\""),
-        ("memory_bits", _) => Accepted::Number(MIN_MEMORY_BITS, MAX_MEMORY_BITS),
-        ("root_radix", _) => Accepted::Number(MIN_ROOT_RADIX, MAX_ROOT_RADIX),
-        ("threads", _) => Accepted::Number(MIN_BOOT_THREADS, MAX_BOOT_THREADS),
-        ("endpoints", _) => Accepted::Number(0, MAX_BOOT_ENDPOINTS),
-        ("clients", _) => Accepted::Number(1, MAX_CLIENTS),
-        ("limit", _) => Accepted::Number(1, MAX_HISTORY_LIMIT),
-        ("names", _) => Accepted::Names,
-        ("untyped", _) => Accepted::Tables(MAX_BOOT_UNTYPEDS as usize),
-        _ => Accepted::Tables(MAX_CALLS),
+        ("format", Formats::First) => write!(f, "1, since only a set-up of format 1 is migrated"),
+        ("format", Formats::All) => write!(f, "a number from {FIRST_FORMAT} to {NEWEST_FORMAT}"),
+        ("profile", _) => write!(f, "\"wide\" or \"narrow\""),
+        ("memory_bits", _) => write!(f, "a number from {MIN_MEMORY_BITS} to {MAX_MEMORY_BITS}"),
+        ("root_radix", _) => write!(f, "a number from {MIN_ROOT_RADIX} to {MAX_ROOT_RADIX}"),
+        ("threads", _) => write!(f, "a number from {MIN_BOOT_THREADS} to {MAX_BOOT_THREADS}"),
+        ("endpoints", _) => write!(f, "a number from 0 to {MAX_BOOT_ENDPOINTS}"),
+        ("clients", _) => write!(f, "a number from 1 to {MAX_CLIENTS}"),
+        ("limit", _) => write!(f, "a number from 1 to {MAX_HISTORY_LIMIT}"),
+        ("names", _) => write!(f, "a table of numbers, whose keys have {A_NAME}"),
+        ("untyped", _) => write!(f, "an array of at most {MAX_BOOT_UNTYPEDS} tables"),
+        _ => write!(f, "an array of at most {MAX_CALLS} tables"),
     }
 }
 
-impl fmt::Display for Accepted {
-    fn fmt<W: fmt::Write>(&self, f: &mut fmt::Formatter<W>) -> fmt::Result {
-        match *self {
-            Accepted::Number(low, high) => write!(f, "a number from {low} to {high}"),
-            Accepted::Size(low, high) => write!(
-                f,
-                "the number of bits of an untyped region's size, from {low} to {high}"
-            ),
-            Accepted::Told(text) => write!(f, "{text}"),
-            Accepted::Operation => write!(f, "one of {Operations}"),
-            Accepted::Word => write!(f, "{A_WORD}"),
-            Accepted::Words => write!(
-                f,
-                "an array of at most {MAX_MESSAGE_WORDS} of these: {A_WORD}"
-            ),
-            Accepted::Label => {
-                let (wide, narrow) = (Wide::LABEL_BITS, Narrow::LABEL_BITS);
-                write!(
-                    f,
-                    "a number from 0 on, or a text of 0x and 1 to 16 hexadecimal digits, below 2^{wide}, or in a narrow set-up below 2^{narrow}"
-                )
-            }
-            Accepted::Expectation => write!(
-                f,
-                "a text of 1 to {MAX_EXPECT_BYTES} characters, each from a space to ~"
-            ),
-            Accepted::Names => write!(f, "a table of numbers, whose keys have {A_NAME}"),
-            Accepted::Tables(most) => write!(f, "an array of at most {most} tables"),
-        }
-    }
+/// Writes what the number of bits of an untyped region's size may be.
+fn write_bits<W: fmt::Write>(f: &mut fmt::Formatter<W>, profile: ProfileName) -> fmt::Result {
+    let (low, high) = match profile {
+        ProfileName::Wide => (Wide::MIN_UNTYPED_BITS, Wide::MAX_OBJECT_BITS),
+        ProfileName::Narrow => (Narrow::MIN_UNTYPED_BITS, Narrow::MAX_OBJECT_BITS),
+    };
+    write!(
+        f,
+        "the number of bits of an untyped region's size, from {low} to {high}"
+    )
 }
 
-/// The names of the operations, with a comma between.
-#[derive(Clone, Copy)]
-struct Operations;
+/// Writes the names of the operations, with a comma between.
+fn write_operations<W: fmt::Write>(f: &mut fmt::Formatter<W>) -> fmt::Result {
+    let mut before = "one of ";
+    for op in &OpName::ALL {
+        let name = op.text();
+        write!(f, "{before}{name}")?;
+        before = ", ";
+    }
+    Ok(())
+}
 
-impl fmt::Display for Operations {
-    fn fmt<W: fmt::Write>(&self, f: &mut fmt::Formatter<W>) -> fmt::Result {
-        let mut separator = "";
-        for op in &OpName::ALL {
-            let name = op.text();
-            write!(f, "{separator}{name}")?;
-            separator = ", ";
+/// Writes what a key of a call accepts, besides its operation. One that is not named here holds a word.
+#[rattlefmt::skip]
+fn write_in_call<W: fmt::Write>(f: &mut fmt::Formatter<W>, key: &str) -> fmt::Result {
+    match key {
+        "client" => write!(f, "a number from 0 on and below the number of clients"),
+        "expect" => write!(f, "a text of 1 to {MAX_EXPECT_BYTES} characters, each from a space to ~"),
+        "label" => {
+            let (wide, narrow) = (Wide::LABEL_BITS, Narrow::LABEL_BITS);
+            write!(f, "a number from 0 on, or a text of 0x and 1 to 16 hexadecimal digits, ")?;
+            write!(f, "below 2^{wide}, or in a narrow set-up below 2^{narrow}")
         }
-        Ok(())
+        "rights" => write!(f, "a number from 0 to 15, the sum of 1 for w, 2 for r, 4 for g and 8 for p"),
+        "words" => write!(f, "an array of at most {MAX_MESSAGE_WORDS} of these: {A_WORD}"),
+        _ => write!(f, "{A_WORD}"),
     }
 }

@@ -1,66 +1,65 @@
-//! The tables and the values of a document.
-ghost use Rattle.std.specs.Prelude.{◌≤◌};
+//! A document that is refused, and its tables and values.
+ghost use Rattle.std.specs.Prelude.{◌≡◌, ◌⊎◌};
 
 use cap_core::{ProfileName, Wide};
 use setup_format::Place;
-use setup_values::kinds::{Kind, Number, ProfileKind};
+use setup_values::kinds::{Kind, ProfileKind};
+use std::alloc::Global;
 use toml::{Table, Value};
 
-/// The elements of the array at a key; none where there is no array.
-pub fn elements_at<'a>(table: &'a Table, key: &str) -> &'a [Value] {
-    match table.get(key) {
-        Some(Value::Array(elements)) => elements.as_slice(),
-        _ => &[],
+/// By which formats a set-up is read.
+#[derive(Clone, Copy)]
+pub enum Formats {
+    /// By all, as a check reads it.
+    All,
+    /// By the first alone, as a migration reads it.
+    First,
+}
+
+/// A document, and the formats by which it is read.
+#[derive(Clone, Copy)]
+pub struct Document<'a> {
+    pub alloc: Global,
+    pub table: &'a Table,
+    pub formats: Formats,
+}
+
+impl<'a> Document<'a> {
+    /// The elements of the array at a key; none where there is no array.
+    pub fn elements_at(&self, key: &str) -> &'a [Value] {
+        match self.table.get(key) {
+            Some(Value::Array(elements)) => elements.as_slice(),
+            _ => &[],
+        }
+    }
+
+    /// The table at a place. The tables of an array count from 1.
+    pub fn table_at(&self, place: Place) -> Option<&'a Table> {
+        let (key, n) = match place {
+            Place::Top => return Some(self.table),
+            Place::Untyped(n) => ("untyped", n),
+            Place::Call(n) => ("call", n),
+        };
+        self.elements_at(key).get(n.wrapping_sub(1))?.as_table()
+    }
+
+    /// The names, where there are any.
+    pub fn names(&self) -> Option<&'a Table> {
+        self.table.get("names")?.as_table()
+    }
+
+    /// The profile, where its key was read.
+    pub fn profile(&self) -> ProfileName {
+        read_or(self.table, "profile", ProfileKind, ProfileName::Wide)
     }
 }
 
-/// The table at a place of an array of tables, 1 the first.
-fn table_in<'a>(document: &'a Table, key: &str, n: usize) -> Option<&'a Table> {
-    match elements_at(document, key).get(n.wrapping_sub(1)) {
-        Some(Value::Table(table)) => Some(table),
-        _ => None,
-    }
-}
-
-/// The table at a place of the document.
-pub fn table_at(document: &Table, place: Place) -> Option<&Table> {
-    match place {
-        Place::Top => Some(document),
-        Place::Untyped(n) => table_in(document, "untyped", n),
-        Place::Call(n) => table_in(document, "call", n),
-    }
-}
-
-/// The value at a key of a table of the document.
-pub fn value_at<'a>(document: &'a Table, place: Place, key: &str) -> Option<&'a Value> {
-    table_at(document, place)?.get(key)
-}
-
-/// The number at a key that was taken, or the least one.
-pub fn number_at(table: &Table, key: &str, low: u32, high: u32) -> u32
-    requires { low ≤ high }
-    ensures { result ≤ high }
+/// What a kind reads at a key, without names; the default where the key is not there or was not read.
+pub fn read_or<K: Kind + Copy>(table: &Table, key: &str, kind: K, default: K::Out) -> K::Out
+    ensures { (result ≡ default) ⊎ K.holds kind result }
 {
     match table.get(key) {
-        Some(value) => Number(low, high).read::<Wide>(&[], value).unwrap_or(low),
-        None => low,
-    }
-}
-
-/// The profile of a document whose profile was taken.
-pub fn profile_of(document: &Table) -> ProfileName {
-    match document.get("profile") {
-        Some(value) => ProfileKind
-            .read::<Wide>(&[], value)
-            .unwrap_or(ProfileName::Wide),
-        None => ProfileName::Wide,
-    }
-}
-
-/// The names of a document, where it has any.
-pub fn names_of(document: &Table) -> Option<&Table> {
-    match document.get("names") {
-        Some(Value::Table(names)) => Some(names),
-        _ => None,
+        Some(value) => kind.read::<Wide>(&[], value).unwrap_or(default),
+        None => default,
     }
 }

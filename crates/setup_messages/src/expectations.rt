@@ -17,11 +17,6 @@ const REFUSALS: [&str; 13] = [
 #[rattlefmt::skip]
 const DELIVERED: [&str; 11] = ["delivered", "", "from", "", "to", "", "badge", "", "label", "", "words"];
 
-/// Whether a text is among others.
-fn is_among(text: &str, others: &[&str]) -> bool {
-    others.iter().any(|other| *other == text)
-}
-
 /// Whether a text is a number as a reply has it.
 fn is_number(text: &str) -> bool {
     let digits = text.as_bytes();
@@ -43,19 +38,16 @@ fn is_delivered(place: usize, word: &str) -> bool {
 
 /// Whether a text begins a reply that delivers a message.
 fn begins_delivery(text: &str) -> bool {
-    for (place, word) in text.split(' ').enumerate() {
-        if !is_delivered(place, word) {
-            return false;
-        }
-    }
-    true
+    text.split(' ')
+        .enumerate()
+        .all(|(place, word)| is_delivered(place, word))
 }
 
 /// Whether a reply can begin with an expectation.
 fn is_beginning(expectation: &str) -> bool {
     match expectation.strip_prefix("refused ") {
-        Some(refusal) => is_among(refusal, &REFUSALS),
-        None => is_among(expectation, &WORDS) || begins_delivery(expectation),
+        Some(refusal) => REFUSALS.contains(&refusal),
+        None => WORDS.contains(&expectation) || begins_delivery(expectation),
     }
 }
 

@@ -5,13 +5,12 @@
 mod accepted;
 mod document;
 mod expectations;
-mod layouts;
 mod message;
 mod near;
 mod refused;
 mod regions;
 mod values;
 
-pub use accepted::Formats;
+pub use document::Formats;
 pub use expectations::unmet_warnings;
 pub use refused::refusal_words;

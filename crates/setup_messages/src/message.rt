@@ -1,4 +1,5 @@
 //! What messages are made of.
+use crate::document::Document;
 use setup_format::Place;
 use std::fmt;
 use toml::Value;
@@ -14,14 +15,12 @@ impl fmt::Display for Found<'_> {
     fn fmt<W: fmt::Write>(&self, f: &mut fmt::Formatter<W>) -> fmt::Result {
         match self.0 {
             Value::Integer(number) => write!(f, "{number}"),
-            Value::String(text) if text.len() <= MAX_SHOWN_BYTES => {
-                let text = text.as_str();
-                write!(f, "{text:?}")
-            }
-            Value::Array(elements) => {
-                let count = elements.len();
-                write!(f, "an array of {count}")
-            }
+            Value::String(text) if text.len() <= MAX_SHOWN_BYTES => write!(
+                f,
+                "{:?}",
+                text.as_str()
+            ),
+            Value::Array(elements) => write!(f, "an array of {}", elements.len()),
             other => write!(f, "of the type {}", other.type_str()),
         }
     }
@@ -41,28 +40,15 @@ impl fmt::Display for Quoted<'_> {
     }
 }
 
-/// What may have been meant, where something looks like it.
-#[derive(Clone, Copy)]
-pub struct Near<'a>(pub Option<&'a str>);
-
-impl fmt::Display for Near<'_> {
-    fn fmt<W: fmt::Write>(&self, f: &mut fmt::Formatter<W>) -> fmt::Result {
-        match self.0 {
-            Some(near) => write!(f, "; did you mean {near}?"),
-            None => Ok(()),
-        }
-    }
-}
-
-/// Names, with a comma between.
+/// Keys, with a comma between.
 #[derive(Clone, Copy)]
 pub struct Listed<'a>(pub &'a [&'a str]);
 
 impl fmt::Display for Listed<'_> {
     fn fmt<W: fmt::Write>(&self, f: &mut fmt::Formatter<W>) -> fmt::Result {
         let mut separator = "";
-        for name in self.0 {
-            write!(f, "{separator}{name}")?;
+        for key in self.0 {
+            write!(f, "{separator}{key}")?;
             separator = ", ";
         }
         Ok(())
@@ -72,6 +58,7 @@ impl fmt::Display for Listed<'_> {
 /// A key of a table of the document, or an element of the array there, 1 the first.
 #[derive(Clone, Copy)]
 pub struct Spot<'a> {
+    pub document: Document<'a>,
     pub place: Place,
     pub key: &'a str,
     pub element: Option<usize>,
@@ -79,12 +66,8 @@ pub struct Spot<'a> {
 
 impl fmt::Display for Spot<'_> {
     fn fmt<W: fmt::Write>(&self, f: &mut fmt::Formatter<W>) -> fmt::Result {
-        let Spot {
-            place,
-            key,
-            element,
-        } = *self;
-        match element {
+        let (place, key) = (self.place, self.key);
+        match self.element {
             Some(n) => write!(f, "{place}, key {key}, element {n}"),
             None => write!(f, "{place}, key {key}"),
         }

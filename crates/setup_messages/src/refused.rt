@@ -1,10 +1,10 @@
 //! Why a set-up is refused, in words.
-use crate::accepted::{Formats, accepted_at};
-use crate::document::{table_at, value_at};
-use crate::layouts::say_defect;
-use crate::message::{Listed, Near, Quoted, Spot};
+use crate::accepted::Accepted;
+use crate::document::{Document, Formats};
+use crate::message::{Listed, Quoted, Spot};
 use crate::near::Nearest;
-use crate::values::{Rejected, say_rejected};
+use crate::regions::layout_words;
+use crate::values::Rejected;
 use cap_core::Wide;
 use setup_format::limits::{FIRST_FORMAT, NEWEST_FORMAT};
 use setup_format::{
@@ -13,7 +13,6 @@ use setup_format::{
 };
 use setup_values::kinds::{Kind, OpKind};
 use std::alloc::{AllocError, Global};
-use std::fmt::Write;
 use toml::{Table, Value};
 
 /// The keys that a table has.
@@ -31,141 +30,72 @@ fn keys_at(table: &Table, place: Place) -> &'static [&'static str] {
     }
 }
 
-/// Adds why a key is unknown: the keys of its table, and the one that looks like it.
-fn say_unknown(
-    alloc: Global,
-    message: &mut String,
-    table: &Table,
-    place: Place,
-    key: &str,
-) -> Result<(), AllocError> {
-    if let (Place::Top, "names") = (place, key) {
-        return message.push_str("top: names are a key of format 2, and this set-up has format 1");
+/// Why a key of a table is unknown: the keys that it has, and the one that looks like it.
+fn unknown_words(table: &Table, spot: Spot<'_>) -> Result<String, AllocError> {
+    let (alloc, place) = (spot.document.alloc, spot.place);
+    if let (Place::Top, "names") = (place, spot.key) {
+        return format!(in alloc; "top: names are a key of format 2, and this set-up has format 1");
     }
     let names = keys_at(table, place);
-    let mut near = Nearest::to(key);
+    let mut near = Nearest::to(spot.key);
     for name in names {
         near.try_name(alloc, *name)?;
     }
-    let (key, keys, near) = (Quoted(key), Listed(names), Near(near.name));
-    write!(
-        message,
-        "{place}: there is no key {key}; the keys are {keys}{near}"
-    )
+    let (key, keys) = (Quoted(spot.key), Listed(names));
+    format!(in alloc; "{place}: there is no key {key}; the keys are {keys}{near}")
 }
 
-/// Adds why a known key is not as it should be.
-fn say_known(
-    alloc: Global,
-    message: &mut String,
-    document: &Table,
-    formats: Formats,
-    spot: Spot<'_>,
-) -> Result<(), AllocError> {
-    let accepted = accepted_at(document, formats, spot.place, spot.key);
-    match value_at(document, spot.place, spot.key) {
-        Some(value) => say_rejected(
-            alloc,
-            message,
-            document,
-            Rejected {
-                spot,
-                value,
-                accepted,
-            },
-        ),
-        None => write!(
-            message,
-            "{spot}: the key is missing; it has to be {accepted}"
-        ),
-    }
-}
-
-fn key_text(key: &Key) -> &str {
-    match key {
-        Key::Known(key) => key,
-        Key::Found(key) => key.as_str(),
-    }
-}
-
-/// Adds why a key is not as it should be.
-fn say_key(
-    alloc: Global,
-    message: &mut String,
-    document: &Table,
-    formats: Formats,
-    fault: (Wrong, Place, &str),
-) -> Result<(), AllocError> {
-    let (wrong, place, key) = fault;
-    match (wrong, table_at(document, place)) {
-        (Wrong::Unknown, Some(table)) => say_unknown(alloc, message, table, place, key),
-        _ => say_known(
-            alloc,
-            message,
-            document,
-            formats,
-            Spot {
-                place,
-                key,
-                element: None,
-            },
-        ),
-    }
-}
-
-/// Adds why a document is refused.
-fn say_fault(
-    alloc: Global,
-    message: &mut String,
-    document: &Table,
-    formats: Formats,
-    fault: &SetupFault,
-) -> Result<(), AllocError> {
-    match fault {
-        SetupFault::At { wrong, place, key } => say_key(
-            alloc,
-            message,
-            document,
-            formats,
-            (*wrong, *place, key_text(key)),
-        ),
-        SetupFault::Layout(defect) => say_defect(message, document, *defect),
-        // The document is the table of a text.
-        SetupFault::Text => Ok(()),
-        SetupFault::Memory => Err(AllocError),
-    }
-}
-
-/// The fault of a document, read by these formats.
-fn fault_of(alloc: Global, document: &Table, formats: Formats) -> Option<SetupFault> {
-    match formats {
-        Formats::All => read_table(alloc, document).err(),
-        Formats::First => read_first_format(alloc, document).err(),
+/// Why a key is not as it should be.
+fn key_words(
+    document: Document<'_>,
+    wrong: Wrong,
+    place: Place,
+    key: &str,
+) -> Result<String, AllocError> {
+    let element = None;
+    let spot = Spot {
+        document,
+        place,
+        key,
+        element,
+    };
+    let table = document.table_at(place);
+    match (wrong, table, table.and_then(|table| table.get(key))) {
+        (Wrong::Unknown, Some(table), _) => unknown_words(table, spot),
+        (_, _, Some(value)) => Rejected { spot, value }.words(),
+        _ => {
+            let accepted = Accepted(spot);
+            format!(in document.alloc; "{spot}: the key is missing; it has to be {accepted}")
+        }
     }
 }
 
 /// The words on a document.
-fn document_words(alloc: Global, document: &Table, formats: Formats) -> Result<String, AllocError> {
-    let mut message = String::new(alloc);
-    if let Some(fault) = fault_of(alloc, document, formats) {
-        say_fault(alloc, &mut message, document, formats, &fault)?;
-    }
-    Ok(message)
-}
-
-/// The words on a text that is no TOML document.
-fn text_words(alloc: Global, text: &str) -> Result<String, AllocError> {
-    match toml::table_from_str(alloc, text) {
-        Ok(_) => Ok(String::new(alloc)),
-        Err(error) => format!(in alloc; "{error}"),
+fn document_words(document: Document<'_>) -> Result<String, AllocError> {
+    let fault = match document.formats {
+        Formats::All => read_table(document.alloc, document.table).err(),
+        Formats::First => read_first_format(document.alloc, document.table).err(),
+    };
+    match fault {
+        Some(SetupFault::At { wrong, place, key }) => match &key {
+            Key::Known(key) => key_words(document, wrong, place, key),
+            Key::Found(key) => key_words(document, wrong, place, key.as_str()),
+        },
+        Some(SetupFault::Layout(defect)) => layout_words(document, defect),
+        Some(SetupFault::Memory) => Err(AllocError),
+        // No fault of a document is one of its text.
+        Some(SetupFault::Text) | None => Ok(String::new(document.alloc)),
     }
 }
 
 /// The words on bytes that are no TOML document.
-fn bytes_words(alloc: Global, bytes: &[u8]) -> Result<String, AllocError> {
-    match str::from_utf8(bytes) {
-        Ok(text) => text_words(alloc, text),
-        Err(_) => String::from_str(alloc, "the text is not UTF-8"),
+fn text_words(alloc: Global, bytes: &[u8]) -> Result<String, AllocError> {
+    let Ok(text) = str::from_utf8(bytes) else {
+        return String::from_str(alloc, "the text is not UTF-8");
+    };
+    match toml::table_from_str(alloc, text) {
+        Ok(_) => Ok(String::new(alloc)),
+        Err(error) => format!(in alloc; "{error}"),
     }
 }
 
@@ -176,8 +106,15 @@ fn bytes_words(alloc: Global, bytes: &[u8]) -> Result<String, AllocError> {
 /// Where memory was refused.
 pub fn refusal_words(alloc: Global, bytes: &[u8], formats: Formats) -> Result<String, AllocError> {
     match read_document(alloc, bytes) {
-        Ok(document) => document_words(alloc, &document, formats),
+        Ok(table) => {
+            let table = &table;
+            document_words(Document {
+                alloc,
+                table,
+                formats,
+            })
+        }
         Err(SetupFault::Memory) => Err(AllocError),
-        Err(_) => bytes_words(alloc, bytes),
+        Err(_) => text_words(alloc, bytes),
     }
 }

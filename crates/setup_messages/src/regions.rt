@@ -1,136 +1,82 @@
-//! Where the untyped regions of a set-up lie, and what they overlap. The sizes of the set-up and its regions were taken:
-//! the layout comes after them.
-ghost use Rattle.std.specs.Prelude.{◌≤◌};
-ghost use Rattle.cap_core.specs.Numbers.{tcb_bits};
+//! Why a set-up cannot be laid out: where its untyped regions lie, and what they overlap. The sizes of the set-up and its
+//! regions were read: the layout comes after them.
+ghost use Rattle.std.specs.Prelude.{◌<◌};
 
-use crate::document::{elements_at, number_at, profile_of};
+use crate::document::{Document, read_or};
 use abstract_kernel::plan::Extent;
+use boot_plan::PlanDefect;
 use cap_core::limits::{
     MAX_BOOT_ENDPOINTS, MAX_BOOT_THREADS, MAX_MEMORY_BITS, MAX_ROOT_RADIX, MIN_BOOT_THREADS,
     MIN_MEMORY_BITS, MIN_ROOT_RADIX,
 };
 use cap_core::{Narrow, Profile, ProfileName, Wide};
-use setup_values::kinds::{Kind, Word};
+use setup_values::kinds::{Number, Word};
+use std::alloc::AllocError;
 use std::fmt;
 use toml::{Table, Value};
 
-/// A boot object or an untyped region, and its first address. Threads and endpoints count from 0, and untyped regions
+const NO_ROOM: &str =
+    "the root CNode, the threads and the endpoints do not fit into the memory; raise memory_bits";
+
+const NO_SLOTS: &str =
+    "the root CNode has too few slots for the capabilities of the boot; raise root_radix";
+
+/// What a region overlaps, with its number and its first address. Threads and endpoints count from 0, and untyped regions
 /// from 1, as set-ups have them.
 #[derive(Clone, Copy)]
-pub struct Occupant {
-    name: &'static str,
-    number: Option<usize>,
-    base: u128,
+enum Occupant {
+    Root,
+    Object(&'static str, usize, u128),
+    /// A boot object or an earlier region.
+    Other,
 }
 
 impl fmt::Display for Occupant {
     fn fmt<W: fmt::Write>(&self, f: &mut fmt::Formatter<W>) -> fmt::Result {
-        let Occupant { name, number, base } = *self;
-        match number {
-            Some(number) => write!(f, "{name} {number} at {base}"),
-            None => write!(f, "{name} at {base}"),
+        match *self {
+            Occupant::Root => write!(f, "the root CNode at 0"),
+            Occupant::Object(name, number, base) => write!(f, "{name} {number} at {base}"),
+            Occupant::Other => write!(f, "a boot object or an earlier region"),
         }
     }
 }
 
-/// The bits of the sizes of a slot, a thread control block and an endpoint.
-#[derive(Clone, Copy)]
-struct ObjectBits {
-    slot: u32,
-    tcb: u32,
-    endpoint: u32,
-}
-
-fn object_bits(name: ProfileName) -> ObjectBits
-    ensures slot { result.slot ≤ 5 }
-    ensures tcb { result.tcb ≤ tcb_bits ProfileName.Wide }
-    ensures endpoint { result.endpoint ≤ 4 }
-{
-    match name {
-        ProfileName::Wide => ObjectBits {
-            slot: Wide::SLOT_BITS,
-            tcb: Wide::TCB_BITS,
-            endpoint: Wide::ENDPOINT_BITS,
-        },
-        ProfileName::Narrow => ObjectBits {
-            slot: Narrow::SLOT_BITS,
-            tcb: Narrow::TCB_BITS,
-            endpoint: Narrow::ENDPOINT_BITS,
-        },
-    }
-}
-
-/// Boot objects of one size, which stand one behind another.
-#[derive(Clone, Copy)]
-struct Row {
+/// The first that a region overlaps of some boot objects, which stand one behind another from an address on.
+fn first_overlapped(
+    region: Extent,
     name: &'static str,
-    start: u64,
+    first: u64,
     bits: u32,
     count: u32,
-}
-
-/// The first object of a row that a region overlaps.
-fn first_overlapped(region: Extent, row: Row) -> Option<Occupant>
-    requires { row.bits ≤ tcb_bits ProfileName.Wide }
+) -> Option<Occupant>
+    requires { bits < 64 }
 {
-    let mut start = row.start;
-    for i in 0..row.count {
-        let object = Extent::new(start, row.bits);
-        if region.overlaps(object) {
-            return Some(Occupant {
-                name: row.name,
-                number: Some(i as usize),
-                base: object.start,
-            });
+    let mut start = first;
+    for i in 0..count {
+        if region.overlaps(Extent::new(start, bits)) {
+            return Some(Occupant::Object(name, i as usize, u128::from(start)));
         }
-        start = start.saturating_add(1 << row.bits);
+        start = start.saturating_add(1 << bits);
     }
     None
 }
 
-/// The first thread or endpoint that a region overlaps, where the root CNode ends at an address.
-fn overlapped_behind(document: &Table, region: Extent, root_end: u64) -> Option<Occupant> {
-    let bits = object_bits(profile_of(document));
-    let threads = Row {
-        name: "thread",
-        // Both sizes are powers of two, so the first thread stands at the greater one.
-        start: root_end.max(1 << bits.tcb),
-        bits: bits.tcb,
-        count: number_at(document, "threads", MIN_BOOT_THREADS, MAX_BOOT_THREADS),
-    };
-    let endpoints = Row {
-        name: "endpoint",
-        start: threads
-            .start
-            .saturating_add(u64::from(threads.count) << bits.tcb),
-        bits: bits.endpoint,
-        count: number_at(document, "endpoints", 0, MAX_BOOT_ENDPOINTS),
-    };
-    match first_overlapped(region, threads) {
-        None => first_overlapped(region, endpoints),
-        thread => thread,
-    }
-}
-
 /// The first boot object that a region overlaps.
-fn overlapped_object(document: &Table, region: Extent) -> Option<Occupant> {
-    let radix = number_at(document, "root_radix", MIN_ROOT_RADIX, MAX_ROOT_RADIX);
-    let root_bits = object_bits(profile_of(document)).slot + radix;
+#[rattlefmt::skip]
+fn overlapped_object<P: Profile>(document: &Table, region: Extent) -> Option<Occupant> {
+    let radix = read_or(document, "root_radix", Number(MIN_ROOT_RADIX, MAX_ROOT_RADIX), MIN_ROOT_RADIX);
+    let threads = read_or(document, "threads", Number(MIN_BOOT_THREADS, MAX_BOOT_THREADS), MIN_BOOT_THREADS);
+    let endpoints = read_or(document, "endpoints", Number(0, MAX_BOOT_ENDPOINTS), 0);
+    let root_bits = P::SLOT_BITS + radix;
     if region.overlaps(Extent::new(0, root_bits)) {
-        return Some(Occupant {
-            name: "the root CNode",
-            number: None,
-            base: 0,
-        });
+        return Some(Occupant::Root);
     }
-    overlapped_behind(document, region, 1 << root_bits)
-}
-
-/// The base of a table of the array `untyped`.
-fn base_in(table: &Table) -> u64 {
-    match table.get("base") {
-        Some(value) => Word.read::<Wide>(&[], value).unwrap_or(0),
-        None => 0,
+    // Both sizes are powers of two, so the first thread stands at the greater one.
+    let first_thread = 1u64 << root_bits.max(P::TCB_BITS);
+    let first_endpoint = first_thread + (u64::from(threads) << P::TCB_BITS);
+    match first_overlapped(region, "thread", first_thread, P::TCB_BITS, threads) {
+        None => first_overlapped(region, "endpoint", first_endpoint, P::ENDPOINT_BITS, endpoints),
+        thread => thread,
     }
 }
 
@@ -138,7 +84,10 @@ fn base_in(table: &Table) -> u64 {
 fn region_in(value: &Value) -> Extent {
     let (least, most) = (Wide::MIN_UNTYPED_BITS, Wide::MAX_OBJECT_BITS);
     match value {
-        Value::Table(table) => Extent::new(base_in(table), number_at(table, "bits", least, most)),
+        Value::Table(table) => {
+            let bits = read_or(table, "bits", Number(least, most), least);
+            Extent::new(read_or(table, "base", Word, 0), bits)
+        }
         _ => Extent::new(0, least),
     }
 }
@@ -148,34 +97,65 @@ fn overlapped_region(tables: &[Value], region: Extent) -> Option<Occupant> {
     for (place, table) in tables.iter().enumerate() {
         let earlier = region_in(table);
         if region.overlaps(earlier) {
-            return Some(Occupant {
-                name: "untyped",
-                number: Some(place.saturating_add(1)),
-                base: earlier.start,
-            });
+            let n = place.saturating_add(1);
+            return Some(Occupant::Object("untyped", n, earlier.start));
         }
     }
     None
 }
 
-/// The untyped region at a place of the document, 0 the first.
-pub fn region_at(document: &Table, place: usize) -> Extent {
-    match elements_at(document, "untyped").get(place) {
-        Some(table) => region_in(table),
-        None => Extent::new(0, 0),
+/// What a region overlaps: a boot object, or one of the regions before its place.
+fn overlapped(document: Document<'_>, place: usize, region: Extent) -> Option<Occupant> {
+    let object = match document.profile() {
+        ProfileName::Wide => overlapped_object::<Wide>(document.table, region),
+        ProfileName::Narrow => overlapped_object::<Narrow>(document.table, region),
+    };
+    match object {
+        None => overlapped_region(document.elements_at("untyped").get(..place)?, region),
+        object => object,
     }
 }
 
-/// The bytes of the memory.
-pub fn memory_size(document: &Table) -> u64 {
-    1 << number_at(document, "memory_bits", MIN_MEMORY_BITS, MAX_MEMORY_BITS)
+/// Why the untyped region at a place cannot be laid out, 0 the first.
+fn region_words(
+    document: Document<'_>,
+    defect: PlanDefect,
+    place: usize,
+) -> Result<String, AllocError> {
+    let (alloc, n) = (document.alloc, place.saturating_add(1));
+    let region = match document.elements_at("untyped").get(place) {
+        Some(table) => region_in(table),
+        None => Extent::new(0, 0),
+    };
+    let Extent { start, end } = region;
+    match defect {
+        PlanDefect::Unaligned(_) => {
+            let size = end.saturating_sub(start);
+            format!(in alloc; "untyped {n}: its base {start} is no multiple of its size {size}")
+        }
+        PlanDefect::UntypedOutside(_) => {
+            let sizes = Number(MIN_MEMORY_BITS, MAX_MEMORY_BITS);
+            let bits = read_or(document.table, "memory_bits", sizes, MIN_MEMORY_BITS);
+            let memory = 1u64 << bits;
+            format!(in alloc; "untyped {n}: it ends at {end}, and the memory at {memory}")
+        }
+        _ => {
+            let occupant = overlapped(document, place, region).unwrap_or(Occupant::Other);
+            format!(in alloc; "untyped {n}: it overlaps {occupant}")
+        }
+    }
 }
 
-/// What the untyped region at a place overlaps, 0 the first: a boot object, or an untyped region before it.
-pub fn overlapped(document: &Table, place: usize) -> Option<Occupant> {
-    let region = region_at(document, place);
-    match overlapped_object(document, region) {
-        None => overlapped_region(elements_at(document, "untyped").get(..place)?, region),
-        object => object,
+/// Why the sizes and the regions of a document cannot be laid out.
+///
+/// # Errors
+/// Where memory was refused.
+pub fn layout_words(document: Document<'_>, defect: PlanDefect) -> Result<String, AllocError> {
+    match defect {
+        PlanDefect::Outside => String::from_str(document.alloc, NO_ROOM),
+        PlanDefect::Slots => String::from_str(document.alloc, NO_SLOTS),
+        PlanDefect::Unaligned(place)
+        | PlanDefect::UntypedOutside(place)
+        | PlanDefect::Overlap(place) => region_words(document, defect, place),
     }
 }
