@@ -196,20 +196,7 @@ module _ (p : ProfileName) (names : Names) (place : Place) (table : Members) whe
 
   reads_operation : (op : OpName) → Reads (SendsMessage p) (operation_at p names place table op)
   reads_operation op_names.Retype = reads_retype
-  reads_operation op_names.CapCopy = reads_copy
-  reads_operation op_names.CapMint = reads_mint
-  reads_operation op_names.CapMove = reads_move
-  reads_operation op_names.CapMutate = reads_mutate
-  reads_operation op_names.CapDelete = on (SendsMessage p) _ _ reads_slot (λ w. tt)
-  reads_operation op_names.CapRevoke = on (SendsMessage p) _ _ reads_slot (λ w. tt)
-  reads_operation op_names.CancelBadged = on (SendsMessage p) _ _ reads_slot (λ w. tt)
-  reads_operation op_names.Send = then_reads (λ w. IsMessage p w.1) (SendsMessage p) _ _ reads_message (λ w is. is)
-  reads_operation op_names.NbSend = then_reads (λ w. IsMessage p w.1) (SendsMessage p) _ _ reads_message (λ w is. is)
-  reads_operation op_names.Recv = on (SendsMessage p) _ _ (word_given (codes "cap")) (λ cap. tt)
-  reads_operation op_names.NbRecv = on (SendsMessage p) _ _ (word_given (codes "cap")) (λ cap. tt)
-  reads_operation op_names.SetSpace = reads_set_space
-  reads_operation op_names.Suspend = on (SendsMessage p) _ _ (word_given (codes "cap")) (λ cap. tt)
-  reads_operation op_names.Resume = on (SendsMessage p) _ _ (word_given (codes "cap")) (λ cap. tt)
+  reads_operation op = search (on, then_reads, reads_copy, reads_mint, reads_move, reads_mutate, reads_slot, reads_message, reads_set_space, word_given)
 
 reads_call : (p : ProfileName) (names : Names) (clients n : ℕ) (table : Members) → Reads (HasMessage p) (call_at p names clients n table)
 unfolding call_at

@@ -6,7 +6,7 @@ use Rattle.cap_core.specs.declared.limits.TheConstants.{MAX_MESSAGE_WORDS}
 use Rattle.cap_core.specs.Numbers.{word_bits}
 use Rattle.cap_core.specs.Rights.{all_rights}
 use Rattle.setup_values.specs.declared.operations.OpName.{OpName}
-use Rattle.setup_values.specs.declared.operations.OpName.TheVariants.{Retype, CapCopy, CapMint, CapMove, CapMutate, CapDelete, CapRevoke, CancelBadged, Send, NbSend, Recv, NbRecv, SetSpace, Suspend, Resume}
+use Rattle.setup_values.specs.declared.operations.OpName.TheVariants.{Retype, CapCopy, CapMint, CapMove, CapMutate, CapDelete, CapRevoke, CancelBadged, Send, NbSend, SetSpace}
 use Rattle.setup_values.specs.Names.{Names, word_named}
 use Rattle.setup_values.specs.Kinds.{natural_in, spelt, or_other, word, words, filled, label, rights, array_in, below}
 use Rattle.setup_format.specs.declared.fault.Place.{Place}
@@ -107,8 +107,5 @@ module _ (p : ProfileName) (names : Names) (place : Place) (t u : Members) (a : 
   operation_follows CancelBadged = after slot_follows (λ w. same _)
   operation_follows Send = after message_follows (λ w. same _)
   operation_follows NbSend = after message_follows (λ w. same _)
-  operation_follows Recv = after (need (codes "cap") refl) (λ cap. same _)
-  operation_follows NbRecv = after (need (codes "cap") refl) (λ cap. same _)
   operation_follows SetSpace = set_space_follows
-  operation_follows Suspend = after (need (codes "cap") refl) (λ cap. same _)
-  operation_follows Resume = after (need (codes "cap") refl) (λ cap. same _)
+  operation_follows op = after (need (codes "cap") refl) (λ cap. same _)
