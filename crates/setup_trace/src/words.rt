@@ -38,38 +38,29 @@ impl fmt::Display for SlotWords {
     }
 }
 
-/// The words that name the slot from which a call takes.
-#[derive(Clone, Copy)]
-struct SourceWords {
-    root: u64,
-    index: u64,
-    depth: u64,
-}
-
-impl fmt::Display for SourceWords {
-    ghost output = { λ w. Some (spec.source_words w.root w.index w.depth) };
-
-    fn fmt<W: fmt::Write>(&self, f: &mut fmt::Formatter<W>) -> fmt::Result {
-        let SourceWords { root, index, depth } = *self;
-        write!(f, " src_root {root} src_index {index} src_depth {depth}")
-    }
-}
-
 /// The words of a call that takes from one slot and fills another.
 #[derive(Clone, Copy)]
 struct TransferWords {
     slot: SlotWords,
-    source: SourceWords,
+    src_root: u64,
+    src_index: u64,
+    src_depth: u64,
 }
 
 impl fmt::Display for TransferWords {
-    ghost output = { λ w. Some (spec.transfer_words w.slot.cap w.slot.index w.slot.depth
-        w.source.root w.source.index w.source.depth) };
+    ghost output = { λ w. Some (spec.transfer_words w.slot.cap w.slot.index w.slot.depth w.src_root w.src_index w.src_depth) };
 
     fn fmt<W: fmt::Write>(&self, f: &mut fmt::Formatter<W>) -> fmt::Result {
-        let slot = self.slot;
-        let source = self.source;
-        write!(f, "{slot}{source}")
+        let TransferWords {
+            slot,
+            src_root,
+            src_index,
+            src_depth,
+        } = *self;
+        write!(
+            f,
+            "{slot} src_root {src_root} src_index {src_index} src_depth {src_depth}"
+        )
     }
 }
 
@@ -145,112 +136,43 @@ impl fmt::Display for SendWords {
 #[derive(Clone, Copy)]
 pub struct OpWords(pub Op);
 
+#[rattlefmt::skip]
 impl fmt::Display for OpWords {
     ghost output = { λ w. Some (spec.op_words w.0) };
 
     fn fmt<W: fmt::Write>(&self, f: &mut fmt::Formatter<W>) -> fmt::Result {
         match self.0 {
-            Op::Retype {
-                cap,
-                kind,
-                size_bits,
-                root,
-                index,
-                depth,
-                offset,
-                count,
-            } => {
-                let object = ObjectWords {
-                    cap,
-                    kind,
-                    size_bits,
-                };
+            Op::Retype { cap, kind, size_bits, root, index, depth, offset, count } => {
+                let object = ObjectWords { cap, kind, size_bits };
                 let node = NodeWords { root, index, depth };
                 write!(f, "{object}{node} offset {offset} count {count}")
             }
-            Op::CapCopy {
-                cap,
-                index,
-                depth,
-                src_root,
-                src_index,
-                src_depth,
-                rights,
-            } => {
+            Op::CapCopy { cap, index, depth, src_root, src_index, src_depth, rights } => {
                 let slot = SlotWords { cap, index, depth };
-                let source = SourceWords {
-                    root: src_root,
-                    index: src_index,
-                    depth: src_depth,
-                };
-                let transfer = TransferWords { slot, source };
+                let transfer = TransferWords { slot, src_root, src_index, src_depth };
                 let rights = rights.bits();
                 write!(f, "{transfer} rights {rights}")
             }
-            Op::CapMint {
-                cap,
-                index,
-                depth,
-                src_root,
-                src_index,
-                src_depth,
-                rights,
-                word,
-            } => {
+            Op::CapMint { cap, index, depth, src_root, src_index, src_depth, rights, word } => {
                 let slot = SlotWords { cap, index, depth };
-                let source = SourceWords {
-                    root: src_root,
-                    index: src_index,
-                    depth: src_depth,
-                };
-                let transfer = TransferWords { slot, source };
+                let transfer = TransferWords { slot, src_root, src_index, src_depth };
                 let rights = rights.bits();
                 let data = DataWord(word);
                 write!(f, "{transfer} rights {rights}{data}")
             }
-            Op::CapMove {
-                cap,
-                index,
-                depth,
-                src_root,
-                src_index,
-                src_depth,
-            } => {
+            Op::CapMove { cap, index, depth, src_root, src_index, src_depth } => {
                 let slot = SlotWords { cap, index, depth };
-                let source = SourceWords {
-                    root: src_root,
-                    index: src_index,
-                    depth: src_depth,
-                };
-                let transfer = TransferWords { slot, source };
-                write!(f, "{transfer}")
+                write!(f, "{}", TransferWords { slot, src_root, src_index, src_depth })
             }
-            Op::CapMutate {
-                cap,
-                index,
-                depth,
-                src_root,
-                src_index,
-                src_depth,
-                word,
-            } => {
+            Op::CapMutate { cap, index, depth, src_root, src_index, src_depth, word } => {
                 let slot = SlotWords { cap, index, depth };
-                let source = SourceWords {
-                    root: src_root,
-                    index: src_index,
-                    depth: src_depth,
-                };
-                let transfer = TransferWords { slot, source };
+                let transfer = TransferWords { slot, src_root, src_index, src_depth };
                 let data = DataWord(word);
                 write!(f, "{transfer}{data}")
             }
             Op::CapDelete { cap, index, depth } => write!(f, "{}", SlotWords { cap, index, depth }),
             Op::CapRevoke { cap, index, depth } => write!(f, "{}", SlotWords { cap, index, depth }),
-            Op::CancelBadged { cap, index, depth } => write!(
-                f,
-                "{}",
-                SlotWords { cap, index, depth }
-            ),
+            Op::CancelBadged { cap, index, depth } => write!(f, "{}", SlotWords { cap, index, depth }),
             Op::Send { cap, message } => write!(f, "{}", SendWords { cap, message }),
             Op::NbSend { cap, message } => write!(f, "{}", SendWords { cap, message }),
             Op::Recv { cap } => write!(f, "{}", CapWord(cap)),
