@@ -44,11 +44,10 @@ use Rattle.abstract_kernel.specs.Threads.{decoded_tcb, decoded_space}
 use Rattle.abstract_kernel.specs.Retyping as retyping
 use Rattle.abstract_kernel.specs.Retyping.{are_slots, some_full, node_cap, decoded_objects, decoded_retype}
 use Rattle.abstract_kernel.specs.Shown.{has_child}
-use Rattle.abstract_kernel.specs.Decode.{service_of, decoded_invocation, decoded_op, service_word, objects_asked, slots_named}
+use Rattle.abstract_kernel.specs.Decode.{service_of, decoded_invocation, decoded_op, service_word, objects_asked}
 use Rattle.reasons.specs.declared.reason.Word.{Word}
 use Rattle.reasons.specs.declared.reason.Word.TheVariants.{Invoked, Root, SourceRoot, Index, SourceIndex}
 use Rattle.reasons.specs.declared.reason.Right.{Right}
-use Rattle.reasons.specs.declared.reason.Right.TheVariants.{Write, Read}
 use Rattle.reasons.specs.declared.reason.Held.{Held}
 use Rattle.reasons.specs.declared.reason.Miss.{Miss}
 use Rattle.reasons.specs.declared.reason.Reason.{Reason}
@@ -385,40 +384,7 @@ invocation_is : (p : ProfileName) (f : Forest Entry) (thread : ℕ) (o : Op) (sl
 invocation_is p f thread (op.Retype cap k size_bits root index depth offset count) slot =
     invoking_is invocation.Retype (explained_retype p f thread slot (objects_asked k size_bits root index depth offset count)) (decoded_retype p f thread slot (cap_at f slot) (objects_asked k size_bits root index depth offset count))
     (retype_is p f thread slot (objects_asked k size_bits root index depth offset count))
-invocation_is p f thread (op.CapCopy cap index depth src_root src_index src_depth rights) slot =
-    invoking_is invocation.Derive (explained_placement p f thread slot (slots_named index depth src_root src_index src_depth) (Copy rights)) (decoded_placement p f thread (cap_at f slot) (slots_named index depth src_root src_index src_depth) (Copy rights))
-    (placement_is p f thread slot (slots_named index depth src_root src_index src_depth) (Copy rights))
-invocation_is p f thread (op.CapMint cap index depth src_root src_index src_depth rights word) slot =
-    invoking_is invocation.Derive (explained_placement p f thread slot (slots_named index depth src_root src_index src_depth) (Mint rights word)) (decoded_placement p f thread (cap_at f slot) (slots_named index depth src_root src_index src_depth) (Mint rights word))
-    (placement_is p f thread slot (slots_named index depth src_root src_index src_depth) (Mint rights word))
-invocation_is p f thread (op.CapMove cap index depth src_root src_index src_depth) slot =
-    invoking_is invocation.Move (explained_placement p f thread slot (slots_named index depth src_root src_index src_depth) Move) (decoded_placement p f thread (cap_at f slot) (slots_named index depth src_root src_index src_depth) Move)
-    (placement_is p f thread slot (slots_named index depth src_root src_index src_depth) Move)
-invocation_is p f thread (op.CapMutate cap index depth src_root src_index src_depth word) slot =
-    invoking_is invocation.Move (explained_placement p f thread slot (slots_named index depth src_root src_index src_depth) (Mutate word)) (decoded_placement p f thread (cap_at f slot) (slots_named index depth src_root src_index src_depth) (Mutate word))
-    (placement_is p f thread slot (slots_named index depth src_root src_index src_depth) (Mutate word))
-invocation_is p f thread (op.CapDelete cap index depth) slot =
-    invoking_is invocation.Delete (explained_slot p f slot index depth) (decoded_slot p f (cap_at f slot) index depth) (slot_is p f slot index depth)
-invocation_is p f thread (op.CapRevoke cap index depth) slot =
-    invoking_is invocation.Revoke (explained_slot p f slot index depth) (decoded_slot p f (cap_at f slot) index depth) (slot_is p f slot index depth)
-invocation_is p f thread (op.CancelBadged cap index depth) slot =
-    invoking_is invocation.CancelBadged (explained_badge p f slot index depth) (decoded_badge p f (cap_at f slot) index depth) (badge_is p f slot index depth)
-invocation_is p f thread (op.Send cap message) slot =
-    after (service_in Write slot (cap_at f slot)) (service_of (right_bit Write) (cap_at f slot)) (λ service. Ok (invocation.Send service message true)) (λ service. Ok (invocation.Send service message true))
-    (service_is Write slot (cap_at f slot)) (λ service. refl)
-invocation_is p f thread (op.NbSend cap message) slot =
-    after (service_in Write slot (cap_at f slot)) (service_of (right_bit Write) (cap_at f slot)) (λ service. Ok (invocation.Send service message false)) (λ service. Ok (invocation.Send service message false))
-    (service_is Write slot (cap_at f slot)) (λ service. refl)
-invocation_is p f thread (op.Recv cap) slot =
-    after (service_in Read slot (cap_at f slot)) (service_of (right_bit Read) (cap_at f slot)) (λ service. Ok (invocation.Receive service true)) (λ service. Ok (invocation.Receive service true))
-    (service_is Read slot (cap_at f slot)) (λ service. refl)
-invocation_is p f thread (op.NbRecv cap) slot =
-    after (service_in Read slot (cap_at f slot)) (service_of (right_bit Read) (cap_at f slot)) (λ service. Ok (invocation.Receive service false)) (λ service. Ok (invocation.Receive service false))
-    (service_is Read slot (cap_at f slot)) (λ service. refl)
-invocation_is p f thread (op.SetSpace cap root word) slot =
-    invoking_is invocation.SetSpace (explained_space p f thread slot root word) (decoded_space p f thread slot (cap_at f slot) root word) (space_is p f thread slot root word)
-invocation_is p f thread (op.Suspend cap) slot = invoking_is invocation.Suspend (explained_tcb slot (cap_at f slot)) (decoded_tcb (cap_at f slot)) (tcb_is slot (cap_at f slot))
-invocation_is p f thread (op.Resume cap) slot = invoking_is invocation.Resume (explained_tcb slot (cap_at f slot)) (decoded_tcb (cap_at f slot)) (tcb_is slot (cap_at f slot))
+invocation_is p f thread o slot = search (invoking_is, after, placement_is, slot_is, badge_is, service_is, space_is, tcb_is)
 
 -- the refusal of the reason is the one that is answered, and there is a reason exactly where there is a refusal
 pub op_is : (p : ProfileName) (f : Forest Entry) (thread : ℕ) (o : Op) → with_refusal (explained_op p f thread o) ≡ decoded_op p f thread o

@@ -31,11 +31,10 @@ use Rattle.abstract_kernel.specs.declared.invocation.Invocation.{Invocation}
 use Rattle.abstract_kernel.specs.declared.invocation.Invocation.TheVariants as invocation
 use Rattle.abstract_kernel.specs.Lookups.{is_of_kind}
 use Rattle.abstract_kernel.specs.Shown.{has_child}
-use Rattle.abstract_kernel.specs.Decode.{has_right, service_word, objects_asked, slots_named}
+use Rattle.abstract_kernel.specs.Decode.{has_right, service_word, objects_asked}
 use Rattle.reasons.specs.declared.reason.Word.{Word}
 use Rattle.reasons.specs.declared.reason.Word.TheVariants.{Invoked, Root, SourceRoot, Index, SourceIndex}
 use Rattle.reasons.specs.declared.reason.Right.{Right}
-use Rattle.reasons.specs.declared.reason.Right.TheVariants.{Write, Read}
 use Rattle.reasons.specs.declared.reason.Held.{Held}
 use Rattle.reasons.specs.declared.reason.Miss.{Miss}
 use Rattle.reasons.specs.declared.reason.Reason.{Reason}
@@ -274,28 +273,7 @@ invoking_truly f k m so = tells_then f m (λ x. Ok (k x)) so (λ x. tt)
 invocation_truly : (p : ProfileName) (f : Forest Entry) (thread : ℕ) (o : Op) (slot : ℕ) → TellsTruly f (explained_invocation p f thread o slot)
 invocation_truly p f thread (op.Retype cap k size_bits root index depth offset count) slot =
     invoking_truly f invocation.Retype (explained_retype p f thread slot (objects_asked k size_bits root index depth offset count)) (retype_truly p f thread slot (objects_asked k size_bits root index depth offset count))
-invocation_truly p f thread (op.CapCopy cap index depth src_root src_index src_depth rights) slot =
-    invoking_truly f invocation.Derive (explained_placement p f thread slot (slots_named index depth src_root src_index src_depth) (Copy rights)) (placement_truly p f thread slot (slots_named index depth src_root src_index src_depth) (Copy rights))
-invocation_truly p f thread (op.CapMint cap index depth src_root src_index src_depth rights word) slot =
-    invoking_truly f invocation.Derive (explained_placement p f thread slot (slots_named index depth src_root src_index src_depth) (Mint rights word)) (placement_truly p f thread slot (slots_named index depth src_root src_index src_depth) (Mint rights word))
-invocation_truly p f thread (op.CapMove cap index depth src_root src_index src_depth) slot =
-    invoking_truly f invocation.Move (explained_placement p f thread slot (slots_named index depth src_root src_index src_depth) Move) (placement_truly p f thread slot (slots_named index depth src_root src_index src_depth) Move)
-invocation_truly p f thread (op.CapMutate cap index depth src_root src_index src_depth word) slot =
-    invoking_truly f invocation.Move (explained_placement p f thread slot (slots_named index depth src_root src_index src_depth) (Mutate word)) (placement_truly p f thread slot (slots_named index depth src_root src_index src_depth) (Mutate word))
-invocation_truly p f thread (op.CapDelete cap index depth) slot = invoking_truly f invocation.Delete (explained_slot p f slot index depth) (slot_truly p f slot index depth)
-invocation_truly p f thread (op.CapRevoke cap index depth) slot = invoking_truly f invocation.Revoke (explained_slot p f slot index depth) (slot_truly p f slot index depth)
-invocation_truly p f thread (op.CancelBadged cap index depth) slot = invoking_truly f invocation.CancelBadged (explained_badge p f slot index depth) (badge_truly p f slot index depth)
-invocation_truly p f thread (op.Send cap message) slot =
-    tells_then f (service_in Write slot (cap_at f slot)) (λ service. Ok (invocation.Send service message true)) (service_truly f Write slot (cap_at f slot) refl) (λ service. tt)
-invocation_truly p f thread (op.NbSend cap message) slot =
-    tells_then f (service_in Write slot (cap_at f slot)) (λ service. Ok (invocation.Send service message false)) (service_truly f Write slot (cap_at f slot) refl) (λ service. tt)
-invocation_truly p f thread (op.Recv cap) slot =
-    tells_then f (service_in Read slot (cap_at f slot)) (λ service. Ok (invocation.Receive service true)) (service_truly f Read slot (cap_at f slot) refl) (λ service. tt)
-invocation_truly p f thread (op.NbRecv cap) slot =
-    tells_then f (service_in Read slot (cap_at f slot)) (λ service. Ok (invocation.Receive service false)) (service_truly f Read slot (cap_at f slot) refl) (λ service. tt)
-invocation_truly p f thread (op.SetSpace cap root word) slot = invoking_truly f invocation.SetSpace (explained_space p f thread slot root word) (space_truly p f thread slot root word)
-invocation_truly p f thread (op.Suspend cap) slot = invoking_truly f invocation.Suspend (explained_tcb slot (cap_at f slot)) (tcb_truly f slot (cap_at f slot) refl)
-invocation_truly p f thread (op.Resume cap) slot = invoking_truly f invocation.Resume (explained_tcb slot (cap_at f slot)) (tcb_truly f slot (cap_at f slot) refl)
+invocation_truly p f thread o slot = search (invoking_truly, tells_then, placement_truly, slot_truly, badge_truly, service_truly, space_truly, tcb_truly)
 
 -- each slot that a reason names holds what it tells
 pub op_truly : (p : ProfileName) (f : Forest Entry) (thread : ℕ) (o : Op) → TellsTruly f (explained_op p f thread o)
