@@ -1,4 +1,4 @@
 -- What only private contracts cite, in proofs of the public ones: nobody has to believe it.
-pub mod Verdicts
+pub mod Expectations
 pub mod Roles
 pub mod Rows

@@ -14,22 +14,22 @@ use Rattle.abstract_kernel.specs.declared.call.Inbox.{Inbox}
 use Rattle.abstract_kernel.specs.Shown.{Shown, state_at, inbox_at, waiting_at, has_child}
 use Rattle.setup_format.specs.Views.{CallView}
 use Rattle.setup_report.specs.State.{Derived, slot_of, threads, endpoints, slot_rows, selfheld}
-use Rattle.setup_report.specs.Text.{cap_text, numbers_text, answered_text, reply_text, begins_as, verdict_text, state_text, inbox_text}
+use Rattle.setup_report.specs.Text.{cap_text, numbers_text, answered_text, reply_text, begins_as, expectation_text, state_text, inbox_text}
 
-abbrev pub line : List ℕ → List ℕ
-line text = text ++ codes "\n"
+abbrev pub terminated : List ℕ → List ℕ
+terminated text = text ++ codes "\n"
 
 -- ---- calls: a line for each, with its number
 
 abbrev pub call_text : ℕ → Call → Reply → Option (List ℕ) → List ℕ
 call_text number call reply expected =
-    decimal number ++ (codes " " ++ (answered_text call reply ++ verdict_text expected (reply_text reply)))
+    decimal number ++ (codes " " ++ (answered_text call reply ++ expectation_text expected (reply_text reply)))
 
 abbrev pub call_lines : ℕ → List CallView → List Reply → List ℕ
 call_lines number [] replies = []
 call_lines number (call ∷ calls) [] = []
 call_lines number (call ∷ calls) (reply ∷ replies) =
-    line (call_text number call.call reply call.expect) ++ call_lines (number + 1) calls replies
+    terminated (call_text number call.call reply call.expect) ++ call_lines (number + 1) calls replies
 
 -- ---- expectations: how many calls have one, and how many replies meet theirs
 
@@ -55,7 +55,7 @@ expectation_count (call ∷ calls) (reply ∷ replies) = one_expected call.expec
 
 abbrev pub expectation_line : List CallView → List Reply → List ℕ
 expectation_line calls replies =
-    line (codes "expected " ++ (decimal (met_count calls replies) ++ (codes " of " ++ decimal (expectation_count calls replies))))
+    terminated (codes "expected " ++ (decimal (met_count calls replies) ++ (codes " of " ++ decimal (expectation_count calls replies))))
 
 -- ---- slots: a line for each full slot, by rising address
 
@@ -64,7 +64,7 @@ slot_text address cap has_children =
     codes "slot " ++ (decimal address ++ (codes " " ++ (cap_text cap ++ (if has_children then codes " children" else []))))
 
 abbrev pub slot_line : Shown → Derived → List ℕ
-slot_line v d = line (slot_text (slot_of d) d.0.cap (has_child (slot_of d) v.derivations))
+slot_line v d = terminated (slot_text (slot_of d) d.0.cap (has_child (slot_of d) v.derivations))
 
 abbrev pub slot_lines : Shown → List ℕ
 slot_lines v = flat_map (slot_line v) (slot_rows v)
@@ -76,7 +76,7 @@ thread_text address state inbox = codes "thread " ++ (decimal address ++ (codes 
 
 abbrev pub thread_line_with : ℕ → Option ThreadState → Option Inbox → List ℕ
 thread_line_with address None inbox = []
-thread_line_with address (Some state) inbox = line (thread_text address state inbox)
+thread_line_with address (Some state) inbox = terminated (thread_text address state inbox)
 
 -- of each live thread a state is shown
 abbrev pub thread_line : Shown → ℕ → List ℕ
@@ -106,7 +106,7 @@ first_sends [] = false
 first_sends (first ∷ list) = is_sender first
 
 abbrev pub endpoint_line : Shown → ℕ → List ℕ
-endpoint_line v address = line (endpoint_text address (first_sends (waiting_at v address)) (threads_at v address))
+endpoint_line v address = terminated (endpoint_text address (first_sends (waiting_at v address)) (threads_at v address))
 
 abbrev pub endpoint_lines : ProfileName → Shown → List ℕ
 endpoint_lines p v = flat_map (endpoint_line v) (endpoints p v)
@@ -114,7 +114,7 @@ endpoint_lines p v = flat_map (endpoint_line v) (endpoints p v)
 -- ---- selfheld CNodes, those that slots of their own name and no other slots: a line for each, by rising address
 
 abbrev pub selfheld_line : ℕ → List ℕ
-selfheld_line address = line (codes "selfheld " ++ decimal address)
+selfheld_line address = terminated (codes "selfheld " ++ decimal address)
 
 abbrev pub selfheld_lines : ProfileName → Shown → List ℕ
 selfheld_lines p v = flat_map selfheld_line (selfheld p v)

@@ -10,7 +10,7 @@ use Rattle.cap_core.specs.declared.capability.Cap.{Cap}
 use Rattle.cap_core.specs.declared.capability.Cap.TheVariants.{Null, Untyped, Endpoint, CNode, Tcb}
 use Rattle.derivation.specs.Entries.{Entry, derivations_of}
 use Rattle.abstract_kernel.specs.Shown.{Shown, tcb_base, endpoint_base}
-use Rattle.setup_report.specs.declared.naming.Naming.{Naming}
+use Rattle.setup_report.specs.declared.naming.NamedObject.{NamedObject}
 
 -- ---- addresses
 
@@ -52,29 +52,29 @@ node_base test (CNode base radix guard) = cond (test base radix) (Some base) Non
 node_base test (Tcb base) = None
 
 -- the object that a slot names with its capability: a thread; an endpoint; a CNode to which the slot belongs; or another CNode
-abbrev pub base_named : ProfileName → Naming → ℕ → Cap → Option ℕ
-base_named p Naming.Thread slot cap = tcb_base cap
-base_named p Naming.Endpoint slot cap = endpoint_base cap
-base_named p Naming.OwnNode slot cap = node_base (λ base radix. is_slot_of p base radix slot) cap
-base_named p Naming.OtherNode slot cap = node_base (λ base radix. not (is_slot_of p base radix slot)) cap
+abbrev pub base_named : ProfileName → NamedObject → ℕ → Cap → Option ℕ
+base_named p NamedObject.Thread slot cap = tcb_base cap
+base_named p NamedObject.Endpoint slot cap = endpoint_base cap
+base_named p NamedObject.OwnNode slot cap = node_base (λ base radix. is_slot_of p base radix slot) cap
+base_named p NamedObject.OtherNode slot cap = node_base (λ base radix. not (is_slot_of p base radix slot)) cap
 
-abbrev pub named_by : ProfileName → Naming → Derived → Option ℕ
+abbrev pub named_by : ProfileName → NamedObject → Derived → Option ℕ
 named_by p naming d = base_named p naming d.0.slot d.0.cap
 
-abbrev pub named : ProfileName → Naming → List Derived → List ℕ
+abbrev pub named : ProfileName → NamedObject → List Derived → List ℕ
 named p naming list = filter_map (named_by p naming) list
 
 -- the CNodes that slots of their own name and no other slots
 abbrev pub holding_themselves : ProfileName → List Derived → List ℕ
-holding_themselves p list = filter (λ base. not (is_in base (named p Naming.OtherNode list))) (named p Naming.OwnNode list)
+holding_themselves p list = filter (λ base. not (is_in base (named p NamedObject.OtherNode list))) (named p NamedObject.OwnNode list)
 
 -- ---- of a state
 
 abbrev pub threads : ProfileName → Shown → List ℕ
-threads p v = rising (named p Naming.Thread (derivations_of v.derivations))
+threads p v = rising (named p NamedObject.Thread (derivations_of v.derivations))
 
 abbrev pub endpoints : ProfileName → Shown → List ℕ
-endpoints p v = rising (named p Naming.Endpoint (derivations_of v.derivations))
+endpoints p v = rising (named p NamedObject.Endpoint (derivations_of v.derivations))
 
 abbrev pub slot_rows : Shown → List Derived
 slot_rows v = by_address (derivations_of v.derivations)

@@ -69,9 +69,9 @@ abbrev pub begins_as : List ℕ → List ℕ → Bool
 begins_as text expected = pointwise nat_eq text expected || starts_with nat_eq text (expected ++ codes " ")
 
 -- what is said of an expectation, where a call has one, by the text of the reply
-abbrev pub verdict_text : Option (List ℕ) → List ℕ → List ℕ
-verdict_text None text = []
-verdict_text (Some expected) text =
+abbrev pub expectation_text : Option (List ℕ) → List ℕ → List ℕ
+expectation_text None text = []
+expectation_text (Some expected) text =
     if begins_as text expected then codes " [met]" else codes " [not met: " ++ (expected ++ codes "]")
 
 -- ---- threads

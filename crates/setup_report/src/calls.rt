@@ -2,9 +2,9 @@
 ghost use Rattle.std.specs.Prelude.{◌≡◌, ◌++◌, ◌+◌, ◌<◌, length, IfOk, OnOk, string_bytes, option_copied};
 ghost use Rattle.setup_report.specs.Text as text;
 ghost use Rattle.setup_report.specs.Report as spec;
-ghost use Rattle.setup_report.specs.Private.Verdicts.{text_of_verdict, met_of_verdict, expected_of_verdict};
+ghost use Rattle.setup_report.specs.Private.Expectations.{text_of_expectation, met_of_expectation, expected_of_expectation};
 
-use crate::lines::Verdict;
+use crate::lines::ExpectationText;
 use crate::text::{AnsweredText, ReplyText};
 use kernel_core::{Call, Reply};
 use setup_format::Setup;
@@ -31,38 +31,42 @@ fn is_met(shown: &str, expected: &str) -> bool
 }
 
 /// What is said of an expectation, by the text of the reply. Where nothing is expected no memory is taken.
-fn verdict(alloc: Global, expected: Option<&str>, reply: Reply) -> Result<Verdict<'_>, AllocError>
-    ensures text { IfOk result (λ v. text_of_verdict v
-        ≡ text.verdict_text (option_copied expected.entry) (text.reply_text reply)) }
-    ensures met { IfOk result (λ v. met_of_verdict v
+fn compared(
+    alloc: Global,
+    expected: Option<&str>,
+    reply: Reply,
+) -> Result<ExpectationText<'_>, AllocError>
+    ensures text { IfOk result (λ v. text_of_expectation v
+        ≡ text.expectation_text (option_copied expected.entry) (text.reply_text reply)) }
+    ensures met { IfOk result (λ v. met_of_expectation v
         ≡ spec.one_met (option_copied expected.entry) (text.reply_text reply)) }
-    ensures expected { IfOk result (λ v. expected_of_verdict v ≡ spec.one_expected (option_copied expected.entry)) }
+    ensures expected { IfOk result (λ v. expected_of_expectation v ≡ spec.one_expected (option_copied expected.entry)) }
 {
     let Some(expected) = expected else {
-        return Ok(Verdict::None);
+        return Ok(ExpectationText::None);
     };
     let shown = ReplyText(reply).to_string(alloc)?;
     if is_met(shown.as_str(), expected) {
-        Ok(Verdict::Met)
+        Ok(ExpectationText::Met)
     } else {
-        Ok(Verdict::NotMet(expected))
+        Ok(ExpectationText::NotMet(expected))
     }
 }
 
-fn count(verdict: Verdict<'_>) -> ExpectationCount
-    ensures met { result.met ≡ met_of_verdict verdict.entry }
-    ensures expected { result.expected ≡ expected_of_verdict verdict.entry }
+fn count(expectation: ExpectationText<'_>) -> ExpectationCount
+    ensures met { result.met ≡ met_of_expectation expectation.entry }
+    ensures expected { result.expected ≡ expected_of_expectation expectation.entry }
 {
-    match verdict {
-        Verdict::None => ExpectationCount {
+    match expectation {
+        ExpectationText::None => ExpectationCount {
             met: 0,
             expected: 0,
         },
-        Verdict::Met => ExpectationCount {
+        ExpectationText::Met => ExpectationCount {
             met: 1,
             expected: 1,
         },
-        Verdict::NotMet(_) => ExpectationCount {
+        ExpectationText::NotMet(_) => ExpectationCount {
             met: 0,
             expected: 1,
         },
@@ -83,14 +87,14 @@ pub fn add_call(
     reply: Reply,
 ) -> Result<ExpectationCount, AllocError>
     ensures line { OnOk result (string_bytes out.new ≡ string_bytes out.old
-        ++ spec.line (spec.call_text number call.now reply (option_copied expected.entry))) }
+        ++ spec.terminated (spec.call_text number call.now reply (option_copied expected.entry))) }
     ensures met { IfOk result (λ e. e.met ≡ spec.one_met (option_copied expected.entry) (text.reply_text reply)) }
     ensures expected { IfOk result (λ e. e.expected ≡ spec.one_expected (option_copied expected.entry)) }
 {
-    let verdict = verdict(alloc, expected, reply)?;
+    let expectation = compared(alloc, expected, reply)?;
     let answered = AnsweredText { call, reply };
-    writeln!(out, "{number} {answered}{verdict}")?;
-    Ok(count(verdict))
+    writeln!(out, "{number} {answered}{expectation}")?;
+    Ok(count(expectation))
 }
 
 /// Adds a line for each call of a set-up, and counts the expectations.
@@ -116,7 +120,7 @@ pub fn add_calls(
     Ok(ExpectationCount { met, expected })
 }
 
-fn expectation(
+fn counted_expectation(
     alloc: Global,
     expected: Option<&str>,
     reply: Reply,
@@ -124,7 +128,7 @@ fn expectation(
     ensures met { IfOk result (λ e. e.met ≡ spec.one_met (option_copied expected.entry) (text.reply_text reply)) }
     ensures expected { IfOk result (λ e. e.expected ≡ spec.one_expected (option_copied expected.entry)) }
 {
-    Ok(count(verdict(alloc, expected, reply)?))
+    Ok(count(compared(alloc, expected, reply)?))
 }
 
 /// Counts the expectations of a set-up's calls, given the reply to each.
@@ -144,7 +148,7 @@ pub fn expectations(
     let mut met = 0;
     let mut expected = 0;
     for (i, reply) in replies.iter().enumerate() {
-        let one = expectation(alloc, setup.expect(i), *reply)?;
+        let one = counted_expectation(alloc, setup.expect(i), *reply)?;
         met += one.met;
         expected += one.expected;
     }

@@ -9,22 +9,22 @@ use std::fmt;
 
 /// What is said of the expectation of a call, where it has one.
 #[derive(Clone, Copy)]
-pub enum Verdict<'a> {
+pub enum ExpectationText<'a> {
     None,
     Met,
     NotMet(&'a str),
 }
 
-impl fmt::Display for Verdict<'_> {
-    ghost use Rattle.setup_report.specs.Private.Verdicts.{text_of_verdict};
+impl fmt::Display for ExpectationText<'_> {
+    ghost use Rattle.setup_report.specs.Private.Expectations.{text_of_expectation};
 
-    ghost output = { λ v. Some (text_of_verdict v) };
+    ghost output = { λ v. Some (text_of_expectation v) };
 
     fn fmt<W: fmt::Write>(&self, f: &mut fmt::Formatter<W>) -> fmt::Result {
         match self {
-            Verdict::None => Ok(()),
-            Verdict::Met => write!(f, " [met]"),
-            Verdict::NotMet(expected) => write!(f, " [not met: {expected}]"),
+            ExpectationText::None => Ok(()),
+            ExpectationText::Met => write!(f, " [met]"),
+            ExpectationText::NotMet(expected) => write!(f, " [not met: {expected}]"),
         }
     }
 }

@@ -12,7 +12,7 @@ use std::collections::BTreeSet;
 
 /// Which objects a slot is asked for that its capability may name.
 #[derive(Clone, Copy)]
-pub enum Naming {
+pub enum NamedObject {
     /// A thread.
     Thread,
     /// An endpoint.
@@ -40,20 +40,20 @@ fn is_slot_of<P: Profile>(base: u64, radix: u32, slot: u64) -> bool
 }
 
 /// The base of the object that the capability in a slot, at its address in bytes, names, where that is asked for.
-pub fn base_named<P: Profile>(naming: Naming, slot: u64, cap: Cap) -> Option<u64>
+pub fn base_named<P: Profile>(naming: NamedObject, slot: u64, cap: Cap) -> Option<u64>
     ensures { result ≡ spec.base_named P.the naming slot cap }
 {
     match (naming, cap) {
-        (Naming::Thread, Cap::Tcb { base }) => Some(base),
-        (Naming::Endpoint, Cap::Endpoint { base, .. }) => Some(base),
-        (Naming::OwnNode, Cap::CNode { base, radix, .. }) => {
+        (NamedObject::Thread, Cap::Tcb { base }) => Some(base),
+        (NamedObject::Endpoint, Cap::Endpoint { base, .. }) => Some(base),
+        (NamedObject::OwnNode, Cap::CNode { base, radix, .. }) => {
             if is_slot_of::<P>(base, radix, slot) {
                 Some(base)
             } else {
                 None
             }
         }
-        (Naming::OtherNode, Cap::CNode { base, radix, .. }) => {
+        (NamedObject::OtherNode, Cap::CNode { base, radix, .. }) => {
             if is_slot_of::<P>(base, radix, slot) {
                 None
             } else {
@@ -67,7 +67,7 @@ pub fn base_named<P: Profile>(naming: Naming, slot: u64, cap: Cap) -> Option<u64
 /// The objects that full slots name with their capabilities.
 pub fn named<P: Profile>(
     alloc: Global,
-    naming: Naming,
+    naming: NamedObject,
     list: &[Derivation],
 ) -> Result<BTreeSet<u64>, AllocError>
     ensures { IfOk result (λ s. s.keys ≡ spec.rising (spec.named P.the naming (map (derivation_view P.the) list.now))) }
@@ -102,7 +102,7 @@ pub fn selfheld<P: Profile>(alloc: Global, list: &[Derivation]) -> Result<Vec<u6
     ensures { IfOk result (λ v. v.items
         ≡ spec.rising (spec.holding_themselves P.the (map (derivation_view P.the) list.now))) }
 {
-    let own = named::<P>(alloc, Naming::OwnNode, list)?;
-    let others = named::<P>(alloc, Naming::OtherNode, list)?;
+    let own = named::<P>(alloc, NamedObject::OwnNode, list)?;
+    let others = named::<P>(alloc, NamedObject::OtherNode, list)?;
     only_in(alloc, &own, &others)
 }

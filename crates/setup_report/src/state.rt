@@ -5,7 +5,7 @@ ghost use Rattle.slot_core.specs.Calls.{derivation_view};
 ghost use Rattle.setup_report.specs.State as spec;
 ghost use Rattle.setup_report.specs.Private.Rows.{slot_address};
 
-use crate::naming::{Naming, named, selfheld};
+use crate::naming::{NamedObject, named, selfheld};
 use cap_core::Profile;
 use ipc_core::Waiters;
 use kernel_core::Kernel;
@@ -50,8 +50,8 @@ pub fn state_rows<P: Profile, S: DerivationStore<P> + Drop, W: Waiters<P> + Drop
     ensures selfheld { IfOk result (λ r. r.selfheld.items ≡ spec.selfheld P.the kernel.now) }
 {
     let mut slots = kernel.derivations(alloc)?;
-    let threads = named::<P>(alloc, Naming::Thread, slots.as_slice())?;
-    let endpoints = named::<P>(alloc, Naming::Endpoint, slots.as_slice())?;
+    let threads = named::<P>(alloc, NamedObject::Thread, slots.as_slice())?;
+    let endpoints = named::<P>(alloc, NamedObject::Endpoint, slots.as_slice())?;
     let selfheld = selfheld::<P>(alloc, slots.as_slice())?;
     sort_by_address::<P>(slots.as_mut_slice());
     Ok(StateRows {

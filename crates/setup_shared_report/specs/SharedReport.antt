@@ -5,7 +5,7 @@ use Rattle.cap_core.specs.declared.profile.ProfileName.{ProfileName}
 use Rattle.abstract_kernel.specs.Shown.{Shown}
 use Rattle.kernel_book.specs.declared.entry.Entry.{Entry}
 use Rattle.setup_report.specs.Text.{answered_text}
-use Rattle.setup_report.specs.Report.{line, state_lines}
+use Rattle.setup_report.specs.Report.{terminated, state_lines}
 
 -- the place of an entry in the history, its client, the client's number for it, and the call with its reply
 abbrev pub entry_text : ℕ → Entry → List ℕ
@@ -15,11 +15,11 @@ entry_text place e =
 -- a line for each entry, with its place
 abbrev pub entry_lines : ℕ → List Entry → List ℕ
 entry_lines place [] = []
-entry_lines place (e ∷ es) = line (entry_text place e) ++ entry_lines (place + 1) es
+entry_lines place (e ∷ es) = terminated (entry_text place e) ++ entry_lines (place + 1) es
 
 -- how many entries there are, of how many calls
 abbrev pub entries_line : ℕ → ℕ → List ℕ
-entries_line entries calls = line (codes "entries " ++ (decimal entries ++ (codes " of " ++ decimal calls)))
+entries_line entries calls = terminated (codes "entries " ++ (decimal entries ++ (codes " of " ++ decimal calls)))
 
 -- the report of a history, of what the kernel then shows, and of the number of calls that there were to make
 unfoldable pub shared_report_of : ProfileName → ℕ → List Entry → Shown → List ℕ

@@ -11,9 +11,9 @@ use Rattle.abstract_kernel.specs.Shown.{Shown}
 use Rattle.abstract_kernel.specs.State.{State, shown}
 use Rattle.abstract_kernel.specs.Step.{step, replies_of, state_after}
 use Rattle.setup_format.specs.Views.{CallView}
-use Rattle.setup_report.specs.declared.naming.Naming.{Naming}
+use Rattle.setup_report.specs.declared.naming.NamedObject.{NamedObject}
 use Rattle.setup_report.specs.State.{slot_of, named, holding_themselves}
-use Rattle.setup_report.specs.Report.{line, call_text, call_lines}
+use Rattle.setup_report.specs.Report.{terminated, call_text, call_lines}
 use Rattle.setup_trace.specs.Lines.{thread_at, inbox_line_at, endpoint_at, slot_at, selfheld_at}
 use Rattle.setup_trace.specs.Changes.{StateLines, state_lines, no_lines, changes}
 use Rattle.setup_trace.specs.Trace.{words_line, calls_lines}
@@ -44,9 +44,9 @@ pub lines_rise : (p : ProfileName) (v : Shown) → AllRise (state_lines p v)
 lines_rise p v =
     let list = derivations_of v.derivations in
     record {
-      threads = rises_at (thread_at v) (named p Naming.Thread list) _ refl;
-      inboxes = rises_at (inbox_line_at v) (named p Naming.Thread list) _ refl;
-      endpoints = rises_at (endpoint_at v) (named p Naming.Endpoint list) _ refl;
+      threads = rises_at (thread_at v) (named p NamedObject.Thread list) _ refl;
+      inboxes = rises_at (inbox_line_at v) (named p NamedObject.Thread list) _ refl;
+      endpoints = rises_at (endpoint_at v) (named p NamedObject.Endpoint list) _ refl;
       slots = rises_at (slot_at list) (map slot_of list) _ refl;
       selfheld = rises_at selfheld_at (holding_themselves p list) _ refl;
     }
@@ -91,7 +91,7 @@ pub report_followed : (number : ℕ) (calls : List CallView) (replies : List Rep
 report_followed number [] replies = refl
 report_followed number (call ∷ calls) [] = refl
 report_followed number (call ∷ calls) (reply ∷ replies) =
-    ap (λ l. line (call_text number call.call reply call.expect) ++ l) (report_followed (number + 1) calls replies)
+    ap (λ l. terminated (call_text number call.call reply call.expect) ++ l) (report_followed (number + 1) calls replies)
 
 pub trace_followed : (p : ProfileName) (number : ℕ) (A : State) (calls : List CallView) →
     calls_lines p number A calls ≡ followed (report_lines number calls (replies_of p A (map (λ (c : CallView). c.call) calls))) (details p A calls)
@@ -99,7 +99,7 @@ unfolding calls_lines replies_of details
 trace_followed p number A [] = refl
 trace_followed p number A (call ∷ calls) =
     let B = (step p A call.call).state in
-    let first = line (call_text number call.call (step p A call.call).reply call.expect) in
+    let first = terminated (call_text number call.call (step p A call.call).reply call.expect) in
     let more = words_line call.call.op ++ call_changes p A call.call in
     append_assoc first more (calls_lines p (number + 1) B calls)
     ∙ ap (λ l. first ++ (more ++ l)) (trace_followed p (number + 1) B calls)

@@ -17,7 +17,7 @@ use Rattle.abstract_kernel.specs.Waiting.{offer_at}
 use Rattle.abstract_kernel.specs.declared.call.ThreadState.{ThreadState}
 use Rattle.abstract_kernel.proofs.Reached.Simulation.{reached_is}
 use Rattle.setup_report.specs.State.{Derived, slot_of, found, rising, threads, endpoints, selfheld}
-use Rattle.setup_report.specs.Report.{thread_line, thread_line_with, endpoint_line, slot_line, slot_text as report_slot_text, line, selfheld_line}
+use Rattle.setup_report.specs.Report.{thread_line, thread_line_with, endpoint_line, slot_line, slot_text as report_slot_text, terminated, selfheld_line}
 use Rattle.setup_report.proofs.Addresses.Rising.{all_rising}
 use Rattle.setup_report.proofs.Addresses.Slots.{slots_are}
 use Rattle.setup_trace.specs.Lines.{slot_text, slot_at, slot_lines, line_of, line_at, thread_at, thread_text, endpoint_at, selfheld_at}
@@ -119,7 +119,7 @@ slot_alike v apart slot has =
     let list = derivations_of v.derivations in
     elim (found list slot) as (λ o. found list slot ≡ o → is_some (option_map slot_text o) ≡ true → slot_line_of list slot o ≡ held_slot_line v slot) [
       | None ↦ λ there some. cc
-      | Some d ↦ λ there some. λ i. line (report_slot_text slot ((sym (held_there list slot d there) ∙ ap (cap_in slot) (entries_are v.derivations)) i) (child_is_under slot v.derivations apart i))
+      | Some d ↦ λ there some. λ i. terminated (report_slot_text slot ((sym (held_there list slot d there) ∙ ap (cap_in slot) (entries_are v.derivations)) i) (child_is_under slot v.derivations apart i))
     ] refl has
 
 -- the report's lines of slots, by what the trace tells of them
@@ -131,8 +131,8 @@ rows_alike v apart (x ∷ xs) =
     elim (found list x) as (λ o. found list x ≡ o → slot_line_of list x o ++ flat_map (report_slot_line list) xs ≡ flat_map (slot_line v) (cons_option o (filter_map (found list) xs))) [
       | None ↦ λ is. rows_alike v apart xs
       | Some d ↦ λ is.
-          (λ i. line (report_slot_text x d.0.cap (child_is_under x v.derivations apart i)) ++ rows_alike v apart xs i)
-          ∙ ap (λ slot. line (report_slot_text slot d.0.cap (has_child slot v.derivations)) ++ flat_map (slot_line v) (filter_map (found list) xs)) (sym (found_is list x d is))
+          (λ i. terminated (report_slot_text x d.0.cap (child_is_under x v.derivations apart i)) ++ rows_alike v apart xs i)
+          ∙ ap (λ slot. terminated (report_slot_text slot d.0.cap (has_child slot v.derivations)) ++ flat_map (slot_line v) (filter_map (found list) xs)) (sym (found_is list x d is))
     ] refl
 
 flat_alike : (f g : ℕ → List ℕ) (xs : List ℕ) → Each (λ x. f x ≡ g x) xs → flat_map f xs ≡ flat_map g xs

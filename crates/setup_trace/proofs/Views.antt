@@ -8,7 +8,7 @@ use lib.Pointwise.{pointwise}
 use Rattle.cap_core.specs.declared.profile.ProfileName.{ProfileName}
 use Rattle.derivation.specs.Entries.{derivations_of}
 use Rattle.abstract_kernel.specs.Shown.{Shown}
-use Rattle.setup_report.specs.declared.naming.Naming.{Naming}
+use Rattle.setup_report.specs.declared.naming.NamedObject.{NamedObject}
 use Rattle.setup_report.specs.State.{slot_of, named, holding_themselves, rising}
 use Rattle.setup_report.proofs.Addresses.Rising.{sorted_rising}
 use Rattle.setup_trace.specs.declared.state.Memory.{Memory}
@@ -52,9 +52,9 @@ pub messages_rise : (p : ProfileName) (v : Shown) (m : Messages) → ShowsMessag
 messages_rise p v m h =
     let list = derivations_of v.derivations in
     record {
-      threads = rises_at (thread_at v) (named p Naming.Thread list) _ h.threads;
-      inboxes = rises_at (inbox_line_at v) (named p Naming.Thread list) _ h.inboxes;
-      endpoints = rises_at (endpoint_at v) (named p Naming.Endpoint list) _ h.endpoints;
+      threads = rises_at (thread_at v) (named p NamedObject.Thread list) _ h.threads;
+      inboxes = rises_at (inbox_line_at v) (named p NamedObject.Thread list) _ h.inboxes;
+      endpoints = rises_at (endpoint_at v) (named p NamedObject.Endpoint list) _ h.endpoints;
     }
 
 -- ---- what is kept is what is told
@@ -111,8 +111,8 @@ messages_change p v w old new is same shows =
 pub still_shows : (p : ProfileName) (v w : Shown) (m : Memory) → w.derivations ≡ v.derivations → ShowsMemory p v m → ShowsMemory p w m
 still_shows p v w m same h =
     record {
-      threads = h.threads ∙ ap (λ f. rising (named p Naming.Thread (derivations_of f))) (sym same);
-      endpoints = h.endpoints ∙ ap (λ f. rising (named p Naming.Endpoint (derivations_of f))) (sym same);
+      threads = h.threads ∙ ap (λ f. rising (named p NamedObject.Thread (derivations_of f))) (sym same);
+      endpoints = h.endpoints ∙ ap (λ f. rising (named p NamedObject.Endpoint (derivations_of f))) (sym same);
       slots = h.slots ∙ ap (λ f. slot_lines (derivations_of f)) (sym same);
       selfheld = h.selfheld ∙ ap (λ f. selfheld_lines p (derivations_of f)) (sym same);
     }

@@ -6,7 +6,7 @@ use Rattle.cap_core.specs.declared.profile.ProfileName.{ProfileName}
 use Rattle.derivation.specs.Entries.{derivations_of}
 use Rattle.abstract_kernel.specs.Shown.{Shown}
 use Rattle.setup_report.specs.State.{rising}
-use Rattle.setup_report.specs.Report.{line}
+use Rattle.setup_report.specs.Report.{terminated}
 use Rattle.setup_trace.specs.Lines.{Lines, thread_lines, inbox_lines, endpoint_lines, slot_lines, selfheld_lines}
 
 -- the line at an address, if there is one
@@ -16,11 +16,11 @@ text_at address (l ∷ lines) = cond (l.0 == address) (Some l.1) (text_at addres
 
 abbrev pub removed : Option (List ℕ) → List ℕ
 removed None = []
-removed (Some text) = line (codes "  - " ++ text)
+removed (Some text) = terminated (codes "  - " ++ text)
 
 abbrev pub added : Option (List ℕ) → List ℕ
 added None = []
-added (Some text) = line (codes "  + " ++ text)
+added (Some text) = terminated (codes "  + " ++ text)
 
 -- one address: nothing, where its line stays
 abbrev pub change : Option (List ℕ) → Option (List ℕ) → List ℕ

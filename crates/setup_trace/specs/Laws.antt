@@ -17,7 +17,7 @@ use Rattle.abstract_kernel.specs.State.{State, shown}
 use Rattle.abstract_kernel.specs.Step.{step}
 use Rattle.setup_format.specs.Views.{CallView}
 use Rattle.setup_report.specs.State.{Derived, found, rising}
-use Rattle.setup_report.specs.Report.{line, call_text, thread_line}
+use Rattle.setup_report.specs.Report.{terminated, call_text, thread_line}
 use Rattle.setup_report.specs.Report as report
 use Rattle.setup_trace.specs.Lines.{Lines, thread_lines, endpoint_lines, slot_lines, selfheld_lines}
 use Rattle.setup_trace.specs.Changes.{StateLines, state_lines, no_lines, addresses, text_at, removed, added, changes}
@@ -163,7 +163,7 @@ backwards (d ∷ ds) = backwards ds ++ state_flipped d ∷ []
 
 -- the lines of the same kind one below another, as the report has them
 abbrev pub lines_text : Lines → List ℕ
-lines_text lines = flat_map (λ (l : ℕ × List ℕ). line l.1) lines
+lines_text lines = flat_map (λ (l : ℕ × List ℕ). terminated l.1) lines
 
 -- The report's lines of threads are of the threads that the trace has lines of, in that order. The two lines of a
 -- thread differ in what follows its state: the trace tells what it waits to send, and the report what it received last.
@@ -200,7 +200,7 @@ has_slot_under slot list = list_any (λ (d : Derived). is_under slot d.1) list
 -- it
 abbrev pub slot_line_of : List Derived → ℕ → Option Derived → List ℕ
 slot_line_of list slot None = []
-slot_line_of list slot (Some d) = line (report.slot_text slot d.0.cap (has_slot_under slot list))
+slot_line_of list slot (Some d) = terminated (report.slot_text slot d.0.cap (has_slot_under slot list))
 
 abbrev pub report_slot_line : List Derived → ℕ → List ℕ
 report_slot_line list slot = slot_line_of list slot (found list slot)
@@ -212,7 +212,7 @@ TellsTheSlotLines v =
 
 -- each of them tells the capability that its slot holds, and whether the slot has a child
 abbrev pub held_slot_line : Shown → ℕ → List ℕ
-held_slot_line v slot = line (report.slot_text slot (cap_at v.derivations slot) (has_child slot v.derivations))
+held_slot_line v slot = terminated (report.slot_text slot (cap_at v.derivations slot) (has_child slot v.derivations))
 
 abbrev pub TellsTheCapabilities : Shown → Type 0
 TellsTheCapabilities v = flat_map (held_slot_line v) (rising (full_slots v)) ≡ report.slot_lines v
@@ -224,7 +224,7 @@ abbrev pub report_lines : ℕ → List CallView → List Reply → List (List �
 report_lines number [] replies = []
 report_lines number (call ∷ calls) [] = []
 report_lines number (call ∷ calls) (reply ∷ replies) =
-    line (call_text number call.call reply call.expect) ∷ report_lines (number + 1) calls replies
+    terminated (call_text number call.call reply call.expect) ∷ report_lines (number + 1) calls replies
 
 -- what a trace says of each call below that line: its words and what it changed
 unfoldable pub details : ProfileName → State → List CallView → List (List ℕ)

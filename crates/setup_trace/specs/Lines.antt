@@ -9,7 +9,7 @@ use Rattle.abstract_kernel.specs.declared.call.ThreadState.{ThreadState}
 use Rattle.abstract_kernel.specs.declared.call.Inbox.{Inbox}
 use Rattle.abstract_kernel.specs.Shown.{Shown, state_at, inbox_at, waiting_at}
 use Rattle.abstract_kernel.specs.Waiting.{offer_at}
-use Rattle.setup_report.specs.declared.naming.Naming.{Naming}
+use Rattle.setup_report.specs.declared.naming.NamedObject.{NamedObject}
 use Rattle.setup_report.specs.State.{Derived, slot_of, found, named, holding_themselves, rising}
 use Rattle.setup_report.specs.Text.{cap_text, message_text, state_text}
 use Rattle.setup_report.specs.Report.{endpoint_text, first_sends, threads_at}
@@ -43,7 +43,7 @@ abbrev pub thread_at : Shown → ℕ → Option (List ℕ)
 thread_at v address = option_map (λ (s : ThreadState). thread_text address s (offer_at v address)) (state_at v address)
 
 abbrev pub thread_lines : ProfileName → Shown → Lines
-thread_lines p v = lines_at (thread_at v) (named p Naming.Thread (derivations_of v.derivations))
+thread_lines p v = lines_at (thread_at v) (named p NamedObject.Thread (derivations_of v.derivations))
 
 -- ---- inboxes: the last message that was delivered to a live thread, where there is one
 
@@ -55,7 +55,7 @@ abbrev pub inbox_line_at : Shown → ℕ → Option (List ℕ)
 inbox_line_at v address = option_map (inbox_text address) (inbox_at v address)
 
 abbrev pub inbox_lines : ProfileName → Shown → Lines
-inbox_lines p v = lines_at (inbox_line_at v) (named p Naming.Thread (derivations_of v.derivations))
+inbox_lines p v = lines_at (inbox_line_at v) (named p NamedObject.Thread (derivations_of v.derivations))
 
 -- ---- endpoints: who waits on each live endpoint
 
@@ -63,7 +63,7 @@ abbrev pub endpoint_at : Shown → ℕ → Option (List ℕ)
 endpoint_at v address = Some (endpoint_text address (first_sends (waiting_at v address)) (threads_at v address))
 
 abbrev pub endpoint_lines : ProfileName → Shown → Lines
-endpoint_lines p v = lines_at (endpoint_at v) (named p Naming.Endpoint (derivations_of v.derivations))
+endpoint_lines p v = lines_at (endpoint_at v) (named p NamedObject.Endpoint (derivations_of v.derivations))
 
 -- ---- slots: the capability of each full slot, the slot that it stands right below, and whether it is original
 

@@ -11,7 +11,7 @@ use Rattle.abstract_kernel.specs.State.{State, shown}
 use Rattle.abstract_kernel.specs.Step.{step, replies_of}
 use Rattle.setup_values.specs.Names.{Names}
 use Rattle.setup_format.specs.Views.{SetupView, CallView}
-use Rattle.setup_report.specs.Report.{line, call_text, met_count, expectation_count}
+use Rattle.setup_report.specs.Report.{terminated, call_text, met_count, expectation_count}
 use Rattle.setup_trace.specs.Changes.{StateLines, state_lines, no_lines, changes}
 use Rattle.setup_trace.specs.Words.{op_words}
 
@@ -22,26 +22,26 @@ profile_text Narrow = codes "narrow"
 -- the first line: the version of the trace's form, and how large the set-up is
 abbrev pub head_line : SetupView → List ℕ
 head_line setup =
-    line (codes "trace 1 " ++ (profile_text setup.profile ++ (codes " memory_bits " ++ (decimal setup.plan.memory_bits ++ (codes " calls " ++ decimal (length setup.calls))))))
+    terminated (codes "trace 1 " ++ (profile_text setup.profile ++ (codes " memory_bits " ++ (decimal setup.plan.memory_bits ++ (codes " calls " ++ decimal (length setup.calls))))))
 
 -- each name of the set-up, and the word that it stands for
 abbrev pub name_line : List ℕ × ℕ → List ℕ
-name_line name = line (codes "name " ++ (name.0 ++ (codes " " ++ decimal name.1)))
+name_line name = terminated (codes "name " ++ (name.0 ++ (codes " " ++ decimal name.1)))
 
 abbrev pub name_lines : Names → List ℕ
 name_lines names = flat_map name_line names
 
 -- boot is the change from nothing
 abbrev pub boot_lines : StateLines → List ℕ
-boot_lines booted = line (codes "0 boot") ++ changes no_lines booted
+boot_lines booted = terminated (codes "0 boot") ++ changes no_lines booted
 
 abbrev pub words_line : Op → List ℕ
-words_line op = line (codes "  with" ++ op_words op)
+words_line op = terminated (codes "  with" ++ op_words op)
 
 -- a call: the report's own line, its words, and what it changed
 abbrev pub call_lines : ℕ → CallView → Reply → StateLines → StateLines → List ℕ
 call_lines number call reply old new =
-    line (call_text number call.call reply call.expect) ++ (words_line call.call.op ++ changes old new)
+    terminated (call_text number call.call reply call.expect) ++ (words_line call.call.op ++ changes old new)
 
 -- the calls of a set-up, from a state on
 unfoldable pub calls_lines : ProfileName → ℕ → State → List CallView → List ℕ
@@ -56,7 +56,7 @@ replies_to p setup = replies_of p (boot p setup.plan) (map (λ (c : CallView). c
 
 -- how many expectations are met
 abbrev pub count_line : ℕ → ℕ → List ℕ
-count_line met expected = line (codes "expected " ++ (decimal met ++ (codes " of " ++ decimal expected)))
+count_line met expected = terminated (codes "expected " ++ (decimal met ++ (codes " of " ++ decimal expected)))
 
 -- the trace of a set-up, and of the names by which it was spelt
 unfoldable pub trace_of : ProfileName → Names → SetupView → List ℕ

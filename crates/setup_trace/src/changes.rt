@@ -12,19 +12,19 @@ use std::fmt::Write;
 
 /// A line of a state, and the address of what it is about.
 #[derive(Drop)]
-pub struct Line {
+pub struct StateLine {
     pub address: u64,
     pub text: String,
 }
 
-fn add_removed(out: &mut String, line: &Line) -> Result<(), AllocError>
+fn add_removed(out: &mut String, line: &StateLine) -> Result<(), AllocError>
     ensures { OnOk result (string_bytes out.new ≡ string_bytes out.old ++ spec.removed (Some (line_view line.now).1)) }
 {
     let text = line.text.as_str();
     writeln!(out, "  - {text}")
 }
 
-fn add_added(out: &mut String, line: &Line) -> Result<(), AllocError>
+fn add_added(out: &mut String, line: &StateLine) -> Result<(), AllocError>
     ensures { OnOk result (string_bytes out.new ≡ string_bytes out.old ++ spec.added (Some (line_view line.now).1)) }
 {
     let text = line.text.as_str();
@@ -32,7 +32,7 @@ fn add_added(out: &mut String, line: &Line) -> Result<(), AllocError>
 }
 
 /// Adds how a line differs from the one that it takes the place of.
-fn add_altered(out: &mut String, old: &Line, new: &Line) -> Result<(), AllocError>
+fn add_altered(out: &mut String, old: &StateLine, new: &StateLine) -> Result<(), AllocError>
     ensures { OnOk result (string_bytes out.new ≡ string_bytes out.old
         ++ spec.change (Some (line_view old.now).1) (Some (line_view new.now).1)) }
 {
@@ -45,7 +45,7 @@ fn add_altered(out: &mut String, old: &Line, new: &Line) -> Result<(), AllocErro
 
 /// Which of two lines comes first: the old one, with `Less`, where there is no new one; the new one, with `Greater`,
 /// where there is no old one.
-fn order_at(old: &[Line], i: usize, new: &[Line], j: usize) -> Ordering
+fn order_at(old: &[StateLine], i: usize, new: &[StateLine], j: usize) -> Ordering
     requires { (i < length old.now) ⊎ (j < length new.now) }
     ensures order { result ≡ order_of (slice_get (map line_view old.now) i) (slice_get (map line_view new.now) j) }
     ensures old { result ≢ Greater → i < length old.now }
@@ -64,7 +64,7 @@ fn order_at(old: &[Line], i: usize, new: &[Line], j: usize) -> Ordering
 /// # Errors
 ///
 /// Memory was refused.
-pub fn add_changes(out: &mut String, old: &[Line], new: &[Line]) -> Result<(), AllocError>
+pub fn add_changes(out: &mut String, old: &[StateLine], new: &[StateLine]) -> Result<(), AllocError>
     requires old { IsStrictlySortedBy nat_cmp (spec.addresses (map line_view old.now)) }
     requires new { IsStrictlySortedBy nat_cmp (spec.addresses (map line_view new.now)) }
     ensures { OnOk result (string_bytes out.new ≡ string_bytes out.old

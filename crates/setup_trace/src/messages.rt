@@ -4,7 +4,7 @@ ghost use Rattle.std.specs.List.{flat_map};
 ghost use Rattle.setup_trace.specs.Lines as spec;
 ghost use Rattle.setup_trace.specs.Private.Listed.{line_view};
 
-use crate::changes::Line;
+use crate::changes::StateLine;
 use crate::text::{InboxText, ThreadText};
 use cap_core::Profile;
 use ipc_core::Waiters;
@@ -16,7 +16,7 @@ use std::collections::BTreeSet;
 
 fn add_thread<P: Profile, S: CapStore<P> + Drop, W: Waiters<P> + Drop>(
     alloc: Global,
-    lines: &mut Vec<Line>,
+    lines: &mut Vec<StateLine>,
     address: u64,
     kernel: &Kernel<P, S, W>,
 ) -> Result<(), AllocError>
@@ -33,7 +33,7 @@ fn add_thread<P: Profile, S: CapStore<P> + Drop, W: Waiters<P> + Drop>(
         offer,
     }
     .to_string(alloc)?;
-    lines.push(Line { address, text })?;
+    lines.push(StateLine { address, text })?;
     Ok(())
 }
 
@@ -46,7 +46,7 @@ pub fn thread_lines<P: Profile, S: CapStore<P> + Drop, W: Waiters<P> + Drop>(
     alloc: Global,
     threads: &BTreeSet<u64>,
     kernel: &Kernel<P, S, W>,
-) -> Result<Vec<Line>, AllocError>
+) -> Result<Vec<StateLine>, AllocError>
     ensures { IfOk result (λ v. map line_view v.items
         ≡ flat_map (spec.line_at (spec.thread_at kernel.now)) threads.now.keys) }
 {
@@ -59,7 +59,7 @@ pub fn thread_lines<P: Profile, S: CapStore<P> + Drop, W: Waiters<P> + Drop>(
 
 fn add_inbox<P: Profile, S: CapStore<P> + Drop, W: Waiters<P> + Drop>(
     alloc: Global,
-    lines: &mut Vec<Line>,
+    lines: &mut Vec<StateLine>,
     address: u64,
     kernel: &Kernel<P, S, W>,
 ) -> Result<(), AllocError>
@@ -70,7 +70,7 @@ fn add_inbox<P: Profile, S: CapStore<P> + Drop, W: Waiters<P> + Drop>(
         return Ok(());
     };
     let text = InboxText { address, inbox }.to_string(alloc)?;
-    lines.push(Line { address, text })?;
+    lines.push(StateLine { address, text })?;
     Ok(())
 }
 
@@ -83,7 +83,7 @@ pub fn inbox_lines<P: Profile, S: CapStore<P> + Drop, W: Waiters<P> + Drop>(
     alloc: Global,
     threads: &BTreeSet<u64>,
     kernel: &Kernel<P, S, W>,
-) -> Result<Vec<Line>, AllocError>
+) -> Result<Vec<StateLine>, AllocError>
     ensures { IfOk result (λ v. map line_view v.items
         ≡ flat_map (spec.line_at (spec.inbox_line_at kernel.now)) threads.now.keys) }
 {
@@ -112,7 +112,7 @@ fn endpoint_text<P: Profile, S: CapStore<P> + Drop, W: Waiters<P> + Drop>(
 
 fn add_endpoint<P: Profile, S: CapStore<P> + Drop, W: Waiters<P> + Drop>(
     alloc: Global,
-    lines: &mut Vec<Line>,
+    lines: &mut Vec<StateLine>,
     address: u64,
     kernel: &Kernel<P, S, W>,
 ) -> Result<(), AllocError>
@@ -120,7 +120,7 @@ fn add_endpoint<P: Profile, S: CapStore<P> + Drop, W: Waiters<P> + Drop>(
         ++ spec.line_at (spec.endpoint_at kernel.now) address) }
 {
     let text = endpoint_text::<P, S, W>(alloc, address, kernel)?;
-    lines.push(Line { address, text })?;
+    lines.push(StateLine { address, text })?;
     Ok(())
 }
 
@@ -133,7 +133,7 @@ pub fn endpoint_lines<P: Profile, S: CapStore<P> + Drop, W: Waiters<P> + Drop>(
     alloc: Global,
     endpoints: &BTreeSet<u64>,
     kernel: &Kernel<P, S, W>,
-) -> Result<Vec<Line>, AllocError>
+) -> Result<Vec<StateLine>, AllocError>
     ensures { IfOk result (λ v. map line_view v.items
         ≡ flat_map (spec.line_at (spec.endpoint_at kernel.now)) endpoints.now.keys) }
 {

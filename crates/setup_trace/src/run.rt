@@ -3,7 +3,7 @@ ghost use Rattle.std.specs.Prelude.{◌≡◌, ◌++◌, IfOk, OnOk, codes, stri
 ghost use Rattle.abstract_kernel.specs.Boot.{boot};
 ghost use Rattle.abstract_kernel.specs.Plan.{IsPlan};
 ghost use Rattle.setup_values.specs.Names.{names_view};
-ghost use Rattle.setup_report.specs.Report.{line, met_count, expectation_count};
+ghost use Rattle.setup_report.specs.Report.{terminated, met_count, expectation_count};
 ghost use Rattle.setup_trace.specs.Trace as spec;
 
 use crate::calls::add_calls;
@@ -20,7 +20,7 @@ use std::alloc::{AllocError, Global};
 use std::fmt::Write;
 
 fn add_boot(out: &mut String) -> Result<(), AllocError>
-    ensures { OnOk result (string_bytes out.new ≡ string_bytes out.old ++ line (codes "0 boot")) }
+    ensures { OnOk result (string_bytes out.new ≡ string_bytes out.old ++ terminated (codes "0 boot")) }
 {
     writeln!(out, "0 boot")
 }

@@ -4,14 +4,14 @@ ghost use Rattle.std.specs.List.{flat_map};
 ghost use Rattle.setup_trace.specs.Lines as spec;
 ghost use Rattle.setup_trace.specs.Private.Listed.{line_view, derivation_line};
 
-use crate::changes::Line;
+use crate::changes::StateLine;
 use crate::text::SlotText;
 use cap_core::Profile;
 use slot_core::Derivation;
 use std::alloc::{AllocError, Global};
 
 /// The line of a full slot.
-fn slot_line<P: Profile>(alloc: Global, derivation: &Derivation) -> Result<Line, AllocError>
+fn slot_line<P: Profile>(alloc: Global, derivation: &Derivation) -> Result<StateLine, AllocError>
     ensures { IfOk result (λ l. line_view l ≡ derivation_line P.the derivation.now) }
 {
     let parent = match derivation.parent {
@@ -25,7 +25,7 @@ fn slot_line<P: Profile>(alloc: Global, derivation: &Derivation) -> Result<Line,
         parent,
         original: derivation.original,
     };
-    Ok(Line {
+    Ok(StateLine {
         address,
         text: text.to_string(alloc)?,
     })
@@ -33,7 +33,7 @@ fn slot_line<P: Profile>(alloc: Global, derivation: &Derivation) -> Result<Line,
 
 fn add_slot<P: Profile>(
     alloc: Global,
-    lines: &mut Vec<Line>,
+    lines: &mut Vec<StateLine>,
     derivation: &Derivation,
 ) -> Result<(), AllocError>
     ensures { OnOk result (map line_view lines.new.items
@@ -49,7 +49,10 @@ fn add_slot<P: Profile>(
 /// # Errors
 ///
 /// Memory was refused.
-pub fn slot_lines<P: Profile>(alloc: Global, slots: &[Derivation]) -> Result<Vec<Line>, AllocError>
+pub fn slot_lines<P: Profile>(
+    alloc: Global,
+    slots: &[Derivation],
+) -> Result<Vec<StateLine>, AllocError>
     ensures { IfOk result (λ v. map line_view v.items ≡ map (derivation_line P.the) slots.now) }
 {
     let mut lines = Vec::new(alloc);
@@ -59,12 +62,12 @@ pub fn slot_lines<P: Profile>(alloc: Global, slots: &[Derivation]) -> Result<Vec
     Ok(lines)
 }
 
-fn add_selfheld(alloc: Global, lines: &mut Vec<Line>, address: u64) -> Result<(), AllocError>
+fn add_selfheld(alloc: Global, lines: &mut Vec<StateLine>, address: u64) -> Result<(), AllocError>
     ensures { OnOk result (map line_view lines.new.items
         ≡ map line_view lines.old.items ++ spec.line_at spec.selfheld_at address) }
 {
     let text = format!(in alloc; "selfheld {address}")?;
-    lines.push(Line { address, text })?;
+    lines.push(StateLine { address, text })?;
     Ok(())
 }
 
@@ -73,7 +76,7 @@ fn add_selfheld(alloc: Global, lines: &mut Vec<Line>, address: u64) -> Result<()
 /// # Errors
 ///
 /// Memory was refused.
-pub fn selfheld_lines(alloc: Global, nodes: &[u64]) -> Result<Vec<Line>, AllocError>
+pub fn selfheld_lines(alloc: Global, nodes: &[u64]) -> Result<Vec<StateLine>, AllocError>
     ensures { IfOk result (λ v. map line_view v.items ≡ flat_map (spec.line_at spec.selfheld_at) nodes.now) }
 {
     let mut lines = Vec::new(alloc);

@@ -4,7 +4,7 @@ ghost use Rattle.abstract_kernel.specs.Shown.{Shown};
 ghost use Rattle.setup_trace.specs.Changes.{changes, state_lines, no_lines};
 ghost use Rattle.setup_trace.specs.Private.Views.{memory_changes, message_changes, view_lines, ShowsMemory, ShowsMessages, IsViewOf, Follows, HasRisingMemory, HasRisingMessages};
 
-use crate::changes::{Line, add_changes};
+use crate::changes::{StateLine, add_changes};
 use crate::messages::{endpoint_lines, inbox_lines, thread_lines};
 use crate::slots::{selfheld_lines, slot_lines};
 use cap_core::Profile;
@@ -20,16 +20,16 @@ use std::collections::BTreeSet;
 pub struct Memory {
     pub threads: BTreeSet<u64>,
     pub endpoints: BTreeSet<u64>,
-    pub slots: Vec<Line>,
-    pub selfheld: Vec<Line>,
+    pub slots: Vec<StateLine>,
+    pub selfheld: Vec<StateLine>,
 }
 
 /// What the messages show: the lines of threads, of what was delivered to them, and of endpoints.
 #[derive(Drop)]
 pub struct Messages {
-    pub threads: Vec<Line>,
-    pub inboxes: Vec<Line>,
-    pub endpoints: Vec<Line>,
+    pub threads: Vec<StateLine>,
+    pub inboxes: Vec<StateLine>,
+    pub endpoints: Vec<StateLine>,
 }
 
 /// All that a trace tells of a state.

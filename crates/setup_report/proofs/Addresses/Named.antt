@@ -6,7 +6,7 @@ use Rattle.std.specs.Ordering.{nat_cmp}
 use Rattle.std.proofs.lemmas.List.{take_more, map-append}
 use Rattle.std.proofs.lemmas.List.Elements.{filter_map-append}
 use Rattle.cap_core.specs.declared.profile.ProfileName.{ProfileName}
-use Rattle.setup_report.specs.declared.naming.Naming.{Naming}
+use Rattle.setup_report.specs.declared.naming.NamedObject.{NamedObject}
 use Rattle.setup_report.specs.State.{Derived, is_in, rising, named, holding_themselves}
 use Rattle.setup_report.proofs.Addresses.Rising.{rising_push, filter_alike, tied_in, any_rising, filter_rising}
 
@@ -36,13 +36,13 @@ named_none f g xs i d before within is names =
 
 -- ---- CNodes that only slots of their own name
 
-pub rising_selfheld : (p : ProfileName) (list : List Derived) (own others : BTreeSet ℕ) → own.keys ≡ rising (named p Naming.OwnNode list) → others.keys ≡ rising (named p Naming.OtherNode list) →
+pub rising_selfheld : (p : ProfileName) (list : List Derived) (own others : BTreeSet ℕ) → own.keys ≡ rising (named p NamedObject.OwnNode list) → others.keys ≡ rising (named p NamedObject.OtherNode list) →
     difference nat_cmp own others ≡ rising (holding_themselves p list)
 rising_selfheld p list own others e h =
-    filter_alike _ (λ base. not (is_in base (named p Naming.OtherNode list))) own.keys
-    (λ q. ap not (tied_in q others.keys ∙ ap (is_in q) h ∙ any_rising (λ a. q == a) (named p Naming.OtherNode list)))
-    ∙ ap (filter (λ base. not (is_in base (named p Naming.OtherNode list)))) e
-    ∙ filter_rising (λ base. not (is_in base (named p Naming.OtherNode list))) (named p Naming.OwnNode list)
+    filter_alike _ (λ base. not (is_in base (named p NamedObject.OtherNode list))) own.keys
+    (λ q. ap not (tied_in q others.keys ∙ ap (is_in q) h ∙ any_rising (λ a. q == a) (named p NamedObject.OtherNode list)))
+    ∙ ap (filter (λ base. not (is_in base (named p NamedObject.OtherNode list)))) e
+    ∙ filter_rising (λ base. not (is_in base (named p NamedObject.OtherNode list))) (named p NamedObject.OwnNode list)
 
 -- what holds of a value where there is one
 pub where_ok : {A E : Type 0} (P Q : A → Type 0) → ((a : A) → P a → Q a) → (r : Result A E) → IfOk r P → IfOk r Q

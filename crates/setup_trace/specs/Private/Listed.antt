@@ -9,12 +9,12 @@ use Rattle.slot_core.specs.Places.{address_of}
 use Rattle.slot_core.specs.Calls.{derivation_view}
 use Rattle.setup_values.specs.declared.names.Name.{Name}
 use Rattle.setup_trace.specs.Lines.{slot_text}
-use Rattle.setup_trace.specs.declared.changes.Line.{Line}
+use Rattle.setup_trace.specs.declared.changes.StateLine.{StateLine}
 
 abbrev pub name_view : Name → List ℕ × ℕ
 name_view name = (string_bytes name.text, name.word)
 
-abbrev pub line_view : Line → ℕ × List ℕ
+abbrev pub line_view : StateLine → ℕ × List ℕ
 line_view line = (line.address, string_bytes line.text)
 
 -- which of two lines has the lesser address, where each may be missing

@@ -10,13 +10,13 @@ use Rattle.abstract_kernel.specs.Shown.{Shown}
 use Rattle.setup_report.specs.State.{threads as live_threads, endpoints as live_endpoints}
 use Rattle.setup_trace.specs.Lines.{Lines, thread_lines, inbox_lines, endpoint_lines, slot_lines, selfheld_lines}
 use Rattle.setup_trace.specs.Changes.{StateLines, addresses, line_changes}
-use Rattle.setup_trace.specs.declared.changes.Line.{Line}
+use Rattle.setup_trace.specs.declared.changes.StateLine.{StateLine}
 use Rattle.setup_trace.specs.declared.state.Memory.{Memory}
 use Rattle.setup_trace.specs.declared.state.Messages.{Messages}
 use Rattle.setup_trace.specs.declared.state.View.{View}
 use Rattle.setup_trace.specs.Private.Listed.{line_view}
 
-abbrev pub seen : List Line → Lines
+abbrev pub seen : List StateLine → Lines
 seen lines = map line_view lines
 
 abbrev pub view_lines : View → StateLines
@@ -40,7 +40,7 @@ memory_changes old new =
     line_changes (seen old.slots.items) (seen new.slots.items) ++ line_changes (seen old.selfheld.items) (seen new.selfheld.items)
 
 -- the lines are in the order of their addresses
-abbrev pub Rises : List Line → Type 0
+abbrev pub Rises : List StateLine → Type 0
 Rises lines = IsStrictlySortedBy nat_cmp (addresses (seen lines))
 
 pub record HasRisingMemory (m : Memory) : Type 0 where

@@ -1,6 +1,6 @@
 use Rattle.std.proofs.Common.{◌+◌, ◌++◌, subst, ◌∙◌, string_bytes, option_copied}
 use Rattle.abstract_kernel.specs.Reached.{StepsTo}
-use Rattle.setup_report.specs.Report.{line, call_text}
+use Rattle.setup_report.specs.Report.{terminated, call_text}
 use Rattle.setup_trace.specs.Changes.{state_lines, changes}
 use Rattle.setup_trace.specs.Trace.{words_line}
 use Rattle.setup_trace.proofs.Views.{view_told}
@@ -30,6 +30,6 @@ returns-clause-text g c = λ call there.
     three_parts (string_bytes c.args.out.now) (string_bytes c.add_call.new.out) (string_bytes c.add_words.new.out) (string_bytes c.after_call.new.out) _ _ _
     c.in_ok-add_call.ensures.line c.in_ok-add_words.ensures c.in_ok-told.ensures.text
     ∙ (λ k. string_bytes c.args.out.now
-    ++ (line (call_text (c.args.i + 1) (made k) c.step-reply.result (expected k))
+    ++ (terminated (call_text (c.args.i + 1) (made k) c.step-reply.result (expected k))
     ++ (words_line (made k).op
     ++ changes (view_told p c.args.kernel.now c.args.view c.requires.view k) told)))

@@ -4,7 +4,7 @@ use Rattle.abstract_kernel.specs.Boot.{boot}
 use Rattle.abstract_kernel.specs.State.{shown}
 use Rattle.setup_format.specs.Views.{CallView}
 use Rattle.setup_values.specs.Names.{names_view}
-use Rattle.setup_report.specs.Report.{line, met_count, expectation_count}
+use Rattle.setup_report.specs.Report.{terminated, met_count, expectation_count}
 use Rattle.setup_trace.specs.Changes.{changes, state_lines}
 use Rattle.setup_trace.specs.Trace.{head_line, name_lines, calls_lines, count_line, replies_to, trace_of}
 use Rattle.setup_trace.proofs.Views.{nothing_rises}
@@ -51,7 +51,7 @@ returns-clause-text g c =
     (c.in_ok-replies.ensures.text (boot p plan) (booted p plan c.requires) stands)
     c.in_ok-add_expectations.ensures
     ∙ (λ i. (head_line c.args.setup.now ++ name_lines (names_view c.args.names.now))
-    ++ ((line (codes "0 boot") ++ changes (c.nothing.ensures i) (state_lines p (stands i)))
+    ++ ((terminated (codes "0 boot") ++ changes (c.nothing.ensures i) (state_lines p (stands i)))
     ++ (calls_lines p 1 (boot p plan) calls
     ++ count_line
     ((c.in_ok-count.ensures.met ∙ ap (met_count calls) replies) i)
