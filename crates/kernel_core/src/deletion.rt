@@ -71,7 +71,7 @@ fn clear_at<P: Profile, S: CapStore<P>, F: Finalise>(
 }
 
 /// Clears what was derived from the capability in the slot at an address.
-fn revoke_at<P: Profile, S: CapStore<P>, F: Finalise>(
+pub(crate) fn revoke_at<P: Profile, S: CapStore<P>, F: Finalise>(
     store: &mut S,
     rest: &mut F,
     chain: &mut SlotChain<P>,

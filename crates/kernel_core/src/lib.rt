@@ -10,6 +10,7 @@ pub mod kernel;
 mod objects;
 mod placements;
 mod refusals;
+mod revoking;
 mod rows;
 
 pub use abstract_kernel::{Call, Inbox, Op, Reply, ThreadState, call, invocation};

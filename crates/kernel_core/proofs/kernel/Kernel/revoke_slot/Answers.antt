@@ -1,0 +1,19 @@
+-- The proof of `revoke_slot`: the goal that a search leaves open.
+use Rattle.std.proofs.Common.{ap, sym, ◌∙◌}
+use Rattle.clearing.specs.Revoke.{revoke}
+use Rattle.abstract_kernel.specs.Shown.{Shown, tcb_base, endpoint_base}
+use Rattle.abstract_kernel.specs.State.{State, shown}
+use Rattle.abstract_kernel.specs.Private.Endings.{after_ending}
+use Rattle.abstract_kernel.proofs.Capabilities.StoresCleared.{live-revoke}
+use Rattle.abstract_kernel.proofs.Cancelling.Ended.{ending_shown}
+use Rattle.abstract_kernel.proofs.Reached.Simulation.{reached_inv}
+use Rattle.kernel_core.proofs.kernel.Kernel.revoke_slot.Goals as goal
+
+pub returns : goal.returns
+unfolding shown
+returns g c = λ A reached shows.
+    let p = g.P.Profile.the in
+    let slot = c.args.slot in
+    c.clear_below.ensures
+    ∙ ap (λ (v : Shown). after_ending v (revoke p slot v.derivations)) shows
+    ∙ sym (ending_shown A (revoke p slot A.derivations) (reached_inv p A reached) (λ q. live-revoke endpoint_base q p slot A.derivations) (λ q. live-revoke tcb_base q p slot A.derivations))

@@ -1,0 +1,36 @@
+//! The revoke of a slot by itself.
+ghost use Rattle.std.specs.Prelude.{◌≡◌, true};
+ghost use Rattle.derivation.specs.Entries.{is_full};
+ghost use Rattle.clearing.specs.Revoke.{revoke as revoked};
+ghost use Rattle.abstract_kernel.specs.Reached.{IsReached};
+ghost use Rattle.abstract_kernel.specs.State.{State, shown};
+ghost use Rattle.abstract_kernel.specs.Step.{objects_ended};
+ghost use Rattle.abstract_kernel.specs.Private.Endings.{after_ending};
+
+use crate::deletion::revoke_at;
+use crate::kernel::Kernel;
+use cap_core::Profile;
+use ipc_core::Waiters;
+use slot_core::CapStore;
+
+impl<P: Profile, S: CapStore<P> + Drop, W: Waiters<P> + Drop> Kernel<P, S, W> {
+    /// Revokes the full slot at an address, by itself: no thread makes a call of it, and none has to be able to name the
+    /// slot. What was derived from its capability is cleared, and what ends with that ends, as by a call of a thread that is
+    /// a revoke of the slot.
+    ///
+    /// For a kernel that stands for a state that runs reach, what is shown after is what the abstract step of such a call
+    /// shows. It takes no memory.
+    pub fn revoke_slot(&mut self, slot: u64)
+        requires { is_full slot self.old.derivations ≡ true }
+        ensures { (A : State) → IsReached P.the A → self.old ≡ shown A → self.new ≡ shown (objects_ended A (revoked P.the slot A.derivations)).state }
+    {
+        self.clear_below(slot);
+    }
+
+    fn clear_below(&mut self, slot: u64)
+        requires { is_full slot self.old.derivations ≡ true }
+        ensures { self.new ≡ after_ending self.old (revoked P.the slot self.old.derivations) }
+    {
+        revoke_at(&mut self.store, &mut self.threads, &mut self.chain, slot);
+    }
+}
