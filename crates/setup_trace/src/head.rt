@@ -12,7 +12,7 @@ use std::alloc::AllocError;
 use std::fmt::Write;
 
 /// The name of a profile.
-fn profile_text(profile: ProfileName) -> &'static str
+pub fn profile_text(profile: ProfileName) -> &'static str
     ensures { result.now ≡ spec.profile_text profile }
 {
     match profile {

@@ -39,7 +39,8 @@ pub struct View {
     pub messages: Messages,
 }
 
-fn memory_of<P: Profile, S: DerivationStore<P> + Drop, W: Waiters<P> + Drop>(
+/// What a kernel's capabilities show.
+pub fn memory_of<P: Profile, S: DerivationStore<P> + Drop, W: Waiters<P> + Drop>(
     alloc: Global,
     kernel: &Kernel<P, S, W>,
 ) -> Result<Memory, AllocError>
@@ -61,7 +62,8 @@ fn memory_of<P: Profile, S: DerivationStore<P> + Drop, W: Waiters<P> + Drop>(
     })
 }
 
-fn messages_of<P: Profile, S: DerivationStore<P> + Drop, W: Waiters<P> + Drop>(
+/// What a kernel's messages show, by the threads and endpoints that are live.
+pub fn messages_of<P: Profile, S: DerivationStore<P> + Drop, W: Waiters<P> + Drop>(
     alloc: Global,
     memory: &Memory,
     kernel: &Kernel<P, S, W>,

@@ -10,7 +10,7 @@ use std::fmt;
 
 /// What a thread sends that waits to send, where it does.
 #[derive(Clone, Copy)]
-struct OfferText(Option<Offer>);
+pub struct OfferText(pub Option<Offer>);
 
 impl fmt::Display for OfferText {
     ghost output = { λ o. Some (spec.offer_text o.0) };
