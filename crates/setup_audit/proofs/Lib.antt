@@ -1,0 +1,6 @@
+pub mod Children
+pub mod Counted
+pub mod Ended
+pub mod Joined
+pub mod Named
+pub mod Shows

@@ -1,0 +1,34 @@
+use Rattle.std.proofs.Common.{◌≡◌, ◌++◌, Bool, true, false, cond, [], string_bytes, ap, sym, append-nil, ◌∙◌}
+use Rattle.abstract_kernel.specs.Shown.{Shown, has_child}
+use Rattle.abstract_kernel.specs.State.{State, shown}
+use Rattle.setup_values.specs.Names.{names_view}
+use Rattle.setup_audit.specs.Revokes.{revoked, revoke_lines}
+use Rattle.setup_audit.proofs.Children.{child_full}
+use Rattle.setup_audit.proofs.Shows.{derivations_shown}
+use Rattle.setup_audit.proofs.revokes.add_revoke_at.Goals as goal
+
+same_child : (v : Shown) (A : State) (slot : _) → v ≡ shown A → has_child slot A.derivations ≡ has_child slot v.derivations
+same_child v A slot shows = sym (ap (has_child slot) (ap (λ (w : Shown). w.derivations) shows ∙ derivations_shown A))
+
+pub revoked-requires : goal.revoked-requires
+revoked-requires g c = child_full c.args.slot c.args.kernel.now.derivations (sym c.has_children.ensures ∙ c.if-not-has_children.false)
+
+pub returns-then-not-has_children : goal.returns-then-not-has_children
+returns-then-not-has_children g c = λ A reached shows.
+    let p = g.P.Profile.the in
+    let names = names_view c.args.names.now in
+    let slot = c.args.slot in
+    let none : has_child slot A.derivations ≡ false = same_child c.args.kernel.now A slot shows ∙ (sym c.has_children.ensures ∙ c.if-not-has_children.true) in
+    sym (
+    ap (λ (b : Bool). string_bytes c.args.out.now ++ cond b (revoke_lines names (shown A) (revoked p A slot) slot) []) none
+    ∙ append-nil (string_bytes c.args.out.now))
+
+pub returns : goal.returns
+returns g c = λ A reached shows.
+    let p = g.P.Profile.the in
+    let names = names_view c.args.names.now in
+    let slot = c.args.slot in
+    let one : has_child slot A.derivations ≡ true = same_child c.args.kernel.now A slot shows ∙ (sym c.has_children.ensures ∙ c.if-not-has_children.false) in
+    c.in_ok-add_revoke.ensures
+    ∙ ((λ i. string_bytes c.args.out.now ++ revoke_lines names (shows i) (c.in_ok-new.ensures A reached shows i) slot)
+    ∙ sym (ap (λ (b : Bool). string_bytes c.args.out.now ++ cond b (revoke_lines names (shown A) (revoked p A slot) slot) []) one))

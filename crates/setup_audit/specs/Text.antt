@@ -1,0 +1,53 @@
+-- The text of the parts of an audit. Numbers are decimal.
+use Rattle.std.specs.Prelude.{codes, ℕ, ◌==◌, cond, List, [], ◌++◌, Bool, Option, Some, None, option_map, find, count_by, length}
+use Rattle.std.specs.Fmt.{decimal}
+use Rattle.cap_core.specs.declared.capability.Cap.{Cap}
+use Rattle.reach_core.specs.declared.endpoints.EndpointWord.{EndpointWord}
+use Rattle.setup_values.specs.Names.{Names}
+use Rattle.setup_format.specs.Views.{SetupView}
+use Rattle.setup_report.specs.Text.{cap_text, rights_text}
+use Rattle.setup_report.specs.Report.{line}
+use Rattle.setup_trace.specs.Trace.{profile_text}
+
+-- ---- threads are told with their names
+
+-- a name stands for a value
+abbrev pub has_value : ℕ → List ℕ × ℕ → Bool
+has_value value name = name.1 == value
+
+-- the name of a value: where exactly one name of the set-up has it
+abbrev pub name_of : Names → ℕ → Option (List ℕ)
+name_of names value =
+    cond (count_by (has_value value) names == 1) (option_map (λ (n : List ℕ × ℕ). n.0) (find (has_value value) names)) None
+
+-- an address, and behind it the name, where there is one
+abbrev pub named_text : ℕ → Option (List ℕ) → List ℕ
+named_text address None = decimal address
+named_text address (Some name) = decimal address ++ (codes " @" ++ name)
+
+abbrev pub thread_name : Names → ℕ → List ℕ
+thread_name names address = named_text address (name_of names address)
+
+-- ---- the first line: the version of the audit's form, how large the set-up is, how many of its calls are made, and the slot
+-- that is asked for, where one is
+
+abbrev pub slot_asked_text : Option ℕ → List ℕ
+slot_asked_text None = []
+slot_asked_text (Some slot) = codes " slot " ++ decimal slot
+
+abbrev pub head_line : SetupView → ℕ → Option ℕ → List ℕ
+head_line setup made slot =
+    line (codes "audit 1 " ++ (profile_text setup.profile ++ (codes " memory_bits " ++ (decimal setup.plan.memory_bits
+    ++ (codes " calls " ++ (decimal (length setup.calls) ++ (codes " after " ++ (decimal made ++ slot_asked_text slot))))))))
+
+-- ---- slots and channels
+
+-- a slot, with what it holds
+abbrev pub held_slot_text : ℕ → Cap → List ℕ
+held_slot_text slot cap = decimal slot ++ (codes " " ++ cap_text cap)
+
+-- a thread by its name, its word, and the endpoint's capability that the word leads to
+abbrev pub sender_text : List ℕ → EndpointWord → List ℕ
+sender_text name u =
+    name ++ (codes " " ++ (decimal u.word ++ (codes " -> " ++ (decimal u.endpoint ++ (codes " badge " ++ (decimal u.badge.0
+    ++ (codes " rights " ++ rights_text u.rights)))))))

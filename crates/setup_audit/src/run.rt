@@ -1,0 +1,134 @@
+//! The audit of a set-up, behind so many of its calls.
+ghost use Rattle.std.specs.Prelude.{◌≡◌, ◌≤◌, IfOk, ℕ, length, map, option_map, take};
+ghost use Rattle.abstract_kernel.specs.Memory.{IsInMemory};
+ghost use Rattle.abstract_kernel.specs.Plan.{IsPlan};
+ghost use Rattle.abstract_kernel.specs.Reached.{IsReached};
+ghost use Rattle.abstract_kernel.specs.State.{State, shown};
+ghost use Rattle.setup_values.specs.Names.{names_view};
+ghost use Rattle.setup_audit.specs.Audit as spec;
+
+use crate::revokes::is_cleared;
+use crate::state::{audit_of_slot, whole_audit};
+use cap_core::Profile;
+use ipc_core::MakeWaiters;
+use kernel_core::{Call, Kernel};
+use setup_format::Setup;
+use setup_values::Name;
+use slot_core::{DerivationStore, MakeStore};
+use std::alloc::{AllocError, Global};
+
+/// The first calls of a set-up.
+fn first_calls(setup: &Setup, count: usize) -> &[Call]
+    requires { count ≤ length setup.now.calls }
+    ensures calls { result.now ≡ take count (map (λ c. c.call) setup.entry.now.calls) }
+    ensures len { length result.now ≡ count }
+{
+    &setup.calls()[..count]
+}
+
+/// The kernel of a set-up behind its first calls.
+fn kernel_after<P: Profile, S: MakeStore<P>, W: MakeWaiters<P>>(
+    alloc: Global,
+    setup: &Setup,
+    count: usize,
+) -> Result<Kernel<P, S, W>, AllocError>
+    requires plan { IsPlan P.the setup.now.plan }
+    requires count { count ≤ length setup.now.calls }
+    ensures shows { IfOk result (λ kernel. kernel ≡ shown (spec.state_behind P.the setup.now count)) }
+    ensures within { IfOk result (λ kernel. (memory : ℕ) × IsInMemory P.the memory kernel) }
+{
+    let mut kernel = Kernel::<P, S, W>::boot(alloc, setup.plan())?;
+    let mut replies = Vec::with_capacity(alloc, count)?;
+    kernel.run(first_calls(setup, count), &mut replies);
+    Ok(kernel)
+}
+
+/// How many calls are asked for, where the set-up has them: all of them, where no number is given.
+fn calls_made(setup: &Setup, after: Option<u64>) -> Option<usize>
+    ensures { result ≡ spec.calls_made setup.now after }
+{
+    let calls = setup.calls().len();
+    match after {
+        None => Some(calls),
+        Some(count) if count <= calls as u64 => Some(count as usize),
+        Some(_) => None,
+    }
+}
+
+/// The audit of a slot, where it is full.
+fn slot_answer<P: Profile, S: MakeStore<P> + DerivationStore<P>, W: MakeWaiters<P>>(
+    alloc: Global,
+    names: &[Name],
+    setup: &Setup,
+    made: usize,
+    slot: u64,
+    kernel: &Kernel<P, S, W>,
+) -> Result<Option<Vec<u8>>, AllocError>
+    ensures { IfOk result (λ text. (A : State) → IsReached P.the A → kernel.now ≡ shown A
+        → option_map (λ v. v.items) text ≡ spec.slot_answer P.the (names_view names.now) setup.now made slot A) }
+{
+    if is_cleared::<P, S, W>(slot, kernel) {
+        return Ok(None);
+    }
+    let text = audit_of_slot::<P, S, W>(alloc, names, setup, made, slot, kernel)?;
+    Ok(Some(text))
+}
+
+/// The audit of the whole state.
+fn whole_answer<P: Profile, S: MakeStore<P> + DerivationStore<P>, W: MakeWaiters<P>>(
+    alloc: Global,
+    names: &[Name],
+    setup: &Setup,
+    made: usize,
+    kernel: &Kernel<P, S, W>,
+) -> Result<Option<Vec<u8>>, AllocError>
+    requires { (memory : ℕ) × IsInMemory P.the memory kernel.now }
+    ensures { IfOk result (λ text. (A : State) → IsReached P.the A → kernel.now ≡ shown A
+        → spec.IsWholeAnswer P.the (names_view names.now) setup.now made A (option_map (λ v. v.items) text)) }
+{
+    let text = whole_audit::<P, S, W>(alloc, names, setup, made, kernel)?;
+    Ok(Some(text))
+}
+
+/// The audit of a slot, where one is asked for, or of the whole state.
+fn answer<P: Profile, S: MakeStore<P> + DerivationStore<P>, W: MakeWaiters<P>>(
+    alloc: Global,
+    names: &[Name],
+    setup: &Setup,
+    made: usize,
+    slot: Option<u64>,
+    kernel: &Kernel<P, S, W>,
+) -> Result<Option<Vec<u8>>, AllocError>
+    requires { (memory : ℕ) × IsInMemory P.the memory kernel.now }
+    ensures { IfOk result (λ text. (A : State) → IsReached P.the A → kernel.now ≡ shown A
+        → spec.IsAuditOf P.the (names_view names.now) setup.now made slot A (option_map (λ v. v.items) text)) }
+{
+    match slot {
+        None => whole_answer::<P, S, W>(alloc, names, setup, made, kernel),
+        Some(slot) => slot_answer::<P, S, W>(alloc, names, setup, made, slot, kernel),
+    }
+}
+
+/// The audit of a set-up, behind `after` of its calls, or behind all: of the whole state, or of a revoke of one slot, by its
+/// address. `None` where the set-up has fewer calls, and where no full slot is at the address.
+///
+/// # Errors
+///
+/// Memory was refused.
+pub fn audit<P: Profile, S: MakeStore<P> + DerivationStore<P>, W: MakeWaiters<P>>(
+    alloc: Global,
+    names: &[Name],
+    setup: &Setup,
+    after: Option<u64>,
+    slot: Option<u64>,
+) -> Result<Option<Vec<u8>>, AllocError>
+    requires { IsPlan P.the setup.now.plan }
+    ensures { IfOk result (λ text. spec.IsAudit P.the (names_view names.now) setup.now after slot (option_map (λ v. v.items) text)) }
+{
+    let Some(made) = calls_made(setup, after) else {
+        return Ok(None);
+    };
+    let kernel = kernel_after::<P, S, W>(alloc, setup, made)?;
+    let text = answer::<P, S, W>(alloc, names, setup, made, slot, &kernel)?;
+    Ok(text)
+}
