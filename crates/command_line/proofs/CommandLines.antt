@@ -1,8 +1,8 @@
 -- What the definition of the command says of a parse.
-use Rattle.std.proofs.Common.{◌≡◌, ◌∙◌, List, [], ◌∷◌, Bool, true, false, Option, Some, None, option_map, cond, is_some, find, refl, inl, inr, subst, ap}
+use Rattle.std.proofs.Common.{◌≡◌, ◌∙◌, List, [], ◌∷◌, Bool, true, false, Option, Some, None, option_map, cond, is_some, find, refl, inl, inr, subst, ap, ap₂}
 use Rattle.std.specs.Box.{box_value}
 use Rattle.std.specs.List.{list_all}
-use Rattle.clap.specs.Words.{App, HasMatchesOf, Kinds, IsAmong, HasKind, Shape, Text, app_of, is_simple, is_simple_and_free, subcommand_name_of, subcommand_of, subcommand_rows, subcommand_rows_of, takes, fault_of}
+use Rattle.clap.specs.Words.{App, HasMatchesOf, Row, Kinds, IsAmong, HasKind, Shape, Text, app_of, found_of, is_simple, is_simple_and_free, matches_of, rows_of, subcommand_name_of, subcommand_of, subcommand_rows, subcommand_rows_of, takes, fault_of}
 use Rattle.clap.specs.Values.{kind_of}
 use Rattle.clap.specs.Simple.{argument_words, built, entered, label_of, names_of, rows_at}
 use Rattle.clap.specs.Walk.{answers_to, stop_after}
@@ -36,31 +36,49 @@ unfolding command clap_on_literals
 subcommands_have_jobs = refl
 
 job_found : (subs : List Shape) (p : Text × List Text) → list_all has_job subs ≡ true
-    → is_some (job_of (option_map (λ met. met.0) (option_map (λ s. rows_at s p.1) (find (λ s. answers_to p.0 (label_of s)) subs)))) ≡ true
+    → is_some (job_of (option_map (λ s. rows_at s p.1) (find (λ s. answers_to p.0 (label_of s)) subs))) ≡ true
 job_found [] p all = refl
 job_found (s ∷ subs) p all =
-    elim (answers_to p.0 (label_of s)) as (λ here. is_some (job_of (option_map (λ met. met.0) (option_map (λ t. rows_at t p.1) (cond here (Some s) (find (λ t. answers_to p.0 (label_of t)) subs))))) ≡ true) [
+    elim (answers_to p.0 (label_of s)) as (λ here. is_some (job_of (option_map (λ t. rows_at t p.1) (cond here (Some s) (find (λ t. answers_to p.0 (label_of t)) subs)))) ≡ true) [
       | true ↦ (both _ _ all).0
       | false ↦ job_found subs p (both _ _ all).1
     ]
 
-job_entered : (stop : Option (Text × List Text)) → is_some (job_of (option_map (λ met. met.0) (entered (built command) stop))) ≡ true
+job_entered : (stop : Option (Text × List Text)) → is_some (job_of (entered (built command) stop)) ≡ true
 job_entered None = refl
 job_entered (Some p) = job_found (built command).subs p subcommands_have_jobs
 
 -- what the words name as a subcommand has a job
-pub job_is_known : (words : List Text) → is_some (job_of (option_map (λ met. met.0) (subcommand_of command words))) ≡ true
+pub job_is_known : (words : List Text) → is_some (job_of (subcommand_of command words)) ≡ true
 job_is_known words = job_entered (stop_after (built command).top.rules (names_of (built command)) (argument_words command words))
+
+-- the rows of matches that clap gives for the words, and their subcommand
+pub own_rows_met : (c : Command) (words : List Text) (m : ArgMatches) → app_of c ≡ command → HasMatchesOf (app_of c) words m → rows_of (found_of m) ≡ matches_of command words
+own_rows_met c words m is has = (has (ap is_simple is ∙ command_is_simple)).0 ∙ ap (λ (a : App). matches_of a words) is
+
+pub rows_met : (c : Command) (words : List Text) (m : ArgMatches) → app_of c ≡ command → HasMatchesOf (app_of c) words m → subcommand_rows_of m ≡ subcommand_of command words
+rows_met c words m is has = (has (ap is_simple is ∙ command_is_simple)).1 ∙ ap (λ (a : App). subcommand_of a words) is
 
 name-rows : (m : ArgMatches) → subcommand_name_of m ≡ option_map (λ met. met.0) (subcommand_rows_of m)
 name-rows m = elim ((out-ArgMatches m).subcommand) as (λ s. option_map (λ b. (out-SubCommand (box_value b)).name.now) s ≡ option_map (λ met. met.0) (subcommand_rows s)) [ None ↦ refl | Some b ↦ refl ]
 
--- the subcommand of matches that clap gives for the words, and its name
-pub rows_met : (c : Command) (words : List Text) (m : ArgMatches) → app_of c ≡ command → HasMatchesOf (app_of c) words m → subcommand_rows_of m ≡ subcommand_of command words
-rows_met c words m is has = (has (ap is_simple is ∙ command_is_simple)).1 ∙ ap (λ (a : App). subcommand_of a words) is
+pair_is : (o : Option (Text × List Row)) (name : Text) (rows : List Row) → Some name ≡ option_map (λ met. met.0) o → Some rows ≡ option_map (λ met. met.1) o → o ≡ Some (name, rows)
+pair_is None name rows named with_rows = cc
+pair_is (Some met) name rows named with_rows =
+    let first : met.0 ≡ name = cc in
+    let second : met.1 ≡ rows = cc in
+    ap₂ (λ a b. Some (a, b)) first second
 
-pub names_met : (c : Command) (words : List Text) (m : ArgMatches) → app_of c ≡ command → HasMatchesOf (app_of c) words m → subcommand_name_of m ≡ option_map (λ met. met.0) (subcommand_of command words)
-names_met c words m is has = name-rows m ∙ ap (λ met. option_map (λ p. p.0) met) (rows_met c words m is has)
+none_is : (o : Option (Text × List Row)) → None ≡ option_map (λ met. met.0) o → o ≡ None
+none_is None named = refl
+none_is (Some met) named = cc
+
+-- a subcommand that is met by this name and with these rows, and none
+pub subcommand_is : (m : ArgMatches) (name : Text) (rows : List Row) → Some name ≡ subcommand_name_of m → Some rows ≡ option_map (λ met. met.1) (subcommand_rows_of m) → subcommand_rows_of m ≡ Some (name, rows)
+subcommand_is m name rows named with_rows = pair_is (subcommand_rows_of m) name rows (named ∙ name-rows m) with_rows
+
+pub no_subcommand_is : (m : ArgMatches) → None ≡ subcommand_name_of m → subcommand_rows_of m ≡ None
+no_subcommand_is m named = none_is (subcommand_rows_of m) (named ∙ name-rows m)
 
 -- ---- faults
 

@@ -1,8 +1,11 @@
 -- The program's command as clap's definition, and what clap's matches for the words say.
-use Rattle.std.specs.Prelude.{◌≡◌, ◌≢◌, ⊤, true, false, codes, List, Option, Some, None, if◌then◌else◌, option_map}
+use Rattle.std.specs.Prelude.{◌≡◌, ◌≢◌, ⊤, true, false, codes, List, Option, Some, None, if◌then◌else◌}
+use Rattle.std.specs.Option.{option_or}
 use Rattle.std.specs.Str.{bytes_eq}
-use Rattle.clap.specs.Words.{App, Kinds, Row, Text, first_of, new_app, new_rule, with_rule, with_subcommand, subcommand_of, takes, fault_of, IsAmong}
+use Rattle.clap.specs.Words.{App, Kinds, Row, Rule, Text, first_of, matches_of, new_app, new_rule, with_rule, with_subcommand, subcommand_of, takes, fault_of, IsAmong}
 use Rattle.clap.specs.Simple.{on_top}
+use Rattle.clap.specs.declared.builder.action.ArgAction.TheVariants as action
+use Rattle.clap.specs.declared.builder.value_parser.ValueParser.TheVariants.{NonEmptyString}
 use Rattle.clap.specs.declared.error.kind.ErrorKind.{ErrorKind}
 use Rattle.clap.specs.declared.error.kind.ErrorKind.TheVariants.{DisplayHelp, OutOfMemory}
 use Rattle.command_line.specs.declared.arguments.Job.{Job}
@@ -10,23 +13,37 @@ use Rattle.command_line.specs.declared.arguments.Job.TheVariants.{Check, Trace, 
 use Rattle.command_line.specs.declared.arguments.LineFault.{LineFault}
 use Rattle.command_line.specs.declared.arguments.LineFault.TheVariants.{Help, Refused, Memory}
 
+-- the argument FILE, which is no empty text
+abbrev pub file_rule : Rule
+file_rule = record (new_rule (codes "FILE")) { parser = Some NonEmptyString }
+
+-- `--version` and `-V`, which ask for the help, since its first lines tell the version
+abbrev pub version_rule : Rule
+version_rule = record (new_rule (codes "version")) {
+  long = Some (codes "version");
+  short = Some 86;
+  action = Some action.Help;
+}
+
 -- a subcommand of that name, which has the argument FILE
 abbrev pub with_file : Text → App
-with_file name = with_rule (new_app name) (new_rule (codes "FILE"))
+with_file name = with_rule (new_app name) file_rule
 
--- `sel4sim` without clap's subcommand `help`
+-- `sel4sim` with FILE and `--version`, without clap's subcommand `help`
 abbrev pub bare_command : App
-bare_command = on_top (λ s. record s { disable_help_subcommand = true }) (new_app (codes "sel4sim"))
+bare_command =
+    with_rule (with_rule (on_top (λ s. record s { disable_help_subcommand = true }) (new_app (codes "sel4sim"))) file_rule) version_rule
 
--- a command with one more subcommand of that name
-abbrev pub and_subcommand : Text → App → App
-and_subcommand name app = with_subcommand app (with_file name).top
+-- a command with one more subcommand
+abbrev pub and_subcommand : App → App → App
+and_subcommand made app = with_subcommand app made.top
 
 -- `sel4sim`, with the subcommands `check`, `trace`, `threads` and `migrate`
 unfoldable pub command : App
 command =
-    and_subcommand (codes "migrate")
-    (and_subcommand (codes "threads") (and_subcommand (codes "trace") (and_subcommand (codes "check") bare_command)))
+    and_subcommand (with_file (codes "migrate"))
+    (and_subcommand (with_file (codes "threads"))
+    (and_subcommand (with_file (codes "trace")) (and_subcommand (with_file (codes "check")) bare_command)))
 
 -- the job of a subcommand's name
 abbrev pub job_named : Text → Option Job
@@ -37,22 +54,22 @@ job_named name =
     else if bytes_eq name (codes "migrate") then Some Migrate
     else None
 
--- the job where a subcommand of that name is met, and where none is
-abbrev pub job_of : Option Text → Option Job
+-- the job where a subcommand of that name with these matches is met, and where none is
+abbrev pub job_of : Option (Text × List Row) → Option Job
 job_of None = Some Check
-job_of (Some name) = job_named name
+job_of (Some met) = job_named met.0
 
--- the file that clap's matches of the subcommand have
-abbrev pub file_of : Option (List Row) → Option Text
-file_of None = None
-file_of (Some rows) = first_of (codes "FILE") rows
+-- the file of the command's own matches, or that of the subcommand's, which goes first where it has one
+abbrev pub file_of : List Row → Option (Text × List Row) → Option Text
+file_of above None = first_of (codes "FILE") above
+file_of above (Some met) = option_or (first_of (codes "FILE") met.1) (first_of (codes "FILE") above)
 
 -- the job that clap's matches for the words give, and the file
 abbrev pub job_asked : List Text → Option Job
-job_asked words = job_of (option_map (λ met. met.0) (subcommand_of command words))
+job_asked words = job_of (subcommand_of command words)
 
 abbrev pub file_asked : List Text → Option Text
-file_asked words = file_of (option_map (λ met. met.1) (subcommand_of command words))
+file_asked words = file_of (matches_of command words) (subcommand_of command words)
 
 -- clap has another fault than a call for help for the words
 abbrev pub HasOtherFault : Kinds → Type 0

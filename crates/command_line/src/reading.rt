@@ -1,34 +1,82 @@
 //! The words of the command line.
 ghost use Rattle.std.specs.Prelude.{◌≡◌, [], false, option_map, IfOk, IfErr, IsSome, OnOk};
-ghost use Rattle.clap.specs.Words.{app_of, fault_of, subcommand_name_of, subcommand_rows_of};
+ghost use Rattle.clap.specs.Words.{app_of, fault_of, found_of, rows_of, rule_of, subcommand_rows_of};
 ghost use Rattle.clap.specs.declared.builder.command.Command.TheViews.{out-Command};
 ghost use Rattle.clap.specs.Values.{kind_of};
 ghost use Rattle.clap.specs.Walk.{texts};
-ghost use Rattle.command_line.specs.CommandLine.{Explains, StandsFor, and_subcommand, bare_command, command as definition, file_asked, file_of, job_asked, job_of, with_file as with_file_definition};
+ghost use Rattle.command_line.specs.CommandLine.{Explains, StandsFor, and_subcommand, bare_command, command as definition, file_asked, file_of, file_rule, job_asked, job_of, version_rule, with_file as with_file_definition};
 
 use crate::arguments::{Job, Line, LineFault};
+use clap::builder::ValueParser;
 use clap::error::ErrorKind;
-use clap::{Arg, ArgMatches, Command, Error};
+use clap::{Arg, ArgAction, ArgMatches, Command, Error};
 use std::alloc::{AllocError, Global};
+
+/// The first lines of the help, which tell the version.
+const ABOUT: &str = "\
+Simulates the capability part of the seL4 microkernel
+Proved with rattle-kit-13f logic dac8208d650f15bf; a build by make try is not proved";
+
+/// The last lines of the help.
+const AFTER_HELP: &str = "\
+Without a command, FILE is run as by check.
+
+Examples:
+  sel4sim layout.toml            the report of a set-up
+  sel4sim trace layout.toml      what each of its calls changed
+  sel4sim check - < layout.toml  the set-up on standard input
+
+Exit status:
+  0  every expectation is met, or there is none
+  1  an expectation is not met
+  2  the set-up is refused
+  3  reading or writing failed, memory ran out, or a thread was not started
+  4  the command line is refused
+
+Pages: docs/first-set-up.md, and below the installation share/doc/sel4sim";
+
+/// The argument FILE.
+fn file<'a>(alloc: Global) -> Arg<'a>
+    ensures rule { rule_of result ≡ file_rule }
+    ensures local { result.global ≡ false }
+{
+    Arg::new(alloc, "FILE")
+        .value_parser(ValueParser::NonEmptyString)
+        .help("The set-up; without it, or where it is -, standard input is read")
+}
 
 /// A subcommand, which has the argument FILE.
 fn with_file<'a>(alloc: Global, name: &'a str, about: &'a str) -> Result<Command<'a>, AllocError>
     ensures app { IfOk result (λ c. app_of c ≡ with_file_definition name.now) }
     ensures local { IfOk result (λ c. (out-Command c).has_globals ≡ false) }
 {
-    let file = Arg::new(alloc, "FILE").help("The set-up; without it, standard input is read");
-    let command = Command::new(alloc, name).about(about).arg(file)?;
+    let command = Command::new(alloc, name).about(about).arg(file(alloc))?;
     Ok(command)
 }
 
-/// The command without the subcommands, and without clap's own `help`.
-fn bare<'a>(alloc: Global) -> Command<'a>
-    ensures { app_of result ≡ bare_command }
+/// The option `--version`.
+fn version<'a>(alloc: Global) -> Arg<'a>
+    ensures rule { rule_of result ≡ version_rule }
+    ensures local { result.global ≡ false }
 {
-    Command::new(alloc, "sel4sim")
-        .about("Simulates the capability part of the seL4 microkernel")
-        .after_help("Without a command, the set-up on standard input is run as by check.")
+    Arg::new(alloc, "version")
+        .long("version")
+        .short('V')
+        .action(ArgAction::Help)
+        .help("Print help, which begins with the version")
+}
+
+/// The command without the subcommands, and without clap's own `help`.
+fn bare<'a>(alloc: Global) -> Result<Command<'a>, AllocError>
+    ensures { IfOk result (λ c. app_of c ≡ bare_command) }
+{
+    let command = Command::new(alloc, "sel4sim")
+        .about(ABOUT)
+        .after_help(AFTER_HELP)
         .disable_help_subcommand(true)
+        .arg(file(alloc))?;
+    let whole = command.arg(version(alloc))?;
+    Ok(whole)
 }
 
 /// A command with one more subcommand, which has the argument FILE.
@@ -38,7 +86,7 @@ fn and_with_file<'a>(
     name: &'a str,
     about: &'a str,
 ) -> Result<Command<'a>, AllocError>
-    ensures { IfOk result (λ c. app_of c ≡ and_subcommand name.now (app_of command.entry)) }
+    ensures { IfOk result (λ c. app_of c ≡ and_subcommand (with_file_definition name.now) (app_of command.entry)) }
 {
     let made = with_file(alloc, name, about)?;
     let whole = command.subcommand(made)?;
@@ -51,7 +99,7 @@ fn command<'a>(alloc: Global) -> Result<Command<'a>, AllocError>
 {
     let check = and_with_file(
         alloc,
-        bare(alloc),
+        bare(alloc)?,
         "check",
         "Runs a set-up and prints its report",
     )?;
@@ -78,22 +126,25 @@ fn command<'a>(alloc: Global) -> Result<Command<'a>, AllocError>
 
 /// What the matches ask for.
 fn line_in<'a>(matches: &ArgMatches<'a>) -> Line<'a>
-    requires { IsSome (job_of (subcommand_name_of matches.now)) }
-    ensures job { job_of (subcommand_name_of matches.now) ≡ Some result.job }
-    ensures file { file_of (option_map (λ met. met.1) (subcommand_rows_of matches.now))
+    requires { IsSome (job_of (subcommand_rows_of matches.now)) }
+    ensures job { job_of (subcommand_rows_of matches.now) ≡ Some result.job }
+    ensures file { file_of (rows_of (found_of matches.now)) (subcommand_rows_of matches.now)
         ≡ option_map (λ s. s.now) result.file }
 {
-    let Some((name, inner)) = matches.subcommand() else {
-        return Line {
+    let above = matches.get_str("FILE");
+    match matches.subcommand() {
+        None => Line {
             job: Job::Check,
-            file: None,
-        };
-    };
-    let Some(job) = Job::named(name) else {
-        unreachable!();
-    };
-    let file = inner.get_str("FILE");
-    Line { job, file }
+            file: above,
+        },
+        Some((name, inner)) => {
+            let Some(job) = Job::named(name) else {
+                unreachable!();
+            };
+            let file = inner.get_str("FILE").or(above);
+            Line { job, file }
+        }
+    }
 }
 
 /// The fault that stands for an error of clap.

@@ -1,10 +1,31 @@
--- The file is clap's value of FILE.
-use Rattle.std.proofs.Common.{◌∙◌, ap, sym, codes}
+-- The file is clap's value of FILE, of the subcommand first.
+use Rattle.std.proofs.Common.{◌≡◌, ◌∙◌, ap, ap₂, sym, codes, Option, Some, None, option_map, refl}
+use Rattle.std.specs.Option.{option_or}
 use Rattle.clap.proofs.WalkLemmas.{first_value-rows}
-use Rattle.clap.specs.Words.{found_of}
+use Rattle.clap.specs.Words.{first_of, found_of, rows_of}
 use Rattle.command_line.specs.CommandLine.{file_of}
+use Rattle.command_line.proofs.CommandLines.{subcommand_is, no_subcommand_is}
 use Rattle.command_line.proofs.reading.line_in.Goals as goal
 
-pub returns-clause-file : goal.returns-clause-file
-returns-clause-file c =
-    ap file_of (sym c.in-Some.ensures.rows) ∙ sym (c.get_str-file.ensures ∙ first_value-rows (found_of c.in-Some.inner.now) (codes "FILE"))
+seen_of_or : {A B : Type 0} (f : A → B) (a b : Option A) → option_map f (option_or a b) ≡ option_or (option_map f a) (option_map f b)
+seen_of_or f None b = refl
+seen_of_or f (Some x) b = refl
+
+pub returns-in-None-clause-file : goal.returns-in-None-clause-file
+returns-in-None-clause-file c =
+    let m = c.args.matches.now in
+    ap (file_of (rows_of (found_of m))) (no_subcommand_is m c.in-None.ensures.name)
+    ∙ sym (c.get_str-above.ensures ∙ first_value-rows (found_of m) (codes "FILE"))
+
+pub returns-in-Some-named-clause-file : goal.returns-in-Some-named-clause-file
+returns-in-Some-named-clause-file c =
+    let file = codes "FILE" in
+    let m = c.args.matches.now in
+    let inner = found_of c.in-Some.inner.now in
+    let met = subcommand_is m c.in-Some.name.now (rows_of inner) c.in-Some.ensures.name c.in-Some.ensures.rows in
+    let above : option_map (λ s. s.now) c.get_str-above.result ≡ first_of file (rows_of (found_of m)) =
+    c.get_str-above.ensures ∙ first_value-rows (found_of m) file in
+    let own : option_map (λ s. s.now) c.get_str.result ≡ first_of file (rows_of inner) =
+    c.get_str.ensures ∙ first_value-rows inner file in
+    let chosen = ap (option_map (λ s. s.now)) c.or-file.ensures ∙ seen_of_or (λ s. s.now) c.get_str.result c.get_str-above.result in
+    ap (file_of (rows_of (found_of m))) met ∙ sym (chosen ∙ ap₂ option_or own above)
