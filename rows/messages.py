@@ -42,6 +42,11 @@ def untyped(base, bits):
 # a set-up on standard input, the exit status of check, and the whole of standard error, without `sel4sim: `
 SETUPS = [
     (FIRST, 0, []),
+    (FIRST + CALL.replace("cap = 4", "cap = 9") + 'op = "send"\n', 0,
+     ["1 call was refused where nothing was expected: 1"]),
+    (FIRST + (CALL.replace("cap = 4", "cap = 9") + 'op = "send"\n') * 15 + CALL.replace("cap = 4", "cap = 9")
+     + 'op = "send"\nexpect = "refused"\n', 0,
+     ["15 calls were refused where nothing was expected: 1 2 3 4 5 6 7 8 9 10 11 12 and 3 more"]),
     (FIRST + CALL + 'op = "nbsend"\nexpect = "empty"\n', 1, []),
     (FIRST + CALL + 'op = "nbsend"\nexpect = "refused"\n', 1, []),
     (FIRST + CALL + 'op = "nbsend"\nexpect = "delivered 6144 from 2048"\n', 1, []),
@@ -120,9 +125,13 @@ SETUPS = [
 
 # the words of a command line, the first line of standard error, and a part of what follows it
 LINES = [
-    (["chek"], "sel4sim: command line refused", "a similar subcommand exists: 'check'"),
+    (["chek"], "sel4sim: reading failed", "sel4sim: chek is no command either; did you mean check?\n"),
+    (["tree"], "sel4sim: reading failed", "sel4sim: tree is no command either; sel4sim --help names them\n"),
+    (["chek.toml"], "sel4sim: reading failed", "sel4sim: chek.toml: No such file or directory (os error 2)\n"),
     (["check", "a", "b"], "sel4sim: command line refused", "unexpected argument 'b' found"),
-    (["--version"], "sel4sim: command line refused", "unexpected argument '--version' found"),
+    (["check", "a", "b"], "sel4sim: command line refused", "sel4sim: one file is read in a run; for more: "),
+    (["check", ""], "sel4sim: command line refused", "a value is required for '[FILE]' but none was supplied"),
+    (["--color"], "sel4sim: command line refused", "unexpected argument '--color' found"),
     (["check", "no such file.toml"], "sel4sim: reading failed", "sel4sim: no such file.toml: No such file or directory (os error 2)\n"),
     (["check", "/"], "sel4sim: reading failed", "sel4sim: /: Is a directory (os error 21)\n"),
 ]

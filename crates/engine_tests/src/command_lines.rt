@@ -52,7 +52,7 @@ fn says(alloc: Global, fault: RunFault, said: &str) -> Result<bool, AllocError> 
 
 #[test]
 fn lines_are_taken(rt: HostRuntime) {
-    let forms: [(&[&str], &str, Option<&str>); 10] = [
+    let forms: [(&[&str], &str, Option<&str>); 14] = [
         (&["sel4sim"], "check", None),
         (&["sel4sim", "check"], "check", None),
         (
@@ -79,6 +79,14 @@ fn lines_are_taken(rt: HostRuntime) {
         ),
         (&["sel4sim", "migrate"], "migrate", None),
         (&["sel4sim", "migrate", "check"], "migrate", Some("check")),
+        (&["sel4sim", "rows.toml"], "check", Some("rows.toml")),
+        (&["sel4sim", "chek"], "check", Some("chek")),
+        (
+            &["sel4sim", "rows.toml", "trace"],
+            "trace",
+            Some("rows.toml"),
+        ),
+        (&["sel4sim", "trace", "-"], "trace", Some("-")),
     ];
     for (words, job, file) in forms {
         assert!(rt; is_taken(rt.alloc(), words, job, file), "{words:?}");
@@ -87,8 +95,10 @@ fn lines_are_taken(rt: HostRuntime) {
 
 #[test]
 fn help_has_its_text(rt: HostRuntime) {
-    let forms: [&[&str]; 5] = [
+    let forms: [&[&str]; 7] = [
         &["sel4sim", "--help"],
+        &["sel4sim", "--version"],
+        &["sel4sim", "-V"],
         &["sel4sim", "-h"],
         &["sel4sim", "check", "--help"],
         &["sel4sim", "trace", "--help"],
@@ -102,13 +112,13 @@ fn help_has_its_text(rt: HostRuntime) {
 #[test]
 fn other_words_are_refused(rt: HostRuntime) -> Result<(), Fail> {
     let forms: [&[&str]; 9] = [
-        &["sel4sim", "chek"],
+        &["sel4sim", "chek", "rows.toml"],
         &["sel4sim", "migrate", "rows.toml", "more.toml"],
-        &["sel4sim", "help"],
+        &["sel4sim", "rows.toml", "chek"],
         &["sel4sim", ""],
-        &["sel4sim", "rows.toml"],
+        &["sel4sim", "check", ""],
         &["sel4sim", "check", "rows.toml", "more.toml"],
-        &["sel4sim", "--version"],
+        &["sel4sim", "check", "--version"],
         &["sel4sim", "-x"],
         &["sel4sim", "check", "--file=rows.toml"],
     ];

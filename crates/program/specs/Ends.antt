@@ -1,5 +1,6 @@
 -- What the program does with the words of its command line, its exit status, and what it says of a fault.
-use Rattle.std.specs.Prelude.{◌≡◌, ℕ, List, [], codes, Option, Some, None, Result, Ok, Err, false, IfErr, OnOk, OnErr}
+use Rattle.std.specs.Prelude.{◌≡◌, ℕ, List, [], codes, Option, Some, None, Result, Ok, Err, false, if◌then◌else◌, IfErr, OnOk, OnErr}
+use Rattle.std.specs.Str.{bytes_eq}
 use Rattle.clap.specs.Words.{Text, takes, fault_of, IsAmong}
 use Rattle.clap.specs.declared.error.kind.ErrorKind.TheVariants.{DisplayHelp}
 use Rattle.command_line.specs.CommandLine.{command, file_asked, job_asked, HasOtherFault}
@@ -8,6 +9,7 @@ use Rattle.engine_core.specs.Devices.{Took, TookFront}
 use Rattle.engine_core.specs.Runs.{IsRun}
 use Rattle.engine_core.specs.Statuses.{run_status, run_fault_text}
 use Rattle.engine_core.specs.declared.fault.Verdict.{Verdict}
+use Rattle.engine_core.specs.declared.fault.Verdict.TheVariants.{Absent}
 use Rattle.engine_core.specs.declared.fault.RunFault.{RunFault}
 use Rattle.engine_core.specs.declared.fault.RunFault.TheVariants.{Reading, Writing}
 use Rattle.engine_core.specs.declared.sink.Sink.{Ghosts as SinkGhosts}
@@ -17,6 +19,11 @@ use Rattle.program.specs.declared.ended.Used.{Used}
 use Rattle.program.specs.declared.ended.Used.TheVariants.{Standard, File, Unopened}
 use Rattle.program.specs.declared.ended.Ended.{Ended}
 use Rattle.program.specs.declared.ended.Ended.TheVariants.{Did, Helped, Refused, NoMemory}
+
+-- the name of the file that is to be read, where the words name one; a hyphen stands for standard input
+abbrev pub named_input : Option Text → Option Text
+named_input None = None
+named_input (Some name) = if bytes_eq name (codes "-") then None else Some name
 
 -- the job's run over standard input, where no file is named, and else over the file of that name; where this can't be
 -- opened, a failed read, and nothing is written
@@ -47,7 +54,7 @@ IsEnd is_standard is_file is_fault from_standard from_file to words (Did done) o
     (fault_of command words ≡ [])
     × (job_asked words ≡ Some done.line.job)
     × IsDone is_standard is_file is_fault from_standard from_file to
-    done.line.job (file_asked words) done.input done.answer old new
+    done.line.job (named_input (file_asked words)) done.input done.answer old new
 IsEnd is_standard is_file is_fault from_standard from_file to words (Helped answer) old new =
     (takes command words ≡ false) × IsAmong DisplayHelp (fault_of command words) × IsWritten to answer old new
 IsEnd is_standard is_file is_fault from_standard from_file to words Refused old new =
@@ -62,8 +69,9 @@ end_status (Helped (Err fault)) = 3
 end_status Refused = 4
 end_status NoMemory = 3
 
--- what is said of a fault of a run
+-- what is said of a fault of a run, and of options that name what the set-up does not have
 abbrev pub answer_text : Result Verdict RunFault → Option (List ℕ)
+answer_text (Ok Absent) = Some (codes "command line refused")
 answer_text (Ok verdict) = None
 answer_text (Err fault) = Some (run_fault_text fault)
 

@@ -4,6 +4,9 @@ ghost use Rattle.std.specs.Prelude.{◌≡◌, option_map};
 use command_line::Line;
 use engine_core::{RunFault, Verdict, status_of};
 
+/// What is said of a command line that is refused.
+const REFUSED: &str = "command line refused";
+
 /// The input with which a job was done.
 #[derive(Drop)]
 pub enum Used<S, F, E> {
@@ -42,7 +45,8 @@ pub enum Ended<'a, S, F, E> {
 impl<S, F, E> Ended<'_, S, F, E> {
     ghost use Rattle.program.specs.Ends.{end_status, end_text};
 
-    /// The exit status: that of the job, 0 after help, 4 after a refusal, 3 where a write failed or memory ran out.
+    /// The exit status: that of the job, 0 after help, 4 after a refusal, 3 where a write failed or memory ran out. The
+    /// job's is 4 too where the options name what the set-up does not have.
     pub fn status(&self) -> u8
         ensures { result ≡ end_status self.now }
     {
@@ -60,6 +64,12 @@ impl<S, F, E> Ended<'_, S, F, E> {
         ensures { option_map (λ s. s.now) result ≡ end_text self.now }
     {
         match self {
+            Ended::Did(
+                Done {
+                    answer: Ok(Verdict::Absent),
+                    ..
+                },
+            ) => Some(REFUSED),
             Ended::Did(Done { answer: Ok(_), .. }) => None,
             Ended::Did(
                 Done {
@@ -69,7 +79,7 @@ impl<S, F, E> Ended<'_, S, F, E> {
             ) => Some(fault.text()),
             Ended::Helped(Ok(())) => None,
             Ended::Helped(Err(fault)) => Some(fault.text()),
-            Ended::Refused => Some("command line refused"),
+            Ended::Refused => Some(REFUSED),
             Ended::NoMemory => Some("out of memory"),
         }
     }

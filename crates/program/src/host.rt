@@ -1,6 +1,7 @@
 //! The program over the process that it runs in: its words, its standard streams and its files.
 ghost use Rattle.std.specs.Prelude.{⊤};
 
+use crate::front::FrontWriter;
 use crate::inputs::Inputs;
 use crate::lines::run_words;
 use crate::messages::{complain, tell};
@@ -64,7 +65,8 @@ fn run_texts<R: Files + Input + Print + Eprint + AllocGlobal + Threads + Wait + 
     rt: &R,
     words: &[&str],
 ) -> u8 {
-    let mut sink = WriterSink::new(KeptWriter::new(io::writer(rt)));
+    let writer = FrontWriter::new(rt.alloc(), KeptWriter::new(io::writer(rt)));
+    let mut sink = WriterSink::new(writer);
     let ended = run_words(rt, rt.alloc(), &HostInputs { rt }, words, &mut sink);
     tell(rt, words, &ended, sink.writer());
     ended.status()

@@ -2,11 +2,14 @@
 #![tactic(auto)]
 
 mod ended;
+mod front;
 mod host;
 mod inputs;
 mod jobs;
 mod lines;
 mod messages;
+mod unexpected;
+mod words;
 
 pub use ended::{Done, Ended, Used};
 pub use host::run;

@@ -1,7 +1,7 @@
 //! A command line, from its words to its end.
 ghost use Rattle.std.specs.Prelude.{◌≡◌, false, Some, None, option_map};
 ghost use Rattle.clap.specs.Walk.{texts};
-ghost use Rattle.program.specs.Ends.{IsDone, IsEnd};
+ghost use Rattle.program.specs.Ends.{IsDone, IsEnd, named_input};
 
 use crate::ended::{Done, Ended, Used};
 use crate::inputs::Inputs;
@@ -78,11 +78,17 @@ fn run_line<'a, R: Threads + Wait + Sync, I: Inputs, K: Sink>(
     ensures line { result.line ≡ line.entry }
     ensures done { IsDone (I.is_standard inputs.now) (I.is_file inputs.now) (I.is_fault inputs.now)
         I.Standard.Source I.File.Source K.Sink
-        line.entry.job (option_map (λ s. s.now) line.entry.file) result.input result.answer sink.old sink.new }
+        line.entry.job (named_input (option_map (λ s. s.now) line.entry.file)) result.input result.answer sink.old sink.new }
 {
     match line.file {
         None => run_standard(rt, alloc, inputs, line, sink),
-        Some(name) => run_file(rt, alloc, inputs, line, name, sink),
+        Some(name) => {
+            if name == "-" {
+                run_standard(rt, alloc, inputs, line, sink)
+            } else {
+                run_file(rt, alloc, inputs, line, name, sink)
+            }
+        }
     }
 }
 

@@ -1,5 +1,8 @@
 //! What is said on standard error. Where that fails too, nothing more is said.
 use crate::ended::{Done, Ended, Used};
+use crate::front::FrontWriter;
+use crate::unexpected::unexpected_refusals;
+use crate::words::{is_lone_word, near_command};
 use command_line::{Job, refused_line_words};
 use engine_core::{INPUT_LIMIT, KeptReader, KeptWriter, ReaderSource, RunFault, Verdict};
 use setup_messages::{Formats, refusal_words, unmet_warnings};
@@ -74,6 +77,45 @@ fn note(rt: &impl Eprint, text: &str) {
     }
 }
 
+/// The words that clap's texts have for an option that is none, and that help nobody: it takes no such word as a value.
+const USELESS_TIP: &str = "  tip: to pass '";
+
+/// Says what clap says of words that are not taken, without that tip and the empty line behind it.
+fn note_on_words(rt: &impl Eprint, text: &str) {
+    let mut is_left_out = false;
+    for line in text.lines() {
+        is_left_out = line.starts_with(USELESS_TIP) || is_left_out && line.is_empty();
+        if !is_left_out {
+            let _ = eprintln!(rt; "{line}");
+        }
+    }
+}
+
+/// Says that one file is read in a run, where more words than one stand behind a command and none is an option.
+fn note_on_files(rt: &impl Eprint, words: &[&str]) {
+    if words.len() > 3 && words.iter().all(|word| !word.starts_with("-")) {
+        complain(
+            rt,
+            "one file is read in a run; for more: for f in *.toml; do sel4sim check \"$f\"; done",
+        );
+    }
+}
+
+/// Says that a word which names no file is no command either, and which command looks like it.
+fn note_on_command<R: Eprint + AllocGlobal>(rt: &R, word: &str) {
+    match near_command(rt.alloc(), word) {
+        Ok(Some(command)) => complain(
+            rt,
+            format_args!("{word} is no command either; did you mean {command}?"),
+        ),
+        Ok(None) => complain(
+            rt,
+            format_args!("{word} is no command either; sel4sim --help names them"),
+        ),
+        Err(_) => {}
+    }
+}
+
 /// By which formats a job reads a set-up.
 fn formats_of(job: Job) -> Formats {
     match job {
@@ -99,23 +141,40 @@ fn note_on_verdict<R: Eprint + AllocGlobal>(rt: &R, job: Job, verdict: Verdict, 
     }
 }
 
+/// Says which calls of a set-up that was checked were refused where nothing was expected.
+fn note_on_refusals<R: Eprint + AllocGlobal>(rt: &R, report: &[u8]) {
+    if let Ok(refusals) = unexpected_refusals(rt.alloc(), report) {
+        note(rt, refusals.as_str());
+    }
+}
+
 /// Says what there is to say of a line that was done.
 fn tell_of_line<R: Eprint + AllocGlobal, S, F, W>(
     rt: &R,
+    words: &[&str],
     done: &HostDone<'_, S, F>,
-    writer: &KeptWriter<W>,
+    writer: &FrontWriter<KeptWriter<W>>,
 ) {
     match done.answer {
         Ok(verdict) => {
             if let Some(bytes) = bytes_of(&done.input) {
                 note_on_verdict(rt, done.line.job, verdict, bytes);
             }
+            if matches!(done.line.job, Job::Check) {
+                note_on_refusals(rt, writer.front());
+            }
         }
         Err(RunFault::Reading) => {
-            let name = done.line.file.unwrap_or("standard input");
+            let name = match done.line.file {
+                Some(name) if name != "-" => name,
+                _ => "standard input",
+            };
             explain_reading(rt, name, failure_of(&done.input));
+            if is_lone_word(words, name) {
+                note_on_command(rt, name);
+            }
         }
-        Err(RunFault::Writing) => explain_writing(rt, writer.failure()),
+        Err(RunFault::Writing) => explain_writing(rt, writer.writer().failure()),
         Err(RunFault::Memory | RunFault::Thread) => {}
     }
 }
@@ -126,17 +185,18 @@ pub fn tell<R: Eprint + AllocGlobal, S, F, W>(
     rt: &R,
     words: &[&str],
     ended: &HostEnded<'_, S, F>,
-    writer: &KeptWriter<W>,
+    writer: &FrontWriter<KeptWriter<W>>,
 ) {
     if let Some(text) = ended.fault_text() {
         complain(rt, text);
     }
     match ended {
-        Ended::Did(done) => tell_of_line(rt, done, writer),
-        Ended::Helped(Err(_)) => explain_writing(rt, writer.failure()),
+        Ended::Did(done) => tell_of_line(rt, words, done, writer),
+        Ended::Helped(Err(_)) => explain_writing(rt, writer.writer().failure()),
         Ended::Refused => {
             if let Some(text) = refused_line_words(rt.alloc(), words) {
-                let _ = eprint!(rt; "{text}");
+                note_on_words(rt, text.as_str());
+                note_on_files(rt, words);
             }
         }
         Ended::Helped(Ok(())) | Ended::NoMemory => {}

@@ -95,7 +95,7 @@ fn fault(status: u8, text: &str) -> Wanted<'_> {
 #[test]
 fn lines_end_as_they_ask(rt: HostRuntime) {
     let refusal = "set-up refused 200 at text\n";
-    let forms: [(&[&str], Wanted<'_>); 9] = [
+    let forms: [(&[&str], Wanted<'_>); 12] = [
         (&["sel4sim"], done(0, "1 2048 send: waiting\n")),
         (
             &["sel4sim", "trace"],
@@ -109,7 +109,13 @@ fn lines_end_as_they_ask(rt: HostRuntime) {
             &["sel4sim", "check", "none.toml"],
             fault(3, "reading failed"),
         ),
-        (&["sel4sim", "chek"], fault(4, "command line refused")),
+        (&["sel4sim", "text.toml"], done(2, refusal)),
+        (
+            &["sel4sim", "trace", "-"],
+            done(0, "  + endpoint 6144 sending 2048\n"),
+        ),
+        (&["sel4sim", "chek"], fault(3, "reading failed")),
+        (&["sel4sim", "-x"], fault(4, "command line refused")),
         (&["sel4sim", "--help"], done(0, "Usage: sel4sim")),
     ];
     for (words, wanted) in forms {

@@ -1,0 +1,40 @@
+//! Words of a command line that may be commands.
+use std::alloc::{AllocError, Global};
+use strsim::osa_distance;
+
+/// The commands.
+const COMMANDS: [&str; 4] = ["check", "trace", "threads", "migrate"];
+
+/// The most edits that lead from a command to a word that looks like it, and how many bytes a word has for each of them.
+const MOST_EDITS: usize = 2;
+
+const BYTES_AN_EDIT: usize = 3;
+
+/// The most bytes of a word that can look like a command.
+const MOST_BYTES: usize = 16;
+
+/// The command that looks most like a word, where one does.
+pub fn near_command(alloc: Global, word: &str) -> Result<Option<&'static str>, AllocError> {
+    let mut nearest = None;
+    if word.len() > MOST_BYTES {
+        return Ok(nearest);
+    }
+    let mut fewest = MOST_EDITS.min((word.len() + 1) / BYTES_AN_EDIT) + 1;
+    for command in COMMANDS {
+        let edits = osa_distance(alloc, word, command)?;
+        if edits < fewest {
+            fewest = edits;
+            nearest = Some(command);
+        }
+    }
+    Ok(nearest)
+}
+
+/// Whether this word stands alone behind the program's name, and looks like no file's name, which has a dot or a slash.
+pub fn is_lone_word(words: &[&str], word: &str) -> bool {
+    let looks_like_file = word
+        .as_bytes()
+        .iter()
+        .any(|byte| matches!(*byte, b'.' | b'/'));
+    words.len() == 2 && words[1] == word && !looks_like_file
+}
