@@ -12,11 +12,14 @@ import completions
 HELP = {
     "": """A stand-in
 
-Usage: sel4sim [COMMAND]
+Usage: sel4sim [FILE] [COMMAND]
 
 Commands:
   check    Runs a set-up
   tree     Prints the forest; it's text
+
+Arguments:
+  [FILE]  The set-up
 
 Options:
   -h, --help     Print help
@@ -94,10 +97,12 @@ class Completions(unittest.TestCase):
         self.assertEqual([option.spellings for option in whole.options], [["-h", "--help"], ["-V", "--version"]])
         form, after, _ = commands[1][2].options
         self.assertEqual((form.values, form.about, after.has_value), (["text", "dot"], "How it is drawn", True))
-        self.assertEqual([told.takes_files for _, _, told in commands], [True, False])
+        self.assertEqual([told.takes_files for told in (whole, *(it[2] for it in commands))], [True, True, False])
 
     def test_in_bash(self):
-        self.assertEqual(self.in_bash(""), ["check", "tree", "-h", "--help", "-V", "--version"])
+        words = ["check", "tree", "-h", "--help", "-V", "--version"]
+        self.assertEqual((self.in_bash("")[:6], sorted(self.in_bash("")[6:])), (words, ["my layout.toml", "t.toml"]))
+        self.assertEqual(self.in_bash("my"), ["my layout.toml"])
         self.assertEqual(self.in_bash("ch"), ["check"])
         self.assertEqual(self.in_bash("check", "my"), ["my layout.toml"])
         self.assertEqual(self.in_bash("check", "--s"), ["--strict"])
@@ -107,6 +112,7 @@ class Completions(unittest.TestCase):
     @unittest.skipUnless(shutil.which("fish"), "there is no fish")
     def test_in_fish(self):
         self.assertEqual(self.in_fish("ch"), ["check"])
+        self.assertEqual(self.in_fish("my"), ["my layout.toml"])
         self.assertEqual(self.in_fish("check my"), ["my layout.toml"])
         self.assertEqual(self.in_fish("check --s"), ["--strict"])
         self.assertEqual(sorted(self.in_fish("tree --form ")), ["dot", "text"])

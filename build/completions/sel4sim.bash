@@ -7,7 +7,8 @@ _sel4sim() {
     COMPREPLY=()
     case $command in
         '')
-            COMPREPLY=($(compgen -W 'check trace threads migrate -h --help' -- "$word"))
+            COMPREPLY=($(compgen -W 'check trace threads migrate -V --version -h --help' -- "$word"))
+            [[ $word == -* ]] || mapfile -t -O "${#COMPREPLY[@]}" COMPREPLY < <(compgen -f -- "$word")
             ;;
         check)
             COMPREPLY=($(compgen -W '-h --help' -- "$word"))

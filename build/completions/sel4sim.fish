@@ -1,6 +1,8 @@
 # Made by build/completions.py from what `sel4sim --help` and `sel4sim COMMAND --help` print.
 complete -c sel4sim -f
+complete -c sel4sim -n '__fish_use_subcommand' -s V -l version -d 'Print help, which begins with the version'
 complete -c sel4sim -n '__fish_use_subcommand' -s h -l help -d 'Print help'
+complete -c sel4sim -n '__fish_use_subcommand' -F
 complete -c sel4sim -n '__fish_use_subcommand' -a check -d 'Runs a set-up and prints its report'
 complete -c sel4sim -n '__fish_seen_subcommand_from check' -s h -l help -d 'Print help'
 complete -c sel4sim -n '__fish_seen_subcommand_from check' -F
