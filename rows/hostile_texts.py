@@ -4,7 +4,8 @@
 Of each format that the set-ups in the folders of FOLDER have, the longest that is not just calls repeated: each beginning of
 it. Of the set-up STORED: itself with each byte replaced by others. Then texts that are deep or long, within limits of time, of
 memory and of stack. The answer to each is a report (status 0 or 1) or the line of a refusal (status 2), with nothing on
-standard error but lines in words beside a status other than 0; a text that is too long is a failed read (status 3).
+standard error but lines in words beside a status other than 0, and the numbers of the calls that were refused where nothing
+was expected; a text that is too long is a failed read (status 3).
 """
 import collections
 import concurrent.futures
@@ -23,6 +24,8 @@ INPUT_LIMIT = 67_108_864
 REFUSAL = re.compile(rb"set-up refused (20[0-5]) at (text|(top|untyped \d+|call \d+) key [A-Za-z0-9_?-]+|layout [a-z]+|untyped \d+ [a-z]+)\n")
 TOO_LONG = re.compile(rb"sel4sim: reading failed\nsel4sim: .*: 67108864 bytes or more; a set-up has to be shorter\n")
 WORDS = re.compile(rb"(?:sel4sim: .*\n)*")
+UNEXPECTED = re.compile(rb"^(\d+) \d+ \w+: refused [0-9/]+$", re.M)
+MOST_NAMED = 12
 LAST_LINE = re.compile(rb"(?:.*\n)*expected (\d+) of (\d+)\n")
 
 # The bounds of one run: seconds of processor time, bytes of stack, and bytes of memory: so many, and so many for each byte of
@@ -33,6 +36,17 @@ MOST_MEMORY = 64 << 20
 MOST_MEMORY_A_BYTE = 48
 
 
+def named(output):
+    """What is said of a report's calls that were refused where nothing was expected."""
+    calls = UNEXPECTED.findall(output)
+    if not calls:
+        return b""
+    more = b" and %d more" % (len(calls) - MOST_NAMED) if len(calls) > MOST_NAMED else b""
+    were = b"call was" if len(calls) == 1 else b"calls were"
+    numbers = b" ".join(calls[:MOST_NAMED])
+    return b"sel4sim: %d %s refused where nothing was expected: %s%s\n" % (len(calls), were, numbers, more)
+
+
 def is_answer(status, output, errors):
     """Whether this is a whole report with its status, or the line of a refusal with its own and some words."""
     if not WORDS.fullmatch(errors):
@@ -40,7 +54,7 @@ def is_answer(status, output, errors):
     if status == 2:
         return REFUSAL.fullmatch(output) is not None and errors != b""
     last = LAST_LINE.fullmatch(output)
-    return last is not None and (status == 1 if last[1] != last[2] else status == 0 and errors == b"")
+    return last is not None and (status == 1 if last[1] != last[2] else status == 0 and errors == named(output))
 
 
 def check(program, text):
