@@ -1,0 +1,2 @@
+mod Spelt
+mod Steps
