@@ -1,5 +1,5 @@
 -- Of the elements of a list, the first of each kind, by a test of two elements.
-use Rattle.std.specs.Prelude.{◌≡◌, ℕ, ◌+◌, ◌*◌, Bool, true, cond, List, [], ◌∷◌, ◌++◌, map}
+use Rattle.std.specs.Prelude.{◌≡◌, ℕ, ◌+◌, ◌*◌, min, Bool, true, cond, List, [], ◌∷◌, ◌++◌, map}
 use Rattle.std.specs.List.{list_any, sum_by, AllByRecursion as Each}
 
 -- whether the list has one of the kind of this
@@ -43,6 +43,15 @@ with_count same (y ∷ ys) x = cond (same y.0 x.0) ((y.0, y.1 + x.1) ∷ ys) (y 
 abbrev pub with_counts : {X : Type 0} → (X → X → Bool) → List (X × ℕ) → List (X × ℕ) → List (X × ℕ)
 with_counts same ys [] = ys
 with_counts same ys (x ∷ xs) = with_counts same (with_count same ys x) xs
+
+-- the same with counts up to a greatest one
+abbrev pub with_count_up_to : {X : Type 0} → ℕ → (X → X → Bool) → List (X × ℕ) → X × ℕ → List (X × ℕ)
+with_count_up_to most same [] x = x ∷ []
+with_count_up_to most same (y ∷ ys) x = cond (same y.0 x.0) ((y.0, min (y.1 + x.1) most) ∷ ys) (y ∷ with_count_up_to most same ys x)
+
+abbrev pub with_counts_up_to : {X : Type 0} → ℕ → (X → X → Bool) → List (X × ℕ) → List (X × ℕ) → List (X × ℕ)
+with_counts_up_to most same ys [] = ys
+with_counts_up_to most same ys (x ∷ xs) = with_counts_up_to most same (with_count_up_to most same ys x) xs
 
 -- each of these, so many times
 abbrev pub each_times : {X : Type 0} → ℕ → List X → List (X × ℕ)

@@ -78,14 +78,14 @@ module _ (p : ProfileName) (own : List (List Call)) (w : World) where
         ],
       )
 
-  orders_possible : (n : ℕ) → Each (IsPossible n) (orders p own w n)
+  orders_possible : (n : ℕ) → Each (IsPossible n) (orders p own w [] n)
   orders_possible zero = ((refl, λ front client rest is. absurd (not_empty front client rest is)), tt)
   orders_possible (suc n) =
       each-flat_map (IsPossible n) (IsPossible (suc n)) (longer p own w)
       (λ order h. each-filter_map (may_call own (world_after p own w order)) (IsPossible (suc n)) (λ c. order ++ c ∷ []) (λ c may. longer_possible n order h c may) (clients own))
-      (orders p own w n) (orders_possible n)
+      (orders p own w [] n) (orders_possible n)
 
-  possible_ordered : (n : ℕ) (order : List ℕ) → IsPossible n order → Contains (orders p own w n) order
+  possible_ordered : (n : ℕ) (order : List ℕ) → IsPossible n order → Contains (orders p own w [] n) order
   possible_ordered zero order h = only order h.0
     where
       only : (order : List ℕ) → length order ≡ 0 → Contains ([] ∷ []) order
@@ -97,9 +97,9 @@ module _ (p : ProfileName) (own : List (List Call)) (w : World) where
       let before : IsPossible n r.front =
       (r.long, λ front client rest is. h.1 front client (rest ++ r.client ∷ []) (r.is ∙ ap (λ l. l ++ r.client ∷ []) is ∙ append_assoc front (client ∷ rest) (r.client ∷ []))) in
       let caller = contains-filter (may_call own (world_after p own w r.front)) (clients own) r.client (contains-below (length own) r.client (caller_is_client own (world_after p own w r.front) r.client may)) may in
-      subst (λ (l : List ℕ). Contains (orders p own w (suc n)) l) (sym r.is)
-      (contains-flat_map (longer p own w) (orders p own w n) r.front (r.front ++ r.client ∷ []) (possible_ordered n r.front before)
+      subst (λ (l : List ℕ). Contains (orders p own w [] (suc n)) l) (sym r.is)
+      (contains-flat_map (longer p own w) (orders p own w [] n) r.front (r.front ++ r.client ∷ []) (possible_ordered n r.front before)
       (contains-map (λ c. r.front ++ c ∷ []) (filter (may_call own (world_after p own w r.front)) (clients own)) r.client caller))
 
-  pub orders_are_possible : (n : ℕ) (order : List ℕ) → (Contains (orders p own w n) order → IsPossible n order) × (IsPossible n order → Contains (orders p own w n) order)
-  orders_are_possible n order = (λ h. each-contained (IsPossible n) (orders p own w n) order (orders_possible n) h, possible_ordered n order)
+  pub orders_are_possible : (n : ℕ) (order : List ℕ) → (Contains (orders p own w [] n) order → IsPossible n order) × (IsPossible n order → Contains (orders p own w [] n) order)
+  orders_are_possible n order = (λ h. each-contained (IsPossible n) (orders p own w [] n) order (orders_possible n) h, possible_ordered n order)

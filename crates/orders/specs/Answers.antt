@@ -11,7 +11,7 @@ use Rattle.abstract_kernel.specs.Step.{Outcome, step}
 use Rattle.orders.specs.declared.answer.Answer.{Answer}
 use Rattle.orders.specs.declared.answer.Answer.TheVariants.{Replied, Served, Cancelled, Waits, NotMade}
 use Rattle.orders.specs.declared.answer.WaitingCall.{WaitingCall}
-use Rattle.orders.specs.World.{World, next_call, may_call, place_of, is_wait, still_waits, world_after}
+use Rattle.orders.specs.World.{World, next_call, may_call, place_of, is_wait, still_waits, after_call, world_after}
 use Rattle.orders.specs.Orders.{clients, is_end, found_before}
 
 -- the call of a client at a place of its own list comes to an answer, in an order
@@ -79,6 +79,13 @@ answers_behind p own w order =
 abbrev pub same_answer : (Answer → Answer → Bool) → Answered → Answered → Bool
 same_answer same a b = (a.client == b.client) && (a.place == b.place) && same a.answer b.answer
 
--- of the answers behind all orders of fewer calls than so many, the first of each kind, each with the first order that tells it
-abbrev pub answers_before : (Answer → Answer → Bool) → List Answered → ProfileName → List (List Call) → World → ℕ → List Answered
-answers_before same found p own w n = found_before (same_answer same) (answers_behind p own w) found p own w n
+-- of the answers behind all orders that begin in one way and have fewer calls more than so many, the first of each kind, each with
+-- the first order that tells it
+abbrev pub answers_before : (Answer → Answer → Bool) → List Answered → ProfileName → List (List Call) → World → List ℕ → ℕ → List Answered
+answers_before same found p own w first n = found_before (same_answer same) (answers_behind p own w) found p own w first n
+
+-- what the calls tell of the way in which orders begin, each call in turn, behind what was made before
+abbrev pub first_answers : ProfileName → List (List Call) → World → List ℕ → List ℕ → List Answered
+first_answers p own w made [] = []
+first_answers p own w made (client ∷ order) =
+    call_answers p w made client (next_call own w.made client) ++ first_answers p own (after_call p own w client) (made ++ client ∷ []) order

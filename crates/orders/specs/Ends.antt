@@ -36,11 +36,12 @@ stuck_behind p own w order =
 abbrev pub same_stuck : (List LeftCall → List LeftCall → Bool) → StuckEnd → StuckEnd → Bool
 same_stuck same a b = same a.left b.left
 
--- of the ways in which orders of fewer calls than so many end stuck, each with the first order that does
-abbrev pub stuck_before : (List LeftCall → List LeftCall → Bool) → ProfileName → List (List Call) → World → ℕ → List StuckEnd
-stuck_before same p own w n = found_before (same_stuck same) (stuck_behind p own w) [] p own w n
+-- of the ways in which orders end stuck that begin in one way and have fewer calls more than so many, each with the first order that
+-- does
+abbrev pub stuck_before : (List LeftCall → List LeftCall → Bool) → ProfileName → List (List Call) → World → List ℕ → ℕ → List StuckEnd
+stuck_before same p own w first n = found_before (same_stuck same) (stuck_behind p own w) [] p own w first n
 
--- how many orders of fewer calls than so many lead to a world that passes a test
-abbrev pub orders_before : (World → Bool) → ProfileName → List (List Call) → World → ℕ → ℕ
-orders_before test p own w zero = 0
-orders_before test p own w (suc n) = orders_before test p own w n + count_by (λ order. test (world_after p own w order)) (orders p own w n)
+-- how many of these orders lead to a world that passes a test
+abbrev pub orders_before : (World → Bool) → ProfileName → List (List Call) → World → List ℕ → ℕ → ℕ
+orders_before test p own w first zero = 0
+orders_before test p own w first (suc n) = orders_before test p own w first n + count_by (λ order. test (world_after p own w order)) (orders p own w first n)

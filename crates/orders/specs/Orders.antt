@@ -19,10 +19,10 @@ clients own = below (length own)
 abbrev pub longer : ProfileName → List (List Call) → World → List ℕ → List (List ℕ)
 longer p own w order = map (λ client. order ++ client ∷ []) (filter (may_call own (world_after p own w order)) (clients own))
 
--- all orders of so many calls, from a world on
-abbrev pub orders : ProfileName → List (List Call) → World → ℕ → List (List ℕ)
-orders p own w zero = [] ∷ []
-orders p own w (suc n) = flat_map (longer p own w) (orders p own w n)
+-- all orders that begin in one way and have so many calls more, from a world on
+abbrev pub orders : ProfileName → List (List Call) → World → List ℕ → ℕ → List (List ℕ)
+orders p own w first zero = first ∷ []
+orders p own w first (suc n) = flat_map (longer p own w) (orders p own w first n)
 
 -- an order ends where no client can make a call
 abbrev pub is_end : List (List Call) → World → Bool
@@ -35,7 +35,8 @@ has_calls_left own w = list_any (λ client. is_some (next_call own w.made client
 abbrev pub is_stuck : List (List Call) → World → Bool
 is_stuck own w = is_end own w && has_calls_left own w
 
--- of what stands behind all orders of fewer calls than so many, the first of each kind, beside what was found before
-abbrev pub found_before : {X : Type 0} → (X → X → Bool) → (List ℕ → List X) → List X → ProfileName → List (List Call) → World → ℕ → List X
-found_before same behind found p own w zero = found
-found_before same behind found p own w (suc n) = with_firsts same (found_before same behind found p own w n) (flat_map behind (orders p own w n))
+-- of what stands behind all orders that begin in one way and have fewer calls more than so many, the first of each kind, beside
+-- what was found before
+abbrev pub found_before : {X : Type 0} → (X → X → Bool) → (List ℕ → List X) → List X → ProfileName → List (List Call) → World → List ℕ → ℕ → List X
+found_before same behind found p own w first zero = found
+found_before same behind found p own w first (suc n) = with_firsts same (found_before same behind found p own w first n) (flat_map behind (orders p own w first n))
