@@ -118,11 +118,11 @@ module _ (p : ProfileName) (own : List (List Call)) (w : World) (reached : IsRea
 
   -- what stands behind orders that lead to the same state is of the same kinds: then it is found behind the orders of a layer
   pub layer_finds : {X : Type 0} (same : X → X → Bool) (behind : List ℕ → List X) → IsKindTest same →
-      ((x y : List ℕ) → Alike (world_after p own w x) (world_after p own w y) → HasKinds same (behind x) (behind y)) → (found : List X) (n : ℕ) →
-      with_firsts same found (flat_map behind (layer p own w n)) ≡ with_firsts same found (flat_map behind (orders p own w n))
-  layer_finds same behind laws kinds found n =
-      firsts_follow (lead_alike p own w) same laws (λ _. Unit {0}) behind (record { each = λ x y _ _ h. kinds x y (alike_from x y h) }) found (orders p own w n) (each_unit (orders p own w n))
+      ((x y : List ℕ) → Alike (world_after p own w x) (world_after p own w y) → HasKinds same (behind x) (behind y)) → (found : List X) (first : List ℕ) (n : ℕ) →
+      with_firsts same found (flat_map behind (layer p own w first n)) ≡ with_firsts same found (flat_map behind (orders p own w first n))
+  layer_finds same behind laws kinds found first n =
+      firsts_follow (lead_alike p own w) same laws (λ _. Unit {0}) behind (record { each = λ x y _ _ h. kinds x y (alike_from x y h) }) found (orders p own w first n) (each_unit (orders p own w first n))
 
   -- the next layer comes of a layer alone
-  pub layer_next : (n : ℕ) → firsts (lead_alike p own w) (flat_map (longer p own w) (layer p own w n)) ≡ layer p own w (suc n)
-  layer_next n = layer_finds (lead_alike p own w) (longer p own w) is_kind_test longer_kinds [] n
+  pub layer_next : (first : List ℕ) (n : ℕ) → firsts (lead_alike p own w) (flat_map (longer p own w) (layer p own w first n)) ≡ layer p own w first (suc n)
+  layer_next first n = layer_finds (lead_alike p own w) (longer p own w) is_kind_test longer_kinds [] first n

@@ -139,13 +139,13 @@ module _ (same : Answer → Answer → Bool) (laws : IsKindTest same) where
       ∙ ap (λ b. flat_map (f w) (filter (may_call own w) (clients own)) ++ cond b (end_answers own w order) []) (end_alike own v w a)
 
   -- behind the orders of a layer stand the first of each kind of all
-  pub layer_answers : (p : ProfileName) (own : List (List Call)) (w : World) → IsReached p w.kernel → (found : List Answered) (n : ℕ) →
-      with_firsts (same_answer same) found (flat_map (answers_behind p own w) (layer p own w n)) ≡ with_firsts (same_answer same) found (flat_map (answers_behind p own w) (orders p own w n))
-  layer_answers p own w reached found n =
+  pub layer_answers : (p : ProfileName) (own : List (List Call)) (w : World) → IsReached p w.kernel → (found : List Answered) (first : List ℕ) (n : ℕ) →
+      with_firsts (same_answer same) found (flat_map (answers_behind p own w) (layer p own w first n)) ≡ with_firsts (same_answer same) found (flat_map (answers_behind p own w) (orders p own w first n))
+  layer_answers p own w reached found first n =
       layer_finds p own w reached (same_answer same) (answers_behind p own w) answers_test
       (λ x y a. subst (λ l. HasKinds (same_answer same) (answers_behind p own w x) l)
       (told_alike p own (world_after p own w x) (world_after p own w y) y (world_reached p own w x reached) (world_reached p own w y reached) a)
-      (told_kinds p own (world_after p own w x) x y)) found n
+      (told_kinds p own (world_after p own w x) x y)) found first n
 
 -- ---- how orders end
 
@@ -166,6 +166,6 @@ module _ (same : List LeftCall → List LeftCall → Bool) (laws : IsKindTest sa
         | false ↦ tt
       ]))
 
-  pub layer_stuck : (p : ProfileName) (own : List (List Call)) (w : World) → IsReached p w.kernel → (found : List StuckEnd) (n : ℕ) →
-      with_firsts (same_stuck same) found (flat_map (stuck_behind p own w) (layer p own w n)) ≡ with_firsts (same_stuck same) found (flat_map (stuck_behind p own w) (orders p own w n))
-  layer_stuck p own w reached found n = layer_finds p own w reached (same_stuck same) (stuck_behind p own w) stuck_test (stuck_kinds p own w) found n
+  pub layer_stuck : (p : ProfileName) (own : List (List Call)) (w : World) → IsReached p w.kernel → (found : List StuckEnd) (first : List ℕ) (n : ℕ) →
+      with_firsts (same_stuck same) found (flat_map (stuck_behind p own w) (layer p own w first n)) ≡ with_firsts (same_stuck same) found (flat_map (stuck_behind p own w) (orders p own w first n))
+  layer_stuck p own w reached found first n = layer_finds p own w reached (same_stuck same) (stuck_behind p own w) stuck_test (stuck_kinds p own w) found first n

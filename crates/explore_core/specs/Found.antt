@@ -1,18 +1,25 @@
 -- What an exploration finds.
-use Rattle.std.specs.Prelude.{◌≡◌, ℕ, Bool, List, [], ◌∷◌, ◌++◌, map, filter}
+use Rattle.std.specs.Prelude.{◌≡◌, ℕ, ◌+◌, ◌-◌, ◌^◌, ◌&&◌, Bool, cond, nat_lt, List, [], ◌∷◌, ◌++◌, map, filter, length}
 use Rattle.std.specs.List.{flat_map}
+use Rattle.std.specs.Cmp.Lexicographic.{pointwise}
 use Rattle.cap_core.specs.declared.profile.ProfileName.{ProfileName}
 use Rattle.abstract_kernel.specs.declared.call.Call.{Call}
-use Rattle.kinds.specs.Kinds.{with_firsts}
+use Rattle.kinds.specs.Kinds.{with_firsts, with_counts_up_to, each_times}
 use Rattle.orders.specs.declared.answer.Answer.{Answer}
 use Rattle.orders.specs.declared.answer.Answer.TheVariants.{Waits, NotMade}
 use Rattle.orders.specs.declared.answer.WaitingCall.{WaitingCall}
+use Rattle.orders.specs.declared.left.LeftCall.{LeftCall}
+use Rattle.orders.specs.contracts.left.LeftCallPartialEq.TheImpl as left_eq
 use Rattle.orders.specs.World.{World, next_call, may_call, world_after}
-use Rattle.orders.specs.Orders.{below, clients}
-use Rattle.orders.specs.Answers.{Answered, answered, call_answers, places_left, same_answer, answers_before}
+use Rattle.orders.specs.Orders.{below, clients, longer, is_end, is_stuck}
+use Rattle.orders.specs.Answers.{Answered, answered, call_answers, answers_behind, places_left, same_answer}
+use Rattle.orders.specs.Ends.{StuckEnd, stuck_end, stuck_behind, same_stuck}
 use Rattle.explore_core.specs.declared.node.Node.{Node}
 use Rattle.explore_core.specs.declared.answers.FoundAnswer.{FoundAnswer}
-use Rattle.explore_core.specs.Nodes.{AreNodes, lead_alike, layer, orders_of}
+use Rattle.explore_core.specs.declared.stuck.FoundStuck.{FoundStuck}
+use Rattle.explore_core.specs.declared.stuck.Findings.{Findings}
+use Rattle.explore_core.specs.Nodes.{IsNode, AreNodes, lead_alike, entries_of}
+use Rattle.explore_core.specs.Counts.{saturated_sum}
 
 -- an answer that is found
 abbrev pub answer_of : FoundAnswer → Answered
@@ -42,17 +49,53 @@ abbrev pub end_told : List (List Call) → ℕ → List ℕ → List WaitingCall
 end_told own count made waits order =
     map (λ (call : WaitingCall). answered order call.client call.place Waits) waits ++ flat_map (not_made_told own made order) (below count)
 
--- to nodes and to what is found there have come the first of each kind of these orders and of these answers
-pub record IsVisited (p : ProfileName) (own : List (List Call)) (w : World) (nodes nodes' : List Node) (orders : List (List ℕ))
+-- ---- how orders end
+
+-- two lists of calls that are left are the same
+abbrev pub same_left : List LeftCall → List LeftCall → Bool
+same_left a b = pointwise left_eq.ghosts.eq a b
+
+abbrev pub stuck_of : List FoundStuck → List StuckEnd
+stuck_of found = map (λ (s : FoundStuck). stuck_end s.order.items s.left.items) found
+
+-- an order that ends is stuck where calls are left
+abbrev pub stuck_told : Bool → List ℕ → List LeftCall → List StuckEnd
+stuck_told ends order left = cond (ends && nat_lt 0 (length left)) (stuck_end order left ∷ []) []
+
+-- ---- one node more
+
+-- by the next call of a client, a node has become another, and what it tells was noted
+pub record IsMade (p : ProfileName) (own : List (List Call)) (w : World) (n m : Node) (client : ℕ) (same : Answer → Answer → Bool) (found found' : List FoundAnswer) : Type 0 where
+  pub is : IsNode p own w m
+  pub order_is : m.order.items ≡ n.order.items ++ client ∷ []
+  pub told_are : answers_of found' ≡ with_firsts (same_answer same) (answers_of found)
+      (call_answers p (world_after p own w n.order.items) n.order.items client (next_call own (world_after p own w n.order.items).made client))
+
+-- to nodes and to what is found there have come these orders, each with a count, and the first of each kind of these answers
+pub record IsVisited (p : ProfileName) (own : List (List Call)) (w : World) (nodes nodes' : List Node) (orders : List (List ℕ × ℕ))
     (same : Answer → Answer → Bool) (found found' : List FoundAnswer) (told : List Answered) : Type 0 where
   pub are : AreNodes p own w nodes'
-  pub orders_are : orders_of nodes' ≡ with_firsts (lead_alike p own w) (orders_of nodes) orders
+  pub entries_are : entries_of nodes' ≡ with_counts_up_to (2 ^ 64 - 1) (lead_alike p own w) (entries_of nodes) orders
   pub told_are : answers_of found' ≡ with_firsts (same_answer same) (answers_of found) told
 
--- what the exploration of all orders of fewer calls than so many gives
-pub record IsExplored (p : ProfileName) (own : List (List Call)) (w : World) (same : Answer → Answer → Bool) (nodes : List Node) (found : List FoundAnswer) (count : ℕ) : Type 0 where
-  pub are : AreNodes p own w nodes
-  -- the first order to each state that orders of so many calls lead to
-  pub layer_is : orders_of nodes ≡ layer p own w count
-  -- of the answers behind all orders of fewer calls, the first of each kind, each with the first order that tells it
-  pub answers_are : answers_of found ≡ answers_before same [] p own w count
+-- of each of these orders, how often it counts where it leads to a world that passes a test
+abbrev pub counts_of : (World → Bool) → ProfileName → List (List Call) → World → List (List ℕ × ℕ) → List ℕ
+counts_of test p own w entries = map (λ (e : List ℕ × ℕ). cond (test (world_after p own w e.0)) e.1 0) entries
+
+-- and 1 for each that is an end
+abbrev pub ends_of : ProfileName → List (List Call) → World → List (List ℕ × ℕ) → List ℕ
+ends_of p own w entries = map (λ (e : List ℕ × ℕ). cond (is_end own (world_after p own w e.0)) 1 0) entries
+
+-- what stands behind these orders was found beside what was found before
+pub record IsFound (p : ProfileName) (own : List (List Call)) (w : World) (same : Answer → Answer → Bool) (found found' : Findings) (entries : List (List ℕ × ℕ)) : Type 0 where
+  pub answers_are : answers_of found'.answers.items ≡ with_firsts (same_answer same) (answers_of found.answers.items) (flat_map (λ (e : List ℕ × ℕ). answers_behind p own w e.0) entries)
+  pub stuck_are : stuck_of found'.stuck.items ≡ with_firsts (same_stuck same_left) (stuck_of found.stuck.items) (flat_map (λ (e : List ℕ × ℕ). stuck_behind p own w e.0) entries)
+  pub ends_are : found'.ends ≡ saturated_sum found.ends (ends_of p own w entries)
+  pub orders_are : found'.orders ≡ saturated_sum found.orders (counts_of (is_end own) p own w entries)
+  pub stuck_orders_are : found'.stuck_orders ≡ saturated_sum found.stuck_orders (counts_of (is_stuck own) p own w entries)
+
+-- to nodes have come those that one call more leads to behind these orders, and what stands behind them was found
+pub record IsExpanded (p : ProfileName) (own : List (List Call)) (w : World) (nodes nodes' : List Node) (same : Answer → Answer → Bool) (found found' : Findings) (entries : List (List ℕ × ℕ)) : Type 0 where
+  pub are : AreNodes p own w nodes'
+  pub entries_are : entries_of nodes' ≡ with_counts_up_to (2 ^ 64 - 1) (lead_alike p own w) (entries_of nodes) (flat_map (λ (e : List ℕ × ℕ). each_times e.1 (longer p own w e.0)) entries)
+  pub found_are : IsFound p own w same found found' entries

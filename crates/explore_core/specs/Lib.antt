@@ -1,2 +1,5 @@
 pub mod Nodes
+pub mod Counts
 pub mod Found
+pub mod Explorations
+pub mod Private

@@ -34,9 +34,9 @@ world_words w = state_words w.made w.waits (shown w.kernel)
 abbrev pub lead_alike : ProfileName → List (List Call) → World → List ℕ → List ℕ → Bool
 lead_alike p own w order order' = pointwise nat_eq (world_words (world_after p own w order)) (world_words (world_after p own w order'))
 
--- of the orders of so many calls, the first to each state
-abbrev pub layer : ProfileName → List (List Call) → World → ℕ → List (List ℕ)
-layer p own w n = firsts (lead_alike p own w) (orders p own w n)
+-- of the orders that begin in one way and have so many calls more, the first to each state
+abbrev pub layer : ProfileName → List (List Call) → World → List ℕ → ℕ → List (List ℕ)
+layer p own w first n = firsts (lead_alike p own w) (orders p own w first n)
 
 -- an order, longer by the next call of a client, where it can make one
 abbrev pub one_longer : ProfileName → List (List Call) → World → List ℕ → ℕ → List (List ℕ)
@@ -49,14 +49,12 @@ pub record IsNode (p : ProfileName) (own : List (List Call)) (w : World) (n : No
   pub words_are : n.words.items ≡ world_words (world_after p own w n.order.items)
   pub calls_are : state_after p w.kernel n.calls.items ≡ (world_after p own w n.order.items).kernel
 
--- the node of a start
-pub record IsFirst (p : ProfileName) (own : List (List Call)) (w : World) (n : Node) : Type 0 where
-  pub order_is : n.order.items ≡ []
-  pub is : IsNode p own w n
-
 abbrev pub AreNodes : ProfileName → List (List Call) → World → List Node → Type 0
 AreNodes p own w nodes = Each (IsNode p own w) nodes
 
--- the orders of nodes
-abbrev pub orders_of : List Node → List (List ℕ)
-orders_of nodes = map (λ (n : Node). n.order.items) nodes
+-- the order of a node, with how many orders lead to its state
+abbrev pub entry_of : Node → List ℕ × ℕ
+entry_of n = (n.order.items, n.weight)
+
+abbrev pub entries_of : List Node → List (List ℕ × ℕ)
+entries_of nodes = map entry_of nodes

@@ -1,45 +1,55 @@
-//! The exploration of all orders of fewer calls than so many.
-ghost use Rattle.std.specs.Prelude.{◌≡◌, ◌+◌, [], ℕ, IfOk, List};
+//! The exploration of all orders of the clients' calls, as far as a limit on states lets it go.
+ghost use Rattle.std.specs.Prelude.{◌≡◌, ◌+◌, ◌<◌, ◌&&◌, [], ◌∷◌, ◌++◌, ℕ, IfOk, OnOk, List, length, nat_lt, not};
 ghost use Rattle.cap_core.specs.declared.profile.ProfileName.{ProfileName};
 ghost use Rattle.abstract_kernel.specs.declared.call.Call.{Call as CallOf};
-ghost use Rattle.abstract_kernel.specs.State.{shown};
+ghost use Rattle.abstract_kernel.specs.State.{State, shown};
 ghost use Rattle.abstract_kernel.specs.Reached.{IsReached};
-ghost use Rattle.orders.specs.World.{World};
+ghost use Rattle.orders.specs.World.{World, start};
 ghost use Rattle.orders.specs.Orders.{orders};
-ghost use Rattle.explore_core.specs.Nodes.{own_calls, layer, IsFirst};
-ghost use Rattle.explore_core.specs.Found.{IsExplored};
+ghost use Rattle.explore_core.specs.Nodes.{own_calls, layer, IsNode};
+ghost use Rattle.explore_core.specs.Found.{IsMade};
+ghost use Rattle.explore_core.specs.Counts.{saturated};
+ghost use Rattle.explore_core.specs.Explorations.{IsExplored, IsBegun, is_last};
+ghost use Rattle.explore_core.specs.Private.Progress.{IsProgress};
 
 use crate::answers::FoundAnswer;
-use crate::layers::next_layer;
-use crate::node::Node;
+use crate::layer::Layer;
+use crate::layers::{make_call, next_layer};
+use crate::node::{Node, kernel_after, next_call};
+use crate::stuck::Findings;
 use crate::words::state_words;
 use cap_core::Profile;
 use ipc_core::MakeWaiters;
 use kernel_core::{Call, Kernel};
-use orders::{Answer, WaitingCall};
+use orders::Answer;
 use slot_core::{DerivationStore, MakeStore};
 use std::alloc::{AllocError, Global};
 
-/// What the orders of fewer calls than so many give: the states that orders of so many calls lead to, each with the first
-/// order to it; and what each call comes to, each with the first order that tells it.
+/// What the orders give that begin in one way and have fewer calls more than `calls`: what stands behind them, how many states
+/// they lead to, up to 2^64 - 1; and the states that orders of just `calls` more lead to.
 #[derive(Drop)]
 pub struct Explored {
-    pub layer: Vec<Node>,
-    pub answers: Vec<FoundAnswer>,
+    pub layer: Layer,
+    pub found: Findings,
+    pub states: u64,
+    pub calls: usize,
 }
 
-/// The node of a start.
+/// The node of a start: of so many clients, none has made a call.
 fn first_node<P: Profile, S: MakeStore<P> + DerivationStore<P>, W: MakeWaiters<P>>(
     alloc: Global,
-    made: Vec<usize>,
-    waits: Vec<WaitingCall>,
+    clients: usize,
     kernel: &Kernel<P, S, W>,
 ) -> Result<Node, AllocError>
-    ensures { IfOk result (λ node. (w : World) (own : List (List CallOf)) → kernel.now ≡ shown w.kernel → made.items ≡ w.made → waits.items ≡ w.waits
-        → IsFirst P.the own w node) }
+    ensures node { IfOk result (λ node. (own : List (List CallOf)) (A : State) → kernel.now ≡ shown A → length own ≡ clients
+        → IsNode P.the own (start own A) node) }
+    ensures order { IfOk result (λ node. node.order.items ≡ []) }
+    ensures weight { IfOk result (λ node. node.weight ≡ 1) }
 {
     let order = Vec::new(alloc);
     let calls = Vec::new(alloc);
+    let made = vec![in alloc; 0; clients]?;
+    let waits = Vec::new(alloc);
     let words = state_words(alloc, made.as_slice(), waits.as_slice(), kernel)?;
     Ok(Node {
         order,
@@ -47,12 +57,126 @@ fn first_node<P: Profile, S: MakeStore<P> + DerivationStore<P>, W: MakeWaiters<P
         made,
         waits,
         words,
+        weight: 1,
     })
 }
 
-/// Explores all orders of fewer than `count` calls, from a start: how many calls each client has made, which of these wait,
-/// and the kernel. Each client's own calls are a list. Orders that lead to the same state are taken together there, and
-/// nothing is lost by it.
+/// The node behind a client that has no call left.
+fn uncalled(node: Node, client: usize) -> Result<Node, AllocError>
+    ensures rest { IfOk result (λ new. (new.order.items ≡ node.order.items ++ client ∷ []) × ((new.calls.items ≡ node.calls.items)
+        × ((new.made.items ≡ node.made.items) × ((new.waits.items ≡ node.waits.items) × (new.words.items ≡ node.words.items))))) }
+    ensures weight { IfOk result (λ new. new.weight ≡ node.weight) }
+{
+    let mut node = node;
+    node.order.push(client)?;
+    Ok(node)
+}
+
+/// Makes the next call of a client, be its thread ready or not, and notes what it tells. Where the client has none, nothing is
+/// made.
+fn first_call<P: Profile, S: MakeStore<P> + DerivationStore<P>, W: MakeWaiters<P>>(
+    alloc: Global,
+    calls: &[Vec<Call>],
+    kernel: &Kernel<P, S, W>,
+    node: Node,
+    client: usize,
+    found: &mut Vec<FoundAnswer>,
+) -> Result<Node, AllocError>
+    ensures made { IfOk result (λ new. (w : World) → IsReached P.the w.kernel → kernel.now ≡ shown w.kernel → IsNode P.the (own_calls calls.now) w node
+        → IsMade P.the (own_calls calls.now) w node new client ⟦<Answer as PartialEq>⟧.eq found.old.items found.new.items) }
+    ensures weight { IfOk result (λ new. new.weight ≡ node.weight) }
+{
+    match next_call(calls, node.made.as_slice(), client) {
+        Some(call) => {
+            let at = kernel_after(alloc, kernel, node.calls.as_slice())?;
+            make_call(alloc, &at, &node, client, call, found)
+        }
+        None => uncalled(node, client),
+    }
+}
+
+/// Makes the calls by which all orders begin, each the next one of a client, and notes what they tell.
+fn begin<P: Profile, S: MakeStore<P> + DerivationStore<P>, W: MakeWaiters<P>>(
+    alloc: Global,
+    calls: &[Vec<Call>],
+    kernel: &Kernel<P, S, W>,
+    first: &[usize],
+    found: &mut Vec<FoundAnswer>,
+) -> Result<Node, AllocError>
+    ensures { IfOk result (λ node. (A : State) → IsReached P.the A → kernel.now ≡ shown A
+        → IsBegun P.the (own_calls calls.now) A first.now node ⟦<Answer as PartialEq>⟧.eq found.old.items found.new.items) }
+{
+    let mut node = first_node(alloc, calls.len(), kernel)?;
+    for i in 0..first.len() {
+        node = first_call(alloc, calls, kernel, node, first[i], found)?;
+    }
+    Ok(node)
+}
+
+/// What is known before any call behind the first ones.
+fn begun<P: Profile, S: MakeStore<P> + DerivationStore<P>, W: MakeWaiters<P>>(
+    alloc: Global,
+    calls: &[Vec<Call>],
+    kernel: &Kernel<P, S, W>,
+    first: &[usize],
+) -> Result<Explored, AllocError>
+    ensures { IfOk result (λ e. (A : State) → IsReached P.the A → kernel.now ≡ shown A
+        → IsProgress P.the (own_calls calls.now) A first.now ⟦<Answer as PartialEq>⟧.eq e × (e.calls ≡ 0)) }
+{
+    let mut found = Findings::new(alloc);
+    let node = begin(alloc, calls, kernel, first, &mut found.answers)?;
+    let mut layer = Layer::new(alloc);
+    layer.note(node)?;
+    Ok(Explored {
+        layer,
+        found,
+        states: 0,
+        calls: 0,
+    })
+}
+
+/// How many states there are with those of the next layer.
+fn states_after(explored: &Explored) -> u64
+    ensures { result ≡ saturated (explored.now.states + length explored.now.layer) }
+{
+    let more = explored.layer.nodes().len();
+    explored.states.saturating_add(more as u64)
+}
+
+/// Whether the exploration goes on: some order does, the states of the next layer are not too many, and neither are the calls.
+fn goes_on(explored: &Explored, limit: u64, count: usize) -> bool
+    ensures { result ≡ (nat_lt explored.now.calls count && not (is_last limit explored.now.states (length explored.now.layer))) }
+{
+    let is_last = explored.layer.nodes().is_empty() || limit < states_after(explored);
+    explored.calls < count && !is_last
+}
+
+/// Explores the orders that have one call more.
+fn advance<P: Profile, S: MakeStore<P> + DerivationStore<P>, W: MakeWaiters<P>>(
+    alloc: Global,
+    calls: &[Vec<Call>],
+    kernel: &Kernel<P, S, W>,
+    explored: &mut Explored,
+) -> Result<(), AllocError>
+    requires { explored.old.calls < usize.MAX }
+    ensures progress { OnOk result ((A : State) (first : List ℕ) → IsReached P.the A → kernel.now ≡ shown A
+        → IsProgress P.the (own_calls calls.now) A first ⟦<Answer as PartialEq>⟧.eq explored.old
+        → IsProgress P.the (own_calls calls.now) A first ⟦<Answer as PartialEq>⟧.eq explored.new) }
+    ensures calls { OnOk result (explored.new.calls ≡ explored.old.calls + 1) }
+{
+    let states = states_after(explored);
+    let nodes = explored.layer.nodes();
+    let next = next_layer(alloc, calls, kernel, nodes, &mut explored.found)?;
+    explored.layer = next;
+    explored.states = states;
+    explored.calls += 1;
+    Ok(())
+}
+
+/// Explores all orders of the clients' calls, from a kernel on. Each client's own calls are a list, in order. An order begins
+/// with the next calls of the clients of `first`; behind them, each call is made while its thread is ready. Orders that lead
+/// to the same state are taken together there, and nothing is lost by it. Where no order goes on, or the states of the next
+/// layer are more than the limit leaves, or `count` calls are behind the first ones, the exploration ends.
 ///
 /// # Errors
 ///
@@ -60,25 +184,24 @@ fn first_node<P: Profile, S: MakeStore<P> + DerivationStore<P>, W: MakeWaiters<P
 pub fn explore<P: Profile, S: MakeStore<P> + DerivationStore<P>, W: MakeWaiters<P>>(
     alloc: Global,
     calls: &[Vec<Call>],
-    made: Vec<usize>,
-    waits: Vec<WaitingCall>,
     kernel: &Kernel<P, S, W>,
+    first: &[usize],
+    limit: u64,
     count: usize,
 ) -> Result<Explored, AllocError>
-    ensures { IfOk result (λ e. (w : World) → IsReached P.the w.kernel → kernel.now ≡ shown w.kernel → made.items ≡ w.made → waits.items ≡ w.waits
-        → IsExplored P.the (own_calls calls.now) w ⟦<Answer as PartialEq>⟧.eq e.layer.items e.answers.items count) }
+    ensures { IfOk result (λ e. (A : State) → IsReached P.the A → kernel.now ≡ shown A
+        → IsExplored P.the (own_calls calls.now) A first.now ⟦<Answer as PartialEq>⟧.eq limit count e) }
 {
-    let first = first_node(alloc, made, waits, kernel)?;
-    let mut answers = Vec::new(alloc);
-    let mut layer = Vec::new(alloc);
-    layer.push(first)?;
-    for round in 0..count {
-        layer = next_layer(alloc, calls, kernel, layer.as_slice(), &mut answers)?;
+    let mut explored = begun(alloc, calls, kernel, first)?;
+    while goes_on(&explored, limit, count) {
+        advance(alloc, calls, kernel, &mut explored)?;
     }
-    Ok(Explored { layer, answers })
+    Ok(explored)
 }
 
-/// Where no order of so many calls leads to a state, there are no orders of so many calls or more. Nothing is done.
+/// Where no order of so many calls more leads to a state, there are no orders of so many calls more, or of more than these.
+/// Nothing is done.
 pub fn empty_layers_are_the_last()
-    ensures { (p : ProfileName) (own : List (List CallOf)) (w : World) (count more : ℕ) → layer p own w count ≡ [] → orders p own w (count + more) ≡ [] }
+    ensures { (p : ProfileName) (own : List (List CallOf)) (w : World) (first : List ℕ) (count more : ℕ)
+        → layer p own w first count ≡ [] → orders p own w first (count + more) ≡ [] }
 {}

@@ -5,11 +5,15 @@
 pub mod answers;
 pub mod ends;
 pub mod exploration;
+pub mod layer;
 pub mod layers;
 pub mod node;
+pub mod stuck;
 mod waits;
 mod words;
 
 pub use answers::FoundAnswer;
 pub use exploration::{Explored, explore};
+pub use layer::Layer;
 pub use node::Node;
+pub use stuck::{Findings, FoundStuck};

@@ -16,7 +16,7 @@ use slot_core::{CapStore, MakeStore};
 use std::alloc::{AllocError, Global};
 
 /// A state: the first order of clients that leads to it, the calls that they make, how many calls each client has made then,
-/// which of these wait, and the words of all that, with what the kernel shows.
+/// which of these wait, and the words of all that, with what the kernel shows; and how many orders lead to it, up to 2^64 - 1.
 #[derive(Drop)]
 pub struct Node {
     pub order: Vec<usize>,
@@ -24,6 +24,7 @@ pub struct Node {
     pub made: Vec<usize>,
     pub waits: Vec<WaitingCall>,
     pub words: Vec<u64>,
+    pub weight: u64,
 }
 
 /// The next call of a client, by how many calls each has made.

@@ -39,18 +39,28 @@ fn recv(thread: u64, cap: u64) -> Call {
     }
 }
 
-/// What all orders of fewer than `count` calls give, after a boot with four threads and four endpoints, whose capabilities
-/// are in the slots 6 to 9.
+/// What all orders of fewer than `count` calls give that begin with the calls of `first`, as far as the limit on states lets
+/// them go, after a boot with four threads and four endpoints, whose capabilities are in the slots 6 to 9.
 fn explored(
     rt: &impl Abort,
     alloc: Global,
     calls: &[Vec<Call>],
+    first: &[usize],
+    limit: u64,
     count: usize,
 ) -> Result<Explored, AllocError> {
     let plan = BootPlan::new::<Wide>(16, 4, 4, 4, Vec::new(alloc)).expect(rt, "no defect");
     let kernel = RowKernel::boot(alloc, &plan)?;
-    let made = vec![in alloc; 0; calls.len()]?;
-    explore(alloc, calls, made, Vec::new(alloc), &kernel, count)
+    explore(alloc, calls, &kernel, first, limit, count)
+}
+
+/// How many states there are and how many of them are ends, and how many orders there are and how many of them end stuck.
+fn has_counts(rt: &impl Abort, explored: &Explored, wanted: [u64; 4]) {
+    let found = &explored.found;
+    assert_eq!(rt; explored.states, wanted[0]);
+    assert_eq!(rt; found.ends, wanted[1]);
+    assert_eq!(rt; found.orders, wanted[2]);
+    assert_eq!(rt; found.stuck_orders, wanted[3]);
 }
 
 /// The call of a client at a place comes to an answer, and this order is the first to tell it.
@@ -62,7 +72,7 @@ fn comes_to(
     answer: Answer,
     order: &[usize],
 ) {
-    let is_told = explored.answers.iter().any(|a| {
+    let is_told = explored.found.answers.iter().any(|a| {
         a.client == client && a.place == place && a.answer == answer && a.order.as_slice() == order
     });
     assert!(rt; is_told);
@@ -75,7 +85,7 @@ fn message_is_delivered_whoever_comes_first(rt: HostRuntime) -> Result<(), Fail>
     let mut calls = Vec::new(alloc);
     calls.push(Vec::from_slice(alloc, &[send(first, 6, 7)])?)?;
     calls.push(Vec::from_slice(alloc, &[recv(second, 6)])?)?;
-    let explored = explored(&rt, alloc, calls.as_slice(), 3)?;
+    let explored = explored(&rt, alloc, calls.as_slice(), &[], 100, 3)?;
     let reply = Reply::Delivered {
         endpoint: 10240,
         from: first,
@@ -83,8 +93,9 @@ fn message_is_delivered_whoever_comes_first(rt: HostRuntime) -> Result<(), Fail>
         badge: Badge(0),
         message: message(7),
     };
-    assert_eq!(rt; explored.answers.len(), 4);
-    assert_eq!(rt; explored.layer.len(), 0);
+    assert_eq!(rt; explored.found.answers.len(), 4);
+    has_counts(&rt, &explored, [4, 1, 2, 0]);
+    assert_eq!(rt; explored.layer.nodes().len(), 0);
     comes_to(&rt, &explored, 0, 0, Answer::Served(reply), &[0, 1]);
     comes_to(&rt, &explored, 0, 0, Answer::Replied(reply), &[1, 0]);
     comes_to(&rt, &explored, 1, 0, Answer::Replied(reply), &[0, 1]);
@@ -99,8 +110,10 @@ fn sends_to_each_other_wait_in_every_order(rt: HostRuntime) -> Result<(), Fail> 
     let mut calls = Vec::new(alloc);
     calls.push(Vec::from_slice(alloc, &[send(first, 6, 1), recv(first, 7)])?)?;
     calls.push(Vec::from_slice(alloc, &[send(second, 7, 2), recv(second, 6)])?)?;
-    let explored = explored(&rt, alloc, calls.as_slice(), 5)?;
-    assert_eq!(rt; explored.answers.len(), 4);
+    let explored = explored(&rt, alloc, calls.as_slice(), &[], 100, 5)?;
+    assert_eq!(rt; explored.found.answers.len(), 4);
+    assert_eq!(rt; explored.found.stuck.len(), 1);
+    has_counts(&rt, &explored, [4, 1, 2, 2]);
     comes_to(&rt, &explored, 0, 0, Answer::Waits, &[0, 1]);
     comes_to(&rt, &explored, 0, 1, Answer::NotMade, &[0, 1]);
     comes_to(&rt, &explored, 1, 0, Answer::Waits, &[0, 1]);
@@ -135,14 +148,20 @@ fn two_locks(alloc: Global) -> Result<Vec<Vec<Call>>, AllocError> {
 fn two_locks_end_in_a_deadlock_in_some_orders(rt: HostRuntime) -> Result<(), Fail> {
     let alloc = rt.alloc();
     let calls = two_locks(alloc)?;
-    let all = explored(&rt, alloc, calls.as_slice(), 17)?;
-    assert_eq!(rt; all.layer.len(), 0);
-    assert_eq!(rt; all.answers.len(), 60);
+    let all = explored(&rt, alloc, calls.as_slice(), &[], 1000, 17)?;
+    assert_eq!(rt; all.layer.nodes().len(), 0);
+    assert_eq!(rt; all.found.answers.len(), 60);
+    has_counts(&rt, &all, [158, 2, 106144, 896]);
     let shortest = [0, 1, 2, 0, 3, 1, 2, 3];
     comes_to(&rt, &all, 0, 1, Answer::Waits, &shortest);
     comes_to(&rt, &all, 0, 2, Answer::NotMade, &shortest);
     comes_to(&rt, &all, 3, 1, Answer::Waits, &shortest);
-    let widest = explored(&rt, alloc, calls.as_slice(), 6)?;
-    assert_eq!(rt; widest.layer.len(), 18);
+    assert_eq!(rt; all.found.stuck.len(), 1);
+    assert_eq!(rt; all.found.stuck[0].left.len(), 4);
+    let cut = explored(&rt, alloc, calls.as_slice(), &[], 60, 17)?;
+    assert_eq!(rt; cut.calls, 6);
+    assert_eq!(rt; cut.layer.nodes().len(), 18);
+    let begun = explored(&rt, alloc, calls.as_slice(), &[0, 1], 1000, 17)?;
+    assert_eq!(rt; begun.calls, 15);
     Ok(())
 }

@@ -1,13 +1,20 @@
-use Rattle.std.proofs.Common.{◌≡◌}
-use Rattle.abstract_kernel.specs.State.{shown}
+use Rattle.std.proofs.Common.{◌≡◌, ◌-◌}
+use Rattle.abstract_kernel.specs.State.{State, shown}
 use Rattle.abstract_kernel.specs.Reached.{IsReached}
-use Rattle.orders.specs.World.{World}
+use Rattle.orders.specs.World.{start}
 use Rattle.orders.specs.contracts.answer.AnswerPartialEq.TheImpl as answer_eq
 use Rattle.explore_core.specs.Nodes.{own_calls}
-use Rattle.explore_core.specs.Found.{IsExplored}
+use Rattle.explore_core.specs.Explorations.{depth_from, depth}
+use Rattle.explore_core.specs.Private.Progress.{IsProgress}
 use Rattle.explore_core.proofs.exploration.explore.Given as goal
 
-abbrev pub invariant-loop-round : goal.invariant-loop-round
-invariant-loop-round g l =
-    (w : World) → IsReached g.P.Profile.the w.kernel → l.kernel ≡ shown w.kernel → l.fn.made.items ≡ w.made → l.fn.waits.items ≡ w.waits
-    → IsExplored g.P.Profile.the (own_calls l.calls) w answer_eq.ghosts.eq l.layer.items l.answers.items l.round
+abbrev pub invariant-loop-alloc : goal.invariant-loop-alloc
+invariant-loop-alloc g l =
+    let p = g.P.Profile.the in
+    let own = own_calls l.calls in
+    (A : State) → IsReached p A → l.kernel ≡ shown A
+    → IsProgress p own A l.first answer_eq.ghosts.eq l.explored
+    × (depth_from p own (start own A) l.first l.limit (l.count - l.explored.calls) l.explored.calls ≡ depth p own (start own A) l.first l.limit l.count)
+
+abbrev pub decreases-loop-alloc : goal.decreases-loop-alloc
+decreases-loop-alloc g l = l.count - l.explored.calls

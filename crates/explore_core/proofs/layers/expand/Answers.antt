@@ -15,5 +15,6 @@ returns g c w r k node all =
     let n = c.args.node.now in
     let shows = at_is p own w n c.in_ok-at.at node (c.in_ok-at.ensures w.kernel r k ∙ ap (λ (l : List Call). shown (state_after p w.kernel l)) c.as_slice.ensures.value) in
     expanded_is p own w answer_eq.ghosts.eq n c.in_ok-at.at (length c.args.calls.now) c.is_end-ends.result node shows (sym (length-map c.args.calls.now _)) c.is_end-ends.ensures
-    c.args.nodes.now.items c.visit_clients.new.nodes.items c.args.found.now.items c.visit_clients.new.found.items c.note_end.new.found.items
+    c.args.nodes.now c.visit_clients.new.nodes c.args.found.now c.note_stuck_end.new.found c.visit_clients.new.found.items c.note_end.new.found.items
     (c.in_ok-visit_clients.ensures w r node shows all) c.in_ok-note_end.ensures
+    (ap (λ v. v.items) c.in_ok-note_stuck_end.ensures.answers) c.in_ok-note_stuck_end.ensures.stuck c.in_ok-note_stuck_end.ensures.ends c.in_ok-note_stuck_end.ensures.orders c.in_ok-note_stuck_end.ensures.stuck_orders

@@ -1,13 +1,10 @@
 use Rattle.std.proofs.Common.{◌≡◌, [], take}
-use Rattle.std.specs.List.{flat_map}
 use Rattle.abstract_kernel.specs.State.{shown}
 use Rattle.abstract_kernel.specs.Reached.{IsReached}
 use Rattle.orders.specs.World.{World}
-use Rattle.orders.specs.Orders.{longer}
-use Rattle.orders.specs.Answers.{answers_behind}
 use Rattle.orders.specs.contracts.answer.AnswerPartialEq.TheImpl as answer_eq
-use Rattle.explore_core.specs.Nodes.{own_calls, AreNodes, orders_of}
-use Rattle.explore_core.specs.Found.{IsVisited}
+use Rattle.explore_core.specs.Nodes.{own_calls, AreNodes, entries_of}
+use Rattle.explore_core.specs.Found.{IsExpanded}
 use Rattle.explore_core.proofs.layers.next_layer.Given as goal
 
 abbrev pub invariant-loop-node : goal.invariant-loop-node
@@ -15,5 +12,4 @@ invariant-loop-node g l =
     let p = g.P.Profile.the in
     let own = own_calls l.calls in
     (w : World) → IsReached p w.kernel → l.kernel ≡ shown w.kernel → AreNodes p own w l.layer
-    → IsVisited p own w [] l.next.items (flat_map (longer p own w) (orders_of (take l.node-index l.layer)))
-    answer_eq.ghosts.eq l.fn.found.items l.found.items (flat_map (answers_behind p own w) (orders_of (take l.node-index l.layer)))
+    → IsExpanded p own w [] l.next answer_eq.ghosts.eq l.fn.found l.found (entries_of (take l.node-index l.layer))

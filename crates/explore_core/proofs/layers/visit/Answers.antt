@@ -1,30 +1,10 @@
-use Rattle.std.proofs.Common.{List, ℕ, [], ◌∷◌, ◌++◌, ap, ◌∙◌}
-use Rattle.kinds.specs.Kinds.{with_firsts}
-use Rattle.orders.specs.declared.answer.WaitingCall.{WaitingCall}
-use Rattle.orders.specs.World.{place_of}
-use Rattle.orders.specs.Answers.{same_answer, replied, waits_ended}
 use Rattle.orders.specs.contracts.answer.AnswerPartialEq.TheImpl as answer_eq
 use Rattle.explore_core.specs.Nodes.{own_calls}
-use Rattle.explore_core.specs.Found.{answers_of}
-use Rattle.explore_core.proofs.Steps.{world_reached}
-use Rattle.explore_core.proofs.Tables.{visited_call}
+use Rattle.explore_core.proofs.Tables.{visited_call, visited_not}
 use Rattle.explore_core.proofs.layers.visit.Goals as goal
 
-pub returns-in_ok-note_node : goal.returns-in_ok-note_node
-returns-in_ok-note_node g c w r node at all =
-    let p = g.P.Profile.the in
+pub returns-in_ok-note : goal.returns-in_ok-note
+returns-in_ok-note g c w r node at all =
     let own = own_calls c.args.calls.now in
-    let n = c.args.node.now in
-    let client = c.args.client in
-    let next = c.in_ok-next.next in
-    let order = c.in_ok-order.order.items in
-    let place = c.place_of-place.result in
-    let told =
-    c.in_ok-note_outcome.ensures
-    ∙ ap (λ (o : List ℕ). with_firsts (same_answer answer_eq.ghosts.eq) (answers_of c.args.found.now.items) (replied o client place next.reply ++ waits_ended o next.kernel c.as_slice-in-Some-2.result.now next.reply)) c.as_slice-in-Some-3.ensures.value
-    ∙ ap (λ (l : List WaitingCall). with_firsts (same_answer answer_eq.ghosts.eq) (answers_of c.args.found.now.items) (replied order client place next.reply ++ waits_ended order next.kernel l next.reply)) c.as_slice-in-Some-2.ensures.value in
-    visited_call p own w answer_eq.ghosts.eq n c.args.at.now client c.callable.result c.in-Some.call c.args.nodes.now.items c.note_node.new.nodes.items c.args.found.now.items c.note_outcome.new.found.items
-    next.reply next.kernel order place c.in_ok-new.new r (world_reached p own w n.order.items r) node at all c.in-Some.is c.callable.ensures.may c.in-Some.ensures.call c.in_ok-next.ensures
-    (c.in_ok-order.ensures ∙ ap (λ (l : List ℕ). l ++ client ∷ []) c.as_slice.ensures.value)
-    (c.place_of-place.ensures ∙ ap (λ (l : List ℕ). place_of l client) c.as_slice-in-Some.ensures.value)
-    told c.in_ok-new.ensures.order c.in_ok-new.ensures.calls c.in_ok-new.ensures.made c.in_ok-new.ensures.waits c.in_ok-new.ensures.words c.in_ok-note_node.ensures
+    visited_call g.P.Profile.the own w answer_eq.ghosts.eq c.args.node.now c.args.at.now c.args.client c.callable.result c.in-Some.call c.args.nodes.now c.note.new.self c.args.found.now.items c.make_call.new.found.items c.in_ok-new.new
+    node at all c.in-Some.is c.callable.ensures.may (c.in_ok-new.ensures.made own w r node at c.in-Some.ensures.call) c.in_ok-new.ensures.weight c.in_ok-note.ensures

@@ -1,6 +1,7 @@
 use Rattle.std.proofs.Common.{◌≡◌, ◌++◌, ◌∷◌, [], map, filter, length, sym, subst, ◌∙◌, arith}
 use Rattle.std.proofs.lemmas.List.{length-map}
 use Rattle.std.specs.List.{flat_map}
+use Rattle.kinds.specs.Kinds.{each_times}
 use Rattle.orders.specs.World.{next_call, may_call, world_after}
 use Rattle.orders.specs.Orders.{below}
 use Rattle.orders.specs.Answers.{call_answers}
@@ -11,13 +12,13 @@ use Rattle.explore_core.proofs.Tables.{visited_none, visited_more}
 use Rattle.explore_core.proofs.layers.visit_clients.Goals as goal
 
 pub loop-client-init : goal.loop-client-init
-loop-client-init g c w r node at all = visited_none g.P.Profile.the (own_calls c.args.calls.now) w answer_eq.ghosts.eq c.args.nodes.now.items c.args.found.now.items all
+loop-client-init g c w r node at all = visited_none g.P.Profile.the (own_calls c.args.calls.now) w answer_eq.ghosts.eq c.args.nodes.now c.args.found.now.items all
 
 pub loop-client-preserved : goal.loop-client-preserved
 loop-client-preserved g c w r node at all =
     let before = c.loop-client.invariant w r node at all in
-    visited_more g.P.Profile.the (own_calls c.args.calls.now) w answer_eq.ghosts.eq c.args.node.now.order.items c.loop-client.client
-    c.args.nodes.now.items c.loop-client.nodes.items c.visit.new.nodes.items c.args.found.now.items c.loop-client.found.items c.visit.new.found.items
+    visited_more g.P.Profile.the (own_calls c.args.calls.now) w answer_eq.ghosts.eq c.args.node.now.weight c.args.node.now.order.items c.loop-client.client
+    c.args.nodes.now c.loop-client.nodes c.visit.new.nodes c.args.found.now.items c.loop-client.found.items c.visit.new.found.items
     before (c.in_ok-visit.ensures w r node at before.are)
 
 pub returns : goal.returns
@@ -26,7 +27,7 @@ returns g c w r node at all =
     let own = own_calls c.args.calls.now in
     let order = c.args.node.now.order.items in
     let end : c.loop-client.client ≡ length c.args.calls.now = omega arith in
-    subst (λ k. IsVisited p own w c.args.nodes.now.items c.loop-client.nodes.items (map (λ c. order ++ c ∷ []) (filter (may_call own (world_after p own w order)) (below k)))
+    subst (λ k. IsVisited p own w c.args.nodes.now c.loop-client.nodes (each_times c.args.node.now.weight (map (λ c. order ++ c ∷ []) (filter (may_call own (world_after p own w order)) (below k))))
     answer_eq.ghosts.eq c.args.found.now.items c.loop-client.found.items
     (flat_map (λ c. call_answers p (world_after p own w order) order c (next_call own (world_after p own w order).made c)) (filter (may_call own (world_after p own w order)) (below k))))
     (end ∙ sym (length-map c.args.calls.now _)) (c.loop-client.invariant w r node at all)

@@ -1,0 +1,17 @@
+-- How far an exploration is.
+use Rattle.std.specs.Prelude.{◌≡◌, ℕ, ◌-◌, ◌^◌, min, Bool, List, map}
+use Rattle.cap_core.specs.declared.profile.ProfileName.{ProfileName}
+use Rattle.abstract_kernel.specs.declared.call.Call.{Call}
+use Rattle.abstract_kernel.specs.State.{State}
+use Rattle.orders.specs.declared.answer.Answer.{Answer}
+use Rattle.orders.specs.World.{start}
+use Rattle.explore_core.specs.declared.exploration.Explored.{Explored}
+use Rattle.explore_core.specs.Nodes.{AreNodes, entries_of}
+use Rattle.explore_core.specs.Counts.{counted, saturated}
+use Rattle.explore_core.specs.Explorations.{IsExploredTo}
+
+-- what is explored, and the layer with its counts
+pub record IsProgress (p : ProfileName) (own : List (List Call)) (A : State) (first : List ℕ) (same : Answer → Answer → Bool) (e : Explored) : Type 0 where
+  pub are : AreNodes p own (start own A) e.layer
+  pub entries_are : entries_of e.layer ≡ map (λ (c : List ℕ × ℕ). (c.0, saturated c.1)) (counted p own (start own A) first e.calls)
+  pub to : IsExploredTo p own (start own A) first same e

@@ -1,0 +1,26 @@
+-- Nodes in a table.
+use Rattle.std.specs.Prelude.{ℕ, ◌+◌, Bool, cond, List, [], ◌∷◌, nat_eq, Option, None, Some, slice_get, slice_set}
+use Rattle.std.specs.Cmp.Lexicographic.{pointwise}
+use Rattle.explore_core.specs.declared.node.Node.{Node}
+use Rattle.explore_core.specs.Counts.{saturated}
+
+-- whether two nodes are of one state
+abbrev pub by_words : Node → Node → Bool
+by_words n m = pointwise nat_eq n.words.items m.words.items
+
+-- a node to whose state more orders lead
+abbrev pub heavier : ℕ → Node → Node
+heavier more n = record { order = n.order; calls = n.calls; made = n.made; waits = n.waits; words = n.words; weight = saturated (n.weight + more) }
+
+-- the nodes, with this one at the end, or with its orders at the first of its state
+abbrev pub with_node : List Node → Node → List Node
+with_node [] n = n ∷ []
+with_node (m ∷ ms) n = cond (by_words m n) (heavier n.weight m ∷ ms) (m ∷ with_node ms n)
+
+-- the nodes, that at a place heavier
+abbrev pub heavier_in : ℕ → ℕ → Option Node → List Node → List Node
+heavier_in place more None nodes = nodes
+heavier_in place more (Some n) nodes = slice_set nodes place (heavier more n)
+
+abbrev pub heavier_at : ℕ → ℕ → List Node → List Node
+heavier_at place more nodes = heavier_in place more (slice_get nodes place) nodes
