@@ -1,5 +1,5 @@
 -- One round more of an exploration.
-use Rattle.std.proofs.Common.{◌≡◌, ℕ, zero, suc, ◌+◌, ◌-◌, ◌*◌, ◌^◌, ◌<◌, ◌≤◌, ◌&&◌, min, not, Bool, true, false, cond, List, [], ◌∷◌, ◌++◌, map, filter, length, take, get_or, replicate, Option, Some, None, refl, ap, sym, subst, ◌∙◌, append_assoc, add-one, arith}
+use Rattle.std.proofs.Common.{◌≡◌, ℕ, zero, suc, ◌+◌, ◌-◌, ◌*◌, ◌^◌, ◌<◌, ◌≤◌, ◌&&◌, min, not, Bool, true, false, cond, List, [], ◌∷◌, ◌++◌, map, filter, length, take, get_or, replicate, Option, None, refl, ap, sym, subst, ◌∙◌, append_assoc, add-one, arith}
 use Rattle.std.specs.Prelude.{nat_lt}
 use Rattle.std.specs.Cmp.Lexicographic.{pointwise}
 use Rattle.std.proofs.lemmas.Bool.Decides.{nat_tests}
@@ -14,12 +14,11 @@ use Rattle.abstract_kernel.specs.State.{State, shown}
 use Rattle.abstract_kernel.specs.Step.{state_after}
 use Rattle.abstract_kernel.specs.Reached.{IsReached}
 use Rattle.abstract_kernel.proofs.Reached.Runs.{state_after-nil}
-use Rattle.kinds.specs.Kinds.{IsKindTest, firsts, with_firsts, with_counts, with_counts_up_to, each_times, weight}
+use Rattle.kinds.specs.Kinds.{IsKindTest, firsts, with_firsts, with_counts_up_to, each_times, weight}
 use Rattle.kinds.proofs.Merging.{with_firsts-append}
 use Rattle.kinds.proofs.Counting.{up_to, key_of, all_up_to, keys_all, keys_followers, followers_up_to, flat_map_keys, weight-counted_followers, sum_by-followers}
 use Rattle.orders.specs.declared.answer.Answer.{Answer}
 use Rattle.orders.specs.declared.answer.WaitingCall.{WaitingCall}
-use Rattle.orders.specs.declared.left.LeftCall.{LeftCall}
 use Rattle.orders.specs.contracts.answer.AnswerPartialEq.TheImpl as answer_eq
 use Rattle.orders.specs.contracts.answer.AnswerEq.TheImpl.Laws as answer_laws
 use Rattle.orders.specs.contracts.left.LeftCallPartialEq.TheImpl as left_eq
@@ -31,10 +30,9 @@ use Rattle.orders.specs.Ends.{StuckEnd, same_stuck, stuck_behind, stuck_before, 
 use Rattle.explore_core.specs.declared.node.Node.{Node}
 use Rattle.explore_core.specs.declared.answers.FoundAnswer.{FoundAnswer}
 use Rattle.explore_core.specs.declared.exploration.Explored.{Explored}
-use Rattle.explore_core.specs.declared.stuck.Findings.{Findings}
 use Rattle.explore_core.specs.Nodes.{state_words, lead_alike, layer, IsNode, AreNodes, entries_of}
 use Rattle.explore_core.specs.Counts.{saturated, saturated_sum, counted, states_before, ends_before}
-use Rattle.explore_core.specs.Found.{answers_of, stuck_of, same_left, counts_of, IsMade, IsExpanded, IsFound}
+use Rattle.explore_core.specs.Found.{answers_of, stuck_of, same_left, counts_of, IsMade, IsExpanded}
 use Rattle.explore_core.specs.Explorations.{is_last, is_last_layer, depth_from, depth, IsBegun, IsExploredTo, IsExplored}
 use Rattle.explore_core.specs.Private.Tables.{with_node}
 use Rattle.explore_core.specs.Private.Progress.{IsProgress}

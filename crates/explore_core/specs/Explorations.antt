@@ -1,13 +1,13 @@
 -- What an exploration gives.
-use Rattle.std.specs.Prelude.{◌≡◌, ℕ, zero, suc, ◌+◌, ◌==◌, ◌||◌, Bool, cond, nat_lt, List, [], ◌∷◌, ◌++◌, length, map}
+use Rattle.std.specs.Prelude.{◌≡◌, ℕ, zero, suc, ◌+◌, ◌==◌, ◌||◌, Bool, cond, nat_lt, List, [], length, map}
 use Rattle.cap_core.specs.declared.profile.ProfileName.{ProfileName}
 use Rattle.abstract_kernel.specs.declared.call.Call.{Call}
 use Rattle.abstract_kernel.specs.State.{State}
 use Rattle.kinds.specs.Kinds.{with_firsts, firsts}
 use Rattle.orders.specs.declared.answer.Answer.{Answer}
-use Rattle.orders.specs.World.{World, start, next_call, world_after}
+use Rattle.orders.specs.World.{World, start}
 use Rattle.orders.specs.Orders.{is_end, is_stuck}
-use Rattle.orders.specs.Answers.{Answered, call_answers, first_answers, answers_before, same_answer}
+use Rattle.orders.specs.Answers.{first_answers, answers_before, same_answer}
 use Rattle.orders.specs.Ends.{stuck_before, orders_before}
 use Rattle.explore_core.specs.declared.node.Node.{Node}
 use Rattle.explore_core.specs.declared.answers.FoundAnswer.{FoundAnswer}

@@ -1,4 +1,4 @@
-use Rattle.std.proofs.Common.{◌≡◌, refl, ap, ◌∙◌}
+use Rattle.std.proofs.Common.{refl, ap, ◌∙◌}
 use Rattle.explore_core.specs.Nodes.{own_calls}
 use Rattle.explore_core.specs.declared.exploration.Explored.{Explored}
 use Rattle.explore_core.specs.Private.Tables.{with_node}

@@ -1,6 +1,5 @@
-use Rattle.std.proofs.Common.{◌≡◌, ◌-◌, ◌+◌, ℕ, ap, sym, ◌∙◌, arith}
+use Rattle.std.proofs.Common.{◌≡◌, ◌-◌, ℕ, ap, sym, ◌∙◌, arith}
 use Rattle.orders.specs.World.{start}
-use Rattle.orders.specs.contracts.answer.AnswerPartialEq.TheImpl as answer_eq
 use Rattle.explore_core.specs.Nodes.{own_calls}
 use Rattle.explore_core.specs.Explorations.{depth_from}
 use Rattle.explore_core.proofs.Explorations.{depth_goes_on, depth_ends, goes_less}

@@ -1,6 +1,6 @@
 use Rattle.orders.specs.contracts.answer.AnswerPartialEq.TheImpl as answer_eq
 use Rattle.explore_core.specs.Nodes.{own_calls}
-use Rattle.explore_core.proofs.Tables.{visited_call, visited_not}
+use Rattle.explore_core.proofs.Tables.{visited_call}
 use Rattle.explore_core.proofs.layers.visit.Goals as goal
 
 pub returns-in_ok-note : goal.returns-in_ok-note

@@ -1,4 +1,4 @@
-use Rattle.std.proofs.Common.{◌≡◌, List, Option, Some, None, ap, sym, ◌∙◌}
+use Rattle.std.proofs.Common.{◌≡◌, List, Some, None, ap, sym, ◌∙◌}
 use Rattle.std.specs.Prelude.{position}
 use Rattle.explore_core.specs.declared.node.Node.{Node}
 use Rattle.explore_core.specs.Private.Tables.{by_words, with_node}
