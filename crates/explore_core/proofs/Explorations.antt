@@ -200,7 +200,7 @@ module _ (p : ProfileName) (own : List (List Call)) (A : State) (first : List �
   w = start own A
 
   pub progress_none : (e : Explored) (n : Node) (none : List FoundAnswer) → IsBegun p own A first n answer_eq.ghosts.eq none e.found.answers.items → none ≡ [] → e.layer ≡ with_node [] n →
-      e.found.stuck.items ≡ [] → e.found.ends ≡ 0 → e.found.orders ≡ 0 → e.found.stuck_orders ≡ 0 → e.states ≡ 0 → e.calls ≡ 0 →
+      e.found.stuck.items ≡ [] → e.found.ends ≡ 0 → e.found.orders ≡ 0 → e.found.stuck_orders ≡ 0 → e.states ≡ saturated (length first) → e.calls ≡ 0 →
       IsProgress p own A first answer_eq.ghosts.eq e
   progress_none e n none b empty nodes stuck ends orders_none stuck_none states calls =
       record {

@@ -23,9 +23,9 @@ counted p own w first zero = (first, 1) ∷ []
 counted p own w first (suc n) =
     with_counts (lead_alike p own w) [] (flat_map (λ (e : List ℕ × ℕ). each_times e.1 (longer p own w e.0)) (counted p own w first n))
 
--- how many states these orders lead to that have fewer calls more than so many
+-- how many states these orders lead to that have fewer calls more than so many, with those that the first calls lead through
 abbrev pub states_before : ProfileName → List (List Call) → World → List ℕ → ℕ → ℕ
-states_before p own w first zero = 0
+states_before p own w first zero = length first
 states_before p own w first (suc n) = states_before p own w first n + length (layer p own w first n)
 
 -- how many of these states are ends

@@ -26,7 +26,8 @@ use slot_core::{DerivationStore, MakeStore};
 use std::alloc::{AllocError, Global};
 
 /// What the orders give that begin in one way and have fewer calls more than `calls`: what stands behind them, how many states
-/// they lead to, up to 2^64 - 1; and the states that orders of just `calls` more lead to.
+/// they lead to, with those that the first calls lead through, up to 2^64 - 1; and the states that orders of just `calls` more
+/// lead to.
 #[derive(Drop)]
 pub struct Explored {
     pub layer: Layer,
@@ -113,6 +114,13 @@ fn begin<P: Profile, S: MakeStore<P> + DerivationStore<P>, W: MakeWaiters<P>>(
     Ok(node)
 }
 
+/// How many states the first calls lead through: one before each, since they are made in one order.
+fn states_through(first: &[usize]) -> u64
+    ensures { result ≡ saturated (length first.now) }
+{
+    0u64.saturating_add(first.len() as u64)
+}
+
 /// What is known before any call behind the first ones.
 fn begun<P: Profile, S: MakeStore<P> + DerivationStore<P>, W: MakeWaiters<P>>(
     alloc: Global,
@@ -127,10 +135,11 @@ fn begun<P: Profile, S: MakeStore<P> + DerivationStore<P>, W: MakeWaiters<P>>(
     let node = begin(alloc, calls, kernel, first, &mut found.answers)?;
     let mut layer = Layer::new(alloc);
     layer.note(node)?;
+    let states = states_through(first);
     Ok(Explored {
         layer,
         found,
-        states: 0,
+        states,
         calls: 0,
     })
 }
