@@ -1,0 +1,5 @@
+pub mod Clients
+pub mod Numbers
+pub mod Text
+pub mod Views
+pub mod Report

@@ -1,0 +1,16 @@
+//! The report on every order of the calls that the clients of a set-up make: for each call what it comes to, each way to end
+//! stuck, and how many states and orders there are.
+#![tactic(auto)]
+
+mod answers;
+mod calls;
+mod clients;
+mod ends;
+mod marks;
+mod numbers;
+mod run;
+
+pub use answers::AnswerText;
+pub use clients::{calls_of_clients, first_clients};
+pub use numbers::numbers_of_clients;
+pub use run::{ExploredText, explored_report};
