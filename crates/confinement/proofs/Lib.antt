@@ -1,0 +1,9 @@
+pub mod Within
+pub mod Found
+pub mod Passed
+pub mod Changes
+pub mod Spared
+pub mod Runs
+pub mod Tested
+pub mod Closed
+pub mod Rising

@@ -1,0 +1,170 @@
+-- Where the test answers yes, the parts are closed; and one part that has every address is.
+use Rattle.std.proofs.Common.{◌≡◌, ℕ, Fits, w64, get_or, ◌+◌, ◌-◌, ◌^◌, ◌≤◌, ◌⊎◌, inl, inr, Bool, true, false, cond, ◌==◌, ◌||◌, nat_lt, List, [], ◌∷◌, map, filter, Option, Some, None, refl, sym, ap, subst, ◌∙◌, arith, bit_and}
+use Rattle.std.specs.Prelude.{find, option_map, is_some, ◌<◌, ◌&&◌, suc, All}
+use Rattle.std.specs.List.{list_any, list_all}
+use Rattle.std.proofs.lemmas.Bool.{false≢true, eqb-true}
+use Rattle.std.proofs.lemmas.Bool.Decides.{nat_tests}
+use Rattle.std.proofs.lemmas.Nat.{pow_pos}
+use Rattle.cap_core.specs.declared.profile.ProfileName.{ProfileName}
+use Rattle.cap_core.specs.declared.capability.Badge.{Badge}
+use Rattle.cap_core.specs.declared.capability.Cap.{Cap}
+use Rattle.cap_core.specs.declared.capability.Cap.TheVariants.{Null, Untyped, Endpoint, CNode, Tcb}
+use Rattle.cap_core.specs.declared.rights.Rights.{Rights}
+use Rattle.cap_core.specs.declared.profile.ProfileName.TheVariants.{Wide, Narrow}
+use Rattle.cap_core.specs.Numbers.{word_bits}
+use Rattle.cap_core.specs.Objects.{base_of, bits_of, end_of, IsLawful}
+use Rattle.cap_core.proofs.Minting.{bit_in_both}
+use Rattle.std.specs.Int.{bit_at}
+use Rattle.derivation.specs.Forest.{Forest}
+use Rattle.derivation.specs.Entries.{Entry, caps, cap_in, cap_at}
+use Rattle.clearing.specs.Members.{In}
+use Rattle.clearing.proofs.Members.{both_true, either_true, any_of, filter_in}
+use Rattle.clearing.proofs.Clearable.{in_contains}
+use Rattle.abstract_kernel.proofs.Checks.FoundSlots.{lawful_at}
+use Rattle.confinement.specs.declared.listed.PartMemory.{PartMemory}
+use Rattle.confinement.specs.declared.listed.PartUse.{PartUse}
+use Rattle.confinement.specs.Parts.{IsOwned, IsCovered, IsWithin, IsClosed}
+use Rattle.confinement.specs.Order.{AreInParts}
+use Rattle.confinement.specs.Listed.{lies_in, part_at, use_of, parts_listed, spares, has_all, owns, owns_to, owns_range, allows, is_within, stands_in, entry_stands, whole_memory}
+
+-- the first stretch that has an address is of the part, where each spares these addresses or is of it, and one has them
+owned_at : (part first last address : ℕ) (memory : List PartMemory) → first ≤ address → address ≤ last →
+    list_all (spares part first last) memory ≡ true → list_any (has_all part first last) memory ≡ true →
+    part_at memory address ≡ Some part
+owned_at part first last address [] low high all any = absurd (false≢true any)
+owned_at part first last address (m ∷ ms) low high all any =
+    let both = both_true (spares part first last m) (list_all (spares part first last) ms) all in
+    (elim (lies_in m address) as (λ b. lies_in m address ≡ b → option_map (λ (x : PartMemory). x.part) (cond b (Some m) (find (λ (x : PartMemory). lies_in x address) ms)) ≡ Some part) [
+      | true ↦ λ here. ap Some (here_is here (either_true (m.part == part) _ both.0))
+      | false ↦ λ other. owned_at part first last address ms low high both.1 (rest other (either_true (has_all part first last m) _ any))
+    ]) refl
+  where
+    here_is : lies_in m address ≡ true → (m.part == part ≡ true) ⊎ ((nat_lt m.last first || nat_lt last m.first) ≡ true) → m.part ≡ part
+    here_is here (inl same) = eqb-true m.part part same
+    here_is here (inr apart) = absurd (grind (arith, nat_tests, here, apart, low, high))
+
+    rest : lies_in m address ≡ false → (has_all part first last m ≡ true) ⊎ (list_any (has_all part first last) ms ≡ true) →
+        list_any (has_all part first last) ms ≡ true
+    rest other (inl here) = absurd (grind (arith, nat_tests, other, here, low, high))
+    rest other (inr more) = more
+
+owns_last : (memory : List PartMemory) (part first last : ℕ) (t : Bool) → owns_to memory part first (cond t (Some last) None) ≡ true →
+    owns memory part first last ≡ true
+owns_last memory part first last true h = h
+owns_last memory part first last false h = absurd (false≢true h)
+
+in_mapped : {A B : Type 0} (w : A → B) (a : A) (l : List A) → In a l → In (w a) (map w l)
+in_mapped w a [] i = i
+in_mapped w a (x ∷ l) (inl same) = inl (ap w same)
+in_mapped w a (x ∷ l) (inr more) = inr (in_mapped w a l more)
+
+module _ (p : ProfileName) (memory : List PartMemory) (uses : List PartUse) (part : ℕ) where
+  range_owned : (cap : Cap) → owns_range memory part (record { first = base_of cap; bits = bits_of p cap }) ≡ true →
+      IsOwned p (parts_listed memory uses) part cap
+  range_owned cap h address low high =
+      let owned = owns_last memory part (base_of cap) (base_of cap + (2 ^ bits_of p cap - 1)) _ h in
+      let both = both_true (list_all (spares part (base_of cap) (base_of cap + (2 ^ bits_of p cap - 1))) memory) _ owned in
+      owned_at part (base_of cap) (base_of cap + (2 ^ bits_of p cap - 1)) address memory low
+      (omega (arith, high, pow_pos (bits_of p cap))) both.0 both.1
+
+  covered : (base : ℕ) (badge : Badge) (rights : Rights) → list_any (allows part base badge rights) uses ≡ true →
+      IsCovered (parts_listed memory uses) part base badge rights
+  covered base badge rights h =
+      let g = any_of (allows part base badge rights) uses h in
+      let mine = both_true (g.0.part == part) _ g.1.1 in
+      let at = both_true (g.0.endpoint == base) _ mine.1 in
+      let badged = both_true (g.0.badge.0 == badge.0 || g.0.badge.0 == 0) _ at.1 in
+      let same = eqb-true (bit_and rights.0 g.0.rights.0) rights.0 badged.1 in
+      let kept = filter_in (λ (x : PartUse). x.part == part) uses g.0 g.1.0 mine.0 in (
+        use_of g.0,
+        (
+          in_contains (map use_of (filter (λ (x : PartUse). x.part == part) uses)) (use_of g.0)
+              (in_mapped use_of g.0 (filter (λ (x : PartUse). x.part == part) uses) kept),
+          record {
+            endpoint_is = eqb-true g.0.endpoint base at.0;
+            badge_fits = elim (either_true (g.0.badge.0 == badge.0) (g.0.badge.0 == 0) badged.0) [
+              | inl is ↦ inl (eqb-true g.0.badge.0 badge.0 is)
+              | inr none ↦ inr (eqb-true g.0.badge.0 0 none)
+            ];
+            rights_fit = λ right has.
+                ((bit_in_both rights.0 g.0.rights.0 right).0 (subst (λ n. bit_at n right ≡ 1) (sym same) has)).1;
+          },
+        ),
+      )
+
+  no_use : (b : Bool) → (b || false) ≡ true → b ≡ true
+  no_use true h = refl
+  no_use false h = absurd (false≢true h)
+
+  pub tested_within : (cap : Cap) → is_within p memory uses part cap ≡ true → IsWithin p (parts_listed memory uses) part cap
+  tested_within Null h = tt
+  tested_within (Untyped base bits free) h = range_owned (Untyped base bits free) (no_use _ h)
+  tested_within (Endpoint base badge rights) h =
+      elim (either_true (owns_range memory part (record { first = base; bits = bits_of p (Endpoint base badge rights) })) _ h) [
+        | inl owned ↦ inl (range_owned (Endpoint base badge rights) owned)
+        | inr allowed ↦ inr (covered base badge rights allowed)
+      ]
+  tested_within (CNode base radix guard) h = range_owned (CNode base radix guard) (no_use _ h)
+  tested_within (Tcb base) h = range_owned (Tcb base) (no_use _ h)
+
+module _ (p : ProfileName) (memory : List PartMemory) (uses : List PartUse) where
+  pub stood : (cap : Cap) (o : Option ℕ) (i : ℕ) → stands_in p memory uses cap o ≡ true → o ≡ Some i →
+      IsWithin p (parts_listed memory uses) i cap
+  stood cap None i h e = cc
+  stood cap (Some part) i h e =
+      let same : part ≡ i = cc in
+      subst (λ k. IsWithin p (parts_listed memory uses) k cap) same (tested_within p memory uses part cap h)
+
+  pub closed_entries : (es : List Entry) → list_all (entry_stands p memory uses) es ≡ true → (slot i : ℕ) → part_at memory slot ≡ Some i →
+      IsWithin p (parts_listed memory uses) i (cap_in slot es)
+  closed_entries [] h slot i here = tt
+  closed_entries (e ∷ es) h slot i here =
+      let both = both_true (entry_stands p memory uses e) _ h in
+      (elim (e.slot == slot) as (λ b. (e.slot == slot) ≡ b → IsWithin p (parts_listed memory uses) i (cond b e.cap (cap_in slot es))) [
+        | true ↦ λ at. stood e.cap (part_at memory e.slot) i both.0 (ap (part_at memory) (eqb-true e.slot slot at) ∙ here)
+        | false ↦ λ other. closed_entries es both.1 slot i here
+      ]) refl
+
+-- ---- one part that has every address
+
+whole_at : (address : ℕ) → address < 2 ^ 64 → part_at whole_memory address ≡ Some 1
+whole_at address low = owned_at 1 0 (2 ^ 64 - 1) address whole_memory (omega arith) (omega (arith, low)) refl refl
+
+-- there is no other part
+whole_part : (slot i : ℕ) → part_at whole_memory slot ≡ Some i → i ≡ 1
+whole_part slot i h = by (lies_in (record { part = 1; first = 0; last = 2 ^ 64 - 1 }) slot) h
+  where
+    by : (b : Bool) → option_map (λ (m : PartMemory). m.part) (cond b (Some (record { part = 1; first = 0; last = 2 ^ 64 - 1 })) None) ≡ Some i → i ≡ 1
+    by true is = cc
+    by false is = cc
+
+words : (p : ProfileName) → 2 ^ word_bits p ≤ 2 ^ 64
+words Wide = omega arith
+words Narrow = omega arith
+
+module _ (p : ProfileName) where
+  whole_owned : (cap : Cap) → end_of p cap ≤ 2 ^ word_bits p → IsOwned p (parts_listed whole_memory []) 1 cap
+  whole_owned cap end address low high = let most = words p in whole_at address (omega (arith, end, most, high))
+
+  whole_within : (cap : Cap) → end_of p cap ≤ 2 ^ word_bits p → IsWithin p (parts_listed whole_memory []) 1 cap
+  whole_within Null end = tt
+  whole_within (Untyped base bits free) end = whole_owned (Untyped base bits free) end
+  whole_within (Endpoint base badge rights) end = inl (whole_owned (Endpoint base badge rights) end)
+  whole_within (CNode base radix guard) end = whole_owned (CNode base radix guard) end
+  whole_within (Tcb base) end = whole_owned (Tcb base) end
+
+  pub whole_closed : (memory i : ℕ) (f : Forest Entry) → All (IsLawful p memory) (caps f) → IsClosed p (parts_listed whole_memory []) i f
+  whole_closed memory i f lawful slot here =
+      subst (λ k. IsWithin p (parts_listed whole_memory []) k (cap_at f slot)) (sym (whole_part slot i here))
+      (by (lawful_at p memory f lawful slot))
+    where
+      by : (cap_at f slot ≡ Null) ⊎ IsLawful p memory (cap_at f slot) → IsWithin p (parts_listed whole_memory []) 1 (cap_at f slot)
+      by (inl null) = subst (IsWithin p (parts_listed whole_memory []) 1) (sym null) tt
+      by (inr is) = whole_within (cap_at f slot) is.placed.addressed
+
+-- each word lies in it
+pub whole_has : (threads : List ℕ) → ((i : ℕ) → Fits w64 (get_or threads i 0)) → AreInParts whole_memory threads
+whole_has [] h = refl
+whole_has (t ∷ threads) h =
+    ap (λ (o : Option ℕ). is_some o && list_all (λ s. is_some (part_at whole_memory s)) threads) (whole_at t (h 0).fits)
+    ∙ whole_has threads (λ i. h (suc i))

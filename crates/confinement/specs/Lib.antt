@@ -1,0 +1,7 @@
+-- Confinement: Parts has what parts are, Laws what the laws say of them, Listed parts as lists with their test, Ever what
+-- the test shows, and Order in which order parts are told.
+pub mod Parts
+pub mod Laws
+pub mod Listed
+pub mod Ever
+pub mod Order

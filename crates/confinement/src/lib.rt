@@ -1,0 +1,14 @@
+//! Confinement: a bound on what threads can ever get, whatever calls they make.
+#![tactic(auto)]
+
+mod arranged;
+mod laws;
+mod least;
+mod listed;
+mod order;
+mod parts;
+
+pub use laws::{calls_keep_within_their_part, closed_parts_stay_closed};
+pub use listed::{PartMemory, PartUse, part_at};
+pub use order::owns_endpoint;
+pub use parts::{Parts, are_parts_closed, parts_around};

@@ -1,0 +1,132 @@
+//! The parts of a kernel: whether they are closed, and the least ones around some threads.
+ghost use Rattle.std.specs.Prelude.{◌≡◌, true, [], IfOk};
+ghost use Rattle.std.specs.List.{list_all};
+ghost use Rattle.slot_core.specs.Calls.{derivation_view};
+ghost use Rattle.confinement.specs.Listed.{entry_stands, are_closed_in, whole_memory};
+ghost use Rattle.confinement.specs.Order.{AreInOrder, AreInParts};
+ghost use Rattle.confinement.specs.Ever.{AreConfinedEver};
+
+use crate::arranged::arranged;
+use crate::least::least_parts;
+use crate::listed::{PartMemory, PartUse, may_stand};
+use crate::order::{are_in_order, are_in_parts};
+use cap_core::Profile;
+use ipc_core::Waiters;
+use kernel_core::Kernel;
+use slot_core::{Derivation, DerivationStore};
+use std::alloc::{AllocError, Global};
+
+/// Parts: their memory, and the endpoints that they may use.
+#[derive(Drop)]
+pub struct Parts {
+    pub memory: Vec<PartMemory>,
+    pub uses: Vec<PartUse>,
+}
+
+fn stands<P: Profile>(memory: &[PartMemory], uses: &[PartUse], derivation: &Derivation) -> bool
+    ensures { result ≡ entry_stands P.the memory.now uses.now (derivation_view P.the derivation.now).0 }
+{
+    let slot = derivation.slot.address::<P>();
+    may_stand::<P>(memory, uses, slot, derivation.cap)
+}
+
+fn all_stand<P: Profile>(
+    memory: &[PartMemory],
+    uses: &[PartUse],
+    derivations: &[Derivation],
+) -> bool
+    ensures { result ≡ list_all (λ d. entry_stands P.the memory.now uses.now (derivation_view P.the d).0) derivations.now }
+{
+    derivations.iter().all(|d| stands::<P>(memory, uses, d))
+}
+
+/// Whether each part that is given by stretches of memory, and by the endpoints that it may use, is closed: whether each
+/// full slot in its memory holds a capability of its own objects, or of an endpoint that it may use.
+///
+/// Where it is so, it stays so: for whatever calls the threads whose control blocks stand in these parts make, of whatever
+/// operations and words, in whatever order. No capability to an object outside comes into a part, nor one with another
+/// badge or more rights than its uses allow, and what its threads send and receive they may send and receive.
+///
+/// # Errors
+///
+/// Memory was refused.
+pub fn are_parts_closed<P: Profile, S: DerivationStore<P> + Drop, W: Waiters<P> + Drop>(
+    alloc: Global,
+    kernel: &Kernel<P, S, W>,
+    memory: &[PartMemory],
+    uses: &[PartUse],
+) -> Result<bool, AllocError>
+    ensures value { IfOk result (λ closed. closed ≡ are_closed_in P.the memory.now uses.now kernel.now.derivations) }
+    ensures ever { IfOk result (λ closed. closed ≡ true → AreConfinedEver P.the memory.now uses.now kernel.now) }
+{
+    let derivations = kernel.derivations(alloc)?;
+    Ok(all_stand::<P>(memory, uses, derivations.as_slice()))
+}
+
+/// Whether parts are closed, stand in order, and have these threads.
+fn are_right<P: Profile, S: DerivationStore<P> + Drop, W: Waiters<P> + Drop>(
+    alloc: Global,
+    kernel: &Kernel<P, S, W>,
+    threads: &[u64],
+    memory: &[PartMemory],
+    uses: &[PartUse],
+) -> Result<bool, AllocError>
+    ensures ever { IfOk result (λ right. right ≡ true → AreConfinedEver P.the memory.now uses.now kernel.now) }
+    ensures order { IfOk result (λ right. right ≡ true → AreInOrder P.the memory.now uses.now) }
+    ensures threads { IfOk result (λ right. right ≡ true → AreInParts memory.now threads.now) }
+{
+    if !are_in_order::<P>(memory, uses) || !are_in_parts(memory, threads) {
+        return Ok(false);
+    }
+    are_parts_closed(alloc, kernel, memory, uses)
+}
+
+/// One part that has every address.
+fn one_part(alloc: Global) -> Result<Parts, AllocError>
+    ensures memory { IfOk result (λ parts. parts.memory.items ≡ whole_memory) }
+    ensures uses { IfOk result (λ parts. parts.uses.items ≡ []) }
+{
+    let mut memory = Vec::new(alloc);
+    memory.push(PartMemory {
+        part: 1,
+        first: 0,
+        last: u64::MAX,
+    })?;
+    Ok(Parts {
+        memory,
+        uses: Vec::new(alloc),
+    })
+}
+
+/// Closed parts around threads that may still make calls: from their own control blocks on, what the slots of a part name
+/// is taken in. They are told in order: the stretches of memory rise, those of one part that touch are joined, the parts
+/// have the numbers from 1 on by their first addresses, and no use is of an endpoint that its part owns, or says what
+/// another use says.
+///
+/// They hold ever, by `are_parts_closed`. They are the least such parts, which tests show and no clause says. What is found
+/// is tested; if it did not pass, which no kernel is known to bring about, the answer would be one part that has every
+/// address.
+///
+/// # Errors
+///
+/// Memory was refused.
+pub fn parts_around<P: Profile, S: DerivationStore<P> + Drop, W: Waiters<P> + Drop>(
+    alloc: Global,
+    kernel: &Kernel<P, S, W>,
+    threads: &[u64],
+) -> Result<Parts, AllocError>
+    ensures ever { IfOk result (λ parts. AreConfinedEver P.the parts.memory.items parts.uses.items kernel.now) }
+    ensures order { IfOk result (λ parts. AreInOrder P.the parts.memory.items parts.uses.items) }
+    ensures threads { IfOk result (λ parts. AreInParts parts.memory.items threads.now) }
+{
+    let derivations = kernel.derivations(alloc)?;
+    let found = least_parts::<P>(alloc, derivations.as_slice(), threads)?;
+    let parts = arranged::<P>(alloc, found)?;
+    let memory = parts.memory.as_slice();
+    let uses = parts.uses.as_slice();
+    if are_right(alloc, kernel, threads, memory, uses)? {
+        Ok(parts)
+    } else {
+        one_part(alloc)
+    }
+}
