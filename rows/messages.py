@@ -130,7 +130,6 @@ LINES = [
     (["chek.toml"], "sel4sim: reading failed", "sel4sim: chek.toml: No such file or directory (os error 2)\n"),
     (["check", "a", "b"], "sel4sim: command line refused", "unexpected argument 'b' found"),
     (["check", "a", "b"], "sel4sim: command line refused", "sel4sim: one file is read in a run; for more: "),
-    (["check", ""], "sel4sim: command line refused", "a value is required for '[FILE]' but none was supplied"),
     (["--color"], "sel4sim: command line refused", "unexpected argument '--color' found"),
     (["check", "no such file.toml"], "sel4sim: reading failed", "sel4sim: no such file.toml: No such file or directory (os error 2)\n"),
     (["check", "/"], "sel4sim: reading failed", "sel4sim: /: Is a directory (os error 21)\n"),

@@ -5,7 +5,6 @@ use Rattle.std.specs.Str.{bytes_eq}
 use Rattle.clap.specs.Words.{App, Kinds, Row, Rule, Text, first_of, matches_of, new_app, new_rule, with_rule, with_subcommand, subcommand_of, takes, fault_of, IsAmong}
 use Rattle.clap.specs.Simple.{on_top}
 use Rattle.clap.specs.declared.builder.action.ArgAction.TheVariants as action
-use Rattle.clap.specs.declared.builder.value_parser.ValueParser.TheVariants.{NonEmptyString}
 use Rattle.clap.specs.declared.error.kind.ErrorKind.{ErrorKind}
 use Rattle.clap.specs.declared.error.kind.ErrorKind.TheVariants.{DisplayHelp, OutOfMemory}
 use Rattle.command_line.specs.declared.arguments.Job.{Job}
@@ -13,9 +12,9 @@ use Rattle.command_line.specs.declared.arguments.Job.TheVariants.{Check, Trace, 
 use Rattle.command_line.specs.declared.arguments.LineFault.{LineFault}
 use Rattle.command_line.specs.declared.arguments.LineFault.TheVariants.{Help, Refused, Memory}
 
--- the argument FILE, which is no empty text
+-- the argument FILE
 abbrev pub file_rule : Rule
-file_rule = record (new_rule (codes "FILE")) { parser = Some NonEmptyString }
+file_rule = new_rule (codes "FILE")
 
 -- `--version` and `-V`, which ask for the help, since its first lines tell the version
 abbrev pub version_rule : Rule

@@ -7,7 +7,6 @@ ghost use Rattle.clap.specs.Walk.{texts};
 ghost use Rattle.command_line.specs.CommandLine.{Explains, StandsFor, and_subcommand, bare_command, command as definition, file_asked, file_of, file_rule, job_asked, job_of, version_rule, with_file as with_file_definition};
 
 use crate::arguments::{Job, Line, LineFault};
-use clap::builder::ValueParser;
 use clap::error::ErrorKind;
 use clap::{Arg, ArgAction, ArgMatches, Command, Error};
 use std::alloc::{AllocError, Global};
@@ -40,9 +39,7 @@ fn file<'a>(alloc: Global) -> Arg<'a>
     ensures rule { rule_of result ≡ file_rule }
     ensures local { result.global ≡ false }
 {
-    Arg::new(alloc, "FILE")
-        .value_parser(ValueParser::NonEmptyString)
-        .help("The set-up; without it, or where it is -, standard input is read")
+    Arg::new(alloc, "FILE").help("The set-up; without it, or where it is -, standard input is read")
 }
 
 /// A subcommand, which has the argument FILE.

@@ -111,12 +111,10 @@ fn help_has_its_text(rt: HostRuntime) {
 
 #[test]
 fn other_words_are_refused(rt: HostRuntime) -> Result<(), Fail> {
-    let forms: [&[&str]; 9] = [
+    let forms: [&[&str]; 7] = [
         &["sel4sim", "chek", "rows.toml"],
         &["sel4sim", "migrate", "rows.toml", "more.toml"],
         &["sel4sim", "rows.toml", "chek"],
-        &["sel4sim", ""],
-        &["sel4sim", "check", ""],
         &["sel4sim", "check", "rows.toml", "more.toml"],
         &["sel4sim", "check", "--version"],
         &["sel4sim", "-x"],

@@ -9,7 +9,7 @@ use Rattle.reach_core.specs.declared.senders.Channel.{Channel}
 use Rattle.reach_core.specs.Endpoints.{endpoint_words}
 use Rattle.reach_core.specs.Channels.{channels, receivers_without_sender}
 use Rattle.setup_values.specs.Names.{Names}
-use Rattle.setup_report.specs.Report.{line}
+use Rattle.setup_report.specs.Report.{terminated}
 use Rattle.setup_audit.specs.declared.threads.ThreadSlots.{ThreadSlots}
 use Rattle.setup_audit.specs.Text.{thread_name, sender_text}
 
@@ -26,11 +26,11 @@ channel_text sender names None = codes "channel " ++ (sender ++ codes " -> none"
 channel_text sender names (Some v) = codes "channel " ++ (sender ++ (codes " -> " ++ receiver_text names v))
 
 abbrev pub channel_line : Names → Channel → List ℕ
-channel_line names c = line (channel_text (sender_text (thread_name names c.sender.thread) c.sender) names c.receiver)
+channel_line names c = terminated (channel_text (sender_text (thread_name names c.sender.thread) c.sender) names c.receiver)
 
 -- a receiver to which no other thread can send
 abbrev pub receiver_line : Names → EndpointWord → List ℕ
-receiver_line names v = line (codes "channel none -> " ++ (decimal v.endpoint ++ (codes " -> " ++ receiver_text names v)))
+receiver_line names v = terminated (codes "channel none -> " ++ (decimal v.endpoint ++ (codes " -> " ++ receiver_text names v)))
 
 abbrev pub unserved_lines : Names → List EndpointWord → ℕ → List ℕ
 unserved_lines names words e = flat_map (receiver_line names) (receivers_without_sender words e)

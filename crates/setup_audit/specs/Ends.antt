@@ -7,7 +7,7 @@ use Rattle.cap_core.specs.declared.capability.Cap.TheVariants.{Untyped, Endpoint
 use Rattle.derivation.specs.Derivation.{names_same}
 use Rattle.setup_values.specs.Names.{Names}
 use Rattle.setup_report.specs.State.{Derived, rising}
-use Rattle.setup_report.specs.Report.{line}
+use Rattle.setup_report.specs.Report.{terminated}
 use Rattle.setup_audit.specs.declared.ends.Asked.{Asked}
 use Rattle.setup_audit.specs.Text.{thread_name}
 
@@ -39,13 +39,13 @@ all_asked asked caps = filter_map (asked_of asked) caps
 -- ---- a line for each object: threads, endpoints, CNodes and untyped regions, each kind by rising address
 
 abbrev pub thread_line : Names → ℕ → List ℕ
-thread_line names address = line (codes "  ends thread " ++ thread_name names address)
+thread_line names address = terminated (codes "  ends thread " ++ thread_name names address)
 
 abbrev pub object_line : List ℕ → ℕ → List ℕ
-object_line kind address = line (codes "  ends " ++ (kind ++ (codes " " ++ decimal address)))
+object_line kind address = terminated (codes "  ends " ++ (kind ++ (codes " " ++ decimal address)))
 
 abbrev pub region_line : List ℕ → ℕ → ℕ → List ℕ
-region_line kind address bits = line (codes "  ends " ++ (kind ++ (codes " " ++ (decimal address ++ (codes " bits " ++ decimal bits)))))
+region_line kind address bits = terminated (codes "  ends " ++ (kind ++ (codes " " ++ (decimal address ++ (codes " bits " ++ decimal bits)))))
 
 -- regions in one another may have one address: by rising size
 abbrev pub regions_at : List Cap → ℕ → List ℕ

@@ -10,7 +10,7 @@ use Rattle.abstract_kernel.specs.State.{State, shown}
 use Rattle.abstract_kernel.specs.Step.{objects_ended}
 use Rattle.setup_values.specs.Names.{Names}
 use Rattle.setup_report.specs.State.{Derived, slot_of, slot_rows}
-use Rattle.setup_report.specs.Report.{line}
+use Rattle.setup_report.specs.Report.{terminated}
 use Rattle.setup_audit.specs.Text.{held_slot_text}
 use Rattle.setup_audit.specs.Ends.{ended, ends_lines}
 
@@ -28,7 +28,7 @@ cleared_count old new = count_by (λ (d : Derived). is_cleared new (slot_of d)) 
 
 abbrev pub revoke_lines : Names → Shown → Shown → ℕ → List ℕ
 revoke_lines names old new slot =
-    line (codes "revoke " ++ (held_slot_text slot (cap_at old.derivations slot) ++ (codes " clears " ++ decimal (cleared_count (slot_rows old) new))))
+    terminated (codes "revoke " ++ (held_slot_text slot (cap_at old.derivations slot) ++ (codes " clears " ++ decimal (cleared_count (slot_rows old) new))))
     ++ ends_lines names (ended (slot_rows old) (derivations_of new.derivations))
 
 -- of a slot that has children

@@ -6,7 +6,7 @@ use Rattle.reach_core.specs.declared.endpoints.EndpointWord.{EndpointWord}
 use Rattle.setup_values.specs.Names.{Names}
 use Rattle.setup_format.specs.Views.{SetupView}
 use Rattle.setup_report.specs.Text.{cap_text, rights_text}
-use Rattle.setup_report.specs.Report.{line}
+use Rattle.setup_report.specs.Report.{terminated}
 use Rattle.setup_trace.specs.Trace.{profile_text}
 
 -- ---- threads are told with their names
@@ -37,7 +37,7 @@ slot_asked_text (Some slot) = codes " slot " ++ decimal slot
 
 abbrev pub head_line : SetupView → ℕ → Option ℕ → List ℕ
 head_line setup made slot =
-    line (codes "audit 1 " ++ (profile_text setup.profile ++ (codes " memory_bits " ++ (decimal setup.plan.memory_bits
+    terminated (codes "audit 1 " ++ (profile_text setup.profile ++ (codes " memory_bits " ++ (decimal setup.plan.memory_bits
     ++ (codes " calls " ++ (decimal (length setup.calls) ++ (codes " after " ++ (decimal made ++ slot_asked_text slot))))))))
 
 -- ---- slots and channels

@@ -16,7 +16,7 @@ use Rattle.reach_core.specs.Lists.{AreReached}
 use Rattle.setup_values.specs.Names.{Names}
 use Rattle.setup_report.specs.State.{threads as live_threads}
 use Rattle.setup_report.specs.Text.{state_text}
-use Rattle.setup_report.specs.Report.{line}
+use Rattle.setup_report.specs.Report.{terminated}
 use Rattle.setup_trace.specs.Lines.{offer_text}
 use Rattle.setup_audit.specs.declared.threads.ThreadSlots.{ThreadSlots}
 use Rattle.setup_audit.specs.Text.{thread_name, held_slot_text}
@@ -38,7 +38,7 @@ thread_text name state offer = codes "thread " ++ (name ++ (codes " " ++ (state_
 
 abbrev pub thread_line_with : List ℕ → Option ThreadState → Option Offer → List ℕ
 thread_line_with name None offer = []
-thread_line_with name (Some state) offer = line (thread_text name state offer)
+thread_line_with name (Some state) offer = terminated (thread_text name state offer)
 
 -- of each live thread a state is shown
 abbrev pub thread_line : Names → Shown → ℕ → List ℕ
@@ -46,11 +46,11 @@ thread_line names v address = thread_line_with (thread_name names address) (stat
 
 abbrev pub reach_line : Forest Entry → ℕ → Reached → List ℕ
 reach_line f thread r =
-    line (codes "  reach " ++ (decimal thread ++ (codes " " ++ (decimal r.word ++ (codes " slot " ++ held_slot_text r.slot (cap_at f r.slot))))))
+    terminated (codes "  reach " ++ (decimal thread ++ (codes " " ++ (decimal r.word ++ (codes " slot " ++ held_slot_text r.slot (cap_at f r.slot))))))
 
 abbrev pub hold_line : Forest Entry → ℕ → Held → List ℕ
 hold_line f thread h =
-    line (codes "  hold " ++ (decimal thread ++ (codes " " ++ (decimal h.word ++ (codes " index " ++ (decimal h.index
+    terminated (codes "  hold " ++ (decimal thread ++ (codes " " ++ (decimal h.word ++ (codes " index " ++ (decimal h.index
     ++ (codes " depth " ++ (decimal h.depth ++ (codes " slot " ++ held_slot_text h.slot (cap_at f h.slot))))))))))
 
 abbrev pub slots_lines : Names → Shown → ThreadSlots → List ℕ

@@ -5,7 +5,7 @@ use Rattle.cap_core.specs.declared.profile.ProfileName.{ProfileName}
 use Rattle.cap_core.specs.declared.profile.ProfileName.TheVariants.{Wide, Narrow}
 use Rattle.abstract_kernel.specs.Boot.{boot}
 use Rattle.setup_format.specs.Views.{SetupView}
-use Rattle.setup_report.specs.Report.{line}
+use Rattle.setup_report.specs.Report.{terminated}
 use Rattle.kinds.specs.Kinds.{firsts}
 use Rattle.orders.specs.contracts.answer.AnswerPartialEq.TheImpl as answer_eq
 use Rattle.orders.specs.World.{start}
@@ -28,7 +28,7 @@ profile_text Narrow = codes "narrow"
 -- the version of the report's form, and how large the set-up is
 abbrev pub head_line : SetupView → List ℕ
 head_line setup =
-    line (codes "explore 1 " ++ (profile_text setup.profile ++ (codes " clients " ++ (decimal setup.clients ++ (codes " calls " ++ decimal (length setup.calls))))))
+    terminated (codes "explore 1 " ++ (profile_text setup.profile ++ (codes " clients " ++ (decimal setup.clients ++ (codes " calls " ++ decimal (length setup.calls))))))
 
 abbrev pub count_lines : ℕ → ℕ → ℕ → ℕ → List ℕ
 count_lines states ends orders stuck =
@@ -36,12 +36,12 @@ count_lines states ends orders stuck =
 
 -- where the limit on states was reached: all of them are found, and the orders that are explored have fewer calls than so many
 abbrev pub limit_line : ℕ → ℕ → List ℕ
-limit_line limit calls = line (codes "states " ++ (decimal limit ++ (codes " limit calls " ++ decimal calls)))
+limit_line limit calls = terminated (codes "states " ++ (decimal limit ++ (codes " limit calls " ++ decimal calls)))
 
 abbrev pub end_lines : ℕ → ℕ → ℕ → ℕ → ExploredView → List ℕ
 end_lines first limit met expected e =
     cond e.whole (count_lines e.states e.ends e.orders e.stuck_orders) (limit_line limit (first + e.calls))
-    ++ line (codes "expected " ++ (decimal met ++ (codes " of " ++ decimal expected)))
+    ++ terminated (codes "expected " ++ (decimal met ++ (codes " of " ++ decimal expected)))
 
 -- the report on an exploration, and whether all is well: all orders are explored, each expectation is met in each of them, and
 -- none ends stuck

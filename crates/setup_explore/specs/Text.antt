@@ -7,7 +7,7 @@ use Rattle.abstract_kernel.specs.declared.call.Reply.{Reply}
 use Rattle.abstract_kernel.specs.declared.call.ThreadState.{ThreadState}
 use Rattle.setup_format.specs.Views.{CallView}
 use Rattle.setup_report.specs.Text.{op_text, reply_text, state_text, begins_as}
-use Rattle.setup_report.specs.Report.{line}
+use Rattle.setup_report.specs.Report.{terminated}
 use Rattle.orders.specs.declared.answer.Answer.{Answer}
 use Rattle.orders.specs.declared.answer.Answer.TheVariants.{Replied, Served, Cancelled, Waits, NotMade}
 use Rattle.orders.specs.declared.left.LeftCall.{LeftCall}
@@ -119,7 +119,7 @@ reason_text (Some state) = state_text state
 
 abbrev pub left_line : List (List ℕ) → LeftCall → List ℕ
 left_line numbers call =
-    line (codes "  " ++ (decimal (number_in numbers call.client call.place) ++ (codes " " ++ (decimal call.thread ++ (codes " " ++ reason_text call.state)))))
+    terminated (codes "  " ++ (decimal (number_in numbers call.client call.place) ++ (codes " " ++ (decimal call.thread ++ (codes " " ++ reason_text call.state)))))
 
 abbrev pub stuck_block : List (List ℕ) → ℕ → StuckEnd → List ℕ
 stuck_block numbers place s =

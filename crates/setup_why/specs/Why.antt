@@ -11,7 +11,7 @@ use Rattle.abstract_kernel.specs.Shown.{Shown}
 use Rattle.abstract_kernel.specs.State.{State, shown}
 use Rattle.abstract_kernel.specs.Step.{step, replies_of}
 use Rattle.setup_format.specs.Views.{SetupView, CallView}
-use Rattle.setup_report.specs.Report.{line, call_text, met_count, expectation_count}
+use Rattle.setup_report.specs.Report.{terminated, call_text, met_count, expectation_count}
 use Rattle.reasons.specs.Calls.{reason_of}
 use Rattle.setup_why.specs.Names.{call_table}
 use Rattle.setup_why.specs.Text.{told}
@@ -33,7 +33,7 @@ why_lines (Some lines) = lines
 
 -- the text of a call, and why it is refused, where it is told
 abbrev pub told_lines : Option ℕ → ℕ → List ℕ → Option (List ℕ) → List ℕ
-told_lines chosen number text why = if is_told chosen number why then line text ++ why_lines why else codes ""
+told_lines chosen number text why = if is_told chosen number why then terminated text ++ why_lines why else codes ""
 
 -- a call: the report's own line, and why it is refused
 abbrev pub call_lines : Option ℕ → ℕ → CallView → Reply → Option (List ℕ) → List ℕ
@@ -60,8 +60,8 @@ refused_count replies = length (filter is_refused replies)
 abbrev pub ending : Option ℕ → ℕ → ℕ → ℕ → ℕ → List ℕ
 ending (Some chosen) calls refused met expected = codes ""
 ending None calls refused met expected =
-    line (codes "refused " ++ (decimal refused ++ (codes " of " ++ decimal calls)))
-    ++ line (codes "expected " ++ (decimal met ++ (codes " of " ++ decimal expected)))
+    terminated (codes "refused " ++ (decimal refused ++ (codes " of " ++ decimal calls)))
+    ++ terminated (codes "expected " ++ (decimal met ++ (codes " of " ++ decimal expected)))
 
 abbrev pub ending_of : Option ℕ → List CallView → List Reply → List ℕ
 ending_of chosen calls replies =

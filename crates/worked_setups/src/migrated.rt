@@ -10,6 +10,6 @@ pub fn migrated(alloc: Global, setup: &[u8]) -> anyhow::Result<Option<Vec<u8>>> 
     let verdict = migrate_run(alloc, &mut source, &mut WriterSink::new(&mut text))?;
     match verdict {
         Verdict::AllMet => Ok(Some(text)),
-        Verdict::NotMet | Verdict::Refused => Ok(None),
+        Verdict::NotMet | Verdict::Refused | Verdict::Absent => Ok(None),
     }
 }
