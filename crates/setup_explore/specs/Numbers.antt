@@ -15,6 +15,7 @@ client_numbers client number (call ∷ calls) =
 abbrev pub numbers_of : SetupView → List (List ℕ)
 numbers_of setup = map (λ client. client_numbers client 1 setup.calls) (below setup.clients)
 
+-- the numbers in lists that the code keeps
 abbrev pub numbers_in : List (Vec ℕ) → List (List ℕ)
 numbers_in lists = map (λ (v : Vec ℕ). v.items) lists
 
