@@ -103,7 +103,7 @@ fn one_part(alloc: Global) -> Result<Parts, AllocError>
 /// have the numbers from 1 on by their first addresses, and no use is of an endpoint that its part owns, or says what
 /// another use says.
 ///
-/// They hold ever, by `are_parts_closed`. They are the least such parts, which tests show and no clause says. What is found
+/// They hold ever, by `are_parts_closed`. That they are the least such parts is meant, and no clause says it. What is found
 /// is tested; if it did not pass, which no kernel is known to bring about, the answer would be one part that has every
 /// address.
 ///
