@@ -6,7 +6,9 @@ use Rattle.abstract_kernel.specs.declared.call.Call.{Call}
 use Rattle.abstract_kernel.specs.declared.call.Reply.{Reply}
 use Rattle.abstract_kernel.specs.declared.call.ThreadState.{ThreadState}
 use Rattle.setup_format.specs.Views.{CallView}
-use Rattle.setup_report.specs.Text.{op_text, reply_text, state_text, begins_as}
+use Rattle.setup_values.specs.Operations.{op_text}
+use Rattle.setup_format.specs.Operations.{op_name}
+use Rattle.setup_report.specs.Text.{reply_text, state_text, begins_as}
 use Rattle.setup_report.specs.Report.{terminated}
 use Rattle.orders.specs.declared.answer.Answer.{Answer}
 use Rattle.orders.specs.declared.answer.Answer.TheVariants.{Replied, Served, Cancelled, Waits, NotMade}
@@ -100,7 +102,7 @@ expectation_count (call ∷ calls) = one_expected call.expect + expectation_coun
 -- ---- calls
 
 abbrev pub call_head : ℕ → ℕ → Call → List ℕ
-call_head number client call = decimal number ++ (codes " client " ++ (decimal client ++ (codes ": " ++ (decimal call.thread ++ (codes " " ++ op_text call.op)))))
+call_head number client call = decimal number ++ (codes " client " ++ (decimal client ++ (codes ": " ++ (decimal call.thread ++ (codes " " ++ op_text (op_name call.op))))))
 
 -- a call with all that it comes to
 abbrev pub call_block : List (List ℕ) → ℕ → Bool → List Answered → CallView → List ℕ

@@ -9,8 +9,8 @@ use crate::answers::{add_answers, judge};
 use crate::marks::MarkText;
 use explore_core::FoundAnswer;
 use kernel_core::Call;
-use setup_format::Setup;
-use setup_report::{ExpectationCount, op_text};
+use setup_format::{Setup, op_name};
+use setup_report::ExpectationCount;
 use std::alloc::{AllocError, Global};
 use std::fmt::Write;
 
@@ -19,7 +19,7 @@ fn add_head(out: &mut String, number: usize, client: u32, call: &Call) -> Result
     ensures { OnOk result (string_bytes out.new ≡ string_bytes out.old ++ spec.call_head number client call.now) }
 {
     let thread = call.thread;
-    let op = op_text(&call.op);
+    let op = op_name(&call.op).text();
     write!(out, "{number} client {client}: {thread} {op}")
 }
 

@@ -8,7 +8,9 @@ use Rattle.cap_core.specs.declared.capability.Kind.{Kind}
 use Rattle.cap_core.specs.declared.capability.Kind.TheVariants as kind
 use Rattle.abstract_kernel.specs.declared.call.Op.{Op}
 use Rattle.abstract_kernel.specs.declared.call.Op.TheVariants.{NbSend, NbRecv}
-use Rattle.setup_report.specs.Text.{cap_text, op_text}
+use Rattle.setup_values.specs.Operations.{op_text}
+use Rattle.setup_format.specs.Operations.{op_name}
+use Rattle.setup_report.specs.Text.{cap_text}
 use Rattle.reasons.specs.declared.reason.Held.{Held}
 use Rattle.reasons.specs.declared.reason.Word.{Word}
 use Rattle.setup_why.specs.Words.{is_whole}
@@ -47,7 +49,7 @@ article (NbRecv cap) = codes "an"
 article op = codes "a"
 
 abbrev pub an_op : Op → List ℕ
-an_op op = article op ++ (codes " " ++ op_text op)
+an_op op = article op ++ (codes " " ++ op_text (op_name op))
 
 -- a capability of a kind, and an object of it
 abbrev pub kind_text : Kind → List ℕ

@@ -5,7 +5,8 @@ ghost use Rattle.setup_why.specs.Text as text;
 use crate::words::is_whole;
 use cap_core::{Cap, Guard, Kind};
 use kernel_core::{Held, Op, Word};
-use setup_report::{CapText, op_text};
+use setup_format::op_name;
+use setup_report::CapText;
 use std::fmt;
 
 /// The name by which a value is spelt, after `@`, where it has one.
@@ -101,7 +102,7 @@ impl fmt::Display for OpText<'_> {
 
     fn fmt<W: fmt::Write>(&self, f: &mut fmt::Formatter<W>) -> fmt::Result {
         let article = article(self.0);
-        let op = op_text(self.0);
+        let op = op_name(self.0).text();
         write!(f, "{article} {op}")
     }
 }
