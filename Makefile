@@ -63,8 +63,6 @@ rows: rows-needs run
 	python3 rows/schema.py $(program) $(setups) crates/traced_file/data page/test/setups rows
 	python3 rows/migrate.py $(program) $(setups)
 	python3 rows/traces.py $(program) $(setups)
-	python3 rows/why.py $(program) $(setups)
-	python3 rows/audits.py $(program) crates/worked_audits/data
 	python3 rows/messages.py $(program)
 	python3 rows/use_address_again.py $(program) 1000
 	cd crates/refused_memory && rt run

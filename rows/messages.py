@@ -43,10 +43,10 @@ def untyped(base, bits):
 SETUPS = [
     (FIRST, 0, []),
     (FIRST + CALL.replace("cap = 4", "cap = 9") + 'op = "send"\n', 0,
-     ["1 call was refused where nothing was expected: 1; sel4sim why tells why"]),
+     ["1 call was refused where nothing was expected: 1"]),
     (FIRST + (CALL.replace("cap = 4", "cap = 9") + 'op = "send"\n') * 15 + CALL.replace("cap = 4", "cap = 9")
      + 'op = "send"\nexpect = "refused"\n', 0,
-     ["15 calls were refused where nothing was expected: 1 2 3 4 5 6 7 8 9 10 11 12 and 3 more; sel4sim why tells why"]),
+     ["15 calls were refused where nothing was expected: 1 2 3 4 5 6 7 8 9 10 11 12 and 3 more"]),
     (FIRST + CALL + 'op = "nbsend"\nexpect = "empty"\n', 1, []),
     (FIRST + CALL + 'op = "nbsend"\nexpect = "refused"\n', 1, []),
     (FIRST + CALL + 'op = "nbsend"\nexpect = "delivered 6144 from 2048"\n', 1, []),
@@ -130,8 +130,6 @@ LINES = [
     (["chek.toml"], "sel4sim: reading failed", "sel4sim: chek.toml: No such file or directory (os error 2)\n"),
     (["check", "a", "b"], "sel4sim: command line refused", "unexpected argument 'b' found"),
     (["check", "a", "b"], "sel4sim: command line refused", "sel4sim: one file is read in a run; for more: "),
-    (["check", ""], "sel4sim: command line refused", "a value is required for '[FILE]' but none was supplied"),
-    (["why", "--call", "x"], "sel4sim: command line refused", "invalid value 'x' for '--call <N>': invalid digit found in string"),
     (["--color"], "sel4sim: command line refused", "unexpected argument '--color' found"),
     (["check", "no such file.toml"], "sel4sim: reading failed", "sel4sim: no such file.toml: No such file or directory (os error 2)\n"),
     (["check", "/"], "sel4sim: reading failed", "sel4sim: /: Is a directory (os error 21)\n"),
@@ -158,11 +156,6 @@ STREAMS = [
      [f"top, key format: the value is 2; it has to be {FORMAT_1}"]),
     (["migrate"], FIRST + "zzz = 1\n", "/dev/null", 2, [f'top: there is no key "zzz"; the keys are {KEYS}']),
     (["migrate"], "format = 1\nthreads =\n", "/dev/null", 2, ["TOML parse error at line 2, column 10", None]),
-    (["why", "--call", "5"], FIRST, "/dev/null", 4, ["command line refused", "--call 5: the set-up has 0 calls"]),
-    (["why", "--call", "5"], "format = 1\nthreads =\n", "/dev/null", 2, ["TOML parse error at line 2, column 10", None]),
-    (["audit", "--after", "5"], FIRST, "/dev/null", 4, ["command line refused", "--after 5: the set-up has 0 calls"]),
-    (["audit", "--slot", "33", "--after", "0"], FIRST, "/dev/null", 4,
-     ["command line refused", "--slot 33: no full slot is there after 0 calls"]),
     (["check"], FIRST.replace("1", "3", 1), "/dev/null", 2,
      ["top, key format: the value is 3; it has to be a number from 1 to 2"]),
 ]

@@ -14,37 +14,13 @@ pub enum Job {
     Threads,
     /// Write a set-up of format 1 in format 2.
     Migrate,
-    /// Run a set-up and tell why its calls are refused.
-    Why,
-    /// Run a set-up and tell who reaches what, who can send to whom, and what a revoke would destroy.
-    Audit,
-    /// Run a set-up's clients in every order of their calls.
-    Explore,
 }
 
-/// The numbers that the options of a command line give; `None` where an option is not there.
-#[derive(Clone, Copy, Drop)]
-pub struct Options {
-    /// `--call` of `why`: the call that is told of, from 1.
-    pub call: Option<u64>,
-    /// `--after` of `audit`: how many calls are made.
-    pub after: Option<u64>,
-    /// `--slot` of `audit`: the address of a slot.
-    pub slot: Option<u64>,
-    /// `--first` of `explore`: how many calls are made before the clients begin.
-    pub first: Option<u64>,
-    /// `--states` of `explore`: the most states that are kept.
-    pub states: Option<u64>,
-}
-
-/// A command line that was taken: what to do, by which options, and with which file; without a file, with standard
-/// input.
+/// A command line that was taken: what to do, and with which file; without a file, with standard input.
 #[derive(Clone, Copy, Drop)]
 pub struct Line<'a> {
     /// What to do.
     pub job: Job,
-    /// What the options say.
-    pub options: Options,
     /// The file's name.
     pub file: Option<&'a str>,
 }
@@ -93,12 +69,6 @@ impl Job {
             Some(Job::Threads)
         } else if name == "migrate" {
             Some(Job::Migrate)
-        } else if name == "why" {
-            Some(Job::Why)
-        } else if name == "audit" {
-            Some(Job::Audit)
-        } else if name == "explore" {
-            Some(Job::Explore)
         } else {
             None
         }

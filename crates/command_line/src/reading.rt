@@ -1,13 +1,12 @@
 //! The words of the command line.
 ghost use Rattle.std.specs.Prelude.{◌≡◌, [], false, option_map, IfOk, IfErr, IsSome, OnOk};
-ghost use Rattle.clap.specs.Words.{app_of, fault_of, first_of, found_of, rows_of, rule_of, subcommand_of, subcommand_rows_of};
+ghost use Rattle.clap.specs.Words.{app_of, fault_of, found_of, rows_of, rule_of, subcommand_rows_of};
 ghost use Rattle.clap.specs.declared.builder.command.Command.TheViews.{out-Command};
 ghost use Rattle.clap.specs.Values.{kind_of};
 ghost use Rattle.clap.specs.Walk.{texts};
-ghost use Rattle.command_line.specs.CommandLine.{Explains, HasOptions, Says, StandsFor, and_subcommand, audit_command, bare_command, command as definition, explore_command, file_asked, file_of, file_rule, job_asked, job_of, number_rule, own_rows, plain_command, version_rule, why_command, with_file as with_file_definition};
+ghost use Rattle.command_line.specs.CommandLine.{Explains, StandsFor, and_subcommand, bare_command, command as definition, file_asked, file_of, file_rule, job_asked, job_of, version_rule, with_file as with_file_definition};
 
-use crate::arguments::{Job, Line, LineFault, Options};
-use clap::builder::ValueParser;
+use crate::arguments::{Job, Line, LineFault};
 use clap::error::ErrorKind;
 use clap::{Arg, ArgAction, ArgMatches, Command, Error};
 use std::alloc::{AllocError, Global};
@@ -34,9 +33,6 @@ Exit status:
   4  the command line is refused
 
 Pages: docs/first-set-up.md, and below the installation share/doc/sel4sim";
-
-/// The base in which the numbers of options are written.
-const DECIMAL: u32 = 10;
 
 /// The argument FILE.
 fn file<'a>(alloc: Global) -> Arg<'a>
@@ -94,71 +90,9 @@ fn and_with_file<'a>(
     Ok(whole)
 }
 
-/// An option that takes a number, by its long name.
-fn number<'a>(alloc: Global, name: &'a str, about: &'a str) -> Arg<'a>
-    ensures rule { rule_of result ≡ number_rule name.now }
-    ensures local { result.global ≡ false }
-{
-    Arg::new(alloc, name)
-        .long(name)
-        .value_name("N")
-        .value_parser(ValueParser::Unsigned(0, u64::MAX))
-        .help(about)
-}
-
-/// The subcommand `why`.
-fn why<'a>(alloc: Global) -> Result<Command<'a>, AllocError>
-    ensures app { IfOk result (λ c. app_of c ≡ why_command) }
-    ensures local { IfOk result (λ c. (out-Command c).has_globals ≡ false) }
-{
-    let about = "Runs a set-up and prints why its calls are refused";
-    let command = with_file(alloc, "why", about)?;
-    let call = number(alloc, "call", "Tell of call N alone");
-    let whole = command.arg(call)?;
-    Ok(whole)
-}
-
-/// The subcommand `audit`.
-fn audit<'a>(alloc: Global) -> Result<Command<'a>, AllocError>
-    ensures app { IfOk result (λ c. app_of c ≡ audit_command) }
-    ensures local { IfOk result (λ c. (out-Command c).has_globals ≡ false) }
-{
-    let about =
-        "Runs a set-up and prints who reaches what, who can send to whom, and what a revoke would destroy";
-    let command = with_file(alloc, "audit", about)?;
-    let after = number(alloc, "after", "Make the first N calls alone");
-    let with_after = command.arg(after)?;
-    let slot = number(
-        alloc,
-        "slot",
-        "Tell what a revoke of the slot at N would change",
-    );
-    let whole = with_after.arg(slot)?;
-    Ok(whole)
-}
-
-/// The subcommand `explore`.
-fn explore<'a>(alloc: Global) -> Result<Command<'a>, AllocError>
-    ensures app { IfOk result (λ c. app_of c ≡ explore_command) }
-    ensures local { IfOk result (λ c. (out-Command c).has_globals ≡ false) }
-{
-    let about =
-        "Runs the clients of a set-up in every order of their calls and prints what can happen";
-    let command = with_file(alloc, "explore", about)?;
-    let first = number(
-        alloc,
-        "first",
-        "Make the first N calls before the clients begin",
-    );
-    let with_first = command.arg(first)?;
-    let states = number(alloc, "states", "Keep at most N states");
-    let whole = with_first.arg(states)?;
-    Ok(whole)
-}
-
-/// The command with the subcommands that have no options.
-fn plain<'a>(alloc: Global) -> Result<Command<'a>, AllocError>
-    ensures { IfOk result (λ c. app_of c ≡ plain_command) }
+/// The command as clap reads it.
+fn command<'a>(alloc: Global) -> Result<Command<'a>, AllocError>
+    ensures { IfOk result (λ c. app_of c ≡ definition) }
 {
     let check = and_with_file(
         alloc,
@@ -187,42 +121,10 @@ fn plain<'a>(alloc: Global) -> Result<Command<'a>, AllocError>
     Ok(migrate)
 }
 
-/// The command as clap reads it.
-fn command<'a>(alloc: Global) -> Result<Command<'a>, AllocError>
-    ensures { IfOk result (λ c. app_of c ≡ definition) }
-{
-    let with_why = plain(alloc)?.subcommand(why(alloc)?)?;
-    let with_audit = with_why.subcommand(audit(alloc)?)?;
-    let whole = with_audit.subcommand(explore(alloc)?)?;
-    Ok(whole)
-}
-
-/// The number that an option gives.
-fn number_given(matches: &ArgMatches, name: &str) -> Option<u64>
-    ensures { Says (first_of name.now (rows_of (found_of matches.now))) result }
-{
-    let text = matches.get_str(name)?;
-    u64::from_str_radix(text, DECIMAL).ok()
-}
-
-/// The numbers that the options of a subcommand give.
-fn options_in(matches: &ArgMatches) -> Options
-    ensures { HasOptions (rows_of (found_of matches.now)) result }
-{
-    Options {
-        call: number_given(matches, "call"),
-        after: number_given(matches, "after"),
-        slot: number_given(matches, "slot"),
-        first: number_given(matches, "first"),
-        states: number_given(matches, "states"),
-    }
-}
-
 /// What the matches ask for.
 fn line_in<'a>(matches: &ArgMatches<'a>) -> Line<'a>
     requires { IsSome (job_of (subcommand_rows_of matches.now)) }
     ensures job { job_of (subcommand_rows_of matches.now) ≡ Some result.job }
-    ensures options { HasOptions (own_rows (subcommand_rows_of matches.now)) result.options }
     ensures file { file_of (rows_of (found_of matches.now)) (subcommand_rows_of matches.now)
         ≡ option_map (λ s. s.now) result.file }
 {
@@ -230,22 +132,14 @@ fn line_in<'a>(matches: &ArgMatches<'a>) -> Line<'a>
     match matches.subcommand() {
         None => Line {
             job: Job::Check,
-            options: Options {
-                call: None,
-                after: None,
-                slot: None,
-                first: None,
-                states: None,
-            },
             file: above,
         },
         Some((name, inner)) => {
             let Some(job) = Job::named(name) else {
                 unreachable!();
             };
-            let options = options_in(inner);
             let file = inner.get_str("FILE").or(above);
-            Line { job, options, file }
+            Line { job, file }
         }
     }
 }
@@ -289,7 +183,6 @@ pub fn refused_line_words(alloc: Global, words: &[&str]) -> Option<String> {
 /// memory ran out.
 pub fn line<'a>(alloc: Global, words: &'a [&'a str]) -> Result<Line<'a>, LineFault>
     ensures job { IfOk result (λ l. job_asked (texts words.now) ≡ Some l.job) }
-    ensures options { IfOk result (λ l. HasOptions (own_rows (subcommand_of definition (texts words.now))) l.options) }
     ensures file { IfOk result (λ l. file_asked (texts words.now) ≡ option_map (λ s. s.now) l.file) }
     ensures taken { OnOk result (fault_of definition (texts words.now) ≡ []) }
     ensures fault { IfErr result (Explains (texts words.now)) }

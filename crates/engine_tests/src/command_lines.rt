@@ -11,8 +11,6 @@ fn name_of(job: Job) -> &'static str {
         Job::Trace => "trace",
         Job::Threads => "threads",
         Job::Migrate => "migrate",
-        Job::Why => "why",
-        Job::Audit => "audit",
     }
 }
 
@@ -20,14 +18,6 @@ fn name_of(job: Job) -> &'static str {
 fn is_taken(alloc: Global, words: &[&str], job: &str, file: Option<&str>) -> bool {
     match line(alloc, words) {
         Ok(taken) => name_of(taken.job) == job && taken.file == file,
-        Err(_) => false,
-    }
-}
-
-/// Whether the words ask for reasons, of the call with this number or of all.
-fn asks_why(alloc: Global, words: &[&str], wanted: Option<u64>) -> bool {
-    match line(alloc, words) {
-        Ok(taken) => name_of(taken.job) == "why" && taken.options.call == wanted,
         Err(_) => false,
     }
 }
@@ -62,7 +52,7 @@ fn says(alloc: Global, fault: RunFault, said: &str) -> Result<bool, AllocError> 
 
 #[test]
 fn lines_are_taken(rt: HostRuntime) {
-    let forms: [(&[&str], &str, Option<&str>); 15] = [
+    let forms: [(&[&str], &str, Option<&str>); 14] = [
         (&["sel4sim"], "check", None),
         (&["sel4sim", "check"], "check", None),
         (
@@ -97,56 +87,9 @@ fn lines_are_taken(rt: HostRuntime) {
             Some("rows.toml"),
         ),
         (&["sel4sim", "trace", "-"], "trace", Some("-")),
-        (
-            &["sel4sim", "why", "rows.toml", "--call", "2"],
-            "why",
-            Some("rows.toml"),
-        ),
     ];
     for (words, job, file) in forms {
         assert!(rt; is_taken(rt.alloc(), words, job, file), "{words:?}");
-    }
-}
-
-#[test]
-fn numbers_are_read(rt: HostRuntime) {
-    let forms: [(&[&str], Option<u64>); 5] = [
-        (&["sel4sim", "why"], None),
-        (&["sel4sim", "why", "--call", "3", "rows.toml"], Some(3)),
-        (&["sel4sim", "why", "rows.toml", "--call=0"], Some(0)),
-        (&["sel4sim", "why", "--call", "007"], Some(7)),
-        (
-            &["sel4sim", "why", "--call", "18446744073709551615"],
-            Some(u64::MAX),
-        ),
-    ];
-    for (words, call) in forms {
-        assert!(rt; asks_why(rt.alloc(), words, call), "{words:?}");
-    }
-}
-
-#[test]
-fn numbers_of_an_audit_are_read(rt: HostRuntime) {
-    let forms: [(&[&str], Option<u64>, Option<u64>); 4] = [
-        (&["sel4sim", "audit"], None, None),
-        (&["sel4sim", "audit", "--after", "3", "rows.toml"], Some(3), None),
-        (&["sel4sim", "audit", "rows.toml", "--slot=160"], None, Some(160)),
-        (
-            &["sel4sim", "audit", "--slot", "160", "--after", "0"],
-            Some(0),
-            Some(160),
-        ),
-    ];
-    for (words, after, slot) in forms {
-        let is_read = match line(rt.alloc(), words) {
-            Ok(taken) => {
-                name_of(taken.job) == "audit"
-                    && taken.options.after == after
-                    && taken.options.slot == slot
-            }
-            Err(_) => false,
-        };
-        assert!(rt; is_read, "{words:?}");
     }
 }
 
@@ -168,7 +111,7 @@ fn help_has_its_text(rt: HostRuntime) {
 
 #[test]
 fn other_words_are_refused(rt: HostRuntime) -> Result<(), Fail> {
-    let forms: [&[&str]; 16] = [
+    let forms: [&[&str]; 7] = [
         &["sel4sim", "chek", "rows.toml"],
         &["sel4sim", "migrate", "rows.toml", "more.toml"],
         &["sel4sim", "rows.toml", "chek"],
@@ -176,13 +119,6 @@ fn other_words_are_refused(rt: HostRuntime) -> Result<(), Fail> {
         &["sel4sim", "check", "--version"],
         &["sel4sim", "-x"],
         &["sel4sim", "check", "--file=rows.toml"],
-        &["sel4sim", "why", "--call"],
-        &["sel4sim", "why", "--call", "x"],
-        &["sel4sim", "why", "--call", ""],
-        &["sel4sim", "why", "--call", "-1"],
-        &["sel4sim", "why", "--call", "18446744073709551616"],
-        &["sel4sim", "why", "--call", "1", "--call", "2"],
-        &["sel4sim", "check", "--call", "1"],
     ];
     for words in forms {
         assert!(rt; is_refused(rt.alloc(), words)?, "{words:?}");

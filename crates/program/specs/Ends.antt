@@ -1,11 +1,10 @@
 -- What the program does with the words of its command line, its exit status, and what it says of a fault.
 use Rattle.std.specs.Prelude.{◌≡◌, ℕ, List, [], codes, Option, Some, None, Result, Ok, Err, false, if◌then◌else◌, IfErr, OnOk, OnErr}
 use Rattle.std.specs.Str.{bytes_eq}
-use Rattle.clap.specs.Words.{Text, subcommand_of, takes, fault_of, IsAmong}
+use Rattle.clap.specs.Words.{Text, takes, fault_of, IsAmong}
 use Rattle.clap.specs.declared.error.kind.ErrorKind.TheVariants.{DisplayHelp}
-use Rattle.command_line.specs.CommandLine.{command, file_asked, job_asked, own_rows, HasOptions, HasOtherFault}
+use Rattle.command_line.specs.CommandLine.{command, file_asked, job_asked, HasOtherFault}
 use Rattle.command_line.specs.declared.arguments.Job.{Job}
-use Rattle.command_line.specs.declared.arguments.Options.{Options}
 use Rattle.engine_core.specs.Devices.{Took, TookFront}
 use Rattle.engine_core.specs.Runs.{IsRun}
 use Rattle.engine_core.specs.Statuses.{run_status, run_fault_text}
@@ -30,14 +29,14 @@ named_input (Some name) = if bytes_eq name (codes "-") then None else Some name
 -- opened, a failed read, and nothing is written
 abbrev pub IsDone : {S F E K : Type 0} → (S → Type 0) → (Text → F → Type 0) → (Text → E → Type 0)
     → SourceGhosts S → SourceGhosts F → SinkGhosts K
-    → Job → Options → Option Text → Used S F E → Result Verdict RunFault → K → K → Type 0
-IsDone is_standard is_file is_fault from_standard from_file to job options name (Standard source) answer old new =
+    → Job → Option Text → Used S F E → Result Verdict RunFault → K → K → Type 0
+IsDone is_standard is_file is_fault from_standard from_file to job name (Standard source) answer old new =
     (name ≡ None) × (unread : _) × is_standard unread
-    × IsRun (meaning job options) from_standard to unread source old new answer
-IsDone is_standard is_file is_fault from_standard from_file to job options name (File source) answer old new =
+    × IsRun (meaning job) from_standard to unread source old new answer
+IsDone is_standard is_file is_fault from_standard from_file to job name (File source) answer old new =
     (named : Text) × (name ≡ Some named) × (unread : _) × is_file named unread
-    × IsRun (meaning job options) from_file to unread source old new answer
-IsDone is_standard is_file is_fault from_standard from_file to job options name (Unopened fault) answer old new =
+    × IsRun (meaning job) from_file to unread source old new answer
+IsDone is_standard is_file is_fault from_standard from_file to job name (Unopened fault) answer old new =
     (named : Text) × (name ≡ Some named) × is_fault named fault × (answer ≡ Err Reading) × (new ≡ old)
 
 -- a text was written, or a front of it where a write failed
@@ -54,9 +53,8 @@ abbrev pub IsEnd : {S F E K : Type 0} → (S → Type 0) → (Text → F → Typ
 IsEnd is_standard is_file is_fault from_standard from_file to words (Did done) old new =
     (fault_of command words ≡ [])
     × (job_asked words ≡ Some done.line.job)
-    × HasOptions (own_rows (subcommand_of command words)) done.line.options
     × IsDone is_standard is_file is_fault from_standard from_file to
-    done.line.job done.line.options (named_input (file_asked words)) done.input done.answer old new
+    done.line.job (named_input (file_asked words)) done.input done.answer old new
 IsEnd is_standard is_file is_fault from_standard from_file to words (Helped answer) old new =
     (takes command words ≡ false) × IsAmong DisplayHelp (fault_of command words) × IsWritten to answer old new
 IsEnd is_standard is_file is_fault from_standard from_file to words Refused old new =

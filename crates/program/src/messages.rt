@@ -3,11 +3,9 @@ use crate::ended::{Done, Ended, Used};
 use crate::front::FrontWriter;
 use crate::unexpected::unexpected_refusals;
 use crate::words::{is_lone_word, near_command};
-use command_line::{Job, Line, refused_line_words};
+use command_line::{Job, refused_line_words};
 use engine_core::{INPUT_LIMIT, KeptReader, KeptWriter, ReaderSource, RunFault, Verdict};
-use setup_format::read_setup;
 use setup_messages::{Formats, refusal_words, unmet_warnings};
-use std::alloc::Global;
 use std::fmt::Display;
 use std::io::{self, Eprint};
 
@@ -122,84 +120,31 @@ fn note_on_command<R: Eprint + AllocGlobal>(rt: &R, word: &str) {
 fn formats_of(job: Job) -> Formats {
     match job {
         Job::Migrate => Formats::First,
-        Job::Check | Job::Trace | Job::Threads | Job::Why | Job::Audit => Formats::All,
+        Job::Check | Job::Trace | Job::Threads => Formats::All,
     }
 }
 
-/// How many calls a set-up has; nothing where it is refused, or where memory was refused.
-fn call_count(alloc: Global, bytes: &[u8]) -> Option<u64> {
-    let setup = read_setup(alloc, bytes).ok()?;
-    Some(setup.calls().len() as u64)
-}
-
-/// Says which number of a line's options the set-up does not have.
-fn note_on_absence<R: Eprint + AllocGlobal>(rt: &R, line: Line<'_>, bytes: &[u8]) {
-    let Some(calls) = call_count(rt.alloc(), bytes) else {
-        return;
-    };
-    let (job, options) = (line.job, line.options);
-    if let (Job::Why, Some(n)) = (job, options.call) {
-        complain(
-            rt,
-            format_args!("--call {n}: the set-up has {calls} calls"),
-        );
-    }
-    if let Job::Audit = job {
-        match (options.after, options.slot) {
-            (Some(n), _) if n > calls => complain(
-                rt,
-                format_args!("--after {n}: the set-up has {calls} calls"),
-            ),
-            (after, Some(slot)) => {
-                let made = after.unwrap_or(calls);
-                complain(
-                    rt,
-                    format_args!("--slot {slot}: no full slot is there after {made} calls"),
-                );
-            }
-            _ => {}
-        }
-    }
-}
-
-/// Says why a set-up is refused, which of its expectations no reply can meet where it was checked, traced or explained,
-/// or what the options name and it does not have.
-fn note_on_verdict<R: Eprint + AllocGlobal>(
-    rt: &R,
-    line: Line<'_>,
-    verdict: Verdict,
-    bytes: &[u8],
-) {
-    match (line.job, verdict) {
-        (Job::Check | Job::Trace | Job::Why, Verdict::NotMet) => {
+/// Says why a set-up is refused, or which of its expectations no reply can meet where it was checked or traced.
+fn note_on_verdict<R: Eprint + AllocGlobal>(rt: &R, job: Job, verdict: Verdict, bytes: &[u8]) {
+    match (job, verdict) {
+        (Job::Check | Job::Trace, Verdict::NotMet) => {
             if let Ok(warnings) = unmet_warnings(rt.alloc(), bytes) {
                 note(rt, warnings.as_str());
             }
         }
         (_, Verdict::Refused) => {
-            if let Ok(words) = refusal_words(rt.alloc(), bytes, formats_of(line.job)) {
+            if let Ok(words) = refusal_words(rt.alloc(), bytes, formats_of(job)) {
                 note(rt, words.as_str());
             }
         }
-        (_, Verdict::Absent) => note_on_absence(rt, line, bytes),
         _ => {}
     }
 }
 
-/// Says which calls of a set-up that was checked were refused where nothing was expected, and what tells why.
-fn note_on_refusals<R: Eprint + AllocGlobal>(rt: &R, file: Option<&str>, report: &[u8]) {
-    let Ok(refusals) = unexpected_refusals(rt.alloc(), report) else {
-        return;
-    };
-    if refusals.as_str().is_empty() {
-        return;
-    }
-    match file {
-        Some(name) => complain(
-            rt,
-            format_args!("{refusals}; sel4sim why {name} tells why"),
-        ),
-        None => complain(rt, format_args!("{refusals}; sel4sim why tells why")),
+/// Says which calls of a set-up that was checked were refused where nothing was expected.
+fn note_on_refusals<R: Eprint + AllocGlobal>(rt: &R, report: &[u8]) {
+    if let Ok(refusals) = unexpected_refusals(rt.alloc(), report) {
+        note(rt, refusals.as_str());
     }
 }
 
@@ -213,10 +158,10 @@ fn tell_of_line<R: Eprint + AllocGlobal, S, F, W>(
     match done.answer {
         Ok(verdict) => {
             if let Some(bytes) = bytes_of(&done.input) {
-                note_on_verdict(rt, done.line, verdict, bytes);
+                note_on_verdict(rt, done.line.job, verdict, bytes);
             }
             if matches!(done.line.job, Job::Check) {
-                note_on_refusals(rt, done.line.file, writer.front());
+                note_on_refusals(rt, writer.front());
             }
         }
         Err(RunFault::Reading) => {

@@ -95,7 +95,7 @@ fn fault(status: u8, text: &str) -> Wanted<'_> {
 #[test]
 fn lines_end_as_they_ask(rt: HostRuntime) {
     let refusal = "set-up refused 200 at text\n";
-    let forms: [(&[&str], Wanted<'_>); 18] = [
+    let forms: [(&[&str], Wanted<'_>); 12] = [
         (&["sel4sim"], done(0, "1 2048 send: waiting\n")),
         (
             &["sel4sim", "trace"],
@@ -103,27 +103,6 @@ fn lines_end_as_they_ask(rt: HostRuntime) {
         ),
         (&["sel4sim", "threads"], done(0, "entries 2 of 2\n")),
         (&["sel4sim", "migrate"], done(0, "format = 2\n")),
-        (&["sel4sim", "why"], done(0, "refused 0 of 2\nexpected 1 of 1\n")),
-        (
-            &["sel4sim", "why", "--call", "2"],
-            done(0, "2 4096 recv: delivered 6144"),
-        ),
-        (
-            &["sel4sim", "why", "--call", "3"],
-            fault(4, "command line refused"),
-        ),
-        (
-            &["sel4sim", "audit"],
-            done(0, "audit 1 wide memory_bits 16 calls 2 after 2\n"),
-        ),
-        (
-            &["sel4sim", "audit", "--after", "3"],
-            fault(4, "command line refused"),
-        ),
-        (
-            &["sel4sim", "audit", "--slot", "33"],
-            fault(4, "command line refused"),
-        ),
         (&["sel4sim", "check", "text.toml"], done(2, refusal)),
         (&["sel4sim", "trace", "text.toml"], done(2, refusal)),
         (

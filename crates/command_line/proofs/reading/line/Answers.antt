@@ -1,8 +1,8 @@
 -- What clap answers, by the definition of the command.
-use Rattle.std.proofs.Common.{◌≡◌, ◌∙◌, ap, ap₂, sym, subst, is_some}
+use Rattle.std.proofs.Common.{◌≡◌, ◌∙◌, ap, ap₂, sym, is_some}
 use Rattle.clap.specs.Words.{App, HasKind, app_of, is_simple_and_free, takes, fault_of}
 use Rattle.clap.specs.Walk.{texts}
-use Rattle.command_line.specs.CommandLine.{HasOptions, command, file_of, job_of, own_rows}
+use Rattle.command_line.specs.CommandLine.{command, file_of, job_of}
 use Rattle.command_line.proofs.CommandLines.{command_is_free, explained, job_is_known, own_rows_met, rows_met}
 use Rattle.command_line.proofs.reading.line.Goals as goal
 
@@ -15,11 +15,6 @@ pub returns-in-Ok-try_get_matches_from-clause-job :
     goal.returns-in-Ok-try_get_matches_from-clause-job
 returns-in-Ok-try_get_matches_from-clause-job c =
     ap job_of (sym (rows_met c.in-Ok.command (texts c.args.words.now) c.in-Ok-try_get_matches_from.matches c.in-Ok.ensures c.in-Ok-try_get_matches_from.ensures.matches)) ∙ c.line_in.ensures.job
-
-pub returns-in-Ok-try_get_matches_from-clause-options :
-    goal.returns-in-Ok-try_get_matches_from-clause-options
-returns-in-Ok-try_get_matches_from-clause-options c =
-    subst (λ s. HasOptions (own_rows s) c.line_in.result.options) (rows_met c.in-Ok.command (texts c.args.words.now) c.in-Ok-try_get_matches_from.matches c.in-Ok.ensures c.in-Ok-try_get_matches_from.ensures.matches) c.line_in.ensures.options
 
 pub returns-in-Ok-try_get_matches_from-clause-file :
     goal.returns-in-Ok-try_get_matches_from-clause-file

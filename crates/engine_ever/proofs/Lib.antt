@@ -1,5 +1,0 @@
-mod Counted
-pub mod Named
-pub mod Pushed
-pub mod Digits
-pub mod Right
