@@ -13,6 +13,6 @@ mod waits;
 mod words;
 
 pub use answers::FoundAnswer;
-pub use exploration::{Explored, explore};
+pub use exploration::{Explored, empty_layers_are_the_last, explore};
 pub use node::Node;
 pub use stuck::FoundStuck;
