@@ -42,10 +42,10 @@ impl BootPlan {
         endpoints: u32,
         untypeds: Vec<(u64, u32)>,
     ) -> Result<BootPlan, PlanDefect>
-        requires { IsWithinLimits P.the (planned memory_bits root_radix threads endpoints untypeds.items) }
+        requires { IsWithinLimits P.profile (planned memory_bits root_radix threads endpoints untypeds.items) }
         ensures plan { IfOk result (λ plan. plan ≡ planned memory_bits root_radix threads endpoints untypeds.items) }
-        ensures sound { IfOk result (IsPlan P.the) }
-        ensures defect { IfErr result (λ defect. first_defect P.the (planned memory_bits root_radix threads endpoints untypeds.items) ≡ Some defect) }
+        ensures sound { IfOk result (IsPlan P.profile) }
+        ensures defect { IfErr result (λ defect. first_defect P.profile (planned memory_bits root_radix threads endpoints untypeds.items) ≡ Some defect) }
     {
         let plan = BootPlan {
             memory_bits,
@@ -103,8 +103,8 @@ impl BootPlan {
 
     /// The address of the first thread control block.
     pub fn first_tcb<P: Profile>(&self) -> u64
-        requires { IsWithinLimits P.the self.now }
-        ensures { result ≡ first_tcb P.the self.now }
+        requires { IsWithinLimits P.profile self.now }
+        ensures { result ≡ first_tcb P.profile self.now }
     {
         let node_end = 1u64 << (P::SLOT_BITS + self.root_radix);
         let size = 1u64 << P::TCB_BITS;
@@ -113,24 +113,24 @@ impl BootPlan {
 
     /// The address of the thread control block of boot thread `index`.
     pub fn tcb_place<P: Profile>(&self, index: u32) -> u64
-        requires { IsWithinLimits P.the self.now }
-        ensures { result ≡ tcb_place P.the self.now index }
+        requires { IsWithinLimits P.profile self.now }
+        ensures { result ≡ tcb_place P.profile self.now index }
     {
         self.first_tcb::<P>() + (u64::from(index) << P::TCB_BITS)
     }
 
     /// The address of boot endpoint `index`.
     pub fn endpoint_place<P: Profile>(&self, index: u32) -> u64
-        requires { IsWithinLimits P.the self.now }
-        ensures { result ≡ endpoint_place P.the self.now index }
+        requires { IsWithinLimits P.profile self.now }
+        ensures { result ≡ endpoint_place P.profile self.now index }
     {
         self.tcb_place::<P>(self.threads) + (u64::from(index) << P::ENDPOINT_BITS)
     }
 
     /// The first address past the boot objects.
     fn boot_end<P: Profile>(&self) -> u64
-        requires { IsWithinLimits P.the self.now }
-        ensures { result ≡ boot_end P.the self.now }
+        requires { IsWithinLimits P.profile self.now }
+        ensures { result ≡ boot_end P.profile self.now }
     {
         self.endpoint_place::<P>(self.endpoints)
     }
@@ -145,8 +145,8 @@ impl BootPlan {
 
     /// The first defect of the untyped regions.
     fn untypeds_defect<P: Profile>(&self) -> Option<PlanDefect>
-        requires { IsWithinLimits P.the self.now }
-        ensures { result ≡ untypeds_defect P.the self.now 0 self.now.untypeds }
+        requires { IsWithinLimits P.profile self.now }
+        ensures { result ≡ untypeds_defect P.profile self.now 0 self.now.untypeds }
     {
         for (place, region) in self.untypeds.iter().enumerate() {
             let (base, bits) = *region;
@@ -160,10 +160,10 @@ impl BootPlan {
 
     /// The first defect of the untyped region that stands at a place of the plan.
     fn untyped_defect<P: Profile>(&self, place: usize, base: u64, bits: u32) -> Option<PlanDefect>
-        requires limits { IsWithinLimits P.the self.now }
+        requires limits { IsWithinLimits P.profile self.now }
         requires place { place < length self.now.untypeds }
-        requires size { IsUntypedSize P.the (base, bits) }
-        ensures { result ≡ untyped_defect P.the self.now place (base, bits) }
+        requires size { IsUntypedSize P.profile (base, bits) }
+        ensures { result ≡ untyped_defect P.profile self.now place (base, bits) }
     {
         let region = Extent::new(base, bits);
         if base % (1 << bits) != 0 {
@@ -181,8 +181,8 @@ impl BootPlan {
 
     /// Whether a region has an address in common with the root CNode, a thread control block or an endpoint.
     fn overlaps_boot_object<P: Profile>(&self, region: Extent) -> bool
-        requires { IsWithinLimits P.the self.now }
-        ensures { result ≡ overlaps_boot_object P.the self.now region }
+        requires { IsWithinLimits P.profile self.now }
+        ensures { result ≡ overlaps_boot_object P.profile self.now region }
     {
         region.overlaps(Extent::new(0, P::SLOT_BITS + self.root_radix))
             || self.overlaps_tcb::<P>(region)
@@ -190,15 +190,15 @@ impl BootPlan {
     }
 
     fn overlaps_tcb<P: Profile>(&self, region: Extent) -> bool
-        requires { IsWithinLimits P.the self.now }
-        ensures { result ≡ overlaps_tcb P.the self.now region }
+        requires { IsWithinLimits P.profile self.now }
+        ensures { result ≡ overlaps_tcb P.profile self.now region }
     {
         (0..self.threads).any(|i| region.overlaps(Extent::new(self.tcb_place::<P>(i), P::TCB_BITS)))
     }
 
     fn overlaps_endpoint<P: Profile>(&self, region: Extent) -> bool
-        requires { IsWithinLimits P.the self.now }
-        ensures { result ≡ overlaps_endpoint P.the self.now region }
+        requires { IsWithinLimits P.profile self.now }
+        ensures { result ≡ overlaps_endpoint P.profile self.now region }
     {
         (0..self.endpoints).any(|j| region.overlaps(Extent::new(
             self.endpoint_place::<P>(j),
@@ -208,7 +208,7 @@ impl BootPlan {
 
     /// Whether a region has an address in common with an untyped region that stands before a place of the plan.
     fn overlaps_earlier<P: Profile>(&self, place: usize, region: Extent) -> bool
-        requires limits { IsWithinLimits P.the self.now }
+        requires limits { IsWithinLimits P.profile self.now }
         requires place { place < length self.now.untypeds }
         ensures { result ≡ overlaps_earlier self.now place region }
     {

@@ -19,8 +19,8 @@ pub fn booted_store<P: Profile, S: MakeStore<P>>(
     alloc: Global,
     plan: &BootPlan,
 ) -> Result<S, AllocError>
-    requires { IsPlan P.the plan.now }
-    ensures forest { IfOk result (λ store. S.forest store ≡ boot_forest P.the plan.now) }
+    requires { IsPlan P.profile plan.now }
+    ensures forest { IfOk result (λ store. S.forest store ≡ boot_forest P.profile plan.now) }
     ensures memory { IfOk result (λ store. S.memory_bits store ≡ plan.now.memory_bits) }
 {
     let caps = root_capabilities::<P>(alloc, plan)?;
@@ -32,8 +32,8 @@ pub fn booted_store<P: Profile, S: MakeStore<P>>(
 
 /// The capability of the root CNode, which stands at address 0: its guard and its radix take a whole word.
 fn root_capability<P: Profile>(plan: &BootPlan) -> Cap
-    requires { IsWithinLimits P.the plan.now }
-    ensures { result ≡ root_cap P.the plan.now }
+    requires { IsWithinLimits P.profile plan.now }
+    ensures { result ≡ root_cap P.profile plan.now }
 {
     Cap::CNode {
         base: 0,
@@ -48,8 +48,8 @@ fn root_capability<P: Profile>(plan: &BootPlan) -> Cap
 /// The capabilities of the root CNode's slots, from slot 1 on: its own, the thread control blocks, the endpoints with all
 /// rights, and the untyped regions.
 fn root_capabilities<P: Profile>(alloc: Global, plan: &BootPlan) -> Result<Vec<Cap>, AllocError>
-    requires { IsWithinLimits P.the plan.now }
-    ensures { IfOk result (λ caps. caps.items ≡ boot_caps P.the plan.now) }
+    requires { IsWithinLimits P.profile plan.now }
+    ensures { IfOk result (λ caps. caps.items ≡ boot_caps P.profile plan.now) }
 {
     let mut caps = Vec::new(alloc);
     caps.push(root_capability::<P>(plan))?;
@@ -60,8 +60,8 @@ fn root_capabilities<P: Profile>(alloc: Global, plan: &BootPlan) -> Result<Vec<C
 }
 
 fn add_tcbs<P: Profile>(caps: &mut Vec<Cap>, plan: &BootPlan) -> Result<(), AllocError>
-    requires { IsWithinLimits P.the plan.now }
-    ensures { OnOk result (caps.new.items ≡ caps.old.items ++ tcb_caps P.the plan.now) }
+    requires { IsWithinLimits P.profile plan.now }
+    ensures { OnOk result (caps.new.items ≡ caps.old.items ++ tcb_caps P.profile plan.now) }
 {
     for i in 0..plan.threads() {
         caps.push(Cap::Tcb {
@@ -72,8 +72,8 @@ fn add_tcbs<P: Profile>(caps: &mut Vec<Cap>, plan: &BootPlan) -> Result<(), Allo
 }
 
 fn add_endpoints<P: Profile>(caps: &mut Vec<Cap>, plan: &BootPlan) -> Result<(), AllocError>
-    requires { IsWithinLimits P.the plan.now }
-    ensures { OnOk result (caps.new.items ≡ caps.old.items ++ endpoint_caps P.the plan.now) }
+    requires { IsWithinLimits P.profile plan.now }
+    ensures { OnOk result (caps.new.items ≡ caps.old.items ++ endpoint_caps P.profile plan.now) }
 {
     for j in 0..plan.endpoints() {
         caps.push(Cap::Endpoint {
@@ -100,11 +100,11 @@ fn add_untypeds(caps: &mut Vec<Cap>, plan: &BootPlan) -> Result<(), AllocError>
 
 /// Puts the capabilities into the root CNode's slots from slot 1 on, each a tree of its own.
 fn put_all<P: Profile, S: CapStore<P>>(store: &mut S, plan: &BootPlan, caps: &[Cap])
-    requires plan { IsPlan P.the plan.now }
-    requires caps { caps.now ≡ boot_caps P.the plan.now }
+    requires plan { IsPlan P.profile plan.now }
+    requires caps { caps.now ≡ boot_caps P.profile plan.now }
     requires memory { S.memory_bits store.old ≡ plan.now.memory_bits }
     requires empty { S.forest store.old ≡ none }
-    ensures forest { S.forest store.new ≡ with_roots P.the 1 (boot_caps P.the plan.now) none }
+    ensures forest { S.forest store.new ≡ with_roots P.profile 1 (boot_caps P.profile plan.now) none }
     ensures memory { S.memory_bits store.new ≡ S.memory_bits store.old }
 {
     for (i, cap) in caps.iter().enumerate() {
@@ -114,10 +114,10 @@ fn put_all<P: Profile, S: CapStore<P>>(store: &mut S, plan: &BootPlan, caps: &[C
 
 /// Derives the root CNode's capability into the root slot of each thread control block, which stands at its own address.
 fn derive_spaces<P: Profile, S: CapStore<P>>(store: &mut S, plan: &BootPlan)
-    requires plan { IsPlan P.the plan.now }
+    requires plan { IsPlan P.profile plan.now }
     requires memory { S.memory_bits store.old ≡ plan.now.memory_bits }
-    requires roots { S.forest store.old ≡ with_roots P.the 1 (boot_caps P.the plan.now) none }
-    ensures forest { S.forest store.new ≡ boot_forest P.the plan.now }
+    requires roots { S.forest store.old ≡ with_roots P.profile 1 (boot_caps P.profile plan.now) none }
+    ensures forest { S.forest store.new ≡ boot_forest P.profile plan.now }
     ensures memory { S.memory_bits store.new ≡ S.memory_bits store.old }
 {
     let cap = root_capability::<P>(plan);

@@ -39,9 +39,9 @@ pub fn mask(cap: Cap, rights: Rights) -> Cap
 /// would be longer than a word.
 #[inline(always)]
 pub fn set_data<P: Profile>(preserve: bool, word: u64, cap: Cap) -> Option<Cap>
-    ensures value { result ≡ with_data P.the preserve word cap }
-    ensures read_back { (base radix : ℕ) (before guard : GuardValue) → cap ≡ CNode base radix before → word ≡ guard_word P.the guard
-        → guard.size < 2 ^ guard_size_bits P.the → guard.value < 2 ^ guard.size → guard.size + radix ≤ word_bits P.the
+    ensures value { result ≡ with_data P.profile preserve word cap }
+    ensures read_back { (base radix : ℕ) (before guard : GuardValue) → cap ≡ CNode base radix before → word ≡ guard_word P.profile guard
+        → guard.size < 2 ^ guard_size_bits P.profile → guard.value < 2 ^ guard.size → guard.size + radix ≤ word_bits P.profile
         → result ≡ Some (CNode base radix guard) }
 {
     match cap {

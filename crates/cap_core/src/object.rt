@@ -37,7 +37,7 @@ pub fn kind_of(number: u64) -> Option<Kind>
 /// the profile for them too. None: `size_bits` is not below the bits of a word, or the object is larger than a retype makes
 /// (seL4 Reference Manual, on `seL4_Untyped_Retype`; the numbers are this project's profile).
 pub fn object_bits<P: Profile>(kind: Kind, size_bits: u64) -> Option<u32>
-    ensures { result ≡ size_within P.the kind size_bits }
+    ensures { result ≡ size_within P.profile kind size_bits }
 {
     if size_bits >= P::WORD_BITS as u64 {
         return None;
@@ -86,7 +86,7 @@ pub fn fresh(kind: Kind, base: u64, size_bits: u32) -> Cap
 
 /// The range of the object that a capability names. None: `Null` names no object.
 pub fn range_of<P: Profile>(cap: Cap) -> Option<Range>
-    ensures { result ≡ range_named P.the cap }
+    ensures { result ≡ range_named P.profile cap }
 {
     match cap {
         Cap::Null => None,
@@ -133,8 +133,8 @@ pub fn same_object(a: Cap, b: Cap) -> bool
 /// untyped, whether the range of b's object lies within that of `a`; otherwise, whether both name one object. `Null` lies
 /// in no region.
 pub fn in_region<P: Profile>(a: Cap, b: Cap) -> bool
-    ensures value { result ≡ is_in_region P.the a b }
-    ensures addresses { IsTrue result → (address : ℕ) → IsAddressOf P.the b address → IsAddressOf P.the a address }
+    ensures value { result ≡ is_in_region P.profile a b }
+    ensures addresses { IsTrue result → (address : ℕ) → IsAddressOf P.profile b address → IsAddressOf P.profile a address }
 {
     match a {
         Cap::Untyped { base, bits, .. } => match range_of::<P>(b) {

@@ -60,29 +60,29 @@ pub trait Profile {
 
     ghost LABEL_BITS: { ℕ };
 
-    ghost the: { ProfileName };
+    ghost profile: { ProfileName };
 
     /// Which profile this is.
     fn name() -> ProfileName
-        ensures { result ≡ the };
+        ensures { result ≡ profile };
 
-    ghost word_bits_is: { WORD_BITS ≡ word_bits the };
+    ghost word_bits_is: { WORD_BITS ≡ word_bits profile };
 
-    ghost slot_bits_is: { SLOT_BITS ≡ slot_bits the };
+    ghost slot_bits_is: { SLOT_BITS ≡ slot_bits profile };
 
-    ghost tcb_bits_is: { TCB_BITS ≡ tcb_bits the };
+    ghost tcb_bits_is: { TCB_BITS ≡ tcb_bits profile };
 
-    ghost endpoint_bits_is: { ENDPOINT_BITS ≡ endpoint_bits the };
+    ghost endpoint_bits_is: { ENDPOINT_BITS ≡ endpoint_bits profile };
 
-    ghost min_untyped_bits_is: { MIN_UNTYPED_BITS ≡ min_untyped_bits the };
+    ghost min_untyped_bits_is: { MIN_UNTYPED_BITS ≡ min_untyped_bits profile };
 
-    ghost max_object_bits_is: { MAX_OBJECT_BITS ≡ max_object_bits the };
+    ghost max_object_bits_is: { MAX_OBJECT_BITS ≡ max_object_bits profile };
 
-    ghost guard_size_bits_is: { GUARD_SIZE_BITS ≡ guard_size_bits the };
+    ghost guard_size_bits_is: { GUARD_SIZE_BITS ≡ guard_size_bits profile };
 
-    ghost badge_bits_is: { BADGE_BITS ≡ badge_bits the };
+    ghost badge_bits_is: { BADGE_BITS ≡ badge_bits profile };
 
-    ghost label_bits_is: { LABEL_BITS ≡ label_bits the };
+    ghost label_bits_is: { LABEL_BITS ≡ label_bits profile };
 }
 
 /// The machine with words of 64 bits (seL4 on x86-64, ARM and RISC-V of 64 bits).
@@ -125,7 +125,7 @@ impl Profile for Wide {
 
     ghost LABEL_BITS = { 52 };
 
-    ghost the = { Name.Wide };
+    ghost profile = { Name.Wide };
 
     ghost word_bits_is = { refl };
 
@@ -190,7 +190,7 @@ impl Profile for Narrow {
 
     ghost LABEL_BITS = { 20 };
 
-    ghost the = { Name.Narrow };
+    ghost profile = { Name.Narrow };
 
     ghost word_bits_is = { refl };
 

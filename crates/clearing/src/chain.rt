@@ -29,7 +29,7 @@ impl<P: Profile> Model for SlotChain<P> {
 
     ghost use Rattle.clearing.specs.Chain.{place_in, chain_seen, IsChained};
 
-    ghost view = { λ c. chain_seen P.the c.links.items c.first };
+    ghost view = { λ c. chain_seen P.profile c.links.items c.first };
 
     ghost invariant = { λ c. IsChained c.links.items (place_in c.first) };
 }
@@ -37,7 +37,7 @@ impl<P: Profile> Model for SlotChain<P> {
 impl<P: Profile> SlotChain<P> {
     /// A chain with no slot, and with links for the first `slots` slots of the memory.
     pub fn new(alloc: Global, slots: usize) -> Result<SlotChain<P>, AllocError>
-        ensures { IfOk result (λ c. c ≡ ([], slots * slot_size P.the)) }
+        ensures { IfOk result (λ c. c ≡ ([], slots * slot_size P.profile)) }
     {
         Ok(SlotChain {
             links: Vec::from_elem(alloc, None, slots)?,
@@ -48,9 +48,9 @@ impl<P: Profile> SlotChain<P> {
 
     /// Puts a slot in front.
     pub fn push(&mut self, slot: Slot)
-        requires absent { In (address_of P.the slot) self.old.0 → ⊥ }
-        requires within { address_of P.the slot < self.old.1 }
-        ensures { self.new ≡ (address_of P.the slot ∷ self.old.0, self.old.1) }
+        requires absent { In (address_of P.profile slot) self.old.0 → ⊥ }
+        requires within { address_of P.profile slot < self.old.1 }
+        ensures { self.new ≡ (address_of P.profile slot ∷ self.old.0, self.old.1) }
     {
         let first = self.first;
         self.links[index_of::<P>(slot)] = first;
@@ -59,7 +59,7 @@ impl<P: Profile> SlotChain<P> {
 
     /// Takes the first slot out.
     pub fn pop(&mut self) -> Option<Slot>
-        ensures slots { IsTaken P.the self.old.0 self.new.0 result }
+        ensures slots { IsTaken P.profile self.old.0 self.new.0 result }
         ensures memory { self.new.1 ≡ self.old.1 }
     {
         let Some(slot) = self.first else {
@@ -71,11 +71,11 @@ impl<P: Profile> SlotChain<P> {
 
     /// Puts the first `count` slots of a CNode in front, whose object starts at the address `base`, by rising address.
     pub fn push_node(&mut self, base: u64, count: u64)
-        requires aligned { base % slot_size P.the ≡ 0 }
-        requires end { base + count * slot_size P.the ≤ 2 ^ word_bits P.the }
-        requires distinct { AreDistinct (addresses (slot_size P.the) base count ++ self.old.0) }
-        requires within { AreBelow self.old.1 (addresses (slot_size P.the) base count) }
-        ensures { self.new ≡ (addresses (slot_size P.the) base count ++ self.old.0, self.old.1) }
+        requires aligned { base % slot_size P.profile ≡ 0 }
+        requires end { base + count * slot_size P.profile ≤ 2 ^ word_bits P.profile }
+        requires distinct { AreDistinct (addresses (slot_size P.profile) base count ++ self.old.0) }
+        requires within { AreBelow self.old.1 (addresses (slot_size P.profile) base count) }
+        ensures { self.new ≡ (addresses (slot_size P.profile) base count ++ self.old.0, self.old.1) }
     {
         let mut left = count;
         while left > 0 {

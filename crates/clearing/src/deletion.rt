@@ -35,10 +35,10 @@ pub trait Finalise {
 /// Puts the slots of an object in front of the chain, by rising address.
 #[tactic(auto, unfolding(derivation::specs::Slots::slots_of))]
 fn push_slots<P: Profile>(chain: &mut SlotChain<P>, cap: Cap)
-    requires lawful { IsLawful P.the (word_bits P.the) cap }
-    requires distinct { AreDistinct (slots_of P.the cap ++ chain.old.0) }
-    requires within { AreBelow chain.old.1 (slots_of P.the cap) }
-    ensures { chain.new ≡ (slots_of P.the cap ++ chain.old.0, chain.old.1) }
+    requires lawful { IsLawful P.profile (word_bits P.profile) cap }
+    requires distinct { AreDistinct (slots_of P.profile cap ++ chain.old.0) }
+    requires within { AreBelow chain.old.1 (slots_of P.profile cap) }
+    ensures { chain.new ≡ (slots_of P.profile cap ++ chain.old.0, chain.old.1) }
 {
     match cap {
         Cap::CNode { base, radix, .. } => chain.push_node(base, 1 << radix),
@@ -54,13 +54,13 @@ fn clear_one<P: Profile, S: CapStore<P>, F: Finalise>(
     chain: &mut SlotChain<P>,
     slot: Slot,
 )
-    requires no_null { HoldsNoNull P.the slot (S.forest store.old) }
-    requires distinct { AreDistinct (rest_after P.the slot (S.forest store.old) chain.old.0) }
-    requires within { AreBelow chain.old.1 (rest_after P.the slot (S.forest store.old) chain.old.0) }
-    ensures forest { S.forest store.new ≡ emptied (address_of P.the slot) (S.forest store.old) }
+    requires no_null { HoldsNoNull P.profile slot (S.forest store.old) }
+    requires distinct { AreDistinct (rest_after P.profile slot (S.forest store.old) chain.old.0) }
+    requires within { AreBelow chain.old.1 (rest_after P.profile slot (S.forest store.old) chain.old.0) }
+    ensures forest { S.forest store.new ≡ emptied (address_of P.profile slot) (S.forest store.old) }
     ensures memory { S.memory_bits store.new ≡ S.memory_bits store.old }
-    ensures ended { F.Ended (ends_object P.the slot (S.forest store.old)) rest.old rest.new }
-    ensures chain { chain.new ≡ (rest_after P.the slot (S.forest store.old) chain.old.0, chain.old.1) }
+    ensures ended { F.Ended (ends_object P.profile slot (S.forest store.old)) rest.old rest.new }
+    ensures chain { chain.new ≡ (rest_after P.profile slot (S.forest store.old) chain.old.0, chain.old.1) }
 {
     let cap = store.get(slot);
     if let Cap::Null = cap {
@@ -82,10 +82,10 @@ pub fn clear<P: Profile, S: CapStore<P>, F: Finalise>(
     chain: &mut SlotChain<P>,
     slot: Slot,
 )
-    requires clearable { IsClearable P.the chain.old.1 (preorder (S.forest store.old)) }
-    requires within { address_of P.the slot < chain.old.1 }
+    requires clearable { IsClearable P.profile chain.old.1 (preorder (S.forest store.old)) }
+    requires within { address_of P.profile slot < chain.old.1 }
     requires empty { chain.old.0 ≡ [] }
-    ensures forest { S.forest store.new ≡ cleared_forest P.the (address_of P.the slot) (S.forest store.old) }
+    ensures forest { S.forest store.new ≡ cleared_forest P.profile (address_of P.profile slot) (S.forest store.old) }
     ensures memory { S.memory_bits store.new ≡ S.memory_bits store.old }
     ensures ended { F.Ended (ended (S.forest store.old) (S.forest store.new)) rest.old rest.new }
     ensures chain { chain.new ≡ chain.old }
@@ -104,9 +104,9 @@ pub fn revoke<P: Profile, S: CapStore<P>, F: Finalise>(
     chain: &mut SlotChain<P>,
     slot: Slot,
 )
-    requires clearable { IsClearable P.the chain.old.1 (preorder (S.forest store.old)) }
+    requires clearable { IsClearable P.profile chain.old.1 (preorder (S.forest store.old)) }
     requires empty { chain.old.0 ≡ [] }
-    ensures forest { S.forest store.new ≡ revoked_forest P.the (address_of P.the slot) (S.forest store.old) }
+    ensures forest { S.forest store.new ≡ revoked_forest P.profile (address_of P.profile slot) (S.forest store.old) }
     ensures memory { S.memory_bits store.new ≡ S.memory_bits store.old }
     ensures ended { F.Ended (ended (S.forest store.old) (S.forest store.new)) rest.old rest.new }
     ensures chain { chain.new ≡ chain.old }

@@ -4,6 +4,7 @@ pub mod Passed
 pub mod Changes
 pub mod Spared
 pub mod Runs
+pub mod Delivered
 pub mod Tested
 pub mod Closed
 pub mod Rising

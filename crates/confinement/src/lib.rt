@@ -8,7 +8,9 @@ mod listed;
 mod order;
 mod parts;
 
-pub use laws::{calls_keep_within_their_part, closed_parts_stay_closed};
+pub use laws::{
+    calls_keep_within_their_part, closed_parts_stay_closed, deliveries_stay_within_uses,
+};
 pub use listed::{PartMemory, PartUse, part_at};
 pub use order::owns_endpoint;
 pub use parts::{Parts, are_parts_closed, parts_around};

@@ -116,7 +116,7 @@ fn is_allowed(uses: &[PartUse], part: u64, cap: Cap) -> bool
 
 /// Whether a capability may stand in a part.
 pub fn is_within<P: Profile>(memory: &[PartMemory], uses: &[PartUse], part: u64, cap: Cap) -> bool
-    ensures { result ≡ spec.is_within P.the memory.now uses.now part cap }
+    ensures { result ≡ spec.is_within P.profile memory.now uses.now part cap }
 {
     match range_of::<P>(cap) {
         Some(range) => is_range_owned(memory, part, range) || is_allowed(uses, part, cap),
@@ -126,7 +126,7 @@ pub fn is_within<P: Profile>(memory: &[PartMemory], uses: &[PartUse], part: u64,
 
 /// Whether a slot lies in no part, or a capability may stand in the part in which it lies.
 pub fn may_stand<P: Profile>(memory: &[PartMemory], uses: &[PartUse], slot: u64, cap: Cap) -> bool
-    ensures { result ≡ spec.stands_in P.the memory.now uses.now cap (spec.part_at memory.now slot) }
+    ensures { result ≡ spec.stands_in P.profile memory.now uses.now cap (spec.part_at memory.now slot) }
 {
     match part_at(memory, slot) {
         Some(part) => is_within::<P>(memory, uses, part, cap),

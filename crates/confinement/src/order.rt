@@ -44,7 +44,8 @@ fn are_stretches(memory: &[PartMemory]) -> bool
 }
 
 fn is_memory_rising(memory: &[PartMemory]) -> bool
-    ensures { result ≡ true → AllAdjacentBelow (λ m n. spec.lies_behind m n ≡ true) memory.now (length memory.now) }
+    ensures rising { result ≡ true → AllAdjacentBelow (λ m n. spec.lies_behind m n ≡ true) memory.now (length memory.now) }
+    ensures only { AllAdjacentBelow (λ m n. spec.lies_behind m n ≡ true) memory.now (length memory.now) → result ≡ true }
 {
     memory.is_sorted_by(|m, n| lies_behind(m, n))
 }
@@ -67,14 +68,15 @@ fn comes_before(this: &PartUse, next: &PartUse) -> bool
 }
 
 fn are_uses_rising(uses: &[PartUse]) -> bool
-    ensures { result ≡ true → AllAdjacentBelow (λ u w. spec.comes_before u w ≡ true) uses.now (length uses.now) }
+    ensures rising { result ≡ true → AllAdjacentBelow (λ u w. spec.comes_before u w ≡ true) uses.now (length uses.now) }
+    ensures only { AllAdjacentBelow (λ u w. spec.comes_before u w ≡ true) uses.now (length uses.now) → result ≡ true }
 {
     uses.is_sorted_by(|u, w| comes_before(u, w))
 }
 
 /// Whether a part owns the endpoint at an address.
 pub fn owns_endpoint<P: Profile>(memory: &[PartMemory], part: u64, endpoint: u64) -> bool
-    ensures { result ≡ spec.owns_endpoint P.the memory.now part endpoint }
+    ensures { result ≡ spec.owns_endpoint P.profile memory.now part endpoint }
 {
     let range = Range {
         first: endpoint,
@@ -103,20 +105,21 @@ fn one_says_more(uses: &[PartUse], this: &PartUse) -> bool
 
 /// Whether a use is of an endpoint that the part does not own, and no other use says more.
 pub fn is_needed<P: Profile>(memory: &[PartMemory], uses: &[PartUse], this: &PartUse) -> bool
-    ensures { result ≡ spec.is_needed P.the memory.now uses.now this.now }
+    ensures { result ≡ spec.is_needed P.profile memory.now uses.now this.now }
 {
     !owns_endpoint::<P>(memory, this.part, this.endpoint) && !one_says_more(uses, this)
 }
 
 fn are_uses_needed<P: Profile>(memory: &[PartMemory], uses: &[PartUse]) -> bool
-    ensures { result ≡ list_all (spec.is_needed P.the memory.now uses.now) uses.now }
+    ensures { result ≡ list_all (spec.is_needed P.profile memory.now uses.now) uses.now }
 {
     uses.iter().all(|u| is_needed::<P>(memory, uses, u))
 }
 
 /// Whether parts stand in the order in which they are told, with nothing in them that goes without saying.
 pub fn are_in_order<P: Profile>(memory: &[PartMemory], uses: &[PartUse]) -> bool
-    ensures { result ≡ true → spec.AreInOrder P.the memory.now uses.now }
+    ensures order { result ≡ true → spec.AreInOrder P.profile memory.now uses.now }
+    ensures only { spec.AreInOrder P.profile memory.now uses.now → result ≡ true }
 {
     are_stretches(memory)
         && is_memory_rising(memory)

@@ -24,7 +24,7 @@ pub struct Parts {
 }
 
 fn stands<P: Profile>(memory: &[PartMemory], uses: &[PartUse], derivation: &Derivation) -> bool
-    ensures { result ≡ entry_stands P.the memory.now uses.now (derivation_view P.the derivation.now).0 }
+    ensures { result ≡ entry_stands P.profile memory.now uses.now (derivation_view P.profile derivation.now).0 }
 {
     let slot = derivation.slot.address::<P>();
     may_stand::<P>(memory, uses, slot, derivation.cap)
@@ -35,7 +35,7 @@ fn all_stand<P: Profile>(
     uses: &[PartUse],
     derivations: &[Derivation],
 ) -> bool
-    ensures { result ≡ list_all (λ d. entry_stands P.the memory.now uses.now (derivation_view P.the d).0) derivations.now }
+    ensures { result ≡ list_all (λ d. entry_stands P.profile memory.now uses.now (derivation_view P.profile d).0) derivations.now }
 {
     derivations.iter().all(|d| stands::<P>(memory, uses, d))
 }
@@ -56,8 +56,8 @@ pub fn are_parts_closed<P: Profile, S: DerivationStore<P> + Drop, W: Waiters<P> 
     memory: &[PartMemory],
     uses: &[PartUse],
 ) -> Result<bool, AllocError>
-    ensures value { IfOk result (λ closed. closed ≡ are_closed_in P.the memory.now uses.now kernel.now.derivations) }
-    ensures ever { IfOk result (λ closed. closed ≡ true → AreConfinedEver P.the memory.now uses.now kernel.now) }
+    ensures value { IfOk result (λ closed. closed ≡ are_closed_in P.profile memory.now uses.now kernel.now.derivations) }
+    ensures ever { IfOk result (λ closed. closed ≡ true → AreConfinedEver P.profile memory.now uses.now kernel.now) }
 {
     let derivations = kernel.derivations(alloc)?;
     Ok(all_stand::<P>(memory, uses, derivations.as_slice()))
@@ -71,8 +71,8 @@ fn are_right<P: Profile, S: DerivationStore<P> + Drop, W: Waiters<P> + Drop>(
     memory: &[PartMemory],
     uses: &[PartUse],
 ) -> Result<bool, AllocError>
-    ensures ever { IfOk result (λ right. right ≡ true → AreConfinedEver P.the memory.now uses.now kernel.now) }
-    ensures order { IfOk result (λ right. right ≡ true → AreInOrder P.the memory.now uses.now) }
+    ensures ever { IfOk result (λ right. right ≡ true → AreConfinedEver P.profile memory.now uses.now kernel.now) }
+    ensures order { IfOk result (λ right. right ≡ true → AreInOrder P.profile memory.now uses.now) }
     ensures threads { IfOk result (λ right. right ≡ true → AreInParts memory.now threads.now) }
 {
     if !are_in_order::<P>(memory, uses) || !are_in_parts(memory, threads) {
@@ -115,8 +115,8 @@ pub fn parts_around<P: Profile, S: DerivationStore<P> + Drop, W: Waiters<P> + Dr
     kernel: &Kernel<P, S, W>,
     threads: &[u64],
 ) -> Result<Parts, AllocError>
-    ensures ever { IfOk result (λ parts. AreConfinedEver P.the parts.memory.items parts.uses.items kernel.now) }
-    ensures order { IfOk result (λ parts. AreInOrder P.the parts.memory.items parts.uses.items) }
+    ensures ever { IfOk result (λ parts. AreConfinedEver P.profile parts.memory.items parts.uses.items kernel.now) }
+    ensures order { IfOk result (λ parts. AreInOrder P.profile parts.memory.items parts.uses.items) }
     ensures threads { IfOk result (λ parts. AreInParts parts.memory.items threads.now) }
 {
     let derivations = kernel.derivations(alloc)?;

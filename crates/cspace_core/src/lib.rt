@@ -31,12 +31,12 @@ pub fn resolve<P: Profile, S: CapStore<P>>(
     address: u64,
     bits: u32,
 ) -> Result<(Slot, u32), LookupFault>
-    requires lawful { (root ≡ Null) ⊎ IsLawful P.the (S.memory_bits store.now) root }
-    requires bits { bits ≤ word_bits P.the }
-    ensures value { found P.the result ≡ resolution P.the (cap_at (S.forest store.now)) root (low_bits bits address) }
-    ensures within { IfOk result (λ r. address_of P.the r.0 < 2 ^ S.memory_bits store.now) }
-    ensures inside { IfOk result (λ r. LiesInCNode P.the (cap_at (S.forest store.now)) root (address_of P.the r.0)) }
-    ensures relation { Resolves P.the (cap_at (S.forest store.now)) root (low_bits bits address) (found P.the result) }
+    requires lawful { (root ≡ Null) ⊎ IsLawful P.profile (S.memory_bits store.now) root }
+    requires bits { bits ≤ word_bits P.profile }
+    ensures value { found P.profile result ≡ resolution P.profile (cap_at (S.forest store.now)) root (low_bits bits address) }
+    ensures within { IfOk result (λ r. address_of P.profile r.0 < 2 ^ S.memory_bits store.now) }
+    ensures inside { IfOk result (λ r. LiesInCNode P.profile (cap_at (S.forest store.now)) root (address_of P.profile r.0)) }
+    ensures relation { Resolves P.profile (cap_at (S.forest store.now)) root (low_bits bits address) (found P.profile result) }
 {
     let mut cap = root;
     let mut left = bits;
@@ -68,12 +68,12 @@ pub fn target<P: Profile, S: CapStore<P>>(
     index: u64,
     depth: u64,
 ) -> Result<Slot, Refusal>
-    requires lawful { (root ≡ Null) ⊎ IsLawful P.the (S.memory_bits store.now) root }
-    ensures value { target_seen P.the result ≡ target_slot P.the (cap_at (S.forest store.now)) root index depth }
-    ensures within { IfOk result (λ slot. address_of P.the slot < 2 ^ S.memory_bits store.now) }
-    ensures inside { IfOk result (λ slot. LiesInCNode P.the (cap_at (S.forest store.now)) root (address_of P.the slot)) }
-    ensures relation { IfOk result (λ slot. Resolves P.the (cap_at (S.forest store.now)) root (low_bits depth index)
-        (Ok (record { slot = address_of P.the slot; left = 0 }))) }
+    requires lawful { (root ≡ Null) ⊎ IsLawful P.profile (S.memory_bits store.now) root }
+    ensures value { target_seen P.profile result ≡ target_slot P.profile (cap_at (S.forest store.now)) root index depth }
+    ensures within { IfOk result (λ slot. address_of P.profile slot < 2 ^ S.memory_bits store.now) }
+    ensures inside { IfOk result (λ slot. LiesInCNode P.profile (cap_at (S.forest store.now)) root (address_of P.profile slot)) }
+    ensures relation { IfOk result (λ slot. Resolves P.profile (cap_at (S.forest store.now)) root (low_bits depth index)
+        (Ok (record { slot = address_of P.profile slot; left = 0 }))) }
 {
     let Cap::CNode { .. } = root else {
         return Err(Refusal::FailedLookup(LookupFault::InvalidRoot));
@@ -91,11 +91,11 @@ pub fn target<P: Profile, S: CapStore<P>>(
 /// What one capability makes of the low bits of an address: the slot that it chooses, and how many bits are left.
 #[inline(always)]
 fn choose<P: Profile>(cap: Cap, address: u64, bits: u32) -> Result<(Slot, u32), LookupFault>
-    requires lawful { (cap ≡ Null) ⊎ IsLawful P.the (word_bits P.the) cap }
-    requires bits { bits ≤ word_bits P.the }
-    ensures is { Chooses P.the cap (low_bits bits address) (choice_seen P.the address result) }
+    requires lawful { (cap ≡ Null) ⊎ IsLawful P.profile (word_bits P.profile) cap }
+    requires bits { bits ≤ word_bits P.profile }
+    ensures is { Chooses P.profile cap (low_bits bits address) (choice_seen P.profile address result) }
     ensures less { IfOk result (λ r. r.1 < bits) }
-    ensures within { (memory : ℕ) → (cap ≡ Null) ⊎ IsLawful P.the memory cap → IfOk result (λ r. address_of P.the r.0 < 2 ^ memory) }
+    ensures within { (memory : ℕ) → (cap ≡ Null) ⊎ IsLawful P.profile memory cap → IfOk result (λ r. address_of P.profile r.0 < 2 ^ memory) }
 {
     let Cap::CNode { base, radix, guard } = cap else {
         return Err(LookupFault::InvalidRoot);

@@ -19,7 +19,7 @@ fn is_resolved<P: Profile, S: CapStore<P>>(
     want: Result<(u64, u32), LookupFault>,
 ) -> bool
     requires memory { S.memory_bits store.now ≡ memory_bits }
-    requires lawful { (root ≡ Null) ⊎ IsLawful P.the memory_bits root }
+    requires lawful { (root ≡ Null) ⊎ IsLawful P.profile memory_bits root }
 {
     match resolve::<P, S>(store, root, address, P::WORD_BITS) {
         Ok((slot, left)) => want == Ok((slot.address::<P>(), left)),
@@ -36,7 +36,7 @@ fn is_target<P: Profile, S: CapStore<P>>(
     want: Result<u64, (u32, u32)>,
 ) -> bool
     requires memory { S.memory_bits store.now ≡ memory_bits }
-    requires lawful { (root ≡ Null) ⊎ IsLawful P.the memory_bits root }
+    requires lawful { (root ≡ Null) ⊎ IsLawful P.profile memory_bits root }
 {
     match target::<P, S>(store, root, index, depth) {
         Ok(slot) => want == Ok(slot.address::<P>()),

@@ -23,7 +23,7 @@ const ENDPOINT_BASE: u64 = 6144;
 
 /// The CNode of sixteen slots, with a guard.
 pub fn root<P: Profile>(value: u64, size: u32) -> Cap
-    requires size { size + 4 ≤ word_bits P.the }
+    requires size { size + 4 ≤ word_bits P.profile }
     requires value { value < 2 ^ size }
     ensures { result ≡ CNode 0 4 (record { value = value; size = size }) }
 {
@@ -58,7 +58,7 @@ fn endpoint() -> Cap
 /// A slot of the CNode of sixteen slots.
 fn in_root<P: Profile>(index: u64) -> Slot
     requires { index < 16 }
-    ensures { address_of P.the result ≡ index * slot_size P.the }
+    ensures { address_of P.profile result ≡ index * slot_size P.profile }
 {
     Slot::of_node::<P>(0, index)
 }
@@ -66,7 +66,7 @@ fn in_root<P: Profile>(index: u64) -> Slot
 /// A slot of the CNode of four slots.
 fn in_node<P: Profile>(index: u64) -> Slot
     requires { index < 4 }
-    ensures { address_of P.the result ≡ 16384 + index * slot_size P.the }
+    ensures { address_of P.profile result ≡ 16384 + index * slot_size P.profile }
 {
     Slot::of_node::<P>(NODE_BASE, index)
 }
@@ -91,52 +91,52 @@ fn put_root_node<P: Profile, S: MakeStore<P>>(store: &mut S)
     requires memory { S.memory_bits store.old ≡ memory_bits }
     requires forest { S.forest store.old ≡ none }
     ensures memory { S.memory_bits store.new ≡ memory_bits }
-    ensures forest { S.forest store.new ≡ with_root P.the }
+    ensures forest { S.forest store.new ≡ with_root P.profile }
 {
     store.put_root(in_root::<P>(1), root::<P>(0, P::WORD_BITS - ROOT_RADIX));
 }
 
 fn put_endpoint<P: Profile, S: MakeStore<P>>(store: &mut S)
     requires memory { S.memory_bits store.old ≡ memory_bits }
-    requires forest { S.forest store.old ≡ with_root P.the }
+    requires forest { S.forest store.old ≡ with_root P.profile }
     ensures memory { S.memory_bits store.new ≡ memory_bits }
-    ensures forest { S.forest store.new ≡ with_endpoint P.the }
+    ensures forest { S.forest store.new ≡ with_endpoint P.profile }
 {
     store.put_root(in_root::<P>(4), endpoint());
 }
 
 fn put_node<P: Profile, S: MakeStore<P>>(store: &mut S)
     requires memory { S.memory_bits store.old ≡ memory_bits }
-    requires forest { S.forest store.old ≡ with_endpoint P.the }
+    requires forest { S.forest store.old ≡ with_endpoint P.profile }
     ensures memory { S.memory_bits store.new ≡ memory_bits }
-    ensures forest { S.forest store.new ≡ with_node P.the }
+    ensures forest { S.forest store.new ≡ with_node P.profile }
 {
     store.put_root(in_root::<P>(8), node(0, 0));
 }
 
 fn derive_guarded<P: Profile, S: MakeStore<P>>(store: &mut S)
     requires memory { S.memory_bits store.old ≡ memory_bits }
-    requires forest { S.forest store.old ≡ with_node P.the }
+    requires forest { S.forest store.old ≡ with_node P.profile }
     ensures memory { S.memory_bits store.new ≡ memory_bits }
-    ensures forest { S.forest store.new ≡ with_guarded P.the }
+    ensures forest { S.forest store.new ≡ with_guarded P.profile }
 {
     store.derive(in_root::<P>(8), in_root::<P>(9), node(0b101, 3));
 }
 
 fn derive_copy<P: Profile, S: MakeStore<P>>(store: &mut S)
     requires memory { S.memory_bits store.old ≡ memory_bits }
-    requires forest { S.forest store.old ≡ with_guarded P.the }
+    requires forest { S.forest store.old ≡ with_guarded P.profile }
     ensures memory { S.memory_bits store.new ≡ memory_bits }
-    ensures forest { S.forest store.new ≡ with_copy P.the }
+    ensures forest { S.forest store.new ≡ with_copy P.profile }
 {
     store.derive(in_root::<P>(4), in_node::<P>(3), endpoint());
 }
 
 fn derive_itself<P: Profile, S: MakeStore<P>>(store: &mut S)
     requires memory { S.memory_bits store.old ≡ memory_bits }
-    requires forest { S.forest store.old ≡ with_copy P.the }
+    requires forest { S.forest store.old ≡ with_copy P.profile }
     ensures memory { S.memory_bits store.new ≡ memory_bits }
-    ensures forest { S.forest store.new ≡ with_itself P.the }
+    ensures forest { S.forest store.new ≡ with_itself P.profile }
 {
     store.derive(in_root::<P>(8), in_node::<P>(0), node(0, 0));
 }

@@ -26,9 +26,9 @@ pub fn decode_placement<P: Profile, S: CapStore<P>>(
     change: Change,
 ) -> Result<CapPlacement, Refusal>
     requires memory { S.memory_bits store.now ≤ MAX_MEMORY_BITS }
-    requires thread { IsThreadAddress P.the (S.memory_bits store.now) thread }
-    requires lawful { (invoked ≡ Null) ⊎ IsLawful P.the (S.memory_bits store.now) invoked }
-    ensures { result ≡ decoded_placement P.the (S.forest store.now) thread invoked asked change }
+    requires thread { IsThreadAddress P.profile (S.memory_bits store.now) thread }
+    requires lawful { (invoked ≡ Null) ⊎ IsLawful P.profile (S.memory_bits store.now) invoked }
+    ensures { result ≡ decoded_placement P.profile (S.forest store.now) thread invoked asked change }
 {
     let node = of_kind(invoked, Kind::CNode)?;
     let root = extra_capability::<P, S>(store, thread, asked.src_root)?;
@@ -49,7 +49,7 @@ fn changed<P: Profile, S: CapStore<P>>(
     source: Slot,
     change: Change,
 ) -> Result<Cap, Refusal>
-    ensures { result ≡ changed_cap P.the (S.forest store.now) (address_of P.the source) change (cap_at (S.forest store.now) (address_of P.the source)) }
+    ensures { result ≡ changed_cap P.profile (S.forest store.now) (address_of P.profile source) change (cap_at (S.forest store.now) (address_of P.profile source)) }
 {
     let cap = store.get(source);
     match change {
@@ -66,7 +66,7 @@ fn changed<P: Profile, S: CapStore<P>>(
 /// A capability with its data set by a word, where it has such data.
 #[inline(always)]
 pub fn with_word<P: Profile>(preserve: bool, word: u64, cap: Cap) -> Result<Cap, Refusal>
-    ensures { result ≡ where_set (with_data P.the preserve word cap) }
+    ensures { result ≡ where_set (with_data P.profile preserve word cap) }
 {
     set_data::<P>(preserve, word, cap).ok_or(Refusal::IllegalOperation)
 }
@@ -74,7 +74,7 @@ pub fn with_word<P: Profile>(preserve: bool, word: u64, cap: Cap) -> Result<Cap,
 /// A capability that may be derived from the one in a slot: an untyped one where nothing was derived from it.
 #[inline(always)]
 fn derivable<P: Profile, S: CapStore<P>>(store: &S, source: Slot, cap: Cap) -> Result<Cap, Refusal>
-    ensures { result ≡ where_derivable (S.forest store.now) (address_of P.the source) cap }
+    ensures { result ≡ where_derivable (S.forest store.now) (address_of P.profile source) cap }
 {
     match cap {
         Cap::Untyped { .. } => {

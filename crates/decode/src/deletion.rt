@@ -22,8 +22,8 @@ pub fn decode_delete<P: Profile, S: CapStore<P>>(
     index: u64,
     depth: u64,
 ) -> Result<Invocation, Refusal>
-    requires lawful { (invoked ≡ Null) ⊎ IsLawful P.the (S.memory_bits store.now) invoked }
-    ensures { result ≡ invokes Delete (decoded_slot P.the (S.forest store.now) invoked index depth) }
+    requires lawful { (invoked ≡ Null) ⊎ IsLawful P.profile (S.memory_bits store.now) invoked }
+    ensures { result ≡ invokes Delete (decoded_slot P.profile (S.forest store.now) invoked index depth) }
 {
     let slot = decode_slot::<P, S>(store, invoked, index, depth)?;
     Ok(Invocation::Delete(slot.address::<P>()))
@@ -37,8 +37,8 @@ pub fn decode_revoke<P: Profile, S: CapStore<P>>(
     index: u64,
     depth: u64,
 ) -> Result<Invocation, Refusal>
-    requires lawful { (invoked ≡ Null) ⊎ IsLawful P.the (S.memory_bits store.now) invoked }
-    ensures { result ≡ invokes Revoke (decoded_slot P.the (S.forest store.now) invoked index depth) }
+    requires lawful { (invoked ≡ Null) ⊎ IsLawful P.profile (S.memory_bits store.now) invoked }
+    ensures { result ≡ invokes Revoke (decoded_slot P.profile (S.forest store.now) invoked index depth) }
 {
     let slot = decode_slot::<P, S>(store, invoked, index, depth)?;
     Ok(Invocation::Revoke(slot.address::<P>()))
@@ -52,8 +52,8 @@ pub fn decode_cancel_badged<P: Profile, S: CapStore<P>>(
     index: u64,
     depth: u64,
 ) -> Result<Invocation, Refusal>
-    requires lawful { (invoked ≡ Null) ⊎ IsLawful P.the (S.memory_bits store.now) invoked }
-    ensures { result ≡ invokes CancelBadged (decoded_badge P.the (S.forest store.now) invoked index depth) }
+    requires lawful { (invoked ≡ Null) ⊎ IsLawful P.profile (S.memory_bits store.now) invoked }
+    ensures { result ≡ invokes CancelBadged (decoded_badge P.profile (S.forest store.now) invoked index depth) }
 {
     let slot = decode_slot::<P, S>(store, invoked, index, depth)?;
     let service = with_all_rights(store.get(slot))?;
@@ -68,8 +68,8 @@ fn decode_slot<P: Profile, S: CapStore<P>>(
     index: u64,
     depth: u64,
 ) -> Result<Slot, Refusal>
-    requires lawful { (invoked ≡ Null) ⊎ IsLawful P.the (S.memory_bits store.now) invoked }
-    ensures { target_seen P.the result ≡ decoded_slot P.the (S.forest store.now) invoked index depth }
+    requires lawful { (invoked ≡ Null) ⊎ IsLawful P.profile (S.memory_bits store.now) invoked }
+    ensures { target_seen P.profile result ≡ decoded_slot P.profile (S.forest store.now) invoked index depth }
 {
     let node = of_kind(invoked, Kind::CNode)?;
     target::<P, S>(store, node, index, depth)

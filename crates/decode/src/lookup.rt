@@ -23,8 +23,8 @@ pub fn named_slot<P: Profile, S: CapStore<P>>(
     word: u64,
 ) -> Result<Slot, Refusal>
     requires memory { S.memory_bits store.now ≤ MAX_MEMORY_BITS }
-    requires thread { IsThreadAddress P.the (S.memory_bits store.now) thread }
-    ensures { target_seen P.the result ≡ invoked_slot P.the (S.forest store.now) thread word }
+    requires thread { IsThreadAddress P.profile (S.memory_bits store.now) thread }
+    ensures { target_seen P.profile result ≡ invoked_slot P.profile (S.forest store.now) thread word }
 {
     let root = Slot::of_node::<P>(thread, 0);
     match resolve::<P, S>(store, store.get(root), word, P::WORD_BITS) {
@@ -41,9 +41,9 @@ pub fn extra_capability<P: Profile, S: CapStore<P>>(
     word: u64,
 ) -> Result<Cap, Refusal>
     requires memory { S.memory_bits store.now ≤ MAX_MEMORY_BITS }
-    requires thread { IsThreadAddress P.the (S.memory_bits store.now) thread }
-    ensures cap { result ≡ extra_cap P.the (S.forest store.now) thread word }
-    ensures lawful { IfOk result (λ cap. (cap ≡ Null) ⊎ IsLawful P.the (S.memory_bits store.now) cap) }
+    requires thread { IsThreadAddress P.profile (S.memory_bits store.now) thread }
+    ensures cap { result ≡ extra_cap P.profile (S.forest store.now) thread word }
+    ensures lawful { IfOk result (λ cap. (cap ≡ Null) ⊎ IsLawful P.profile (S.memory_bits store.now) cap) }
 {
     let slot = named_slot::<P, S>(store, thread, word)?;
     Ok(store.get(slot))
@@ -75,9 +75,9 @@ pub fn empty_slot<P: Profile, S: CapStore<P>>(
     index: u64,
     depth: u64,
 ) -> Result<Slot, Refusal>
-    requires lawful { (node ≡ Null) ⊎ IsLawful P.the (S.memory_bits store.now) node }
-    ensures slot { target_seen P.the result ≡ empty_slot_of P.the (S.forest store.now) node index depth }
-    ensures inside { IfOk result (λ slot. LiesInCNode P.the (cap_at (S.forest store.now)) node (address_of P.the slot)) }
+    requires lawful { (node ≡ Null) ⊎ IsLawful P.profile (S.memory_bits store.now) node }
+    ensures slot { target_seen P.profile result ≡ empty_slot_of P.profile (S.forest store.now) node index depth }
+    ensures inside { IfOk result (λ slot. LiesInCNode P.profile (cap_at (S.forest store.now)) node (address_of P.profile slot)) }
 {
     let slot = target::<P, S>(store, node, index, depth)?;
     match store.get(slot) {
@@ -94,8 +94,8 @@ pub fn full_slot<P: Profile, S: CapStore<P>>(
     index: u64,
     depth: u64,
 ) -> Result<Slot, Refusal>
-    requires lawful { (node ≡ Null) ⊎ IsLawful P.the (S.memory_bits store.now) node }
-    ensures { target_seen P.the result ≡ full_slot_of P.the (S.forest store.now) node index depth }
+    requires lawful { (node ≡ Null) ⊎ IsLawful P.profile (S.memory_bits store.now) node }
+    ensures { target_seen P.profile result ≡ full_slot_of P.profile (S.forest store.now) node index depth }
 {
     let slot = target::<P, S>(store, node, index, depth)?;
     match store.get(slot) {

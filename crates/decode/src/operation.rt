@@ -29,8 +29,8 @@ pub fn decode_op<P: Profile, S: CapStore<P>>(
     op: &Op,
 ) -> Result<Invocation, Refusal>
     requires memory { S.memory_bits store.now ≤ MAX_MEMORY_BITS }
-    requires thread { IsThreadAddress P.the (S.memory_bits store.now) thread }
-    ensures { result ≡ decoded_op P.the (S.forest store.now) thread op.now }
+    requires thread { IsThreadAddress P.profile (S.memory_bits store.now) thread }
+    ensures { result ≡ decoded_op P.profile (S.forest store.now) thread op.now }
 {
     let slot = named_slot::<P, S>(store, thread, service_word(op))?;
     decode_invocation::<P, S>(store, thread, op, slot)
@@ -69,8 +69,8 @@ fn decode_invocation<P: Profile, S: CapStore<P>>(
     slot: Slot,
 ) -> Result<Invocation, Refusal>
     requires memory { S.memory_bits store.now ≤ MAX_MEMORY_BITS }
-    requires thread { IsThreadAddress P.the (S.memory_bits store.now) thread }
-    ensures { result ≡ decoded_invocation P.the (S.forest store.now) thread op.now (address_of P.the slot) }
+    requires thread { IsThreadAddress P.profile (S.memory_bits store.now) thread }
+    ensures { result ≡ decoded_invocation P.profile (S.forest store.now) thread op.now (address_of P.profile slot) }
 {
     match *op {
         Op::Retype { kind, size_bits, root, index, depth, offset, count, .. } => {
@@ -122,8 +122,8 @@ fn decode_new_objects<P: Profile, S: CapStore<P>>(
     asked: RetypeArguments,
 ) -> Result<Invocation, Refusal>
     requires memory { S.memory_bits store.now ≤ MAX_MEMORY_BITS }
-    requires thread { IsThreadAddress P.the (S.memory_bits store.now) thread }
-    ensures { let f = S.forest store.now in let at = address_of P.the slot in result ≡ retypes (decoded_retype P.the f thread at (cap_at f at) asked) }
+    requires thread { IsThreadAddress P.profile (S.memory_bits store.now) thread }
+    ensures { let f = S.forest store.now in let at = address_of P.profile slot in result ≡ retypes (decoded_retype P.profile f thread at (cap_at f at) asked) }
 {
     let new = decode_retype::<P, S>(store, thread, slot, asked)?;
     Ok(Invocation::Retype(new))
@@ -139,9 +139,9 @@ fn decode_derive<P: Profile, S: CapStore<P>>(
     change: Change,
 ) -> Result<Invocation, Refusal>
     requires memory { S.memory_bits store.now ≤ MAX_MEMORY_BITS }
-    requires thread { IsThreadAddress P.the (S.memory_bits store.now) thread }
-    requires lawful { (invoked ≡ Null) ⊎ IsLawful P.the (S.memory_bits store.now) invoked }
-    ensures { result ≡ derives (decoded_placement P.the (S.forest store.now) thread invoked slots change) }
+    requires thread { IsThreadAddress P.profile (S.memory_bits store.now) thread }
+    requires lawful { (invoked ≡ Null) ⊎ IsLawful P.profile (S.memory_bits store.now) invoked }
+    ensures { result ≡ derives (decoded_placement P.profile (S.forest store.now) thread invoked slots change) }
 {
     let placement = decode_placement::<P, S>(store, thread, invoked, slots, change)?;
     Ok(Invocation::Derive(placement))
@@ -157,9 +157,9 @@ fn decode_move<P: Profile, S: CapStore<P>>(
     change: Change,
 ) -> Result<Invocation, Refusal>
     requires memory { S.memory_bits store.now ≤ MAX_MEMORY_BITS }
-    requires thread { IsThreadAddress P.the (S.memory_bits store.now) thread }
-    requires lawful { (invoked ≡ Null) ⊎ IsLawful P.the (S.memory_bits store.now) invoked }
-    ensures { result ≡ moves (decoded_placement P.the (S.forest store.now) thread invoked slots change) }
+    requires thread { IsThreadAddress P.profile (S.memory_bits store.now) thread }
+    requires lawful { (invoked ≡ Null) ⊎ IsLawful P.profile (S.memory_bits store.now) invoked }
+    ensures { result ≡ moves (decoded_placement P.profile (S.forest store.now) thread invoked slots change) }
 {
     let placement = decode_placement::<P, S>(store, thread, invoked, slots, change)?;
     Ok(Invocation::Move(placement))

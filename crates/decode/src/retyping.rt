@@ -32,8 +32,8 @@ pub fn decode_retype<P: Profile, S: CapStore<P>>(
     asked: RetypeArguments,
 ) -> Result<NewObjects, Refusal>
     requires memory { S.memory_bits store.now ≤ MAX_MEMORY_BITS }
-    requires thread { IsThreadAddress P.the (S.memory_bits store.now) thread }
-    ensures { result ≡ decoded_retype P.the (S.forest store.now) thread (address_of P.the slot) (cap_at (S.forest store.now) (address_of P.the slot)) asked }
+    requires thread { IsThreadAddress P.profile (S.memory_bits store.now) thread }
+    ensures { result ≡ decoded_retype P.profile (S.forest store.now) thread (address_of P.profile slot) (cap_at (S.forest store.now) (address_of P.profile slot)) asked }
 {
     let untyped = of_kind(store.get(slot), Kind::Untyped)?;
     let root = extra_capability::<P, S>(store, thread, asked.root)?;
@@ -51,9 +51,9 @@ fn decode_objects<P: Profile, S: CapStore<P>>(
     asked: RetypeArguments,
 ) -> Result<NewObjects, Refusal>
     requires untyped { IsRetypable untyped }
-    requires lawful { (root ≡ Null) ⊎ IsLawful P.the (S.memory_bits store.now) root }
+    requires lawful { (root ≡ Null) ⊎ IsLawful P.profile (S.memory_bits store.now) root }
     requires shape { IsShape shape }
-    ensures { result ≡ decoded_objects P.the (S.forest store.now) (address_of P.the slot) untyped root shape asked }
+    ensures { result ≡ decoded_objects P.profile (S.forest store.now) (address_of P.profile slot) untyped root shape asked }
 {
     let node = node_for::<P, S>(store, root, asked.index, asked.depth)?;
     let first_slot = first_slot::<P, S>(store, node, asked.offset, asked.count)?;
@@ -74,9 +74,9 @@ fn node_for<P: Profile, S: CapStore<P>>(
     index: u64,
     depth: u64,
 ) -> Result<Cap, Refusal>
-    requires lawful { (root ≡ Null) ⊎ IsLawful P.the (S.memory_bits store.now) root }
-    ensures cap { result ≡ node_cap P.the (S.forest store.now) root index depth }
-    ensures lawful { IfOk result (λ cap. (cap ≡ Null) ⊎ IsLawful P.the (S.memory_bits store.now) cap) }
+    requires lawful { (root ≡ Null) ⊎ IsLawful P.profile (S.memory_bits store.now) root }
+    ensures cap { result ≡ node_cap P.profile (S.forest store.now) root index depth }
+    ensures lawful { IfOk result (λ cap. (cap ≡ Null) ⊎ IsLawful P.profile (S.memory_bits store.now) cap) }
 {
     if depth == 0 {
         return Ok(root);
@@ -98,7 +98,7 @@ fn place<P: Profile, S: CapStore<P>>(
     requires shape { IsShape shape }
     requires some { 1 ≤ count }
     requires most { count ≤ MAX_RETYPE_COUNT }
-    ensures { result ≡ placed_in (has_child (address_of P.the slot) (S.forest store.now)) shape.bits count untyped }
+    ensures { result ≡ placed_in (has_child (address_of P.profile slot) (S.forest store.now)) shape.bits count untyped }
 {
     let has_children = store.first_child(slot).is_some();
     plan(untyped, has_children, shape, count)
@@ -112,8 +112,8 @@ fn first_slot<P: Profile, S: CapStore<P>>(
     offset: u64,
     count: u64,
 ) -> Result<u64, Refusal>
-    requires lawful { (node ≡ Null) ⊎ IsLawful P.the (S.memory_bits store.now) node }
-    ensures { result ≡ first_slot_of P.the (S.forest store.now) offset count node }
+    requires lawful { (node ≡ Null) ⊎ IsLawful P.profile (S.memory_bits store.now) node }
+    ensures { result ≡ first_slot_of P.profile (S.forest store.now) offset count node }
 {
     let Cap::CNode { base, radix, .. } = node else {
         return Err(Refusal::FailedLookup(LookupFault::MissingCapability));
@@ -139,9 +139,9 @@ fn has_slots(radix: u32, offset: u64, count: u64) -> bool
 
 /// Whether one of the slots that are to be filled is full: `count` slots from the address `first` on.
 fn is_some_full<P: Profile, S: CapStore<P>>(store: &S, first: u64, count: u64) -> bool
-    requires aligned { first % slot_size P.the ≡ 0 }
-    requires end { first + count * slot_size P.the ≤ 2 ^ word_bits P.the }
-    ensures { result ≡ some_full P.the (S.forest store.now) first count }
+    requires aligned { first % slot_size P.profile ≡ 0 }
+    requires end { first + count * slot_size P.profile ≤ 2 ^ word_bits P.profile }
+    ensures { result ≡ some_full P.profile (S.forest store.now) first count }
 {
     (0..count).any(|i| store.get(Slot::of_node::<P>(first, i)) != Cap::Null)
 }

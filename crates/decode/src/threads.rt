@@ -24,9 +24,9 @@ pub fn decode_set_space<P: Profile, S: CapStore<P>>(
     word: u64,
 ) -> Result<Invocation, Refusal>
     requires memory { S.memory_bits store.now ≤ MAX_MEMORY_BITS }
-    requires thread { IsThreadAddress P.the (S.memory_bits store.now) thread }
-    ensures { let f = S.forest store.now in let at = address_of P.the slot in
-        result ≡ invokes SetSpace (decoded_space P.the f thread at (cap_at f at) root word) }
+    requires thread { IsThreadAddress P.profile (S.memory_bits store.now) thread }
+    ensures { let f = S.forest store.now in let at = address_of P.profile slot in
+        result ≡ invokes SetSpace (decoded_space P.profile f thread at (cap_at f at) root word) }
 {
     let new = decode_space::<P, S>(store, thread, slot, root, word)?;
     Ok(Invocation::SetSpace(new))
@@ -43,9 +43,9 @@ fn decode_space<P: Profile, S: CapStore<P>>(
     word: u64,
 ) -> Result<NewSpace, Refusal>
     requires memory { S.memory_bits store.now ≤ MAX_MEMORY_BITS }
-    requires thread { IsThreadAddress P.the (S.memory_bits store.now) thread }
-    ensures { let f = S.forest store.now in let at = address_of P.the slot in
-        result ≡ decoded_space P.the f thread at (cap_at f at) root word }
+    requires thread { IsThreadAddress P.profile (S.memory_bits store.now) thread }
+    ensures { let f = S.forest store.now in let at = address_of P.profile slot in
+        result ≡ decoded_space P.profile f thread at (cap_at f at) root word }
 {
     let tcb = decode_tcb(store.get(slot))?;
     let source = named_slot::<P, S>(store, thread, root)?;
@@ -61,7 +61,7 @@ fn decode_space<P: Profile, S: CapStore<P>>(
 /// A CNode's capability, with the guard that a word holds where it is not 0.
 #[inline(always)]
 fn space_capability<P: Profile>(cap: Cap, word: u64) -> Result<Cap, Refusal>
-    ensures { result ≡ space_cap P.the word cap }
+    ensures { result ≡ space_cap P.profile word cap }
 {
     match cap {
         Cap::CNode { .. } => {

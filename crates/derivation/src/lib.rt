@@ -14,8 +14,8 @@ use cap_core::Profile;
 
 /// A marked list stands for exactly one forest: whatever the list, the one of `forest_of` and no other.
 pub fn lists_stand_for_forests<P: Profile>()
-    ensures stands { (l : List Marked) → StandsForEntries P.the l (forest_of P.the l) }
-    ensures alone { (l : List Marked) (f : Forest Entry) → StandsForEntries P.the l f → f ≡ forest_of P.the l }
+    ensures stands { (l : List Marked) → StandsForEntries P.profile l (forest_of P.profile l) }
+    ensures alone { (l : List Marked) (f : Forest Entry) → StandsForEntries P.profile l f → f ≡ forest_of P.profile l }
 {}
 
 /// Several slots leave a forest as they would one by one: what is left is in the order that it had, one set after

@@ -43,7 +43,7 @@ fn first_node<P: Profile, S: MakeStore<P> + DerivationStore<P>, W: MakeWaiters<P
     kernel: &Kernel<P, S, W>,
 ) -> Result<Node, AllocError>
     ensures node { IfOk result (λ node. (own : List (List CallOf)) (A : State) → kernel.now ≡ shown A → length own ≡ clients
-        → IsNode P.the own (start own A) node) }
+        → IsNode P.profile own (start own A) node) }
     ensures order { IfOk result (λ node. node.order.items ≡ []) }
     ensures weight { IfOk result (λ node. node.weight ≡ 1) }
 {
@@ -83,8 +83,8 @@ fn first_call<P: Profile, S: MakeStore<P> + DerivationStore<P>, W: MakeWaiters<P
     client: usize,
     found: &mut Vec<FoundAnswer>,
 ) -> Result<Node, AllocError>
-    ensures made { IfOk result (λ new. (w : World) → IsReached P.the w.kernel → kernel.now ≡ shown w.kernel → IsNode P.the (own_calls calls.now) w node
-        → IsMade P.the (own_calls calls.now) w node new client ⟦<Answer as PartialEq>⟧.eq found.old.items found.new.items) }
+    ensures made { IfOk result (λ new. (w : World) → IsReached P.profile w.kernel → kernel.now ≡ shown w.kernel → IsNode P.profile (own_calls calls.now) w node
+        → IsMade P.profile (own_calls calls.now) w node new client ⟦<Answer as PartialEq>⟧.eq found.old.items found.new.items) }
     ensures weight { IfOk result (λ new. new.weight ≡ node.weight) }
 {
     match next_call(calls, node.made.as_slice(), client) {
@@ -104,8 +104,8 @@ fn begin<P: Profile, S: MakeStore<P> + DerivationStore<P>, W: MakeWaiters<P>>(
     first: &[usize],
     found: &mut Vec<FoundAnswer>,
 ) -> Result<Node, AllocError>
-    ensures { IfOk result (λ node. (A : State) → IsReached P.the A → kernel.now ≡ shown A
-        → IsBegun P.the (own_calls calls.now) A first.now node ⟦<Answer as PartialEq>⟧.eq found.old.items found.new.items) }
+    ensures { IfOk result (λ node. (A : State) → IsReached P.profile A → kernel.now ≡ shown A
+        → IsBegun P.profile (own_calls calls.now) A first.now node ⟦<Answer as PartialEq>⟧.eq found.old.items found.new.items) }
 {
     let mut node = first_node(alloc, calls.len(), kernel)?;
     for i in 0..first.len() {
@@ -128,8 +128,8 @@ fn begun<P: Profile, S: MakeStore<P> + DerivationStore<P>, W: MakeWaiters<P>>(
     kernel: &Kernel<P, S, W>,
     first: &[usize],
 ) -> Result<Explored, AllocError>
-    ensures { IfOk result (λ e. (A : State) → IsReached P.the A → kernel.now ≡ shown A
-        → IsProgress P.the (own_calls calls.now) A first.now ⟦<Answer as PartialEq>⟧.eq e × (e.calls ≡ 0)) }
+    ensures { IfOk result (λ e. (A : State) → IsReached P.profile A → kernel.now ≡ shown A
+        → IsProgress P.profile (own_calls calls.now) A first.now ⟦<Answer as PartialEq>⟧.eq e × (e.calls ≡ 0)) }
 {
     let mut found = Findings::new(alloc);
     let node = begin(alloc, calls, kernel, first, &mut found.answers)?;
@@ -168,9 +168,9 @@ fn advance<P: Profile, S: MakeStore<P> + DerivationStore<P>, W: MakeWaiters<P>>(
     explored: &mut Explored,
 ) -> Result<(), AllocError>
     requires { explored.old.calls < usize.MAX }
-    ensures progress { OnOk result ((A : State) (first : List ℕ) → IsReached P.the A → kernel.now ≡ shown A
-        → IsProgress P.the (own_calls calls.now) A first ⟦<Answer as PartialEq>⟧.eq explored.old
-        → IsProgress P.the (own_calls calls.now) A first ⟦<Answer as PartialEq>⟧.eq explored.new) }
+    ensures progress { OnOk result ((A : State) (first : List ℕ) → IsReached P.profile A → kernel.now ≡ shown A
+        → IsProgress P.profile (own_calls calls.now) A first ⟦<Answer as PartialEq>⟧.eq explored.old
+        → IsProgress P.profile (own_calls calls.now) A first ⟦<Answer as PartialEq>⟧.eq explored.new) }
     ensures calls { OnOk result (explored.new.calls ≡ explored.old.calls + 1) }
 {
     let states = states_after(explored);
@@ -198,8 +198,8 @@ pub fn explore<P: Profile, S: MakeStore<P> + DerivationStore<P>, W: MakeWaiters<
     limit: u64,
     count: usize,
 ) -> Result<Explored, AllocError>
-    ensures { IfOk result (λ e. (A : State) → IsReached P.the A → kernel.now ≡ shown A
-        → IsExplored P.the (own_calls calls.now) A first.now ⟦<Answer as PartialEq>⟧.eq limit count e) }
+    ensures { IfOk result (λ e. (A : State) → IsReached P.profile A → kernel.now ≡ shown A
+        → IsExplored P.profile (own_calls calls.now) A first.now ⟦<Answer as PartialEq>⟧.eq limit count e) }
 {
     let mut explored = begun(alloc, calls, kernel, first)?;
     while goes_on(&explored, limit, count) {

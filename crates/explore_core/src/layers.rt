@@ -73,9 +73,9 @@ pub fn make_call<P: Profile, S: MakeStore<P> + DerivationStore<P>, W: MakeWaiter
     found: &mut Vec<FoundAnswer>,
 ) -> Result<Node, AllocError>
     requires { IfSome (slice_get node.now.made.items client) (λ (n : ℕ). n + 1 ≤ usize.MAX) }
-    ensures made { IfOk result (λ new. (own : List (List CallOf)) (w : World) → IsReached P.the w.kernel → IsNode P.the own w node.now
-        → at.now ≡ shown (world_after P.the own w node.now.order.items).kernel → next_call_of own node.now.made.items client ≡ Some call
-        → IsMade P.the own w node.now new client ⟦<Answer as PartialEq>⟧.eq found.old.items found.new.items) }
+    ensures made { IfOk result (λ new. (own : List (List CallOf)) (w : World) → IsReached P.profile w.kernel → IsNode P.profile own w node.now
+        → at.now ≡ shown (world_after P.profile own w node.now.order.items).kernel → next_call_of own node.now.made.items client ≡ Some call
+        → IsMade P.profile own w node.now new client ⟦<Answer as PartialEq>⟧.eq found.old.items found.new.items) }
     ensures weight { IfOk result (λ new. new.weight ≡ node.now.weight) }
 {
     let next = step_copy(alloc, at, call)?;
@@ -105,11 +105,11 @@ fn visit<P: Profile, S: MakeStore<P> + DerivationStore<P>, W: MakeWaiters<P>>(
     nodes: &mut Layer,
     found: &mut Vec<FoundAnswer>,
 ) -> Result<(), AllocError>
-    ensures { OnOk result ((w : World) → IsReached P.the w.kernel → IsNode P.the (own_calls calls.now) w node.now
-        → at.now ≡ shown (world_after P.the (own_calls calls.now) w node.now.order.items).kernel → AreNodes P.the (own_calls calls.now) w nodes.old
-        → IsVisited P.the (own_calls calls.now) w nodes.old nodes.new
-        (each_times node.now.weight (one_longer P.the (own_calls calls.now) w node.now.order.items client))
-        ⟦<Answer as PartialEq>⟧.eq found.old.items found.new.items (one_told P.the (own_calls calls.now) w node.now.order.items client)) }
+    ensures { OnOk result ((w : World) → IsReached P.profile w.kernel → IsNode P.profile (own_calls calls.now) w node.now
+        → at.now ≡ shown (world_after P.profile (own_calls calls.now) w node.now.order.items).kernel → AreNodes P.profile (own_calls calls.now) w nodes.old
+        → IsVisited P.profile (own_calls calls.now) w nodes.old nodes.new
+        (each_times node.now.weight (one_longer P.profile (own_calls calls.now) w node.now.order.items client))
+        ⟦<Answer as PartialEq>⟧.eq found.old.items found.new.items (one_told P.profile (own_calls calls.now) w node.now.order.items client)) }
 {
     if let Some(call) = callable(calls, at, node, client) {
         let new = make_call(alloc, at, node, client, call, found)?;
@@ -127,11 +127,11 @@ fn visit_clients<P: Profile, S: MakeStore<P> + DerivationStore<P>, W: MakeWaiter
     nodes: &mut Layer,
     found: &mut Vec<FoundAnswer>,
 ) -> Result<(), AllocError>
-    ensures { OnOk result ((w : World) → IsReached P.the w.kernel → IsNode P.the (own_calls calls.now) w node.now
-        → at.now ≡ shown (world_after P.the (own_calls calls.now) w node.now.order.items).kernel → AreNodes P.the (own_calls calls.now) w nodes.old
-        → IsVisited P.the (own_calls calls.now) w nodes.old nodes.new
-        (each_times node.now.weight (longer P.the (own_calls calls.now) w node.now.order.items))
-        ⟦<Answer as PartialEq>⟧.eq found.old.items found.new.items (calls_told P.the (own_calls calls.now) w node.now.order.items)) }
+    ensures { OnOk result ((w : World) → IsReached P.profile w.kernel → IsNode P.profile (own_calls calls.now) w node.now
+        → at.now ≡ shown (world_after P.profile (own_calls calls.now) w node.now.order.items).kernel → AreNodes P.profile (own_calls calls.now) w nodes.old
+        → IsVisited P.profile (own_calls calls.now) w nodes.old nodes.new
+        (each_times node.now.weight (longer P.profile (own_calls calls.now) w node.now.order.items))
+        ⟦<Answer as PartialEq>⟧.eq found.old.items found.new.items (calls_told P.profile (own_calls calls.now) w node.now.order.items)) }
 {
     for client in 0..calls.len() {
         visit(alloc, calls, at, node, client, nodes, found)?;
@@ -148,9 +148,9 @@ fn expand<P: Profile, S: MakeStore<P> + DerivationStore<P>, W: MakeWaiters<P>>(
     nodes: &mut Layer,
     found: &mut Findings,
 ) -> Result<(), AllocError>
-    ensures { OnOk result ((w : World) → IsReached P.the w.kernel → kernel.now ≡ shown w.kernel → IsNode P.the (own_calls calls.now) w node.now
-        → AreNodes P.the (own_calls calls.now) w nodes.old
-        → IsExpanded P.the (own_calls calls.now) w nodes.old nodes.new ⟦<Answer as PartialEq>⟧.eq found.old found.new (entry_of node.now ∷ [])) }
+    ensures { OnOk result ((w : World) → IsReached P.profile w.kernel → kernel.now ≡ shown w.kernel → IsNode P.profile (own_calls calls.now) w node.now
+        → AreNodes P.profile (own_calls calls.now) w nodes.old
+        → IsExpanded P.profile (own_calls calls.now) w nodes.old nodes.new ⟦<Answer as PartialEq>⟧.eq found.old found.new (entry_of node.now ∷ [])) }
 {
     let at = kernel_after(alloc, kernel, node.calls.as_slice())?;
     visit_clients(alloc, calls, &at, node, nodes, &mut found.answers)?;
@@ -168,8 +168,8 @@ pub fn next_layer<P: Profile, S: MakeStore<P> + DerivationStore<P>, W: MakeWaite
     layer: &[Node],
     found: &mut Findings,
 ) -> Result<Layer, AllocError>
-    ensures { IfOk result (λ next. (w : World) → IsReached P.the w.kernel → kernel.now ≡ shown w.kernel → AreNodes P.the (own_calls calls.now) w layer.now
-        → IsExpanded P.the (own_calls calls.now) w [] next ⟦<Answer as PartialEq>⟧.eq found.old found.new (entries_of layer.now)) }
+    ensures { IfOk result (λ next. (w : World) → IsReached P.profile w.kernel → kernel.now ≡ shown w.kernel → AreNodes P.profile (own_calls calls.now) w layer.now
+        → IsExpanded P.profile (own_calls calls.now) w [] next ⟦<Answer as PartialEq>⟧.eq found.old found.new (entries_of layer.now)) }
 {
     let mut next = Layer::new(alloc);
     for node in layer {

@@ -78,7 +78,7 @@ pub fn step_copy<P: Profile, S: MakeStore<P>, W: MakeWaiters<P>>(
     kernel: &Kernel<P, S, W>,
     call: Call,
 ) -> Result<Stepped<P, S, W>, AllocError>
-    ensures { IfOk result (λ next. (A : State) → IsReached P.the A → kernel.now ≡ shown A → StepsTo P.the A call next.reply next.kernel) }
+    ensures { IfOk result (λ next. (A : State) → IsReached P.profile A → kernel.now ≡ shown A → StepsTo P.profile A call next.reply next.kernel) }
 {
     let mut kernel = kernel.copy(alloc)?;
     let reply = kernel.step(call);
@@ -91,7 +91,7 @@ pub fn kernel_after<P: Profile, S: MakeStore<P>, W: MakeWaiters<P>>(
     kernel: &Kernel<P, S, W>,
     calls: &[Call],
 ) -> Result<Kernel<P, S, W>, AllocError>
-    ensures { IfOk result (λ after. (A : State) → IsReached P.the A → kernel.now ≡ shown A → after ≡ shown (state_after P.the A calls.now)) }
+    ensures { IfOk result (λ after. (A : State) → IsReached P.profile A → kernel.now ≡ shown A → after ≡ shown (state_after P.profile A calls.now)) }
 {
     let mut after = kernel.copy(alloc)?;
     let mut replies = Vec::with_capacity(alloc, calls.len())?;

@@ -22,18 +22,18 @@ pub struct LinkedWaiters<P: Profile> {
     tables: Tables,
     memory_bits: u32,
     profile: PhantomData<P>,
-    ghost linked: { IsLinked P.the tables } by { linked-prop P.the tables },
-    ghost alike: { AreAlike (waits_in P.the tables) } by { alike-prop (waits_in P.the tables) },
-    ghost threads: { 2 ^ memory_bits ≤ length tables.threads.items * tcb_size P.the },
-    ghost endpoints: { 2 ^ memory_bits ≤ length tables.endpoints.items * endpoint_size P.the },
+    ghost linked: { IsLinked P.profile tables } by { linked-prop P.profile tables },
+    ghost alike: { AreAlike (waits_in P.profile tables) } by { alike-prop (waits_in P.profile tables) },
+    ghost threads: { 2 ^ memory_bits ≤ length tables.threads.items * tcb_size P.profile },
+    ghost endpoints: { 2 ^ memory_bits ≤ length tables.endpoints.items * endpoint_size P.profile },
 }
 
 impl<P: Profile> Waiters<P> for LinkedWaiters<P> {
-    ghost waits = { λ w. waits_in P.the w.tables };
+    ghost waits = { λ w. waits_in P.profile w.tables };
 
     ghost memory_bits = { λ w. w.memory_bits };
 
-    ghost agree = { λ w. tables_agree P.the w.tables w.linked w.alike };
+    ghost agree = { λ w. tables_agree P.profile w.tables w.linked w.alike };
 
     #[inline]
     fn send(

@@ -24,9 +24,9 @@ pub struct RowWaiters<P: Profile> {
     memory_bits: u32,
     profile: PhantomData<P>,
     ghost distinct: { AreDistinct rows.items },
-    ghost placed: { ArePlaced P.the memory_bits rows.items },
+    ghost placed: { ArePlaced P.profile memory_bits rows.items },
     ghost alike: { AreAlike (waits_of rows.items) } by { alike-prop (waits_of rows.items) },
-    ghost room: { 2 ^ memory_bits ≤ vec_capacity rows * tcb_size P.the },
+    ghost room: { 2 ^ memory_bits ≤ vec_capacity rows * tcb_size P.profile },
 }
 
 impl<P: Profile> Waiters<P> for RowWaiters<P> {

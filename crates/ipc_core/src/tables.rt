@@ -112,13 +112,13 @@ pub struct Tables {
 }
 
 fn thread_place<P: Profile>(thread: u64) -> usize
-    ensures { result ≡ thread / tcb_size P.the }
+    ensures { result ≡ thread / tcb_size P.profile }
 {
     (thread >> P::TCB_BITS) as usize
 }
 
 fn endpoint_place<P: Profile>(endpoint: u64) -> usize
-    ensures { result ≡ endpoint / endpoint_size P.the }
+    ensures { result ≡ endpoint / endpoint_size P.profile }
 {
     (endpoint >> P::ENDPOINT_BITS) as usize
 }
@@ -126,23 +126,23 @@ fn endpoint_place<P: Profile>(endpoint: u64) -> usize
 impl Tables {
     /// A thread's row.
     pub fn thread<P: Profile>(&self, thread: u64) -> ThreadRow
-        requires { HasRow (tcb_size P.the) self.now.threads.items thread }
-        ensures { result ≡ (links_of P.the self.now).thread thread }
+        requires { HasRow (tcb_size P.profile) self.now.threads.items thread }
+        ensures { result ≡ (links_of P.profile self.now).thread thread }
     {
         self.threads[thread_place::<P>(thread)]
     }
 
     /// An endpoint's row.
     pub fn endpoint<P: Profile>(&self, endpoint: u64) -> EndpointRow
-        requires { HasRow (endpoint_size P.the) self.now.endpoints.items endpoint }
-        ensures { result ≡ (links_of P.the self.now).endpoint endpoint }
+        requires { HasRow (endpoint_size P.profile) self.now.endpoints.items endpoint }
+        ensures { result ≡ (links_of P.profile self.now).endpoint endpoint }
     {
         self.endpoints[endpoint_place::<P>(endpoint)]
     }
 
     fn set_next<P: Profile>(&mut self, thread: u64, next: Option<u64>)
-        requires { HasRow (tcb_size P.the) self.old.threads.items thread }
-        ensures links { links_of P.the self.new ≡ set_row thread (with_next next) (links_of P.the self.old) }
+        requires { HasRow (tcb_size P.profile) self.old.threads.items thread }
+        ensures links { links_of P.profile self.new ≡ set_row thread (with_next next) (links_of P.profile self.old) }
         ensures threads { length self.new.threads.items ≡ length self.old.threads.items }
         ensures endpoints { length self.new.endpoints.items ≡ length self.old.endpoints.items }
     {
@@ -151,8 +151,8 @@ impl Tables {
     }
 
     fn set_previous<P: Profile>(&mut self, thread: u64, previous: Option<u64>)
-        requires { HasRow (tcb_size P.the) self.old.threads.items thread }
-        ensures links { links_of P.the self.new ≡ set_row thread (with_previous previous) (links_of P.the self.old) }
+        requires { HasRow (tcb_size P.profile) self.old.threads.items thread }
+        ensures links { links_of P.profile self.new ≡ set_row thread (with_previous previous) (links_of P.profile self.old) }
         ensures threads { length self.new.threads.items ≡ length self.old.threads.items }
         ensures endpoints { length self.new.endpoints.items ≡ length self.old.endpoints.items }
     {
@@ -161,8 +161,8 @@ impl Tables {
     }
 
     fn set_role<P: Profile>(&mut self, thread: u64, role: Option<Role>)
-        requires { HasRow (tcb_size P.the) self.old.threads.items thread }
-        ensures links { links_of P.the self.new ≡ set_row thread (with_role role) (links_of P.the self.old) }
+        requires { HasRow (tcb_size P.profile) self.old.threads.items thread }
+        ensures links { links_of P.profile self.new ≡ set_row thread (with_role role) (links_of P.profile self.old) }
         ensures threads { length self.new.threads.items ≡ length self.old.threads.items }
         ensures endpoints { length self.new.endpoints.items ≡ length self.old.endpoints.items }
     {
@@ -171,8 +171,8 @@ impl Tables {
     }
 
     fn set_thread<P: Profile>(&mut self, thread: u64, row: ThreadRow)
-        requires { HasRow (tcb_size P.the) self.old.threads.items thread }
-        ensures links { links_of P.the self.new ≡ set_row thread (λ _. row) (links_of P.the self.old) }
+        requires { HasRow (tcb_size P.profile) self.old.threads.items thread }
+        ensures links { links_of P.profile self.new ≡ set_row thread (λ _. row) (links_of P.profile self.old) }
         ensures threads { length self.new.threads.items ≡ length self.old.threads.items }
         ensures endpoints { length self.new.endpoints.items ≡ length self.old.endpoints.items }
     {
@@ -180,8 +180,8 @@ impl Tables {
     }
 
     fn set_first<P: Profile>(&mut self, endpoint: u64, first: Option<u64>)
-        requires { HasRow (endpoint_size P.the) self.old.endpoints.items endpoint }
-        ensures links { links_of P.the self.new ≡ led endpoint None first (links_of P.the self.old) }
+        requires { HasRow (endpoint_size P.profile) self.old.endpoints.items endpoint }
+        ensures links { links_of P.profile self.new ≡ led endpoint None first (links_of P.profile self.old) }
         ensures threads { length self.new.threads.items ≡ length self.old.threads.items }
         ensures endpoints { length self.new.endpoints.items ≡ length self.old.endpoints.items }
     {
@@ -190,8 +190,8 @@ impl Tables {
     }
 
     fn set_last<P: Profile>(&mut self, endpoint: u64, last: Option<u64>)
-        requires { HasRow (endpoint_size P.the) self.old.endpoints.items endpoint }
-        ensures links { links_of P.the self.new ≡ led_back endpoint None last (links_of P.the self.old) }
+        requires { HasRow (endpoint_size P.profile) self.old.endpoints.items endpoint }
+        ensures links { links_of P.profile self.new ≡ led_back endpoint None last (links_of P.profile self.old) }
         ensures threads { length self.new.threads.items ≡ length self.old.threads.items }
         ensures endpoints { length self.new.endpoints.items ≡ length self.old.endpoints.items }
     {
@@ -201,9 +201,9 @@ impl Tables {
 
     /// What comes after a thread, or first on an endpoint.
     fn lead<P: Profile>(&mut self, endpoint: u64, previous: Option<u64>, next: Option<u64>)
-        requires endpoint { HasRow (endpoint_size P.the) self.old.endpoints.items endpoint }
-        requires previous { IfSome previous (HasRow (tcb_size P.the) self.old.threads.items) }
-        ensures links { links_of P.the self.new ≡ led endpoint previous next (links_of P.the self.old) }
+        requires endpoint { HasRow (endpoint_size P.profile) self.old.endpoints.items endpoint }
+        requires previous { IfSome previous (HasRow (tcb_size P.profile) self.old.threads.items) }
+        ensures links { links_of P.profile self.new ≡ led endpoint previous next (links_of P.profile self.old) }
         ensures threads { length self.new.threads.items ≡ length self.old.threads.items }
         ensures endpoints { length self.new.endpoints.items ≡ length self.old.endpoints.items }
     {
@@ -215,9 +215,9 @@ impl Tables {
 
     /// What comes before a thread, or last on an endpoint.
     fn lead_back<P: Profile>(&mut self, endpoint: u64, next: Option<u64>, previous: Option<u64>)
-        requires endpoint { HasRow (endpoint_size P.the) self.old.endpoints.items endpoint }
-        requires next { IfSome next (HasRow (tcb_size P.the) self.old.threads.items) }
-        ensures links { links_of P.the self.new ≡ led_back endpoint next previous (links_of P.the self.old) }
+        requires endpoint { HasRow (endpoint_size P.profile) self.old.endpoints.items endpoint }
+        requires next { IfSome next (HasRow (tcb_size P.profile) self.old.threads.items) }
+        ensures links { links_of P.profile self.new ≡ led_back endpoint next previous (links_of P.profile self.old) }
         ensures threads { length self.new.threads.items ≡ length self.old.threads.items }
         ensures endpoints { length self.new.endpoints.items ≡ length self.old.endpoints.items }
     {
@@ -229,12 +229,12 @@ impl Tables {
 
     /// A thread waits no more; nothing changes where it waits nowhere.
     pub fn take_out<P: Profile>(&mut self, thread: u64)
-        requires row { HasRow (tcb_size P.the) self.old.threads.items thread }
-        requires linked { IsLinked P.the self.old }
-        ensures linked { IsLinked P.the self.new }
-        ensures waits { waits_in P.the self.new ≡ after_cancel_thread thread (waits_in P.the self.old) }
-        ensures orders { orders_in P.the self.new ≡ (λ e. removed thread (orders_in P.the self.old e)) }
-        ensures others { (t : ℕ) → t ≢ thread → waiter_of ((links_of P.the self.new).thread t) t ≡ waiter_of ((links_of P.the self.old).thread t) t }
+        requires row { HasRow (tcb_size P.profile) self.old.threads.items thread }
+        requires linked { IsLinked P.profile self.old }
+        ensures linked { IsLinked P.profile self.new }
+        ensures waits { waits_in P.profile self.new ≡ after_cancel_thread thread (waits_in P.profile self.old) }
+        ensures orders { orders_in P.profile self.new ≡ (λ e. removed thread (orders_in P.profile self.old e)) }
+        ensures others { (t : ℕ) → t ≢ thread → waiter_of ((links_of P.profile self.new).thread t) t ≡ waiter_of ((links_of P.profile self.old).thread t) t }
         ensures threads { length self.new.threads.items ≡ length self.old.threads.items }
         ensures endpoints { length self.new.endpoints.items ≡ length self.old.endpoints.items }
     {
@@ -249,13 +249,13 @@ impl Tables {
 
     /// A thread that waits nowhere waits, after all others of an endpoint.
     pub fn wait_last<P: Profile>(&mut self, endpoint: u64, thread: u64, row: ThreadRow)
-        requires endpoint { HasRow (endpoint_size P.the) self.old.endpoints.items endpoint }
-        requires thread { HasRow (tcb_size P.the) self.old.threads.items thread }
-        requires linked { IsLinked P.the self.old }
-        requires free { ((links_of P.the self.old).thread thread).role ≡ None }
+        requires endpoint { HasRow (endpoint_size P.profile) self.old.endpoints.items endpoint }
+        requires thread { HasRow (tcb_size P.profile) self.old.threads.items thread }
+        requires linked { IsLinked P.profile self.old }
+        requires free { ((links_of P.profile self.old).thread thread).role ≡ None }
         requires role { option_map endpoint_of row.role ≡ Some endpoint }
-        ensures linked { IsLinked P.the self.new }
-        ensures waits { (r : Role) → row.role ≡ Some r → waits_in P.the self.new ≡ queued endpoint thread r (waiter_of row thread) (waits_in P.the self.old) }
+        ensures linked { IsLinked P.profile self.new }
+        ensures waits { (r : Role) → row.role ≡ Some r → waits_in P.profile self.new ≡ queued endpoint thread r (waiter_of row thread) (waits_in P.profile self.old) }
         ensures threads { length self.new.threads.items ≡ length self.old.threads.items }
         ensures endpoints { length self.new.endpoints.items ≡ length self.old.endpoints.items }
     {
@@ -274,9 +274,9 @@ impl Tables {
 
     /// The receiver that waits first on an endpoint, if it is one that waits first.
     pub fn first_receiver<P: Profile>(&self, endpoint: u64) -> Option<u64>
-        requires endpoint { HasRow (endpoint_size P.the) self.now.endpoints.items endpoint }
-        requires linked { IsLinked P.the self.now }
-        ensures { result ≡ receiver_first ((waits_in P.the self.now).queue endpoint) }
+        requires endpoint { HasRow (endpoint_size P.profile) self.now.endpoints.items endpoint }
+        requires linked { IsLinked P.profile self.now }
+        ensures { result ≡ receiver_first ((waits_in P.profile self.now).queue endpoint) }
     {
         let first = self.endpoint::<P>(endpoint).first?;
         self.thread::<P>(first).receiver(first)
@@ -284,9 +284,9 @@ impl Tables {
 
     /// The sender that waits first on an endpoint, if it is one that waits first.
     pub fn first_sender<P: Profile>(&self, endpoint: u64) -> Option<Offer>
-        requires endpoint { HasRow (endpoint_size P.the) self.now.endpoints.items endpoint }
-        requires linked { IsLinked P.the self.now }
-        ensures { result ≡ sender_first ((waits_in P.the self.now).queue endpoint) }
+        requires endpoint { HasRow (endpoint_size P.profile) self.now.endpoints.items endpoint }
+        requires linked { IsLinked P.profile self.now }
+        ensures { result ≡ sender_first ((waits_in P.profile self.now).queue endpoint) }
     {
         let first = self.endpoint::<P>(endpoint).first?;
         self.thread::<P>(first).offer(first)
@@ -294,9 +294,9 @@ impl Tables {
 
     /// The thread that waits at a place of an endpoint's queue, 0 the first.
     pub fn waiting_at<P: Profile>(&self, endpoint: u64, place: u64) -> Option<u64>
-        requires endpoint { HasRow (endpoint_size P.the) self.now.endpoints.items endpoint }
-        requires linked { IsLinked P.the self.now }
-        ensures { result ≡ slice_get (orders_in P.the self.now endpoint) place }
+        requires endpoint { HasRow (endpoint_size P.profile) self.now.endpoints.items endpoint }
+        requires linked { IsLinked P.profile self.now }
+        ensures { result ≡ slice_get (orders_in P.profile self.now endpoint) place }
     {
         let mut here = self.endpoint::<P>(endpoint).first;
         for _ in 0..place {
@@ -308,10 +308,10 @@ impl Tables {
 
     /// The thread that comes next in the queue of a thread.
     pub fn next_waiting<P: Profile>(&self, thread: u64) -> Option<u64>
-        requires row { HasRow (tcb_size P.the) self.now.threads.items thread }
-        requires linked { IsLinked P.the self.now }
-        ensures behind { IsNextBehind (waits_in P.the self.now) thread result }
-        ensures nowhere { (waits_in P.the self.now).role thread ≡ None → result ≡ None }
+        requires row { HasRow (tcb_size P.profile) self.now.threads.items thread }
+        requires linked { IsLinked P.profile self.now }
+        ensures behind { IsNextBehind (waits_in P.profile self.now) thread result }
+        ensures nowhere { (waits_in P.profile self.now).role thread ≡ None → result ≡ None }
     {
         let row = self.thread::<P>(thread);
         match row.role {
@@ -322,10 +322,10 @@ impl Tables {
 
     /// The senders with a badge wait no more on an endpoint; the others keep their order.
     pub fn cancel_badge<P: Profile>(&mut self, endpoint: u64, badge: Badge)
-        requires endpoint { HasRow (endpoint_size P.the) self.old.endpoints.items endpoint }
-        requires linked { IsLinked P.the self.old }
-        ensures linked { IsLinked P.the self.new }
-        ensures waits { waits_in P.the self.new ≡ after_cancel_badge endpoint badge (waits_in P.the self.old) }
+        requires endpoint { HasRow (endpoint_size P.profile) self.old.endpoints.items endpoint }
+        requires linked { IsLinked P.profile self.old }
+        ensures linked { IsLinked P.profile self.new }
+        ensures waits { waits_in P.profile self.new ≡ after_cancel_badge endpoint badge (waits_in P.profile self.old) }
         ensures threads { length self.new.threads.items ≡ length self.old.threads.items }
         ensures endpoints { length self.new.endpoints.items ≡ length self.old.endpoints.items }
     {
@@ -341,10 +341,10 @@ impl Tables {
 
     /// Nobody waits on an endpoint any more.
     pub fn cancel_endpoint<P: Profile>(&mut self, endpoint: u64)
-        requires endpoint { HasRow (endpoint_size P.the) self.old.endpoints.items endpoint }
-        requires linked { IsLinked P.the self.old }
-        ensures linked { IsLinked P.the self.new }
-        ensures waits { waits_in P.the self.new ≡ after_cancel_endpoint endpoint (waits_in P.the self.old) }
+        requires endpoint { HasRow (endpoint_size P.profile) self.old.endpoints.items endpoint }
+        requires linked { IsLinked P.profile self.old }
+        ensures linked { IsLinked P.profile self.new }
+        ensures waits { waits_in P.profile self.new ≡ after_cancel_endpoint endpoint (waits_in P.profile self.old) }
         ensures threads { length self.new.threads.items ≡ length self.old.threads.items }
         ensures endpoints { length self.new.endpoints.items ≡ length self.old.endpoints.items }
     {

@@ -33,8 +33,8 @@ pub trait Waiters<P: Profile> {
         message: Message,
         block: bool,
     ) -> Sent
-        requires endpoint { IsEndpointAddress P.the (memory_bits self.old) endpoint }
-        requires thread { IsThreadAddress P.the (memory_bits self.old) thread }
+        requires endpoint { IsEndpointAddress P.profile (memory_bits self.old) endpoint }
+        requires thread { IsThreadAddress P.profile (memory_bits self.old) thread }
         requires free { (waits self.old).role thread ≡ None }
         ensures answer { result ≡ sent block endpoint (waits self.old) }
         ensures waits { waits self.new ≡ after_send block endpoint thread badge message (waits self.old) }
@@ -44,8 +44,8 @@ pub trait Waiters<P: Profile> {
     /// Receives by a thread that waits nowhere: from the sender that waited first, and where none does the receiver
     /// waits, with `block`, or nothing happens.
     fn recv(&mut self, endpoint: u64, thread: u64, block: bool) -> Received
-        requires endpoint { IsEndpointAddress P.the (memory_bits self.old) endpoint }
-        requires thread { IsThreadAddress P.the (memory_bits self.old) thread }
+        requires endpoint { IsEndpointAddress P.profile (memory_bits self.old) endpoint }
+        requires thread { IsThreadAddress P.profile (memory_bits self.old) thread }
         requires free { (waits self.old).role thread ≡ None }
         ensures answer { result ≡ received block endpoint (waits self.old) }
         ensures waits { waits self.new ≡ after_receive block endpoint thread (waits self.old) }
@@ -54,7 +54,7 @@ pub trait Waiters<P: Profile> {
 
     /// A thread waits no more, wherever it did; one that waits nowhere is no error.
     fn cancel_thread(&mut self, thread: u64)
-        requires { IsThreadAddress P.the (memory_bits self.old) thread }
+        requires { IsThreadAddress P.profile (memory_bits self.old) thread }
         ensures waits { waits self.new ≡ after_cancel_thread thread (waits self.old) }
         ensures histories { (endpoint : ℕ) (sends : List SendRecord) (receives : List ReceiveRecord) → (waits self.old).queue endpoint ≡ waiting_list sends receives → (waits self.new).queue endpoint ≡ waiting_less (is_sent_by thread) (is_received_by thread) sends receives }
         ensures memory { memory_bits self.new ≡ memory_bits self.old };
@@ -62,37 +62,37 @@ pub trait Waiters<P: Profile> {
     /// The senders that wait on an endpoint with a badge, whichever that is, wait no more. The others keep their order, and
     /// receivers go on waiting.
     fn cancel_badge(&mut self, endpoint: u64, badge: Badge)
-        requires { IsEndpointAddress P.the (memory_bits self.old) endpoint }
+        requires { IsEndpointAddress P.profile (memory_bits self.old) endpoint }
         ensures waits { waits self.new ≡ after_cancel_badge endpoint badge (waits self.old) }
         ensures histories { (sends : List SendRecord) (receives : List ReceiveRecord) → (waits self.old).queue endpoint ≡ waiting_list sends receives → (waits self.new).queue endpoint ≡ waiting_less (is_sent_with badge) (λ _. false) sends receives }
         ensures memory { memory_bits self.new ≡ memory_bits self.old };
 
     /// Nobody waits on an endpoint any more.
     fn cancel_endpoint(&mut self, endpoint: u64)
-        requires { IsEndpointAddress P.the (memory_bits self.old) endpoint }
+        requires { IsEndpointAddress P.profile (memory_bits self.old) endpoint }
         ensures waits { waits self.new ≡ after_cancel_endpoint endpoint (waits self.old) }
         ensures histories { (sends : List SendRecord) (receives : List ReceiveRecord) → (waits self.old).queue endpoint ≡ waiting_list sends receives → (waits self.new).queue endpoint ≡ waiting_less (λ _. true) (λ _. true) sends receives }
         ensures memory { memory_bits self.new ≡ memory_bits self.old };
 
     /// How a thread waits, if it does.
     fn role(&self, thread: u64) -> Option<Role>
-        requires { IsThreadAddress P.the (memory_bits self.now) thread }
+        requires { IsThreadAddress P.profile (memory_bits self.now) thread }
         ensures { result ≡ (waits self.now).role thread };
 
     /// What a thread sends that waits to send, and with which badge; `None` where it does not wait to send.
     fn offer(&self, thread: u64) -> Option<Offer>
-        requires { IsThreadAddress P.the (memory_bits self.now) thread }
+        requires { IsThreadAddress P.profile (memory_bits self.now) thread }
         ensures { result ≡ offer_of (waits self.now) thread };
 
     /// The thread that waits at a place of an endpoint's waiting list, 0 the first.
     fn waiting(&self, endpoint: u64, place: u64) -> Option<u64>
-        requires { IsEndpointAddress P.the (memory_bits self.now) endpoint }
+        requires { IsEndpointAddress P.profile (memory_bits self.now) endpoint }
         ensures { result ≡ option_map thread_of (slice_get ((waits self.now).queue endpoint) place) };
 
     /// The thread that waits behind another one, on the same endpoint: a waiting list is read from its first thread on, each
     /// thread in turn. None: that thread is the last, or waits nowhere.
     fn next_waiting(&self, thread: u64) -> Option<u64>
-        requires { IsThreadAddress P.the (memory_bits self.now) thread }
+        requires { IsThreadAddress P.profile (memory_bits self.now) thread }
         ensures behind { IsNextBehind (waits self.now) thread result }
         ensures nowhere { (waits self.now).role thread ≡ None → result ≡ None };
 

@@ -81,14 +81,14 @@ pub fn receives_from(endpoint: u64, thread: u64, block: bool, from: u64, badge: 
 
 /// Whether an endpoint can stand at an address.
 pub fn is_endpoint<P: Profile>(address: u64) -> bool
-    ensures { IsTrue result → IsEndpointAddress P.the MEMORY_BITS address }
+    ensures { IsTrue result → IsEndpointAddress P.profile MEMORY_BITS address }
 {
     address % 64 == 0 && address < 16384
 }
 
 /// Whether a thread control block can stand at an address.
 pub fn is_thread<P: Profile>(address: u64) -> bool
-    ensures { IsTrue result → IsThreadAddress P.the MEMORY_BITS address }
+    ensures { IsTrue result → IsThreadAddress P.profile MEMORY_BITS address }
 {
     address % 2048 == 0 && address < 16384
 }

@@ -39,8 +39,8 @@ pub struct Book<N: Naming, P: Profile, S: CapStore<P> + Drop, W: Waiters<P> + Dr
     counts: [u32; COUNTED],
     limit: u32,
     of: PhantomData<N>,
-    pub ghost lawful: { ∥ Lawful P.the N.opening history.items ∥₁ },
-    pub ghost stands: { ∥ StandsAfter P.the N.opening history.items kernel ∥₁ },
+    pub ghost lawful: { ∥ Lawful P.profile N.opening history.items ∥₁ },
+    pub ghost stands: { ∥ StandsAfter P.profile N.opening history.items kernel ∥₁ },
     pub ghost limited: { limit ≡ N.limit },
     pub ghost short: { vec_len history ≤ limit },
     ghost room: { limit ≤ vec_capacity history },
@@ -127,7 +127,7 @@ impl<N: Naming, P: Profile, S: CapStore<P> + Drop, W: Waiters<P> + Drop> Book<N,
         ensures full { (result ≡ Err BookFault.Full) ↔ (length self.old.history.items ≡ N.limit) }
         ensures name_taken { (result ≡ Err BookFault.NameTaken) ↔ ((length self.old.history.items ≢ N.limit) × (number ≢ count_of client self.old.history.items)) }
         ensures ok { IfOk result (λ r. self.new.history.items ≡ self.old.history.items ++ entry client number call r ∷ []) }
-        ensures reply { IfOk result (λ r. (A : State) → IsReached P.the A → self.old.kernel ≡ shown A → r ≡ (step P.the A call).reply) }
+        ensures reply { IfOk result (λ r. (A : State) → IsReached P.profile A → self.old.kernel ≡ shown A → r ≡ (step P.profile A call).reply) }
         ensures err { OnErr result ((self.new.history.items ≡ self.old.history.items) × (self.new.kernel ≡ self.old.kernel)) }
     {
         if self.history.len() == self.limit as usize {

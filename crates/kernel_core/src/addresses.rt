@@ -11,9 +11,9 @@ use slot_core::Slot;
 /// The slot at an address within a memory of 2^`memory_bits` bytes, if one can stand there.
 pub fn slot_within<P: Profile>(memory_bits: u32, address: u64) -> Option<Slot>
     requires { memory_bits ≤ MAX_MEMORY_BITS }
-    ensures slot { IfSome result (λ s. address_of P.the s ≡ address) }
+    ensures slot { IfSome result (λ s. address_of P.profile s ≡ address) }
     ensures within { IfSome result (λ s. address < 2 ^ memory_bits) }
-    ensures none { IfNone result (IsSlotAddress P.the memory_bits address → ⊥) }
+    ensures none { IfNone result (IsSlotAddress P.profile memory_bits address → ⊥) }
 {
     if address >> memory_bits == 0 {
         Slot::at::<P>(address)
@@ -25,7 +25,7 @@ pub fn slot_within<P: Profile>(memory_bits: u32, address: u64) -> Option<Slot>
 /// Whether an endpoint can stand at an address within a memory of 2^`memory_bits` bytes.
 pub fn is_endpoint_address<P: Profile>(memory_bits: u32, address: u64) -> bool
     requires { memory_bits ≤ MAX_MEMORY_BITS }
-    ensures { IsTrue result ↔ IsEndpointAddress P.the memory_bits address }
+    ensures { IsTrue result ↔ IsEndpointAddress P.profile memory_bits address }
 {
     address >> memory_bits == 0 && address % (1 << P::ENDPOINT_BITS) == 0
 }
@@ -33,7 +33,7 @@ pub fn is_endpoint_address<P: Profile>(memory_bits: u32, address: u64) -> bool
 /// Whether a thread control block can stand at an address within a memory of 2^`memory_bits` bytes.
 pub fn is_thread_address<P: Profile>(memory_bits: u32, address: u64) -> bool
     requires { memory_bits ≤ MAX_MEMORY_BITS }
-    ensures { IsTrue result ↔ IsThreadAddress P.the memory_bits address }
+    ensures { IsTrue result ↔ IsThreadAddress P.profile memory_bits address }
 {
     address >> memory_bits == 0 && address % (1 << P::TCB_BITS) == 0
 }

@@ -28,10 +28,10 @@ impl<P: Profile, S: MakeStore<P>, W: MakeWaiters<P>> Kernel<P, S, W> {
     ///
     /// `AllocError` where memory was wanted and not there.
     pub fn boot(alloc: Global, plan: &BootPlan) -> Result<Kernel<P, S, W>, AllocError>
-        requires { IsPlan P.the plan.now }
-        ensures shows { IfOk result (λ kernel. kernel ≡ shown (booted P.the plan.now)) }
-        ensures within { IfOk result (λ kernel. IsInMemory P.the plan.now.memory_bits kernel) }
-        ensures housed { IfOk result (λ kernel. IsHoused P.the kernel.derivations) }
+        requires { IsPlan P.profile plan.now }
+        ensures shows { IfOk result (λ kernel. kernel ≡ shown (booted P.profile plan.now)) }
+        ensures within { IfOk result (λ kernel. IsInMemory P.profile plan.now.memory_bits kernel) }
+        ensures housed { IfOk result (λ kernel. IsHoused P.profile kernel.derivations) }
     {
         let store = booted_store::<P, S>(alloc, plan)?;
         let waiters = W::new(alloc, plan.memory_bits())?;
@@ -81,8 +81,8 @@ fn boot_threads<P: Profile>(
     alloc: Global,
     plan: &BootPlan,
 ) -> Result<Vec<Option<ThreadRow>>, AllocError>
-    requires { IsPlan P.the plan.now }
-    ensures { IfOk result (λ rows. rows.items ≡ boot_rows (first_tcb P.the plan.now / tcb_size P.the) plan.now.threads (2 ^ (plan.now.memory_bits - tcb_bits P.the))) }
+    requires { IsPlan P.profile plan.now }
+    ensures { IfOk result (λ rows. rows.items ≡ boot_rows (first_tcb P.profile plan.now / tcb_size P.profile) plan.now.threads (2 ^ (plan.now.memory_bits - tcb_bits P.profile))) }
 {
     let first = plan.first_tcb::<P>() >> P::TCB_BITS;
     let count = 1u64 << (plan.memory_bits() - P::TCB_BITS);

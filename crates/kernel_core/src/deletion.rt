@@ -21,9 +21,9 @@ use slot_core::{CapStore, Slot};
 impl<P: Profile, S: CapStore<P> + Drop, W: Waiters<P> + Drop> Kernel<P, S, W> {
     /// Clears a slot.
     pub(crate) fn delete(&mut self, slot: u64) -> Reply
-        requires { IsNamedSlot P.the self.old.derivations slot }
+        requires { IsNamedSlot P.profile self.old.derivations slot }
         ensures reply { result ≡ Done }
-        ensures after { self.new ≡ after_ending self.old (cleared P.the slot self.old.derivations) }
+        ensures after { self.new ≡ after_ending self.old (cleared P.profile slot self.old.derivations) }
     {
         clear_at(&mut self.store, &mut self.threads, &mut self.chain, slot);
         Reply::Done
@@ -31,9 +31,9 @@ impl<P: Profile, S: CapStore<P> + Drop, W: Waiters<P> + Drop> Kernel<P, S, W> {
 
     /// Clears what was derived from the capability in a slot.
     pub(crate) fn revoke(&mut self, slot: u64) -> Reply
-        requires { IsNamedSlot P.the self.old.derivations slot }
+        requires { IsNamedSlot P.profile self.old.derivations slot }
         ensures reply { result ≡ Done }
-        ensures after { self.new ≡ after_ending self.old (revoked P.the slot self.old.derivations) }
+        ensures after { self.new ≡ after_ending self.old (revoked P.profile slot self.old.derivations) }
     {
         revoke_at(&mut self.store, &mut self.threads, &mut self.chain, slot);
         Reply::Done
@@ -42,9 +42,9 @@ impl<P: Profile, S: CapStore<P> + Drop, W: Waiters<P> + Drop> Kernel<P, S, W> {
     /// Gives a thread another root of its capability space: its root slot is cleared, and filled anew where the slots of
     /// the invoked capability and of the CNode's are still full then.
     pub(crate) fn set_space(&mut self, new: NewSpace) -> Reply
-        requires { IsSpace P.the self.old.derivations new }
+        requires { IsSpace P.profile self.old.derivations new }
         ensures reply { result ≡ Done }
-        ensures after { self.new ≡ after_ending self.old (with_space P.the new self.old.derivations) }
+        ensures after { self.new ≡ after_ending self.old (with_space P.profile new self.old.derivations) }
     {
         clear_at(&mut self.store, &mut self.threads, &mut self.chain, new.tcb);
         set_root::<P, S>(&mut self.store, new);
@@ -59,12 +59,12 @@ fn clear_at<P: Profile, S: CapStore<P>, F: Finalise>(
     chain: &mut SlotChain<P>,
     slot: u64,
 )
-    requires store { IsKernelStore P.the (S.memory_bits store.old) (S.forest store.old) }
-    requires slot { IsSlotAddress P.the (S.memory_bits store.old) slot }
+    requires store { IsKernelStore P.profile (S.memory_bits store.old) (S.forest store.old) }
+    requires slot { IsSlotAddress P.profile (S.memory_bits store.old) slot }
     requires chain { chain.old ≡ ([], 2 ^ S.memory_bits store.old) }
-    ensures forest { S.forest store.new ≡ cleared P.the slot (S.forest store.old) }
+    ensures forest { S.forest store.new ≡ cleared P.profile slot (S.forest store.old) }
     ensures memory { S.memory_bits store.new ≡ S.memory_bits store.old }
-    ensures ended { F.Ended (ended (S.forest store.old) (cleared P.the slot (S.forest store.old))) rest.old rest.new }
+    ensures ended { F.Ended (ended (S.forest store.old) (cleared P.profile slot (S.forest store.old))) rest.old rest.new }
     ensures chain { chain.new ≡ chain.old }
 {
     clear(store, rest, chain, Slot::of_node::<P>(slot, 0));
@@ -77,12 +77,12 @@ pub(crate) fn revoke_at<P: Profile, S: CapStore<P>, F: Finalise>(
     chain: &mut SlotChain<P>,
     slot: u64,
 )
-    requires store { IsKernelStore P.the (S.memory_bits store.old) (S.forest store.old) }
-    requires slot { IsSlotAddress P.the (S.memory_bits store.old) slot }
+    requires store { IsKernelStore P.profile (S.memory_bits store.old) (S.forest store.old) }
+    requires slot { IsSlotAddress P.profile (S.memory_bits store.old) slot }
     requires chain { chain.old ≡ ([], 2 ^ S.memory_bits store.old) }
-    ensures forest { S.forest store.new ≡ revoked P.the slot (S.forest store.old) }
+    ensures forest { S.forest store.new ≡ revoked P.profile slot (S.forest store.old) }
     ensures memory { S.memory_bits store.new ≡ S.memory_bits store.old }
-    ensures ended { F.Ended (ended (S.forest store.old) (revoked P.the slot (S.forest store.old))) rest.old rest.new }
+    ensures ended { F.Ended (ended (S.forest store.old) (revoked P.profile slot (S.forest store.old))) rest.old rest.new }
     ensures chain { chain.new ≡ chain.old }
 {
     revoke(store, rest, chain, Slot::of_node::<P>(slot, 0));

@@ -27,16 +27,16 @@ pub struct Threads<P: Profile, W: Waiters<P> + Drop> {
     pub of: PhantomData<P>,
     ghost memory: { W.memory_bits waiters ≡ memory_bits },
     ghost most: { memory_bits ≤ MAX_MEMORY_BITS },
-    ghost fill: { length rows.items * tcb_size P.the ≡ 2 ^ memory_bits },
+    ghost fill: { length rows.items * tcb_size P.profile ≡ 2 ^ memory_bits },
 }
 
 impl<P: Profile, W: Waiters<P> + Drop> Threads<P, W> {
     /// A thread waits no more, and is inactive or not. What was delivered to it last stays.
     pub fn stop(&mut self, thread: u64, inactive: bool)
-        requires { IsSome (get (rows_map (tcb_size P.the) self.old.rows.items) thread) }
+        requires { IsSome (get (rows_map (tcb_size P.profile) self.old.rows.items) thread) }
         ensures waits { W.waits self.new.waiters ≡ after_cancel_thread thread (W.waits self.old.waiters) }
-        ensures rows { rows_map (tcb_size P.the) self.new.rows.items ≡
-            with_stopped thread inactive (rows_map (tcb_size P.the) self.old.rows.items) }
+        ensures rows { rows_map (tcb_size P.profile) self.new.rows.items ≡
+            with_stopped thread inactive (rows_map (tcb_size P.profile) self.old.rows.items) }
         ensures memory { self.new.memory_bits ≡ self.old.memory_bits }
     {
         self.waiters.cancel_thread(thread);
@@ -51,8 +51,8 @@ impl<P: Profile, W: Waiters<P> + Drop> Threads<P, W> {
 
     /// Nobody waits on an endpoint that ended.
     fn end_endpoint(&mut self, endpoint: u64)
-        ensures { IsEndpointAddress P.the self.old.memory_bits endpoint →
-            AreLeft P.the (is_endpoint_at endpoint) self.old.memory_bits self.new.memory_bits
+        ensures { IsEndpointAddress P.profile self.old.memory_bits endpoint →
+            AreLeft P.profile (is_endpoint_at endpoint) self.old.memory_bits self.new.memory_bits
             self.old.rows.items self.new.rows.items (W.waits self.old.waiters) (W.waits self.new.waiters) }
     {
         if is_endpoint_address::<P>(self.memory_bits, endpoint) {
@@ -62,8 +62,8 @@ impl<P: Profile, W: Waiters<P> + Drop> Threads<P, W> {
 
     /// A thread that ended waits nowhere, and has no row.
     fn end_thread(&mut self, tcb: u64)
-        ensures { IsThreadAddress P.the self.old.memory_bits tcb →
-            AreLeft P.the (is_thread_at tcb) self.old.memory_bits self.new.memory_bits
+        ensures { IsThreadAddress P.profile self.old.memory_bits tcb →
+            AreLeft P.profile (is_thread_at tcb) self.old.memory_bits self.new.memory_bits
             self.old.rows.items self.new.rows.items (W.waits self.old.waiters) (W.waits self.new.waiters) }
     {
         if is_thread_address::<P>(self.memory_bits, tcb) {
@@ -75,12 +75,12 @@ impl<P: Profile, W: Waiters<P> + Drop> Threads<P, W> {
 }
 
 impl<P: Profile, W: Waiters<P> + Drop> Finalise for Threads<P, W> {
-    ghost Ended = { λ ended old new. HaveEnded P.the ended old.memory_bits new.memory_bits
+    ghost Ended = { λ ended old new. HaveEnded P.profile ended old.memory_bits new.memory_bits
         old.rows.items new.rows.items (W.waits old.waiters) (W.waits new.waiters) };
 
-    ghost none_ended = { λ w. nothing_ended P.the w.memory_bits w.rows.items (W.waits w.waiters) };
+    ghost none_ended = { λ w. nothing_ended P.profile w.memory_bits w.rows.items (W.waits w.waiters) };
 
-    ghost both_ended = { λ p q u v w first then. ended_twice P.the p q u.memory_bits v.memory_bits w.memory_bits
+    ghost both_ended = { λ p q u v w first then. ended_twice P.profile p q u.memory_bits v.memory_bits w.memory_bits
         u.rows.items v.rows.items w.rows.items (W.waits u.waiters) (W.waits v.waiters) (W.waits w.waiters) first then };
 
     fn finalise(&mut self, cap: Cap) {

@@ -62,9 +62,9 @@ impl<P: Profile, S: CapStore<P> + Drop, W: Waiters<P> + Drop> Model for Kernel<P
 
     ghost use Rattle.kernel_core.specs.Rows.{kernel_shown, IsBetweenCalls};
 
-    ghost view = { λ a. kernel_shown P.the (S.forest a.store) a.threads.rows.items (W.waits a.threads.waiters) };
+    ghost view = { λ a. kernel_shown P.profile (S.forest a.store) a.threads.rows.items (W.waits a.threads.waiters) };
 
-    ghost invariant = { λ a. IsBetweenCalls P.the a.threads.memory_bits (S.memory_bits a.store)
+    ghost invariant = { λ a. IsBetweenCalls P.profile a.threads.memory_bits (S.memory_bits a.store)
         (W.memory_bits a.threads.waiters) (S.forest a.store) a.threads.rows.items (W.waits a.threads.waiters) a.chain };
 }
 
@@ -100,9 +100,9 @@ impl<P: Profile, S: CapStore<P> + Drop, W: Waiters<P> + Drop> Kernel<P, S, W> {
     /// For a kernel that stands for a state that runs reach, the reply and what is shown after are those of the abstract
     /// step. It takes no memory.
     pub fn step(&mut self, call: Call) -> Reply
-        ensures stands { (A : State) → IsReached P.the A → self.old ≡ shown A → StepsTo P.the A call result self.new }
+        ensures stands { (A : State) → IsReached P.profile A → self.old ≡ shown A → StepsTo P.profile A call result self.new }
         ensures refused { (refusal : Refusal) → result ≡ Refused refusal → self.new ≡ self.old }
-        ensures within { (memory : ℕ) → IsInMemory P.the memory self.old → IsInMemory P.the memory self.new }
+        ensures within { (memory : ℕ) → IsInMemory P.profile memory self.old → IsInMemory P.profile memory self.new }
     {
         self.perform(&call)
     }
@@ -118,12 +118,12 @@ impl<P: Profile, S: CapStore<P> + Drop, W: Waiters<P> + Drop> Kernel<P, S, W> {
     #[tactic(auto, unfolding(abstract_kernel::specs::Step::replies_of, abstract_kernel::specs::Step::state_after))]
     pub fn run(&mut self, calls: &[Call], replies: &mut Vec<Reply>)
         requires room { vec_len replies.old + length calls.now ≤ vec_capacity replies.old }
-        ensures replies { (A : State) → IsReached P.the A → self.old ≡ shown A → replies.new.items ≡ replies.old.items ++ replies_of P.the A calls.now }
-        ensures stands { (A : State) → IsReached P.the A → self.old ≡ shown A → self.new ≡ shown (state_after P.the A calls.now) }
-        ensures in_order { (A : State) → IsReached P.the A → self.old ≡ shown A → DeliversPairs P.the A calls.now (drop (length replies.old.items) replies.new.items) }
-        ensures apart { AreObjectsApart P.the self.new.derivations }
-        ensures housed { IsHoused P.the self.new.derivations }
-        ensures within { (memory : ℕ) → IsInMemory P.the memory self.old → IsInMemory P.the memory self.new }
+        ensures replies { (A : State) → IsReached P.profile A → self.old ≡ shown A → replies.new.items ≡ replies.old.items ++ replies_of P.profile A calls.now }
+        ensures stands { (A : State) → IsReached P.profile A → self.old ≡ shown A → self.new ≡ shown (state_after P.profile A calls.now) }
+        ensures in_order { (A : State) → IsReached P.profile A → self.old ≡ shown A → DeliversPairs P.profile A calls.now (drop (length replies.old.items) replies.new.items) }
+        ensures apart { AreObjectsApart P.profile self.new.derivations }
+        ensures housed { IsHoused P.profile self.new.derivations }
+        ensures within { (memory : ℕ) → IsInMemory P.profile memory self.old → IsInMemory P.profile memory self.new }
     {
         for call in calls {
             let reply = self.step(*call);
@@ -135,16 +135,16 @@ impl<P: Profile, S: CapStore<P> + Drop, W: Waiters<P> + Drop> Kernel<P, S, W> {
     /// What each kernel keeps: its objects lie apart, and each of its full slots lies in a live CNode or thread. Nothing is
     /// done; a caller of `step` learns it by this call.
     pub fn keeps_objects(&self)
-        ensures apart { AreObjectsApart P.the self.now.derivations }
-        ensures housed { IsHoused P.the self.now.derivations }
+        ensures apart { AreObjectsApart P.profile self.now.derivations }
+        ensures housed { IsHoused P.profile self.now.derivations }
     {
         let _ = &self.store;
     }
 
     fn perform(&mut self, call: &Call) -> Reply
-        ensures reply { result ≡ (effect_of P.the self.old call.now).reply }
-        ensures after { self.new ≡ (effect_of P.the self.old call.now).after }
-        ensures within { (memory : ℕ) → IsInMemory P.the memory self.old → IsInMemory P.the memory self.new }
+        ensures reply { result ≡ (effect_of P.profile self.old call.now).reply }
+        ensures after { self.new ≡ (effect_of P.profile self.old call.now).after }
+        ensures within { (memory : ℕ) → IsInMemory P.profile memory self.old → IsInMemory P.profile memory self.new }
     {
         match self.decode_call(call) {
             Err(refusal) => Reply::Refused(refusal),
@@ -155,11 +155,11 @@ impl<P: Profile, S: CapStore<P> + Drop, W: Waiters<P> + Drop> Kernel<P, S, W> {
     /// Does what a call whose checks passed asks for.
     fn perform_invocation(&mut self, thread: u64, invocation: Invocation) -> Reply
         requires ready { IsReady self.old thread }
-        requires invocation { IsInvocation P.the self.old invocation }
-        requires forest { IsForest P.the self.old.derivations }
-        ensures reply { result ≡ (performed_effect P.the self.old thread invocation).reply }
-        ensures after { self.new ≡ (performed_effect P.the self.old thread invocation).after }
-        ensures within { (memory : ℕ) → IsInMemory P.the memory self.old → IsInMemory P.the memory self.new }
+        requires invocation { IsInvocation P.profile self.old invocation }
+        requires forest { IsForest P.profile self.old.derivations }
+        ensures reply { result ≡ (performed_effect P.profile self.old thread invocation).reply }
+        ensures after { self.new ≡ (performed_effect P.profile self.old thread invocation).after }
+        ensures within { (memory : ℕ) → IsInMemory P.profile memory self.old → IsInMemory P.profile memory self.new }
     {
         match invocation {
             Invocation::Send {
@@ -182,10 +182,10 @@ impl<P: Profile, S: CapStore<P> + Drop, W: Waiters<P> + Drop> Kernel<P, S, W> {
 
     /// The first check that fails, or what the call does.
     fn decode_call(&self, call: &Call) -> Result<Invocation, Refusal>
-        ensures invocation { result ≡ decoded_call P.the self.now call.now }
-        ensures lawful { IfOk result (IsInvocation P.the self.now) }
+        ensures invocation { result ≡ decoded_call P.profile self.now call.now }
+        ensures lawful { IfOk result (IsInvocation P.profile self.now) }
         ensures ready { IfOk result (λ (t : Invocation). IsReady self.now call.now.thread) }
-        ensures forest { IfOk result (λ (t : Invocation). IsForest P.the self.now.derivations) }
+        ensures forest { IfOk result (λ (t : Invocation). IsForest P.profile self.now.derivations) }
     {
         match self.thread_state(call.thread).ok_or(Refusal::NoThread)? {
             ThreadState::Ready => decode_op::<P, S>(&self.store, call.thread, &call.op),
@@ -195,9 +195,9 @@ impl<P: Profile, S: CapStore<P> + Drop, W: Waiters<P> + Drop> Kernel<P, S, W> {
 
     /// Makes objects in an untyped region, and puts their capabilities.
     fn retype(&mut self, new: NewObjects) -> Reply
-        requires { IsRetype P.the self.old.derivations new }
+        requires { IsRetype P.profile self.old.derivations new }
         ensures reply { result ≡ Done }
-        ensures after { self.new ≡ objects_shown P.the self.old new }
+        ensures after { self.new ≡ objects_shown P.profile self.old new }
     {
         make_objects::<P, S>(&mut self.store, new);
         match new.shape.kind {
@@ -209,9 +209,9 @@ impl<P: Profile, S: CapStore<P> + Drop, W: Waiters<P> + Drop> Kernel<P, S, W> {
 
     /// Derives a capability from the one in a slot. An untyped region is used up where it is handed on.
     fn derive(&mut self, placement: CapPlacement) -> Reply
-        requires { IsDerivation P.the self.old.derivations placement }
+        requires { IsDerivation P.profile self.old.derivations placement }
         ensures reply { result ≡ Done }
-        ensures after { self.new ≡ rearranged self.old (with_derived P.the placement self.old.derivations) }
+        ensures after { self.new ≡ rearranged self.old (with_derived P.profile placement self.old.derivations) }
     {
         derive_in::<P, S>(&mut self.store, placement);
         Reply::Done
@@ -219,7 +219,7 @@ impl<P: Profile, S: CapStore<P> + Drop, W: Waiters<P> + Drop> Kernel<P, S, W> {
 
     /// Moves a capability from one slot to another.
     fn relocate(&mut self, placement: CapPlacement) -> Reply
-        requires { IsMove P.the self.old.derivations placement }
+        requires { IsMove P.profile self.old.derivations placement }
         ensures reply { result ≡ Done }
         ensures after { self.new ≡ rearranged self.old (with_moved placement self.old.derivations) }
     {
@@ -322,7 +322,7 @@ impl<P: Profile, S: CapStore<P> + Drop, W: Waiters<P> + Drop> Kernel<P, S, W> {
     /// the address. Each full slot of a kernel stands at a multiple of a slot's size. It takes no memory.
     pub fn cap_at(&self, slot: u64) -> Cap
         ensures cap { result ≡ cap_held self.now.derivations slot }
-        ensures aligned { All (IsAligned P.the) (slots self.now.derivations) }
+        ensures aligned { All (IsAligned P.profile) (slots self.now.derivations) }
     {
         match slot_within::<P>(self.threads.memory_bits, slot) {
             Some(slot) => self.store.get(slot),
@@ -368,7 +368,7 @@ impl<P: Profile, S: DerivationStore<P> + Drop, W: Waiters<P> + Drop> Kernel<P, S
     /// All full slots, each with its capability, whether that is original, and the slot that it is derived from, found in
     /// one walk; each comes before those that are derived from it. It takes memory for them.
     pub fn derivations(&self, alloc: Global) -> Result<Vec<Derivation>, AllocError>
-        ensures list { IfOk result (λ d. map (derivation_view P.the) d.items ≡ derivations_of self.now.derivations) }
+        ensures list { IfOk result (λ d. map (derivation_view P.profile) d.items ≡ derivations_of self.now.derivations) }
         ensures apart { IsDistinct (λ (a b : ℕ). a == b) (slots self.now.derivations) }
         ensures full { All (λ (cap : Cap). is_null cap ≡ false) (caps self.now.derivations) }
     {

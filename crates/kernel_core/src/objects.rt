@@ -20,9 +20,9 @@ use slot_core::{CapStore, Slot};
 /// Makes objects in an untyped region: it is used up to the end of the last one, and their capabilities are put into their
 /// slots, each the first child of the untyped.
 pub fn make_objects<P: Profile, S: CapStore<P>>(store: &mut S, new: NewObjects)
-    requires store { IsKernelStore P.the (S.memory_bits store.old) (S.forest store.old) }
-    requires retype { IsRetype P.the (S.forest store.old) new }
-    ensures forest { S.forest store.new ≡ with_objects P.the new (S.forest store.old) }
+    requires store { IsKernelStore P.profile (S.memory_bits store.old) (S.forest store.old) }
+    requires retype { IsRetype P.profile (S.forest store.old) new }
+    ensures forest { S.forest store.new ≡ with_objects P.profile new (S.forest store.old) }
     ensures memory { S.memory_bits store.new ≡ S.memory_bits store.old }
 {
     let untyped = Slot::of_node::<P>(new.untyped, 0);
@@ -39,10 +39,10 @@ pub fn make_objects<P: Profile, S: CapStore<P>>(store: &mut S, new: NewObjects)
 
 /// Writes the rows of new threads, which are inactive and got no message.
 pub fn add_threads<P: Profile>(rows: &mut Vec<Option<ThreadRow>>, placed: Placed, count: u64)
-    requires aligned { (i : ℕ) → i < count → object_at placed i % tcb_size P.the ≡ 0 }
-    requires within { (i : ℕ) → i < count → object_at placed i < length rows.old.items * tcb_size P.the }
+    requires aligned { (i : ℕ) → i < count → object_at placed i % tcb_size P.profile ≡ 0 }
+    requires within { (i : ℕ) → i < count → object_at placed i < length rows.old.items * tcb_size P.profile }
     requires addressed { (i : ℕ) → i < count → object_at placed i < 2 ^ 64 }
-    ensures map { rows_map (tcb_size P.the) rows.new.items ≡ with_rows (map (object_at placed) (range_with_len 0 count)) (rows_map (tcb_size P.the) rows.old.items) }
+    ensures map { rows_map (tcb_size P.profile) rows.new.items ≡ with_rows (map (object_at placed) (range_with_len 0 count)) (rows_map (tcb_size P.profile) rows.old.items) }
     ensures length { length rows.new.items ≡ length rows.old.items }
 {
     for i in 0..count {
@@ -52,9 +52,9 @@ pub fn add_threads<P: Profile>(rows: &mut Vec<Option<ThreadRow>>, placed: Placed
 
 /// Writes the row of a new thread.
 fn add_thread<P: Profile>(rows: &mut Vec<Option<ThreadRow>>, thread: u64)
-    requires aligned { thread % tcb_size P.the ≡ 0 }
-    requires within { thread / tcb_size P.the < length rows.old.items }
-    ensures map { rows_map (tcb_size P.the) rows.new.items ≡ insert (rows_map (tcb_size P.the) rows.old.items) thread new_row }
+    requires aligned { thread % tcb_size P.profile ≡ 0 }
+    requires within { thread / tcb_size P.profile < length rows.old.items }
+    ensures map { rows_map (tcb_size P.profile) rows.new.items ≡ insert (rows_map (tcb_size P.profile) rows.old.items) thread new_row }
     ensures length { length rows.new.items ≡ length rows.old.items }
 {
     let place = (thread >> P::TCB_BITS) as usize;

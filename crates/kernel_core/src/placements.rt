@@ -14,9 +14,9 @@ use slot_core::{CapStore, Slot};
 
 /// Derives a capability from the one in a slot. An untyped region is used up where it is handed on.
 pub fn derive_in<P: Profile, S: CapStore<P>>(store: &mut S, placement: CapPlacement)
-    requires store { IsKernelStore P.the (S.memory_bits store.old) (S.forest store.old) }
-    requires derivation { IsDerivation P.the (S.forest store.old) placement }
-    ensures forest { S.forest store.new ≡ with_derived P.the placement (S.forest store.old) }
+    requires store { IsKernelStore P.profile (S.memory_bits store.old) (S.forest store.old) }
+    requires derivation { IsDerivation P.profile (S.forest store.old) placement }
+    ensures forest { S.forest store.new ≡ with_derived P.profile placement (S.forest store.old) }
     ensures memory { S.memory_bits store.new ≡ S.memory_bits store.old }
 {
     let source = Slot::of_node::<P>(placement.source, 0);
@@ -29,8 +29,8 @@ pub fn derive_in<P: Profile, S: CapStore<P>>(store: &mut S, placement: CapPlacem
 
 /// Moves a capability from one slot to another.
 pub fn move_in<P: Profile, S: CapStore<P>>(store: &mut S, placement: CapPlacement)
-    requires store { IsKernelStore P.the (S.memory_bits store.old) (S.forest store.old) }
-    requires moved { IsMove P.the (S.forest store.old) placement }
+    requires store { IsKernelStore P.profile (S.memory_bits store.old) (S.forest store.old) }
+    requires moved { IsMove P.profile (S.forest store.old) placement }
     ensures forest { S.forest store.new ≡ with_moved placement (S.forest store.old) }
     ensures memory { S.memory_bits store.new ≡ S.memory_bits store.old }
 {
@@ -41,12 +41,12 @@ pub fn move_in<P: Profile, S: CapStore<P>>(store: &mut S, placement: CapPlacemen
 
 /// Derives the capability of a thread's new space into its root slot, where the invoked slot and the source are full.
 pub fn set_root<P: Profile, S: CapStore<P>>(store: &mut S, new: NewSpace)
-    requires store { IsKernelStore P.the (S.memory_bits store.old) (S.forest store.old) }
-    requires source { IsSlotAddress P.the (S.memory_bits store.old) new.source }
-    requires invoked { IsSlotAddress P.the (S.memory_bits store.old) new.invoked }
+    requires store { IsKernelStore P.profile (S.memory_bits store.old) (S.forest store.old) }
+    requires source { IsSlotAddress P.profile (S.memory_bits store.old) new.source }
+    requires invoked { IsSlotAddress P.profile (S.memory_bits store.old) new.invoked }
     requires node { is_cnode new.cap ≡ true }
     requires derivation { is_full new.source (S.forest store.old) ≡ true →
-        is_full new.invoked (S.forest store.old) ≡ true → IsDerivation P.the (S.forest store.old) (space_placement new) }
+        is_full new.invoked (S.forest store.old) ≡ true → IsDerivation P.profile (S.forest store.old) (space_placement new) }
     ensures forest { S.forest store.new ≡ with_root new (S.forest store.old) }
     ensures memory { S.memory_bits store.new ≡ S.memory_bits store.old }
 {
@@ -62,8 +62,8 @@ pub fn set_root<P: Profile, S: CapStore<P>>(store: &mut S, new: NewSpace)
 
 /// Whether the slot at an address is full.
 fn is_filled<P: Profile, S: CapStore<P>>(store: &S, slot: u64) -> bool
-    requires store { IsKernelStore P.the (S.memory_bits store.now) (S.forest store.now) }
-    requires slot { IsSlotAddress P.the (S.memory_bits store.now) slot }
+    requires store { IsKernelStore P.profile (S.memory_bits store.now) (S.forest store.now) }
+    requires slot { IsSlotAddress P.profile (S.memory_bits store.now) slot }
     ensures { result ≡ is_full slot (S.forest store.now) }
 {
     match store.get(Slot::of_node::<P>(slot, 0)) {

@@ -29,8 +29,8 @@ impl<P: Profile, S: CapStore<P> + Drop, W: Waiters<P> + Drop> Kernel<P, S, W> {
     /// and its refusal is the reply. Each slot that the reason names holds the capability that it tells. It takes no
     /// memory.
     pub fn reason(&self, call: &Call) -> Option<Reason>
-        ensures reason { result ≡ reason_of P.the self.now call.now }
-        ensures refusal { (A : State) → self.now ≡ shown A → option_map refusal_of result ≡ refusal_in (step P.the A call.now).reply }
+        ensures reason { result ≡ reason_of P.profile self.now call.now }
+        ensures refusal { (A : State) → self.now ≡ shown A → option_map refusal_of result ≡ refusal_in (step P.profile A call.now).reply }
         ensures facts { IfSome result (λ reason. AreThere self.now.derivations (told_by reason)) }
     {
         reason_in(self.explain_call(call))
@@ -46,8 +46,8 @@ impl<P: Profile, S: CapStore<P> + Drop, W: Waiters<P> + Drop> Kernel<P, S, W> {
         address: u64,
         bits: u32,
     ) -> Result<Vec<Held>, AllocError>
-        requires { bits ≤ word_bits P.the }
-        ensures { IfOk result (λ path. path.items ≡ path_of P.the (cap_held self.now.derivations) slot (low_bits bits address)) }
+        requires { bits ≤ word_bits P.profile }
+        ensures { IfOk result (λ path. path.items ≡ path_of P.profile (cap_held self.now.derivations) slot (low_bits bits address)) }
     {
         match slot_within::<P>(self.threads.memory_bits, slot) {
             Some(root) => path::<P, S>(alloc, &self.store, root, address, bits),
@@ -58,7 +58,7 @@ impl<P: Profile, S: CapStore<P> + Drop, W: Waiters<P> + Drop> Kernel<P, S, W> {
     /// What would lead to a slot where a word does not, in the capability space whose root is in the slot at the address
     /// `root`, as a thread's is at its own address: the number of the slot whose address the word is. It takes no memory.
     pub fn word_hint(&self, root: u64, word: u64) -> Option<Hint>
-        ensures { result ≡ word_hint_of P.the self.now.derivations root word }
+        ensures { result ≡ word_hint_of P.profile self.now.derivations root word }
     {
         match slot_within::<P>(self.threads.memory_bits, root) {
             Some(root) => word_hint::<P, S>(&self.store, root, word),
@@ -69,7 +69,7 @@ impl<P: Profile, S: CapStore<P> + Drop, W: Waiters<P> + Drop> Kernel<P, S, W> {
     /// What would name a slot where an index and a depth do not, from the slot at the address `root` on: the least depth that
     /// cuts no bit of the index off, or the number of the slot whose address the index is. It takes no memory.
     pub fn index_hint(&self, root: u64, index: u64, depth: u64) -> Option<Hint>
-        ensures { result ≡ index_hint_of P.the (cap_held self.now.derivations) root index depth }
+        ensures { result ≡ index_hint_of P.profile (cap_held self.now.derivations) root index depth }
     {
         match slot_within::<P>(self.threads.memory_bits, root) {
             Some(root) => index_hint::<P, S>(&self.store, root, index, depth),
@@ -79,7 +79,7 @@ impl<P: Profile, S: CapStore<P> + Drop, W: Waiters<P> + Drop> Kernel<P, S, W> {
 
     /// The first check that fails, with its reason, or what the call does.
     fn explain_call(&self, call: &Call) -> Result<Invocation, Reason>
-        ensures { result ≡ explained_call P.the self.now call.now }
+        ensures { result ≡ explained_call P.profile self.now call.now }
     {
         let Some(state) = self.thread_state(call.thread) else {
             return Err(Reason::NoThread);

@@ -22,14 +22,14 @@ impl<P: Profile, S: CapStore<P> + Drop, W: Waiters<P> + Drop> Kernel<P, S, W> {
     /// shows. It takes no memory.
     pub fn revoke_slot(&mut self, slot: u64)
         requires { is_full slot self.old.derivations ≡ true }
-        ensures { (A : State) → IsReached P.the A → self.old ≡ shown A → self.new ≡ shown (objects_ended A (revoked P.the slot A.derivations)).state }
+        ensures { (A : State) → IsReached P.profile A → self.old ≡ shown A → self.new ≡ shown (objects_ended A (revoked P.profile slot A.derivations)).state }
     {
         self.clear_below(slot);
     }
 
     fn clear_below(&mut self, slot: u64)
         requires { is_full slot self.old.derivations ≡ true }
-        ensures { self.new ≡ after_ending self.old (revoked P.the slot self.old.derivations) }
+        ensures { self.new ≡ after_ending self.old (revoked P.profile slot self.old.derivations) }
     {
         revoke_at(&mut self.store, &mut self.threads, &mut self.chain, slot);
     }

@@ -37,7 +37,7 @@ impl ThreadRow {
 
 /// The row of the thread whose control block is at an address, if it has one. Row k is for the k-th place of one.
 pub fn row_at<P: Profile>(rows: &[Option<ThreadRow>], thread: u64) -> Option<ThreadRow>
-    ensures { result ≡ map.get (rows_map (tcb_size P.the) rows.now) thread }
+    ensures { result ≡ map.get (rows_map (tcb_size P.profile) rows.now) thread }
 {
     let place = (thread >> P::TCB_BITS) as usize;
     if thread % (1 << P::TCB_BITS) != 0 || place >= rows.len() {
@@ -48,8 +48,8 @@ pub fn row_at<P: Profile>(rows: &[Option<ThreadRow>], thread: u64) -> Option<Thr
 
 /// Changes the row of a thread that has one.
 pub fn set_row<P: Profile>(rows: &mut Vec<Option<ThreadRow>>, thread: u64, row: ThreadRow)
-    requires { IsSome (map.get (rows_map (tcb_size P.the) rows.old.items) thread) }
-    ensures map { rows_map (tcb_size P.the) rows.new.items ≡ map.insert (rows_map (tcb_size P.the) rows.old.items) thread row }
+    requires { IsSome (map.get (rows_map (tcb_size P.profile) rows.old.items) thread) }
+    ensures map { rows_map (tcb_size P.profile) rows.new.items ≡ map.insert (rows_map (tcb_size P.profile) rows.old.items) thread row }
     ensures length { length rows.new.items ≡ length rows.old.items }
 {
     let place = (thread >> P::TCB_BITS) as usize;

@@ -10,6 +10,11 @@ use std::alloc::Global;
 use std::process::Abort;
 use std::test::Fail;
 
+/// What is wrong with a plan; `None` where nothing is.
+fn has_defect(rt: &impl Abort, plan: Result<BootPlan, PlanDefect>, wanted: Option<PlanDefect>) {
+    assert_eq!(rt; plan.err(), wanted);
+}
+
 /// A plan for a memory of 65,536 bytes with one untyped region has this defect.
 fn region_has_defect<P: Profile>(
     rt: &impl Abort,
@@ -18,11 +23,11 @@ fn region_has_defect<P: Profile>(
     bits: u32,
     wanted: Option<PlanDefect>,
 ) -> Result<(), Fail>
-    requires least { min_untyped_bits P.the ≤ bits }
-    requires most { bits ≤ max_object_bits P.the }
+    requires least { min_untyped_bits P.profile ≤ bits }
+    requires most { bits ≤ max_object_bits P.profile }
 {
     let plan = BootPlan::new::<P>(16, 4, 2, 1, vec![in alloc; (base, bits)]?);
-    assert_eq!(rt; plan.err(), wanted);
+    has_defect(rt, plan, wanted);
     Ok(())
 }
 
@@ -42,19 +47,14 @@ fn a_region_may_stand_before_the_threads(rt: &impl Abort, alloc: Global) -> Resu
     region_has_defect::<Wide>(rt, alloc, 256, 8, Some(PlanDefect::Overlap(0)))
 }
 
-/// What is wrong with a plan that should not be one.
-fn is_defect(rt: &impl Abort, plan: Result<BootPlan, PlanDefect>, wanted: PlanDefect) {
-    assert_eq!(rt; plan.err(), Some(wanted));
-}
-
 fn objects_end_within_the_memory(rt: &impl Abort, alloc: Global) {
-    let outside = PlanDefect::Outside;
-    is_defect(
+    let outside = Some(PlanDefect::Outside);
+    has_defect(
         rt,
         BootPlan::new::<Wide>(12, 4, 64, 0, Vec::new(alloc)),
         outside,
     );
-    is_defect(
+    has_defect(
         rt,
         BootPlan::new::<Narrow>(12, 4, 3, 1, Vec::new(alloc)),
         outside,
@@ -83,26 +83,33 @@ fn places(plan: &BootPlan) -> [u64; 3]
     ]
 }
 
+/// Whether these are the sizes, the regions and the addresses of a plan.
+fn are_its_numbers(plan: &BootPlan) -> bool
+    requires { IsWithinLimits profile.Wide plan.now }
+{
+    sizes(plan) == [16, 4, 2, 11]
+        && plan.untypeds() == [(16384, 12)].as_slice()
+        && places(plan) == [2048, 4096, 6304]
+}
+
 fn each_capability_has_a_slot(rt: &impl Abort, alloc: Global) -> Result<(), Fail> {
     let regions = vec![in alloc; (16384, 12)]?;
     let plan = BootPlan::new::<Wide>(16, 4, 2, 12, regions);
-    is_defect(rt, plan, PlanDefect::Slots);
+    has_defect(rt, plan, Some(PlanDefect::Slots));
     Ok(())
 }
 
 fn a_plan_has_its_numbers(rt: &impl Abort, alloc: Global) -> Result<(), Fail> {
     let regions = vec![in alloc; (16384, 12)]?;
     let plan = BootPlan::new::<Wide>(16, 4, 2, 11, regions)?;
-    assert_eq!(rt; sizes(&plan), [16, 4, 2, 11]);
-    assert_eq!(rt; plan.untypeds(), [(16384, 12)].as_slice());
-    assert_eq!(rt; places(&plan), [2048, 4096, 6304]);
+    assert!(rt; are_its_numbers(&plan), "the numbers of a plan");
     Ok(())
 }
 
 fn regions_stand_apart(rt: &impl Abort, alloc: Global) -> Result<(), Fail> {
     let regions = vec![in alloc; (16384, 12), (20480, 12), (20464, 4)]?;
     let plan = BootPlan::new::<Wide>(16, 4, 2, 1, regions);
-    is_defect(rt, plan, PlanDefect::Overlap(2));
+    has_defect(rt, plan, Some(PlanDefect::Overlap(2)));
     Ok(())
 }
 

@@ -1,9 +1,9 @@
-//! The tests: all cases, over each pair of a capability store and a store of waiting threads.
+//! The test: all cases, over each pair of a capability store and a store of waiting threads.
 ghost use Rattle.std.specs.Prelude.{◌≤◌};
 ghost use Rattle.cap_core.specs.Limits.{min_boot_threads, max_boot_threads};
 
 use crate::case::{Case, play};
-use crate::{boot, capabilities, endings, messages, reuse};
+use crate::{boot, capabilities, endings, messages, refusals, reuse};
 use cap_core::{Narrow, Profile, Wide};
 use ipc_core::{LinkedWaiters, MakeWaiters, RowWaiters};
 use kernel_core::{BootPlan, Call, Kernel};
@@ -118,23 +118,29 @@ fn over_a_wide_pair<S: MakeStore<Wide>, W: MakeWaiters<Wide>>(
     alloc: Global,
 ) -> Result<(), Fail> {
     play_wide::<S, W>(rt, alloc)?;
+    refusals::reasons_tell::<S, W>(rt, alloc)?;
     kernel_is_copied::<S, W>(rt, alloc)?;
     let calls = reuse::calls(alloc)?;
     address_is_used_again::<S, W>(rt, alloc, calls.as_slice())
 }
 
-#[test]
-fn cases_come_out_with_wide_words(rt: HostRuntime) -> Result<(), Fail> {
-    over_a_wide_pair::<RowStore<Wide>, RowWaiters<Wide>>(&rt, rt.alloc())?;
-    over_a_wide_pair::<RowStore<Wide>, LinkedWaiters<Wide>>(&rt, rt.alloc())?;
-    over_a_wide_pair::<LinkedStore<Wide>, RowWaiters<Wide>>(&rt, rt.alloc())?;
-    over_a_wide_pair::<LinkedStore<Wide>, LinkedWaiters<Wide>>(&rt, rt.alloc())
+/// All of it over one capability store with wide words.
+fn over_a_wide_store<S: MakeStore<Wide>>(rt: &impl Abort, alloc: Global) -> Result<(), Fail> {
+    over_a_wide_pair::<S, RowWaiters<Wide>>(rt, alloc)?;
+    over_a_wide_pair::<S, LinkedWaiters<Wide>>(rt, alloc)
 }
 
+/// All of it over one capability store with narrow words.
+fn over_a_narrow_store<S: MakeStore<Narrow>>(rt: &impl Abort, alloc: Global) -> Result<(), Fail> {
+    play_narrow::<S, RowWaiters<Narrow>>(rt, alloc)?;
+    play_narrow::<S, LinkedWaiters<Narrow>>(rt, alloc)
+}
+
+/// All cases, with wide words and with narrow ones, over each pair.
 #[test]
-fn cases_come_out_with_narrow_words(rt: HostRuntime) -> Result<(), Fail> {
-    play_narrow::<RowStore<Narrow>, RowWaiters<Narrow>>(&rt, rt.alloc())?;
-    play_narrow::<RowStore<Narrow>, LinkedWaiters<Narrow>>(&rt, rt.alloc())?;
-    play_narrow::<LinkedStore<Narrow>, RowWaiters<Narrow>>(&rt, rt.alloc())?;
-    play_narrow::<LinkedStore<Narrow>, LinkedWaiters<Narrow>>(&rt, rt.alloc())
+fn cases_come_out(rt: HostRuntime) -> Result<(), Fail> {
+    over_a_wide_store::<RowStore<Wide>>(&rt, rt.alloc())?;
+    over_a_wide_store::<LinkedStore<Wide>>(&rt, rt.alloc())?;
+    over_a_narrow_store::<RowStore<Narrow>>(&rt, rt.alloc())?;
+    over_a_narrow_store::<LinkedStore<Narrow>>(&rt, rt.alloc())
 }

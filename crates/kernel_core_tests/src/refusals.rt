@@ -1,11 +1,14 @@
-//! Why calls are refused, over each pair of a capability store and a store of waiting threads.
+//! Why calls are refused.
 use cap_core::{Cap, Kind, Wide};
-use ipc_core::{LinkedWaiters, MakeWaiters, RowWaiters};
+use ipc_core::MakeWaiters;
 use kernel_core::{BootPlan, Call, Hint, Kernel, Miss, Op, Reason};
-use slot_core::{LinkedStore, MakeStore, RowStore};
+use slot_core::MakeStore;
 use std::alloc::Global;
 use std::process::Abort;
 use std::test::Fail;
+
+/// Where the capability of the CNode is that was made after the boot.
+const NODE_SLOT: u64 = 256;
 
 /// A boot with two threads, one endpoint and an untyped region, and a CNode of four slots that a retype then made: its
 /// capability is in slot 8 of the root CNode, which stands at 256.
@@ -45,75 +48,98 @@ fn delete(cap: u64, index: u64) -> Op {
     }
 }
 
+/// Whether a delete in an endpoint's capability is told that this is of another kind.
+fn is_of_another_kind<S: MakeStore<Wide>, W: MakeWaiters<Wide>>(
+    kernel: &Kernel<Wide, S, W>,
+) -> bool {
+    match kernel.reason(&by_first(delete(4, 3))) {
+        Some(Reason::OtherKind { found, wanted }) => {
+            (found.slot, wanted) == (128, Kind::CNode) && found.cap == kernel.cap_at(128)
+        }
+        _ => false,
+    }
+}
+
+/// Whether a retype is told which slot is full.
+fn is_a_slot_full<S: MakeStore<Wide>, W: MakeWaiters<Wide>>(kernel: &Kernel<Wide, S, W>) -> bool {
+    match kernel.reason(&by_first(retype(2, 0, 3, 4))) {
+        Some(Reason::SomeFull { number, full, .. }) => {
+            (number, full.slot, full.cap) == (3, 96, Cap::Tcb { base: 4096 })
+        }
+        _ => false,
+    }
+}
+
+/// Whether a retype is told how much room there is.
+fn is_no_room<S: MakeStore<Wide>, W: MakeWaiters<Wide>>(kernel: &Kernel<Wide, S, W>) -> bool {
+    match kernel.reason(&by_first(retype(1, 0, 12, 2))) {
+        Some(Reason::NoRoom { start, room, .. }) => (start, room) == (128, 1),
+        _ => false,
+    }
+}
+
 /// The first check that fails is told, with the capability that was found.
 fn tells_what_was_found<S: MakeStore<Wide>, W: MakeWaiters<Wide>>(
     rt: &impl Abort,
-    alloc: Global,
-) -> Result<(), Fail> {
-    let kernel = with_node::<S, W>(alloc)?;
-    let Some(Reason::OtherKind { found, wanted }) = kernel.reason(&by_first(delete(4, 3))) else {
-        panic!(rt; "of another kind");
-    };
-    assert_eq!(rt; (found.slot, wanted), (128, Kind::CNode));
-    assert_eq!(rt; found.cap, kernel.cap_at(128));
-    let Some(Reason::SomeFull { number, full, .. }) = kernel.reason(&by_first(retype(2, 0, 3, 4)))
-    else {
-        panic!(rt; "a slot is full");
-    };
-    assert_eq!(rt;
-        (number, full.slot, full.cap),
-        (3, 96, Cap::Tcb { base: 4096 })
-    );
-    let Some(Reason::NoRoom { start, room, .. }) = kernel.reason(&by_first(retype(1, 0, 12, 2)))
-    else {
-        panic!(rt; "no room");
-    };
-    assert_eq!(rt; (start, room), (128, 1));
+    kernel: &Kernel<Wide, S, W>,
+) {
+    assert!(rt; is_of_another_kind(kernel), "of another kind");
+    assert!(rt; is_a_slot_full(kernel), "a slot is full");
+    assert!(rt; is_no_room(kernel), "no room");
     assert!(rt; kernel.reason(&by_first(delete(1, 9))).is_none());
-    Ok(())
+}
+
+/// Whether a delete is refused since bits of its index are left over: where the lookup began and ended.
+fn are_bits_left<S: MakeStore<Wide>, W: MakeWaiters<Wide>>(kernel: &Kernel<Wide, S, W>) -> bool {
+    let Some(reason) = kernel.reason(&by_first(delete(8, 3))) else {
+        return false;
+    };
+    let refusal = reason.refusal();
+    match reason {
+        Reason::NotFound {
+            from,
+            miss: Miss::BitsLeft { found, left },
+            ..
+        } => {
+            (refusal.code(), refusal.kind()) == (6, 3)
+                && (from.slot, found.slot, left) == (NODE_SLOT, 16384, 62)
+        }
+        _ => false,
+    }
+}
+
+/// Whether the depth is told that names a slot, and of a slot's address its number.
+fn are_hints_told<S: MakeStore<Wide>, W: MakeWaiters<Wide>>(kernel: &Kernel<Wide, S, W>) -> bool {
+    let is_depth = match kernel.index_hint(NODE_SLOT, 3, 64) {
+        Some(Hint::Depth { depth, slot }) => (depth, slot) == (2, 16480),
+        _ => false,
+    };
+    let is_number = match kernel.word_hint(2048, 128) {
+        Some(Hint::Number { number, slot }) => (number, slot) == (4, 128),
+        _ => false,
+    };
+    is_depth && is_number
 }
 
 /// An index with bits left over: where the lookup began and ended, the way between, and the depth that names a slot.
 fn tells_a_lookup<S: MakeStore<Wide>, W: MakeWaiters<Wide>>(
     rt: &impl Abort,
     alloc: Global,
+    kernel: &Kernel<Wide, S, W>,
 ) -> Result<(), Fail> {
-    let kernel = with_node::<S, W>(alloc)?;
-    let call = by_first(delete(8, 3));
-    let Some(reason) = kernel.reason(&call) else {
-        panic!(rt; "refused");
-    };
-    assert_eq!(rt; (reason.refusal().code(), reason.refusal().kind()), (6, 3));
-    let Reason::NotFound {
-        from,
-        miss: Miss::BitsLeft { found, left },
-        ..
-    } = reason
-    else {
-        panic!(rt; "bits left over");
-    };
-    assert_eq!(rt; (from.slot, found.slot, left), (256, 16384, 62));
-    let path = kernel.lookup_path(alloc, from.slot, 3, 64)?;
-    assert_eq!(rt; path.len(), 2);
-    let Some(Hint::Depth { depth, slot }) = kernel.index_hint(from.slot, 3, 64) else {
-        panic!(rt; "a depth");
-    };
-    assert_eq!(rt; (depth, slot), (2, 16480));
-    let Some(Hint::Number { number, slot }) = kernel.word_hint(2048, 128) else {
-        panic!(rt; "a number");
-    };
-    assert_eq!(rt; (number, slot), (4, 128));
+    assert!(rt; are_bits_left(kernel), "bits left over");
+    assert!(rt; are_hints_told(kernel), "a depth, and a number");
+    let path = kernel.lookup_path(alloc, NODE_SLOT, 3, 64)?;
+    assert!(rt; path.len() == 2, "the way between");
     Ok(())
 }
 
-#[test]
-fn a_reason_tells_what_was_found(rt: HostRuntime) -> Result<(), Fail> {
-    tells_what_was_found::<RowStore<Wide>, RowWaiters<Wide>>(&rt, rt.alloc())?;
-    tells_what_was_found::<LinkedStore<Wide>, LinkedWaiters<Wide>>(&rt, rt.alloc())
-}
-
-#[test]
-fn a_reason_tells_a_lookup(rt: HostRuntime) -> Result<(), Fail> {
-    tells_a_lookup::<RowStore<Wide>, RowWaiters<Wide>>(&rt, rt.alloc())?;
-    tells_a_lookup::<LinkedStore<Wide>, LinkedWaiters<Wide>>(&rt, rt.alloc())
+/// What is told of refusals, and of lookups.
+pub fn reasons_tell<S: MakeStore<Wide>, W: MakeWaiters<Wide>>(
+    rt: &impl Abort,
+    alloc: Global,
+) -> Result<(), Fail> {
+    let kernel = with_node::<S, W>(alloc)?;
+    tells_what_was_found(rt, &kernel);
+    tells_a_lookup(rt, alloc, &kernel)
 }

@@ -22,9 +22,9 @@ pub fn kernel_slots<P: Profile, S: DerivationStore<P> + Drop, W: Waiters<P> + Dr
     alloc: Global,
     kernel: &Kernel<P, S, W>,
 ) -> Result<Vec<FullSlot>, AllocError>
-    requires { (memory : ℕ) × IsInMemory P.the memory kernel.now }
+    requires { (memory : ℕ) × IsInMemory P.profile memory kernel.now }
     ensures slots { IfOk result (λ filled. AreFullSlots kernel.now.derivations filled.items) }
-    ensures lawful { IfOk result (λ filled. AreLawful P.the filled.items) }
+    ensures lawful { IfOk result (λ filled. AreLawful P.profile filled.items) }
     ensures rising { IfOk result (λ filled. AreRising filled.items) }
 {
     let derivations = kernel.derivations(alloc)?;

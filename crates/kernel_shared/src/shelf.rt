@@ -30,7 +30,7 @@ impl<N: Naming, P: Profile, S: CapStore<P> + Drop, W: Waiters<P> + Drop> Model
 
     ghost view = { λ s. s.book.history.items };
 
-    ghost invariant = { λ s. ∥ Begins P.the N.start N.opening ∥₁ × (N.profile ≡ P.the) };
+    ghost invariant = { λ s. ∥ Begins P.profile N.start N.opening ∥₁ × (N.profile ≡ P.profile) };
 }
 
 impl<N: Naming, P: Profile, S: CapStore<P> + Drop, W: Waiters<P> + Drop> Absorb<Request>
@@ -59,8 +59,8 @@ impl<N: Naming, P: Profile, S: CapStore<P> + Drop, W: Waiters<P> + Drop> Absorb<
 impl<N: Naming, P: Profile, S: CapStore<P> + Drop, W: Waiters<P> + Drop> Shelf<N, P, S, W> {
     /// A book as a copy.
     pub fn new(book: Book<N, P, S, W>) -> Shelf<N, P, S, W>
-        requires begins { ∥ Begins P.the N.start N.opening ∥₁ }
-        requires profile { N.profile ≡ P.the }
+        requires begins { ∥ Begins P.profile N.start N.opening ∥₁ }
+        requires profile { N.profile ≡ P.profile }
         ensures { result ≡ book.history.items }
     {
         Shelf { book }

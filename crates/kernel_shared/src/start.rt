@@ -103,9 +103,9 @@ impl<N: Naming, P: Profile, S: MakeStore<P>, W: MakeWaiters<P>> Shared<N, Shelf<
         requires parts { blank.parts ≡ N.parts }
         requires each { blank.parts ≡ clients }
         requires some { 0 < clients }
-        requires profile { N.profile ≡ P.the }
+        requires profile { N.profile ≡ P.profile }
         requires opening { kernel ≡ N.opening }
-        requires begins { ∥ Begins P.the N.start N.opening ∥₁ }
+        requires begins { ∥ Begins P.profile N.start N.opening ∥₁ }
         requires limit { limit ≡ N.limit }
         ensures len { IfOk result (λ r. vec_len r.1 ≡ clients) }
         ensures each { IfOk result (λ r. (i : ℕ) (c : _) → slice_get r.1.items i ≡ Some c → c ≡ token i 0 [] None) }

@@ -18,8 +18,8 @@ pub use objects::{Placed, Shape};
 /// size is larger than a retype makes. `InvalidArgument`: a CNode without slots, or an untyped region smaller than the least.
 /// The first of these that holds is answered.
 pub fn shape<P: Profile>(kind_number: u64, size_bits: u64) -> Result<Shape, Refusal>
-    ensures value { result ≡ shape_of P.the kind_number size_bits }
-    ensures lawful { IfOk result (IsLawfulShape P.the) }
+    ensures value { result ≡ shape_of P.profile kind_number size_bits }
+    ensures lawful { IfOk result (IsLawfulShape P.profile) }
 {
     let Some(kind) = kind_of(kind_number) else {
         return Err(Refusal::InvalidArgument);

@@ -42,7 +42,7 @@ pub const FIRST_EMPTY: u64 = 12;
 
 /// The plan of the boot.
 pub fn plan<P: Profile>(alloc: Global) -> Result<BootPlan>
-    ensures { IfOk result (IsPlan P.the) }
+    ensures { IfOk result (IsPlan P.profile) }
 {
     let regions = vec![in alloc; (20480, 12), (24576, 13)]?;
     let plan = BootPlan::new::<P>(MEMORY_BITS, ROOT_RADIX, THREADS, ENDPOINTS, regions);

@@ -19,11 +19,11 @@ use cap_core::{Cap, Profile};
 /// Where a capability that a path of `read` bits leads to leads on, at the slot at an address: how many bits are read then,
 /// and the path.
 fn next_path<P: Profile>(from: Cap, read: u32, path: Path, slot: u64) -> Option<(u32, Path)>
-    requires lawful { (from ≡ Null) ⊎ IsLawful P.the (word_bits P.the) from }
-    requires read { read ≤ word_bits P.the }
+    requires lawful { (from ≡ Null) ⊎ IsLawful P.profile (word_bits P.profile) from }
+    requires read { read ≤ word_bits P.profile }
     requires index { path.index < 2 ^ read }
-    ensures some { IfSome result (λ r. IsStep P.the from read path slot r.0 r.1) }
-    ensures each { (more : ℕ) (next : PathOf) → IsStep P.the from read path slot more next → result ≡ Some (more, next) }
+    ensures some { IfSome result (λ r. IsStep P.profile from read path slot r.0 r.1) }
+    ensures each { (more : ℕ) (next : PathOf) → IsStep P.profile from read path slot more next → result ≡ Some (more, next) }
 {
     let Cap::CNode { base, radix, guard } = from else {
         return None;
@@ -52,12 +52,12 @@ fn extend<P: Profile>(
     rows: &mut Vec<Vec<Option<Path>>>,
 )
     requires rising { AreRising filled.now }
-    requires lawful { (from ≡ Null) ⊎ IsLawful P.the (word_bits P.the) from }
-    requires read { read ≤ word_bits P.the }
+    requires lawful { (from ≡ Null) ⊎ IsLawful P.profile (word_bits P.profile) from }
+    requires read { read ≤ word_bits P.profile }
     requires index { path.index < 2 ^ read }
-    requires wide { IsWide (word_bits P.the + 1) (length filled.now) (map (λ r. r.items) rows.old.items) }
-    ensures wide { IsWide (word_bits P.the + 1) (length filled.now) (map (λ r. r.items) rows.new.items) }
-    ensures extends { Extends P.the from read path filled.now (length filled.now) (map (λ r. r.items) rows.old.items) (map (λ r. r.items) rows.new.items) }
+    requires wide { IsWide (word_bits P.profile + 1) (length filled.now) (map (λ r. r.items) rows.old.items) }
+    ensures wide { IsWide (word_bits P.profile + 1) (length filled.now) (map (λ r. r.items) rows.new.items) }
+    ensures extends { Extends P.profile from read path filled.now (length filled.now) (map (λ r. r.items) rows.old.items) (map (λ r. r.items) rows.new.items) }
 {
     let (start, stop) = places_in::<P>(filled, from);
     for place in start..stop {
@@ -69,13 +69,13 @@ fn extend<P: Profile>(
 
 /// Puts the steps of the paths of a row, which have read `read` bits.
 fn extend_row<P: Profile>(filled: &[FullSlot], read: usize, rows: &mut Vec<Vec<Option<Path>>>)
-    requires lawful { AreLawful P.the filled.now }
+    requires lawful { AreLawful P.profile filled.now }
     requires rising { AreRising filled.now }
-    requires read { read ≤ word_bits P.the }
+    requires read { read ≤ word_bits P.profile }
     requires bits { AreWithinBits (map (λ r. r.items) rows.old.items) }
-    requires wide { IsWide (word_bits P.the + 1) (length filled.now) (map (λ r. r.items) rows.old.items) }
-    ensures wide { IsWide (word_bits P.the + 1) (length filled.now) (map (λ r. r.items) rows.new.items) }
-    ensures extends { ExtendsRow P.the read filled.now (length filled.now) (map (λ r. r.items) rows.old.items) (map (λ r. r.items) rows.new.items) }
+    requires wide { IsWide (word_bits P.profile + 1) (length filled.now) (map (λ r. r.items) rows.old.items) }
+    ensures wide { IsWide (word_bits P.profile + 1) (length filled.now) (map (λ r. r.items) rows.new.items) }
+    ensures extends { ExtendsRow P.profile read filled.now (length filled.now) (map (λ r. r.items) rows.old.items) (map (λ r. r.items) rows.new.items) }
 {
     for place in 0..filled.len() {
         if let Some(path) = rows[read][place] {
@@ -86,14 +86,14 @@ fn extend_row<P: Profile>(filled: &[FullSlot], read: usize, rows: &mut Vec<Vec<O
 
 /// Follows the paths of a table, row by row: a CNode takes at least one bit, so a row is whole when its turn comes.
 pub fn explore<P: Profile>(filled: &[FullSlot], rows: &mut Vec<Vec<Option<Path>>>)
-    requires lawful { AreLawful P.the filled.now }
+    requires lawful { AreLawful P.profile filled.now }
     requires rising { AreRising filled.now }
     requires starts { AreStarts (map (λ r. r.items) rows.old.items) }
-    requires wide { IsWide (word_bits P.the + 1) (length filled.now) (map (λ r. r.items) rows.old.items) }
-    ensures wide { IsWide (word_bits P.the + 1) (length filled.now) (map (λ r. r.items) rows.new.items) }
+    requires wide { IsWide (word_bits P.profile + 1) (length filled.now) (map (λ r. r.items) rows.old.items) }
+    ensures wide { IsWide (word_bits P.profile + 1) (length filled.now) (map (λ r. r.items) rows.new.items) }
     ensures bits { AreWithinBits (map (λ r. r.items) rows.new.items) }
     ensures front { (place : ℕ) → path_at (map (λ r. r.items) rows.new.items) 0 place ≡ path_at (map (λ r. r.items) rows.old.items) 0 place }
-    ensures explored { (f : Forest Entry) → AreFullSlots f filled.now → IsExplored P.the f filled.now (map (λ r. r.items) rows.old.items) (map (λ r. r.items) rows.new.items) (word_bits P.the + 1) }
+    ensures explored { (f : Forest Entry) → AreFullSlots f filled.now → IsExplored P.profile f filled.now (map (λ r. r.items) rows.old.items) (map (λ r. r.items) rows.new.items) (word_bits P.profile + 1) }
 {
     for read in 0..rows.len() {
         extend_row::<P>(filled, read, rows);

@@ -27,7 +27,7 @@ fn slots_of<P: Profile>(
     alloc: Global,
     derivations: &[Derivation],
 ) -> Result<Vec<FullSlot>, AllocError>
-    ensures { IfOk result (λ filled. filled.items ≡ map (full_slot P.the) derivations.now) }
+    ensures { IfOk result (λ filled. filled.items ≡ map (full_slot P.profile) derivations.now) }
 {
     derivations
         .iter()
@@ -59,10 +59,10 @@ pub fn full_slots<P: Profile>(
     alloc: Global,
     derivations: &[Derivation],
 ) -> Result<Vec<FullSlot>, AllocError>
-    ensures slots { IfOk result (λ filled. (f : Forest Entry) → map (derivation_view P.the) derivations.now ≡ derivations_of f
+    ensures slots { IfOk result (λ filled. (f : Forest Entry) → map (derivation_view P.profile) derivations.now ≡ derivations_of f
         → IsDistinct (λ (a b : ℕ). a == b) (slots f) → AreFullSlots f filled.items) }
-    ensures lawful { IfOk result (λ filled. (memory : ℕ) (f : Forest Entry) → map (derivation_view P.the) derivations.now ≡ derivations_of f
-        → All (IsLawful P.the memory) (caps f) → AreLawful P.the filled.items) }
+    ensures lawful { IfOk result (λ filled. (memory : ℕ) (f : Forest Entry) → map (derivation_view P.profile) derivations.now ≡ derivations_of f
+        → All (IsLawful P.profile memory) (caps f) → AreLawful P.profile filled.items) }
     ensures rising { IfOk result (λ filled. AreRising filled.items) }
 {
     let mut filled = slots_of::<P>(alloc, derivations)?;

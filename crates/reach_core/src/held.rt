@@ -41,7 +41,7 @@ fn empty_row(alloc: Global, width: usize) -> Result<Vec<Option<Path>>, AllocErro
 
 /// A table with no paths.
 fn empty_rows<P: Profile>(alloc: Global, width: usize) -> Result<Vec<Vec<Option<Path>>>, AllocError>
-    ensures { IfOk result (λ rows. map (λ r. r.items) rows.items ≡ replicate (word_bits P.the + 1) (replicate width None)) }
+    ensures { IfOk result (λ rows. map (λ r. r.items) rows.items ≡ replicate (word_bits P.profile + 1) (replicate width None)) }
 {
     let mut rows = Vec::new(alloc);
     for read in 0..P::WORD_BITS + 1 {
@@ -57,7 +57,7 @@ fn start_rows<P: Profile>(
     reached: &[Reached],
 ) -> Result<Vec<Vec<Option<Path>>>, AllocError>
     requires { AreRising filled.now }
-    ensures wide { IfOk result (λ rows. IsWide (word_bits P.the + 1) (length filled.now) (map (λ r. r.items) rows.items)) }
+    ensures wide { IfOk result (λ rows. IsWide (word_bits P.profile + 1) (length filled.now) (map (λ r. r.items) rows.items)) }
     ensures starts { IfOk result (λ rows. AreStarts (map (λ r. r.items) rows.items)) }
     ensures of { IfOk result (λ rows. HasStarts filled.now reached.now (length reached.now) (map (λ r. r.items) rows.items)) }
 {
@@ -86,7 +86,7 @@ fn earlier_of(known: Option<Held>, next: Held) -> Held
 
 /// The entry for the slot at a place, where no word leads there and some path does.
 fn held_at<P: Profile>(rows: &[Vec<Option<Path>>], place: usize, slot: u64) -> Option<Held>
-    requires { (width : ℕ) × ((place < width) × IsWide (word_bits P.the + 1) width (map (λ r. r.items) rows.now)) }
+    requires { (width : ℕ) × ((place < width) × IsWide (word_bits P.profile + 1) width (map (λ r. r.items) rows.now)) }
     ensures some { IfSome result (λ h. IsHeldAt (map (λ r. r.items) rows.now) place slot h) }
     ensures none { IfNone result (HasEntry (map (λ r. r.items) rows.now) place slot []) }
 {
@@ -114,7 +114,7 @@ fn found<P: Profile>(
     rows: &[Vec<Option<Path>>],
     filled: &[FullSlot],
 ) -> Result<Vec<Held>, AllocError>
-    requires { IsWide (word_bits P.the + 1) (length filled.now) (map (λ r. r.items) rows.now) }
+    requires { IsWide (word_bits P.profile + 1) (length filled.now) (map (λ r. r.items) rows.now) }
     ensures only { IfOk result (λ list. (h : HeldOf) → Contains list.items h → IsListed (map (λ r. r.items) rows.now) filled.now h) }
     ensures all { IfOk result (λ list. (place : ℕ) (u : FullSlotOf) → slice_get filled.now place ≡ Some u
         → HasEntry (map (λ r. r.items) rows.now) place u.address list.items) }
@@ -144,10 +144,10 @@ pub fn held_slots<P: Profile>(
     filled: &[FullSlot],
     reached: &[Reached],
 ) -> Result<Vec<Held>, AllocError>
-    requires lawful { AreLawful P.the filled.now }
+    requires lawful { AreLawful P.profile filled.now }
     requires rising { AreRising filled.now }
-    ensures { IfOk result (λ list. (f : Forest Entry) (thread : ℕ) → AreFullSlots f filled.now → AreReached P.the f thread reached.now
-        → AreHeld P.the f thread list.items) }
+    ensures { IfOk result (λ list. (f : Forest Entry) (thread : ℕ) → AreFullSlots f filled.now → AreReached P.profile f thread reached.now
+        → AreHeld P.profile f thread list.items) }
 {
     let mut rows = start_rows::<P>(alloc, filled, reached)?;
     explore::<P>(filled, &mut rows);

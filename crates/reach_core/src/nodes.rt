@@ -12,8 +12,8 @@ use cap_core::{Cap, Profile};
 /// The index of the slot at an address in a CNode.
 pub fn index_in<P: Profile>(base: u64, radix: u32, address: u64) -> Option<u64>
     requires { radix < 64 }
-    ensures some { IfSome result (λ i. (i < 2 ^ radix) × (address ≡ slot_of P.the base i)) }
-    ensures each { (i : ℕ) → i < 2 ^ radix → address ≡ slot_of P.the base i → result ≡ Some i }
+    ensures some { IfSome result (λ i. (i < 2 ^ radix) × (address ≡ slot_of P.profile base i)) }
+    ensures each { (i : ℕ) → i < 2 ^ radix → address ≡ slot_of P.profile base i → result ≡ Some i }
 {
     if address < base {
         return None;
@@ -30,11 +30,11 @@ pub fn index_in<P: Profile>(base: u64, radix: u32, address: u64) -> Option<u64>
 /// Where a capability that is entered with `left` bits by a word leads at a full slot: the bits that are left there, and the
 /// word that leads there.
 pub fn next_word<P: Profile>(from: Cap, left: u32, word: u64, to: &FullSlot) -> Option<(u32, u64)>
-    requires lawful { (from ≡ Null) ⊎ IsLawful P.the (word_bits P.the) from }
-    requires left { left ≤ word_bits P.the }
-    requires word { word + 2 ^ left ≤ 2 ^ word_bits P.the }
-    ensures some { IfSome result (λ r. IsNext P.the from left word to.now.address to.now.cap r.0 r.1) }
-    ensures each { (more next : ℕ) → IsNext P.the from left word to.now.address to.now.cap more next → result ≡ Some (more, next) }
+    requires lawful { (from ≡ Null) ⊎ IsLawful P.profile (word_bits P.profile) from }
+    requires left { left ≤ word_bits P.profile }
+    requires word { word + 2 ^ left ≤ 2 ^ word_bits P.profile }
+    ensures some { IfSome result (λ r. IsNext P.profile from left word to.now.address to.now.cap r.0 r.1) }
+    ensures each { (more next : ℕ) → IsNext P.profile from left word to.now.address to.now.cap more next → result ≡ Some (more, next) }
 {
     let Cap::CNode { base, radix, guard } = from else {
         return None;

@@ -69,9 +69,9 @@ pub fn reached_slots<P: Profile>(
     filled: &[FullSlot],
     thread: u64,
 ) -> Result<Vec<Reached>, AllocError>
-    requires lawful { AreLawful P.the filled.now }
+    requires lawful { AreLawful P.profile filled.now }
     requires rising { AreRising filled.now }
-    ensures { IfOk result (λ list. (f : Forest Entry) → AreFullSlots f filled.now → AreReached P.the f thread list.items) }
+    ensures { IfOk result (λ list. (f : Forest Entry) → AreFullSlots f filled.now → AreReached P.profile f thread list.items) }
 {
     let Some(root) = place_of(filled, thread) else {
         return Ok(Vec::new(alloc));

@@ -25,14 +25,14 @@ fn visit<P: Profile>(
     place: usize,
     rows: &mut Vec<Vec<Option<u64>>>,
 )
-    requires lawful { (from ≡ Null) ⊎ IsLawful P.the (word_bits P.the) from }
-    requires left { left ≤ word_bits P.the }
-    requires word { word + 2 ^ left ≤ 2 ^ word_bits P.the }
+    requires lawful { (from ≡ Null) ⊎ IsLawful P.profile (word_bits P.profile) from }
+    requires left { left ≤ word_bits P.profile }
+    requires word { word + 2 ^ left ≤ 2 ^ word_bits P.profile }
     requires some { 0 < left }
     requires rows { left ≤ vec_len rows.old }
     requires place { (t : ℕ) → t < vec_len rows.old → place < length (row_at (map (λ r. r.items) rows.old.items) t) }
     ensures shape { SameShape (map (λ r. r.items) rows.old.items) (map (λ r. r.items) rows.new.items) }
-    ensures visits { Visits P.the from left word place to.now.address to.now.cap (map (λ r. r.items) rows.old.items) (map (λ r. r.items) rows.new.items) }
+    ensures visits { Visits P.profile from left word place to.now.address to.now.cap (map (λ r. r.items) rows.old.items) (map (λ r. r.items) rows.new.items) }
 {
     if let Some((more, next)) = next_word::<P>(from, left, word, to) {
         note(rows, more as usize, place, next);
@@ -61,10 +61,10 @@ fn count_below(filled: &[FullSlot], address: u64) -> usize
 
 /// The places of the full slots of a CNode: from the first one on, and below the second one.
 pub fn places_in<P: Profile>(filled: &[FullSlot], from: Cap) -> (usize, usize)
-    requires lawful { (from ≡ Null) ⊎ IsLawful P.the (word_bits P.the) from }
+    requires lawful { (from ≡ Null) ⊎ IsLawful P.profile (word_bits P.profile) from }
     requires rising { AreRising filled.now }
     ensures within { result.1 ≤ length filled.now }
-    ensures all { (k : ℕ) (u : FullSlotOf) → slice_get filled.now k ≡ Some u → IsSlotOf P.the from u.address → (result.0 ≤ k) × (k < result.1) }
+    ensures all { (k : ℕ) (u : FullSlotOf) → slice_get filled.now k ≡ Some u → IsSlotOf P.profile from u.address → (result.0 ≤ k) × (k < result.1) }
 {
     let Cap::CNode { base, radix, .. } = from else {
         return (0, 0);
@@ -87,14 +87,14 @@ fn expand<P: Profile>(
     rows: &mut Vec<Vec<Option<u64>>>,
 )
     requires rising { AreRising filled.now }
-    requires lawful { (from ≡ Null) ⊎ IsLawful P.the (word_bits P.the) from }
-    requires left { left ≤ word_bits P.the }
-    requires word { word + 2 ^ left ≤ 2 ^ word_bits P.the }
+    requires lawful { (from ≡ Null) ⊎ IsLawful P.profile (word_bits P.profile) from }
+    requires left { left ≤ word_bits P.profile }
+    requires word { word + 2 ^ left ≤ 2 ^ word_bits P.profile }
     requires some { 0 < left }
     requires rows { left ≤ vec_len rows.old }
     requires places { (t : ℕ) → t < vec_len rows.old → length (row_at (map (λ r. r.items) rows.old.items) t) ≡ length filled.now }
     ensures shape { SameShape (map (λ r. r.items) rows.old.items) (map (λ r. r.items) rows.new.items) }
-    ensures spreads { Spreads P.the from left word filled.now (length filled.now) (map (λ r. r.items) rows.old.items) (map (λ r. r.items) rows.new.items) }
+    ensures spreads { Spreads P.profile from left word filled.now (length filled.now) (map (λ r. r.items) rows.old.items) (map (λ r. r.items) rows.new.items) }
 {
     let (start, stop) = places_in::<P>(filled, from);
     for place in start..stop {
@@ -109,16 +109,16 @@ fn expand_row<P: Profile>(
     left: u32,
     rows: &mut Vec<Vec<Option<u64>>>,
 )
-    requires lawful { AreLawful P.the filled.now }
+    requires lawful { AreLawful P.profile filled.now }
     requires rising { AreRising filled.now }
-    requires left { left ≤ word_bits P.the }
+    requires left { left ≤ word_bits P.profile }
     requires some { 0 < left }
     requires rows { left ≡ vec_len rows.old }
     requires width { length row.now ≡ length filled.now }
-    requires words { (k w : ℕ) → word_in row.now k ≡ Some w → w + 2 ^ left ≤ 2 ^ word_bits P.the }
+    requires words { (k w : ℕ) → word_in row.now k ≡ Some w → w + 2 ^ left ≤ 2 ^ word_bits P.profile }
     requires places { (t : ℕ) → t < vec_len rows.old → length (row_at (map (λ r. r.items) rows.old.items) t) ≡ length filled.now }
     ensures shape { SameShape (map (λ r. r.items) rows.old.items) (map (λ r. r.items) rows.new.items) }
-    ensures spreads { RowSpreads P.the row.now left filled.now (length filled.now) (map (λ r. r.items) rows.old.items) (map (λ r. r.items) rows.new.items) }
+    ensures spreads { RowSpreads P.profile row.now left filled.now (length filled.now) (map (λ r. r.items) rows.old.items) (map (λ r. r.items) rows.new.items) }
 {
     for place in 0..filled.len() {
         if let Some(word) = row[place] {
@@ -130,17 +130,17 @@ fn expand_row<P: Profile>(
 /// Empties the rows of a table from the last one on, until the first one alone is left: whatever was entered with bits left
 /// has then been followed to the slots that are found.
 pub fn search<P: Profile>(filled: &[FullSlot], rows: &mut Vec<Vec<Option<u64>>>)
-    requires lawful { AreLawful P.the filled.now }
+    requires lawful { AreLawful P.profile filled.now }
     requires rising { AreRising filled.now }
     requires some { 0 < vec_len rows.old }
-    requires rows { vec_len rows.old ≤ word_bits P.the + 1 }
-    requires bounded { IsBounded P.the (map (λ r. r.items) rows.old.items) }
+    requires rows { vec_len rows.old ≤ word_bits P.profile + 1 }
+    requires bounded { IsBounded P.profile (map (λ r. r.items) rows.old.items) }
     requires places { (t : ℕ) → t < vec_len rows.old → length (row_at (map (λ r. r.items) rows.old.items) t) ≡ length filled.now }
     ensures one { vec_len rows.new ≡ 1 }
     ensures width { length (row_at (map (λ r. r.items) rows.new.items) 0) ≡ length filled.now }
-    ensures bounded { IsBounded P.the (map (λ r. r.items) rows.new.items) }
-    ensures found { (memory : ℕ) (f : Forest Entry) (thread : ℕ) → ((s : ℕ) → (cap_at f s ≡ Null) ⊎ IsLawful P.the memory (cap_at f s)) → AreFullSlots f filled.now
-        → IsSearch P.the f thread filled.now (map (λ r. r.items) rows.old.items) → IsSearch P.the f thread filled.now (map (λ r. r.items) rows.new.items) }
+    ensures bounded { IsBounded P.profile (map (λ r. r.items) rows.new.items) }
+    ensures found { (memory : ℕ) (f : Forest Entry) (thread : ℕ) → ((s : ℕ) → (cap_at f s ≡ Null) ⊎ IsLawful P.profile memory (cap_at f s)) → AreFullSlots f filled.now
+        → IsSearch P.profile f thread filled.now (map (λ r. r.items) rows.old.items) → IsSearch P.profile f thread filled.now (map (λ r. r.items) rows.new.items) }
 {
     while rows.len() > 1 {
         let Some(row) = rows.pop() else {

@@ -57,8 +57,8 @@ pub fn first_rows<P: Profile>(
     root: usize,
 ) -> Result<Vec<Vec<Option<u64>>>, AllocError>
     requires { root < width }
-    ensures height { IfOk result (λ rows. vec_len rows ≡ word_bits P.the + 1) }
-    ensures first { IfOk result (λ rows. IsFirst (word_bits P.the) width root (map (λ r. r.items) rows.items)) }
+    ensures height { IfOk result (λ rows. vec_len rows ≡ word_bits P.profile + 1) }
+    ensures first { IfOk result (λ rows. IsFirst (word_bits P.profile) width root (map (λ r. r.items) rows.items)) }
 {
     let mut rows = empty_rows(alloc, P::WORD_BITS as usize + 1, width)?;
     note(&mut rows, P::WORD_BITS as usize, root, 0);

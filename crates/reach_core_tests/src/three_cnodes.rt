@@ -103,7 +103,7 @@ fn held(depth: u32, index: u64, slot: u64) -> Held {
 
 /// The kernel behind those calls, and one of the client.
 fn kernel<P: Profile>(alloc: Global) -> Result<Kernel<P, LinkedStore<P>, LinkedWaiters<P>>, Fail>
-    ensures { IfOk result (λ kernel. (memory : ℕ) × IsInMemory P.the memory kernel) }
+    ensures { IfOk result (λ kernel. (memory : ℕ) × IsInMemory P.profile memory kernel) }
 {
     let plan = BootPlan::new::<P>(16, 4, 2, 1, vec![in alloc; (16384, 12)]?)?;
     let mut kernel = Kernel::<P, LinkedStore<P>, LinkedWaiters<P>>::boot(alloc, &plan)?;

@@ -23,8 +23,8 @@ pub fn explain_placement<P: Profile, S: CapStore<P>>(
     change: Change,
 ) -> Result<CapPlacement, Reason>
     requires memory { S.memory_bits store.now ≤ MAX_MEMORY_BITS }
-    requires thread { IsThreadAddress P.the (S.memory_bits store.now) thread }
-    ensures { result ≡ explained_placement P.the (S.forest store.now) thread (address_of P.the at) asked change }
+    requires thread { IsThreadAddress P.profile (S.memory_bits store.now) thread }
+    ensures { result ≡ explained_placement P.profile (S.forest store.now) thread (address_of P.profile at) asked change }
 {
     let _node = of_kind(held::<P, S>(store, at), Kind::CNode)?;
     let root = slot_by_word::<P, S>(store, Word::SourceRoot, thread, asked.src_root)?;
@@ -51,7 +51,7 @@ fn changed<P: Profile, S: CapStore<P>>(
     source: Slot,
     change: Change,
 ) -> Result<Cap, Reason>
-    ensures { result ≡ changed_by P.the (S.forest store.now) (address_of P.the source) change (cap_at (S.forest store.now) (address_of P.the source)) }
+    ensures { result ≡ changed_by P.profile (S.forest store.now) (address_of P.profile source) change (cap_at (S.forest store.now) (address_of P.profile source)) }
 {
     let found = held::<P, S>(store, source);
     match change {
@@ -80,7 +80,7 @@ pub fn with_word<P: Profile>(
     cap: Cap,
     found: Held,
 ) -> Result<Cap, Reason>
-    ensures { result ≡ where_set (no_data P.the of word found.slot found.cap) (with_data P.the preserve word cap) }
+    ensures { result ≡ where_set (no_data P.profile of word found.slot found.cap) (with_data P.profile preserve word cap) }
 {
     set_data::<P>(preserve, word, cap).ok_or(refused_data::<P>(of, word, found))
 }
@@ -88,7 +88,7 @@ pub fn with_word<P: Profile>(
 /// Why the data of a capability can't be set.
 #[inline(always)]
 fn refused_data<P: Profile>(of: Word, word: u64, found: Held) -> Reason
-    ensures { result ≡ no_data P.the of word found.slot found.cap }
+    ensures { result ≡ no_data P.profile of word found.slot found.cap }
 {
     match found.cap {
         Cap::CNode { .. } => {
@@ -108,7 +108,7 @@ fn refused_data<P: Profile>(of: Word, word: u64, found: Held) -> Reason
 /// A capability that may be derived from the one in a slot: an untyped one where nothing was derived from it.
 #[inline(always)]
 fn derivable<P: Profile, S: CapStore<P>>(store: &S, source: Slot, cap: Cap) -> Result<Cap, Reason>
-    ensures { result ≡ where_derivable (S.forest store.now) (address_of P.the source) cap }
+    ensures { result ≡ where_derivable (S.forest store.now) (address_of P.profile source) cap }
 {
     match cap {
         Cap::Untyped { .. } => match store.first_child(source) {

@@ -18,7 +18,7 @@ pub fn explain_slot<P: Profile, S: CapStore<P>>(
     index: u64,
     depth: u64,
 ) -> Result<Slot, Reason>
-    ensures { slot_seen P.the result ≡ explained_slot P.the (S.forest store.now) (address_of P.the at) index depth }
+    ensures { slot_seen P.profile result ≡ explained_slot P.profile (S.forest store.now) (address_of P.profile at) index depth }
 {
     let _node = of_kind(held::<P, S>(store, at), Kind::CNode)?;
     slot_by_index::<P, S>(store, Word::Index, at, index, depth)
@@ -32,7 +32,7 @@ pub fn explain_badge<P: Profile, S: CapStore<P>>(
     index: u64,
     depth: u64,
 ) -> Result<Service, Reason>
-    ensures { result ≡ explained_badge P.the (S.forest store.now) (address_of P.the at) index depth }
+    ensures { result ≡ explained_badge P.profile (S.forest store.now) (address_of P.profile at) index depth }
 {
     let slot = explain_slot::<P, S>(store, at, index, depth)?;
     with_all_rights(held::<P, S>(store, slot))

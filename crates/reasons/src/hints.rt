@@ -23,7 +23,7 @@ pub enum Hint {
 /// For a word that leads to no slot of the capability space whose root is in the slot `root`: the number of the slot whose
 /// address the word is.
 pub fn word_hint<P: Profile, S: CapStore<P>>(store: &S, root: Slot, word: u64) -> Option<Hint>
-    ensures { result ≡ word_hint_of P.the (S.forest store.now) (address_of P.the root) word }
+    ensures { result ≡ word_hint_of P.profile (S.forest store.now) (address_of P.profile root) word }
 {
     let number = word >> P::SLOT_BITS;
     if word % (1 << P::SLOT_BITS) != 0 {
@@ -43,7 +43,7 @@ pub fn index_hint<P: Profile, S: CapStore<P>>(
     index: u64,
     depth: u64,
 ) -> Option<Hint>
-    ensures { result ≡ index_hint_of P.the (cap_at (S.forest store.now)) (address_of P.the root) index depth }
+    ensures { result ≡ index_hint_of P.profile (cap_at (S.forest store.now)) (address_of P.profile root) index depth }
 {
     if let Some(hint) = depth_hint::<P, S>(store, root, index) {
         return Some(hint);
@@ -60,7 +60,7 @@ pub fn index_hint<P: Profile, S: CapStore<P>>(
 
 /// The least depth at which an index names a slot from the slot `root` on, of those that cut no bit of the index off.
 pub fn depth_hint<P: Profile, S: CapStore<P>>(store: &S, root: Slot, index: u64) -> Option<Hint>
-    ensures { result ≡ depth_hint_of P.the (cap_at (S.forest store.now)) (address_of P.the root) index }
+    ensures { result ≡ depth_hint_of P.profile (cap_at (S.forest store.now)) (address_of P.profile root) index }
 {
     let most = greatest_depth::<P>();
     let mut depth = 1;
@@ -75,7 +75,7 @@ pub fn depth_hint<P: Profile, S: CapStore<P>>(store: &S, root: Slot, index: u64)
 
 /// The greatest depth of a lookup: the bits of a word.
 fn greatest_depth<P: Profile>() -> u32
-    ensures { result ≡ word_bits P.the }
+    ensures { result ≡ word_bits P.profile }
 {
     P::WORD_BITS
 }
@@ -87,7 +87,7 @@ fn slot_at_depth<P: Profile, S: CapStore<P>>(
     index: u64,
     depth: u32,
 ) -> Option<u64>
-    ensures { result ≡ slot_at_depth_of P.the (cap_at (S.forest store.now)) (address_of P.the root) index depth }
+    ensures { result ≡ slot_at_depth_of P.profile (cap_at (S.forest store.now)) (address_of P.profile root) index depth }
 {
     if !is_below_power(index, depth) {
         return None;
@@ -107,7 +107,7 @@ fn is_below_power(number: u64, bits: u32) -> bool
 
 /// The hint of a number that leads to a slot, where that slot has the address.
 fn where_same<P: Profile>(word: u64, number: u64, slot: Slot) -> Option<Hint>
-    ensures { result ≡ cond (address_of P.the slot == word) (Some (Number number word)) None }
+    ensures { result ≡ cond (address_of P.profile slot == word) (Some (Number number word)) None }
 {
     if slot.address::<P>() == word {
         Some(Hint::Number { number, slot: word })

@@ -24,8 +24,8 @@ pub fn walk<P: Profile, S: CapStore<P>>(
     address: u64,
     bits: u32,
 ) -> Result<(Slot, u32), Miss>
-    requires bits { bits ≤ word_bits P.the }
-    ensures { found_seen P.the result ≡ walked P.the (cap_at (S.forest store.now)) (address_of P.the root) (low_bits bits address) }
+    requires bits { bits ≤ word_bits P.profile }
+    ensures { found_seen P.profile result ≡ walked P.profile (cap_at (S.forest store.now)) (address_of P.profile root) (low_bits bits address) }
 {
     let mut at = root;
     let mut left = bits;
@@ -47,9 +47,9 @@ pub fn walk<P: Profile, S: CapStore<P>>(
 /// What the capability in one slot makes of the low bits of an address.
 #[inline(always)]
 pub fn choose<P: Profile>(at: Slot, cap: Cap, address: u64, bits: u32) -> Result<(Slot, u32), Miss>
-    requires lawful { (cap ≡ Null) ⊎ IsLawful P.the (word_bits P.the) cap }
-    requires bits { bits ≤ word_bits P.the }
-    ensures is { choice_seen P.the address result ≡ chosen P.the (address_of P.the at) cap (low_bits bits address) }
+    requires lawful { (cap ≡ Null) ⊎ IsLawful P.profile (word_bits P.profile) cap }
+    requires bits { bits ≤ word_bits P.profile }
+    ensures is { choice_seen P.profile address result ≡ chosen P.profile (address_of P.profile at) cap (low_bits bits address) }
     ensures less { IfOk result (λ r. r.1 < bits) }
 {
     let Cap::CNode { base, radix, guard } = cap else {
@@ -97,8 +97,8 @@ fn field(word: u64, from: u32, count: u32) -> u64
 /// A slot with what it holds.
 #[inline(always)]
 pub fn held<P: Profile, S: CapStore<P>>(store: &S, slot: Slot) -> Held
-    ensures value { result ≡ held_at (cap_at (S.forest store.now)) (address_of P.the slot) }
-    ensures lawful { (result.cap ≡ Null) ⊎ IsLawful P.the (S.memory_bits store.now) result.cap }
+    ensures value { result ≡ held_at (cap_at (S.forest store.now)) (address_of P.profile slot) }
+    ensures lawful { (result.cap ≡ Null) ⊎ IsLawful P.profile (S.memory_bits store.now) result.cap }
 {
     Held {
         slot: slot.address::<P>(),
@@ -116,8 +116,8 @@ pub fn slot_by_word<P: Profile, S: CapStore<P>>(
     number: u64,
 ) -> Result<Slot, Reason>
     requires memory { S.memory_bits store.now ≤ MAX_MEMORY_BITS }
-    requires thread { IsThreadAddress P.the (S.memory_bits store.now) thread }
-    ensures { slot_seen P.the result ≡ slot_by_word_of P.the (S.forest store.now) word thread number }
+    requires thread { IsThreadAddress P.profile (S.memory_bits store.now) thread }
+    ensures { slot_seen P.profile result ≡ slot_by_word_of P.profile (S.forest store.now) word thread number }
 {
     let root = Slot::of_node::<P>(thread, 0);
     slot_from_root::<P, S>(store, word, root, number)
@@ -130,7 +130,7 @@ pub fn slot_from_root<P: Profile, S: CapStore<P>>(
     root: Slot,
     number: u64,
 ) -> Result<Slot, Reason>
-    ensures { slot_seen P.the result ≡ slot_by_word_of P.the (S.forest store.now) word (address_of P.the root) number }
+    ensures { slot_seen P.profile result ≡ slot_by_word_of P.profile (S.forest store.now) word (address_of P.profile root) number }
 {
     match walk::<P, S>(store, root, number, P::WORD_BITS) {
         Ok((slot, _)) => Ok(slot),
@@ -150,7 +150,7 @@ pub fn slot_by_index<P: Profile, S: CapStore<P>>(
     index: u64,
     depth: u64,
 ) -> Result<Slot, Reason>
-    ensures { slot_seen P.the result ≡ slot_by_index_of P.the (cap_at (S.forest store.now)) word (address_of P.the root) index depth }
+    ensures { slot_seen P.profile result ≡ slot_by_index_of P.profile (cap_at (S.forest store.now)) word (address_of P.profile root) index depth }
 {
     let from = held::<P, S>(store, root);
     let Cap::CNode { .. } = from.cap else {
@@ -206,7 +206,7 @@ pub fn empty_slot<P: Profile, S: CapStore<P>>(
     index: u64,
     depth: u64,
 ) -> Result<Slot, Reason>
-    ensures { slot_seen P.the result ≡ where_empty (S.forest store.now) (slot_by_index_of P.the (cap_at (S.forest store.now)) word (address_of P.the root) index depth) }
+    ensures { slot_seen P.profile result ≡ where_empty (S.forest store.now) (slot_by_index_of P.profile (cap_at (S.forest store.now)) word (address_of P.profile root) index depth) }
 {
     let slot = slot_by_index::<P, S>(store, word, root, index, depth)?;
     let found = held::<P, S>(store, slot);
@@ -225,7 +225,7 @@ pub fn full_slot<P: Profile, S: CapStore<P>>(
     index: u64,
     depth: u64,
 ) -> Result<Slot, Reason>
-    ensures { slot_seen P.the result ≡ where_full (S.forest store.now) (slot_by_index_of P.the (cap_at (S.forest store.now)) word (address_of P.the root) index depth) }
+    ensures { slot_seen P.profile result ≡ where_full (S.forest store.now) (slot_by_index_of P.profile (cap_at (S.forest store.now)) word (address_of P.profile root) index depth) }
 {
     let slot = slot_by_index::<P, S>(store, word, root, index, depth)?;
     match store.get(slot) {

@@ -31,9 +31,9 @@ pub fn reason_op<P: Profile, S: CapStore<P>>(
     op: &Op,
 ) -> Result<Invocation, Reason>
     requires memory { S.memory_bits store.now ≤ MAX_MEMORY_BITS }
-    requires thread { IsThreadAddress P.the (S.memory_bits store.now) thread }
-    ensures reason { result ≡ explained_op P.the (S.forest store.now) thread op.now }
-    ensures refusal { with_refusal result ≡ decoded_op P.the (S.forest store.now) thread op.now }
+    requires thread { IsThreadAddress P.profile (S.memory_bits store.now) thread }
+    ensures reason { result ≡ explained_op P.profile (S.forest store.now) thread op.now }
+    ensures refusal { with_refusal result ≡ decoded_op P.profile (S.forest store.now) thread op.now }
     ensures facts { TellsTruly (S.forest store.now) result }
 {
     checked_op::<P, S>(store, thread, op)
@@ -56,8 +56,8 @@ fn checked_op<P: Profile, S: CapStore<P>>(
     op: &Op,
 ) -> Result<Invocation, Reason>
     requires memory { S.memory_bits store.now ≤ MAX_MEMORY_BITS }
-    requires thread { IsThreadAddress P.the (S.memory_bits store.now) thread }
-    ensures { result ≡ explained_op P.the (S.forest store.now) thread op.now }
+    requires thread { IsThreadAddress P.profile (S.memory_bits store.now) thread }
+    ensures { result ≡ explained_op P.profile (S.forest store.now) thread op.now }
 {
     let slot = slot_by_word::<P, S>(store, Word::Invoked, thread, service_word(op))?;
     explain_invocation::<P, S>(store, thread, op, slot)
@@ -96,8 +96,8 @@ fn explain_invocation<P: Profile, S: CapStore<P>>(
     slot: Slot,
 ) -> Result<Invocation, Reason>
     requires memory { S.memory_bits store.now ≤ MAX_MEMORY_BITS }
-    requires thread { IsThreadAddress P.the (S.memory_bits store.now) thread }
-    ensures { result ≡ explained_invocation P.the (S.forest store.now) thread op.now (address_of P.the slot) }
+    requires thread { IsThreadAddress P.profile (S.memory_bits store.now) thread }
+    ensures { result ≡ explained_invocation P.profile (S.forest store.now) thread op.now (address_of P.profile slot) }
 {
     match *op {
         Op::Retype { kind, size_bits, root, index, depth, offset, count, .. } => {

@@ -22,8 +22,8 @@ pub fn path<P: Profile, S: CapStore<P>>(
     address: u64,
     bits: u32,
 ) -> Result<Vec<Held>, AllocError>
-    requires bits { bits ≤ word_bits P.the }
-    ensures { IfOk result (λ path. path.items ≡ path_of P.the (cap_at (S.forest store.now)) (address_of P.the root) (low_bits bits address)) }
+    requires bits { bits ≤ word_bits P.profile }
+    ensures { IfOk result (λ path. path.items ≡ path_of P.profile (cap_at (S.forest store.now)) (address_of P.profile root) (low_bits bits address)) }
 {
     let mut path = Vec::new(alloc);
     let mut at = root;

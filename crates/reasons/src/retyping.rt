@@ -31,8 +31,8 @@ pub fn explain_retype<P: Profile, S: CapStore<P>>(
     asked: RetypeArguments,
 ) -> Result<NewObjects, Reason>
     requires memory { S.memory_bits store.now ≤ MAX_MEMORY_BITS }
-    requires thread { IsThreadAddress P.the (S.memory_bits store.now) thread }
-    ensures { result ≡ explained_retype P.the (S.forest store.now) thread (address_of P.the at) asked }
+    requires thread { IsThreadAddress P.profile (S.memory_bits store.now) thread }
+    ensures { result ≡ explained_retype P.profile (S.forest store.now) thread (address_of P.profile at) asked }
 {
     let untyped = of_kind(held::<P, S>(store, at), Kind::Untyped)?;
     let root = slot_by_word::<P, S>(store, Word::Root, thread, asked.root)?;
@@ -43,7 +43,7 @@ pub fn explain_retype<P: Profile, S: CapStore<P>>(
 /// The shape of the objects that are asked for.
 #[inline(always)]
 fn shape_asked<P: Profile>(number: u64, size_bits: u64) -> Result<Shape, Reason>
-    ensures value { result ≡ explained_shape P.the number size_bits }
+    ensures value { result ≡ explained_shape P.profile number size_bits }
     ensures shape { IfOk result (λ s. IsShape s) }
 {
     match shape::<P>(number, size_bits) {
@@ -54,7 +54,7 @@ fn shape_asked<P: Profile>(number: u64, size_bits: u64) -> Result<Shape, Reason>
 
 /// Why objects of a kind, by its number, and a size have no shape.
 fn refused_shape<P: Profile>(number: u64, size_bits: u64) -> Reason
-    ensures { result ≡ no_shape P.the size_bits (kind_numbered number) }
+    ensures { result ≡ no_shape P.profile size_bits (kind_numbered number) }
 {
     let Some(kind) = kind_of(number) else {
         return Reason::NoKind;
@@ -74,8 +74,8 @@ fn refused_shape<P: Profile>(number: u64, size_bits: u64) -> Reason
 
 /// The bits of an object's size in bytes, however large it is.
 fn size_in_bits<P: Profile>(kind: Kind, size_bits: u32) -> u32
-    requires below { size_bits < word_bits P.the }
-    ensures { result ≡ size_of P.the kind size_bits }
+    requires below { size_bits < word_bits P.profile }
+    ensures { result ≡ size_of P.profile kind size_bits }
 {
     match kind {
         Kind::Untyped => size_bits,
@@ -87,7 +87,7 @@ fn size_in_bits<P: Profile>(kind: Kind, size_bits: u32) -> u32
 
 /// The least size of a kind that may be asked for.
 fn least_size<P: Profile>(kind: Kind) -> u32
-    ensures { result ≡ least_of P.the kind }
+    ensures { result ≡ least_of P.profile kind }
 {
     match kind {
         Kind::Untyped => P::MIN_UNTYPED_BITS,
@@ -107,7 +107,7 @@ fn explain_objects<P: Profile, S: CapStore<P>>(
 ) -> Result<NewObjects, Reason>
     requires untyped { IsRetypable untyped }
     requires shape { IsShape shape }
-    ensures { result ≡ explained_objects P.the (S.forest store.now) (address_of P.the at) untyped (address_of P.the root) shape asked }
+    ensures { result ≡ explained_objects P.profile (S.forest store.now) (address_of P.profile at) untyped (address_of P.profile root) shape asked }
 {
     let node = node_for::<P, S>(store, root, asked.index, asked.depth)?;
     let word = word_of_node(asked.depth);
@@ -129,7 +129,7 @@ fn node_for<P: Profile, S: CapStore<P>>(
     index: u64,
     depth: u64,
 ) -> Result<Slot, Reason>
-    ensures { slot_seen P.the result ≡ node_slot P.the (S.forest store.now) (address_of P.the root) index depth }
+    ensures { slot_seen P.profile result ≡ node_slot P.profile (S.forest store.now) (address_of P.profile root) index depth }
 {
     if depth == 0 {
         return Ok(root);
@@ -157,7 +157,7 @@ fn place<P: Profile, S: CapStore<P>>(
     requires shape { IsShape shape }
     requires some { 1 ≤ count }
     requires most { count ≤ max_retype_count }
-    ensures { let at = address_of P.the at in let has = has_child at (S.forest store.now) in
+    ensures { let at = address_of P.profile at in let has = has_child at (S.forest store.now) in
         result ≡ because (no_room at has shape.bits untyped) (placed_in has shape.bits count untyped) }
 {
     let has_children = store.first_child(at).is_some();
@@ -206,7 +206,7 @@ fn first_slot<P: Profile, S: CapStore<P>>(
     offset: u64,
     count: u64,
 ) -> Result<u64, Reason>
-    ensures value { result ≡ first_slot_of P.the (S.forest store.now) word offset count (address_of P.the slot) (cap_at (S.forest store.now) (address_of P.the slot)) }
+    ensures value { result ≡ first_slot_of P.profile (S.forest store.now) word offset count (address_of P.profile slot) (cap_at (S.forest store.now) (address_of P.profile slot)) }
     ensures some { IfOk result (λ _. 1 ≤ count) }
     ensures most { IfOk result (λ _. count ≤ max_retype_count) }
 {
@@ -241,9 +241,9 @@ fn first_slot<P: Profile, S: CapStore<P>>(
 
 /// The first full slot of those that are to be filled, `count` slots from the address `first` on, by its place among them.
 fn first_full<P: Profile, S: CapStore<P>>(store: &S, first: u64, count: u64) -> Option<u64>
-    requires aligned { first % slot_size P.the ≡ 0 }
-    requires end { first + count * slot_size P.the ≤ 2 ^ word_bits P.the }
-    ensures value { result ≡ first_full_of P.the (S.forest store.now) first count }
+    requires aligned { first % slot_size P.profile ≡ 0 }
+    requires end { first + count * slot_size P.profile ≤ 2 ^ word_bits P.profile }
+    ensures value { result ≡ first_full_of P.profile (S.forest store.now) first count }
     ensures below { IfSome result (λ place. place < count) }
 {
     (0..count).find(|i| store.get(Slot::of_node::<P>(first, *i)) != Cap::Null)

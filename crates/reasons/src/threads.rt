@@ -38,8 +38,8 @@ pub fn explain_space<P: Profile, S: CapStore<P>>(
     word: u64,
 ) -> Result<NewSpace, Reason>
     requires memory { S.memory_bits store.now ≤ MAX_MEMORY_BITS }
-    requires thread { IsThreadAddress P.the (S.memory_bits store.now) thread }
-    ensures { result ≡ explained_space P.the (S.forest store.now) thread (address_of P.the at) root word }
+    requires thread { IsThreadAddress P.profile (S.memory_bits store.now) thread }
+    ensures { result ≡ explained_space P.profile (S.forest store.now) thread (address_of P.profile at) root word }
 {
     let tcb = explain_tcb(held::<P, S>(store, at))?;
     let source = slot_by_word::<P, S>(store, Word::Root, thread, root)?;
@@ -55,7 +55,7 @@ pub fn explain_space<P: Profile, S: CapStore<P>>(
 /// A CNode's capability, with the guard that a word holds where it is not 0.
 #[inline(always)]
 fn space_capability<P: Profile>(found: Held, word: u64) -> Result<Cap, Reason>
-    ensures { result ≡ space_of P.the word found.slot found.cap }
+    ensures { result ≡ space_of P.profile word found.slot found.cap }
 {
     match found.cap {
         Cap::CNode { .. } => {

@@ -22,5 +22,5 @@ pub struct Derivation {
 pub trait DerivationStore<P: Profile>: CapStore<P> {
     /// All full slots, each before those that are derived from it, found in one walk. It takes memory for them.
     fn derivations(&self, alloc: Global) -> Result<Vec<Derivation>, AllocError>
-        ensures { IfOk result (λ d. map (derivation_view P.the) d.items ≡ derivations_of (Self.forest self.now)) };
+        ensures { IfOk result (λ d. map (derivation_view P.profile) d.items ≡ derivations_of (Self.forest self.now)) };
 }

@@ -33,9 +33,9 @@ impl<P: Profile> Model for LinkedStore<P> {
 
     ghost use Rattle.slot_core.specs.Links.{place_in, rows_of, memory_of, IsLinkedStore};
 
-    ghost view = { λ s. (rows_of s.links.items (place_in s.first), memory_of P.the s.links.items) };
+    ghost view = { λ s. (rows_of s.links.items (place_in s.first), memory_of P.profile s.links.items) };
 
-    ghost invariant = { λ s. IsLinkedStore P.the s.links.items (place_in s.first) (place_in s.last) };
+    ghost invariant = { λ s. IsLinkedStore P.profile s.links.items (place_in s.first) (place_in s.last) };
 }
 
 impl<P: Profile> CapStore<P> for LinkedStore<P> {
@@ -51,7 +51,7 @@ impl<P: Profile> CapStore<P> for LinkedStore<P> {
     ghost use Rattle.derivation.specs.MarkedEdits.{appended, object_behind, derived_behind, moved_to};
     ghost use Rattle.derivation.specs.MarkedEdits.{freed_at as freed_in, taken_out};
 
-    ghost forest = { λ s. forest_of P.the s.0 };
+    ghost forest = { λ s. forest_of P.profile s.0 };
 
     ghost memory_bits = { λ s. s.1 };
 
@@ -61,13 +61,13 @@ impl<P: Profile> CapStore<P> for LinkedStore<P> {
     }
 
     fn put_root(&mut self, slot: Slot, cap: Cap)
-        requires within { address_of P.the slot < 2 ^ self.old.1 }
-        requires empty { is_filled P.the slot (forest_of P.the self.old.0) ≡ false }
-        requires lawful { IsLawful P.the (self.old.1) cap }
-        requires unnamed { is_named cap (forest_of P.the self.old.0) ≡ false }
-        requires disjoint { IsDisjoint P.the (rooted_at P.the slot cap (forest_of P.the self.old.0)) }
+        requires within { address_of P.profile slot < 2 ^ self.old.1 }
+        requires empty { is_filled P.profile slot (forest_of P.profile self.old.0) ≡ false }
+        requires lawful { IsLawful P.profile (self.old.1) cap }
+        requires unnamed { is_named cap (forest_of P.profile self.old.0) ≡ false }
+        requires disjoint { IsDisjoint P.profile (rooted_at P.profile slot cap (forest_of P.profile self.old.0)) }
         ensures list { self.new.0 ≡ appended slot.place cap self.old.0 }
-        ensures forest { forest_of P.the self.new.0 ≡ rooted_at P.the slot cap (forest_of P.the self.old.0) }
+        ensures forest { forest_of P.profile self.new.0 ≡ rooted_at P.profile slot cap (forest_of P.profile self.old.0) }
         ensures memory { self.new.1 ≡ self.old.1 }
     {
         append(&mut self.links, &mut self.first, &mut self.last, slot, cap);
@@ -75,16 +75,16 @@ impl<P: Profile> CapStore<P> for LinkedStore<P> {
 
     #[inline(always)]
     fn derive(&mut self, source: Slot, slot: Slot, cap: Cap)
-        requires source { is_filled P.the source (forest_of P.the self.old.0) ≡ true }
-        requires within { address_of P.the slot < 2 ^ self.old.1 }
-        requires empty { is_filled P.the slot (forest_of P.the self.old.0) ≡ false }
-        requires lawful { IsLawful P.the (self.old.1) cap }
-        requires same { names_same (held P.the source (forest_of P.the self.old.0)) cap ≡ true }
-        requires badge { KeepsBadge (held P.the source (forest_of P.the self.old.0)) cap }
-        requires childless { IsChildless P.the source cap (forest_of P.the self.old.0) }
-        requires disjoint { IsDisjoint P.the (derived_at P.the source slot cap (forest_of P.the self.old.0)) }
+        requires source { is_filled P.profile source (forest_of P.profile self.old.0) ≡ true }
+        requires within { address_of P.profile slot < 2 ^ self.old.1 }
+        requires empty { is_filled P.profile slot (forest_of P.profile self.old.0) ≡ false }
+        requires lawful { IsLawful P.profile (self.old.1) cap }
+        requires same { names_same (held P.profile source (forest_of P.profile self.old.0)) cap ≡ true }
+        requires badge { KeepsBadge (held P.profile source (forest_of P.profile self.old.0)) cap }
+        requires childless { IsChildless P.profile source cap (forest_of P.profile self.old.0) }
+        requires disjoint { IsDisjoint P.profile (derived_at P.profile source slot cap (forest_of P.profile self.old.0)) }
         ensures list { self.new.0 ≡ derived_behind source.place slot.place cap self.old.0 }
-        ensures forest { forest_of P.the self.new.0 ≡ derived_at P.the source slot cap (forest_of P.the self.old.0) }
+        ensures forest { forest_of P.profile self.new.0 ≡ derived_at P.profile source slot cap (forest_of P.profile self.old.0) }
         ensures memory { self.new.1 ≡ self.old.1 }
     {
         let marks = is_new_original(row_within(&self.links, source).cap, cap);
@@ -100,15 +100,15 @@ impl<P: Profile> CapStore<P> for LinkedStore<P> {
     }
 
     fn put_new(&mut self, parent: Slot, slot: Slot, cap: Cap)
-        requires parent { is_untyped (held P.the parent (forest_of P.the self.old.0)) ≡ true }
-        requires contains { contains P.the (held P.the parent (forest_of P.the self.old.0)) cap ≡ true }
-        requires within { address_of P.the slot < 2 ^ self.old.1 }
-        requires empty { is_filled P.the slot (forest_of P.the self.old.0) ≡ false }
-        requires lawful { IsLawful P.the (self.old.1) cap }
-        requires unnamed { is_named cap (forest_of P.the self.old.0) ≡ false }
-        requires disjoint { IsDisjoint P.the (retyped_at P.the parent slot cap (forest_of P.the self.old.0)) }
+        requires parent { is_untyped (held P.profile parent (forest_of P.profile self.old.0)) ≡ true }
+        requires contains { contains P.profile (held P.profile parent (forest_of P.profile self.old.0)) cap ≡ true }
+        requires within { address_of P.profile slot < 2 ^ self.old.1 }
+        requires empty { is_filled P.profile slot (forest_of P.profile self.old.0) ≡ false }
+        requires lawful { IsLawful P.profile (self.old.1) cap }
+        requires unnamed { is_named cap (forest_of P.profile self.old.0) ≡ false }
+        requires disjoint { IsDisjoint P.profile (retyped_at P.profile parent slot cap (forest_of P.profile self.old.0)) }
         ensures list { self.new.0 ≡ object_behind parent.place slot.place cap self.old.0 }
-        ensures forest { forest_of P.the self.new.0 ≡ retyped_at P.the parent slot cap (forest_of P.the self.old.0) }
+        ensures forest { forest_of P.profile self.new.0 ≡ retyped_at P.profile parent slot cap (forest_of P.profile self.old.0) }
         ensures memory { self.new.1 ≡ self.old.1 }
     {
         let marks = true;
@@ -125,15 +125,15 @@ impl<P: Profile> CapStore<P> for LinkedStore<P> {
 
     #[inline(always)]
     fn relocate(&mut self, source: Slot, slot: Slot, cap: Cap)
-        requires source { is_filled P.the source (forest_of P.the self.old.0) ≡ true }
-        requires within { address_of P.the slot < 2 ^ self.old.1 }
-        requires empty { is_filled P.the slot (forest_of P.the self.old.0) ≡ false }
-        requires lawful { IsLawful P.the (self.old.1) cap }
-        requires same { names_same (held P.the source (forest_of P.the self.old.0)) cap ≡ true }
-        requires badge { badge_of cap ≡ badge_of (held P.the source (forest_of P.the self.old.0)) }
-        requires disjoint { IsDisjoint P.the (moved_at P.the source slot cap (forest_of P.the self.old.0)) }
+        requires source { is_filled P.profile source (forest_of P.profile self.old.0) ≡ true }
+        requires within { address_of P.profile slot < 2 ^ self.old.1 }
+        requires empty { is_filled P.profile slot (forest_of P.profile self.old.0) ≡ false }
+        requires lawful { IsLawful P.profile (self.old.1) cap }
+        requires same { names_same (held P.profile source (forest_of P.profile self.old.0)) cap ≡ true }
+        requires badge { badge_of cap ≡ badge_of (held P.profile source (forest_of P.profile self.old.0)) }
+        requires disjoint { IsDisjoint P.profile (moved_at P.profile source slot cap (forest_of P.profile self.old.0)) }
         ensures list { self.new.0 ≡ moved_to source.place slot.place cap self.old.0 }
-        ensures forest { forest_of P.the self.new.0 ≡ moved_at P.the source slot cap (forest_of P.the self.old.0) }
+        ensures forest { forest_of P.profile self.new.0 ≡ moved_at P.profile source slot cap (forest_of P.profile self.old.0) }
         ensures memory { self.new.1 ≡ self.old.1 }
     {
         replace(
@@ -147,19 +147,19 @@ impl<P: Profile> CapStore<P> for LinkedStore<P> {
     }
 
     fn set_free(&mut self, slot: Slot, free: u64)
-        requires untyped { is_untyped (held P.the slot (forest_of P.the self.old.0)) ≡ true }
-        requires lawful { IsLawful P.the (self.old.1) (with_free free (held P.the slot (forest_of P.the self.old.0))) }
+        requires untyped { is_untyped (held P.profile slot (forest_of P.profile self.old.0)) ≡ true }
+        requires lawful { IsLawful P.profile (self.old.1) (with_free free (held P.profile slot (forest_of P.profile self.old.0))) }
         ensures list { self.new.0 ≡ freed_in slot.place free self.old.0 }
-        ensures forest { forest_of P.the self.new.0 ≡ freed_at P.the slot free (forest_of P.the self.old.0) }
+        ensures forest { forest_of P.profile self.new.0 ≡ freed_at P.profile slot free (forest_of P.profile self.old.0) }
         ensures memory { self.new.1 ≡ self.old.1 }
     {
         free_from(&mut self.links, slot, free);
     }
 
     fn remove(&mut self, slot: Slot)
-        requires full { is_filled P.the slot (forest_of P.the self.old.0) ≡ true }
+        requires full { is_filled P.profile slot (forest_of P.profile self.old.0) ≡ true }
         ensures list { self.new.0 ≡ taken_out slot.place self.old.0 }
-        ensures forest { forest_of P.the self.new.0 ≡ emptied_at P.the slot (forest_of P.the self.old.0) }
+        ensures forest { forest_of P.profile self.new.0 ≡ emptied_at P.profile slot (forest_of P.profile self.old.0) }
         ensures memory { self.new.1 ≡ self.old.1 }
     {
         unlink(&mut self.links, &mut self.first, &mut self.last, slot);
@@ -200,7 +200,7 @@ impl<P: Profile> MakeStore<P> for LinkedStore<P> {
 
     fn copy(&self, alloc: Global) -> Result<LinkedStore<P>, AllocError>
         ensures list { IfOk result (λ s. s ≡ self.now) }
-        ensures forest { IfOk result (λ s. forest_of P.the s.0 ≡ forest_of P.the self.now.0) }
+        ensures forest { IfOk result (λ s. forest_of P.profile s.0 ≡ forest_of P.profile self.now.0) }
         ensures memory { IfOk result (λ s. s.1 ≡ self.now.1) }
     {
         // Each field is named and bound at its type, so a field more, of a tree or of further marks, would not
@@ -237,7 +237,7 @@ impl<P: Profile> LinkedStore<P> {
 
     /// A slot's row in the list; an empty slot's has no capability, no neighbours and no mark.
     pub fn link(&self, slot: Slot) -> Link
-        requires within { address_of P.the slot < 2 ^ self.now.1 }
+        requires within { address_of P.profile slot < 2 ^ self.now.1 }
         ensures cap { result.cap ≡ (row_in slot.place self.now.0).cap }
         ensures revocable { result.revocable ≡ (row_in slot.place self.now.0).revocable }
         ensures first_badged { result.first_badged ≡ (row_in slot.place self.now.0).first_badged }
@@ -253,12 +253,12 @@ impl<P: Profile> LinkedStore<P> {
     /// capability is the last of its object where it is untyped, or neither neighbour names the object. An original
     /// capability with no badge has all other capabilities of its object below it.
     pub fn stands_for_its_forest(&self)
-        ensures stands { StandsForEntries P.the self.now.0 (forest_of P.the self.now.0) }
-        ensures alone { (f : Forest Entry) → StandsForEntries P.the self.now.0 f → f ≡ forest_of P.the self.now.0 }
-        ensures descendants { HasRunsBelow P.the self.now.0 }
-        ensures children { HasChildrenNext P.the self.now.0 }
-        ensures lasts { HasLastsAlone P.the self.now.0 }
-        ensures below { HasOthersBelow (forest_of P.the self.now.0) }
+        ensures stands { StandsForEntries P.profile self.now.0 (forest_of P.profile self.now.0) }
+        ensures alone { (f : Forest Entry) → StandsForEntries P.profile self.now.0 f → f ≡ forest_of P.profile self.now.0 }
+        ensures descendants { HasRunsBelow P.profile self.now.0 }
+        ensures children { HasChildrenNext P.profile self.now.0 }
+        ensures lasts { HasLastsAlone P.profile self.now.0 }
+        ensures below { HasOthersBelow (forest_of P.profile self.now.0) }
     {
         // The type's promise is known once a field is read.
         let _first = self.first;

@@ -59,7 +59,7 @@ impl<P: Profile> Model for RowStore<P> {
 
     ghost view = { λ s. (s.rows.items, s.memory_bits) };
 
-    ghost invariant = { λ s. IsRowStore P.the s.memory_bits (vec_capacity s.rows) s.rows.items };
+    ghost invariant = { λ s. IsRowStore P.profile s.memory_bits (vec_capacity s.rows) s.rows.items };
 }
 
 // The place of a slot's row, or the number of rows where the slot is empty.
@@ -97,7 +97,7 @@ fn raise(rows: &mut [Row], depth: u64)
 impl<P: Profile> CapStore<P> for RowStore<P> {
     ghost use Rattle.slot_core.specs.Rows.{forest_of};
 
-    ghost forest = { λ s. forest_of P.the s.0 };
+    ghost forest = { λ s. forest_of P.profile s.0 };
 
     ghost memory_bits = { λ s. s.1 };
 

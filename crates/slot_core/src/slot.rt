@@ -39,9 +39,9 @@ impl Slot {
     /// The slot at an address, or `None` where the address is no multiple of a slot's size, or no word of the
     /// profile.
     pub fn at<P: Profile>(address: u64) -> Option<Slot>
-        ensures slot { IfSome result (λ s. s.place * slot_size P.the ≡ address) }
-        ensures word { IfSome result (λ s. address < 2 ^ word_bits P.the) }
-        ensures none { IfNone result ((address % slot_size P.the ≢ 0) ⊎ (2 ^ word_bits P.the ≤ address)) }
+        ensures slot { IfSome result (λ s. s.place * slot_size P.profile ≡ address) }
+        ensures word { IfSome result (λ s. address < 2 ^ word_bits P.profile) }
+        ensures none { IfNone result ((address % slot_size P.profile ≢ 0) ⊎ (2 ^ word_bits P.profile ≤ address)) }
     {
         let is_word = P::WORD_BITS == u64::BITS || address >> P::WORD_BITS == 0;
         if is_word && address % (1 << P::SLOT_BITS) == 0 {
@@ -55,9 +55,9 @@ impl Slot {
 
     /// Slot `index` of a CNode whose object starts at the address `base`.
     pub fn of_node<P: Profile>(base: u64, index: u64) -> Slot
-        requires aligned { base % slot_size P.the ≡ 0 }
-        requires end { base + (index + 1) * slot_size P.the ≤ 2 ^ word_bits P.the }
-        ensures { result.place * slot_size P.the ≡ base + index * slot_size P.the }
+        requires aligned { base % slot_size P.profile ≡ 0 }
+        requires end { base + (index + 1) * slot_size P.profile ≤ 2 ^ word_bits P.profile }
+        ensures { result.place * slot_size P.profile ≡ base + index * slot_size P.profile }
     {
         Slot {
             place: (base >> P::SLOT_BITS) + index,
@@ -73,7 +73,7 @@ impl Slot {
 
     /// The slot's address in bytes.
     pub fn address<P: Profile>(self) -> u64
-        ensures { result ≡ self.place * slot_size P.the }
+        ensures { result ≡ self.place * slot_size P.profile }
     {
         self.place << P::SLOT_BITS
     }

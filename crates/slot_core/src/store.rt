@@ -28,82 +28,82 @@ pub trait CapStore<P: Profile> {
 
     /// The capability in a slot: `Null` in an empty slot and past the end of the memory.
     fn get(&self, slot: Slot) -> Cap
-        ensures cap { result ≡ held P.the slot (forest self.now) }
-        ensures lawful { (result ≡ Null) ⊎ IsLawful P.the (memory_bits self.now) result }
-        ensures past { 2 ^ memory_bits self.now ≤ address_of P.the slot → result ≡ Null };
+        ensures cap { result ≡ held P.profile slot (forest self.now) }
+        ensures lawful { (result ≡ Null) ⊎ IsLawful P.profile (memory_bits self.now) result }
+        ensures past { 2 ^ memory_bits self.now ≤ address_of P.profile slot → result ≡ Null };
 
     /// Puts a capability that is derived from none into an empty slot: a tree of its own, original, the last one.
     fn put_root(&mut self, slot: Slot, cap: Cap)
-        requires within { address_of P.the slot < 2 ^ memory_bits self.old }
-        requires empty { is_filled P.the slot (forest self.old) ≡ false }
-        requires lawful { IsLawful P.the (memory_bits self.old) cap }
+        requires within { address_of P.profile slot < 2 ^ memory_bits self.old }
+        requires empty { is_filled P.profile slot (forest self.old) ≡ false }
+        requires lawful { IsLawful P.profile (memory_bits self.old) cap }
         requires unnamed { is_named cap (forest self.old) ≡ false }
-        requires disjoint { IsDisjoint P.the (rooted_at P.the slot cap (forest self.old)) }
-        ensures forest { forest self.new ≡ rooted_at P.the slot cap (forest self.old) }
+        requires disjoint { IsDisjoint P.profile (rooted_at P.profile slot cap (forest self.old)) }
+        ensures forest { forest self.new ≡ rooted_at P.profile slot cap (forest self.old) }
         ensures memory { memory_bits self.new ≡ memory_bits self.old };
 
     /// Puts the capability of a new object into an empty slot: the first child of the untyped in `parent`, and
     /// original.
     fn put_new(&mut self, parent: Slot, slot: Slot, cap: Cap)
-        requires parent { is_untyped (held P.the parent (forest self.old)) ≡ true }
-        requires contains { contains P.the (held P.the parent (forest self.old)) cap ≡ true }
-        requires within { address_of P.the slot < 2 ^ memory_bits self.old }
-        requires empty { is_filled P.the slot (forest self.old) ≡ false }
-        requires lawful { IsLawful P.the (memory_bits self.old) cap }
+        requires parent { is_untyped (held P.profile parent (forest self.old)) ≡ true }
+        requires contains { contains P.profile (held P.profile parent (forest self.old)) cap ≡ true }
+        requires within { address_of P.profile slot < 2 ^ memory_bits self.old }
+        requires empty { is_filled P.profile slot (forest self.old) ≡ false }
+        requires lawful { IsLawful P.profile (memory_bits self.old) cap }
         requires unnamed { is_named cap (forest self.old) ≡ false }
-        requires disjoint { IsDisjoint P.the (retyped_at P.the parent slot cap (forest self.old)) }
-        ensures forest { forest self.new ≡ retyped_at P.the parent slot cap (forest self.old) }
+        requires disjoint { IsDisjoint P.profile (retyped_at P.profile parent slot cap (forest self.old)) }
+        ensures forest { forest self.new ≡ retyped_at P.profile parent slot cap (forest self.old) }
         ensures memory { memory_bits self.new ≡ memory_bits self.old };
 
     /// Puts a capability that is derived from the one in `source` into the empty slot `slot`: the first child of an
     /// original source, and the next sibling of another. It is original where it is untyped or has another badge.
     fn derive(&mut self, source: Slot, slot: Slot, cap: Cap)
-        requires source { is_filled P.the source (forest self.old) ≡ true }
-        requires within { address_of P.the slot < 2 ^ memory_bits self.old }
-        requires empty { is_filled P.the slot (forest self.old) ≡ false }
-        requires lawful { IsLawful P.the (memory_bits self.old) cap }
-        requires same { names_same (held P.the source (forest self.old)) cap ≡ true }
-        requires badge { KeepsBadge (held P.the source (forest self.old)) cap }
-        requires childless { IsChildless P.the source cap (forest self.old) }
-        requires disjoint { IsDisjoint P.the (derived_at P.the source slot cap (forest self.old)) }
-        ensures forest { forest self.new ≡ derived_at P.the source slot cap (forest self.old) }
+        requires source { is_filled P.profile source (forest self.old) ≡ true }
+        requires within { address_of P.profile slot < 2 ^ memory_bits self.old }
+        requires empty { is_filled P.profile slot (forest self.old) ≡ false }
+        requires lawful { IsLawful P.profile (memory_bits self.old) cap }
+        requires same { names_same (held P.profile source (forest self.old)) cap ≡ true }
+        requires badge { KeepsBadge (held P.profile source (forest self.old)) cap }
+        requires childless { IsChildless P.profile source cap (forest self.old) }
+        requires disjoint { IsDisjoint P.profile (derived_at P.profile source slot cap (forest self.old)) }
+        ensures forest { forest self.new ≡ derived_at P.profile source slot cap (forest self.old) }
         ensures memory { memory_bits self.new ≡ memory_bits self.old };
 
     /// Moves a capability from `source` to the empty slot `slot`, as `cap`, which names the same object with the same
     /// badge. It keeps its place in the forest and whether it is original; `source` is empty afterwards.
     fn relocate(&mut self, source: Slot, slot: Slot, cap: Cap)
-        requires source { is_filled P.the source (forest self.old) ≡ true }
-        requires within { address_of P.the slot < 2 ^ memory_bits self.old }
-        requires empty { is_filled P.the slot (forest self.old) ≡ false }
-        requires lawful { IsLawful P.the (memory_bits self.old) cap }
-        requires same { names_same (held P.the source (forest self.old)) cap ≡ true }
-        requires badge { badge_of cap ≡ badge_of (held P.the source (forest self.old)) }
-        requires disjoint { IsDisjoint P.the (moved_at P.the source slot cap (forest self.old)) }
-        ensures forest { forest self.new ≡ moved_at P.the source slot cap (forest self.old) }
+        requires source { is_filled P.profile source (forest self.old) ≡ true }
+        requires within { address_of P.profile slot < 2 ^ memory_bits self.old }
+        requires empty { is_filled P.profile slot (forest self.old) ≡ false }
+        requires lawful { IsLawful P.profile (memory_bits self.old) cap }
+        requires same { names_same (held P.profile source (forest self.old)) cap ≡ true }
+        requires badge { badge_of cap ≡ badge_of (held P.profile source (forest self.old)) }
+        requires disjoint { IsDisjoint P.profile (moved_at P.profile source slot cap (forest self.old)) }
+        ensures forest { forest self.new ≡ moved_at P.profile source slot cap (forest self.old) }
         ensures memory { memory_bits self.new ≡ memory_bits self.old };
 
     /// Sets the free index, in bytes, of the untyped capability in a slot.
     fn set_free(&mut self, slot: Slot, free: u64)
-        requires untyped { is_untyped (held P.the slot (forest self.old)) ≡ true }
-        requires lawful { IsLawful P.the (memory_bits self.old) (with_free free (held P.the slot (forest self.old))) }
-        ensures forest { forest self.new ≡ freed_at P.the slot free (forest self.old) }
+        requires untyped { is_untyped (held P.profile slot (forest self.old)) ≡ true }
+        requires lawful { IsLawful P.profile (memory_bits self.old) (with_free free (held P.profile slot (forest self.old))) }
+        ensures forest { forest self.new ≡ freed_at P.profile slot free (forest self.old) }
         ensures memory { memory_bits self.new ≡ memory_bits self.old };
 
     /// Empties a full slot; its children take its place in the forest, in their order.
     fn remove(&mut self, slot: Slot)
-        requires full { is_filled P.the slot (forest self.old) ≡ true }
-        ensures forest { forest self.new ≡ emptied_at P.the slot (forest self.old) }
+        requires full { is_filled P.profile slot (forest self.old) ≡ true }
+        ensures forest { forest self.new ≡ emptied_at P.profile slot (forest self.old) }
         ensures memory { memory_bits self.new ≡ memory_bits self.old };
 
     /// The newest child of a slot; an empty slot has none.
     fn first_child(&self, slot: Slot) -> Option<Slot>
-        ensures { option_map (address_of P.the) result ≡ newest_child P.the slot (forest self.now) };
+        ensures { option_map (address_of P.profile) result ≡ newest_child P.profile slot (forest self.now) };
 
     /// Whether the capability in a full slot is the last of its object: it is untyped, or no other slot names the
     /// object.
     fn is_last(&self, slot: Slot) -> bool
-        requires full { is_filled P.the slot (forest self.now) ≡ true }
-        ensures { result ≡ is_last_of (address_of P.the slot) (forest self.now) };
+        requires full { is_filled P.profile slot (forest self.now) ≡ true }
+        ensures { result ≡ is_last_of (address_of P.profile slot) (forest self.now) };
 }
 
 /// A store that can be made.

@@ -97,7 +97,7 @@ fn holds_its_family<P: Profile, S: MakeStore<P>>(
 // derived in slot 2 and moves to slot 3.
 fn region<P: Profile, S: MakeStore<P>>(alloc: Global) -> Result<S, AllocError>
     ensures memory { IfOk result (λ s. S.memory_bits s ≡ 12) }
-    ensures forest { IfOk result (λ s. IsTestForest P.the (S.forest s)) }
+    ensures forest { IfOk result (λ s. IsTestForest P.profile (S.forest s)) }
 {
     let mut store = new_store::<P, S>(alloc)?;
     put_root::<P, S>(&mut store, 0, object::<P>(1024, 2));

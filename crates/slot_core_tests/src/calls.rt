@@ -19,7 +19,7 @@ use std::alloc::{AllocError, Global};
 
 pub fn slot<P: Profile>(index: u64) -> Slot
     requires { index < 16 }
-    ensures { address_of P.the result ≡ index * slot_size P.the }
+    ensures { address_of P.profile result ≡ index * slot_size P.profile }
 {
     Slot::of_node::<P>(0, index)
 }
@@ -35,8 +35,8 @@ pub fn is_null(cap: Cap) -> bool
 
 /// Whether a slot is empty.
 pub fn is_empty<P: Profile, S: CapStore<P>>(store: &S, slot: Slot) -> bool
-    requires forest { IsTestForest P.the (S.forest store.now) }
-    ensures { result ≡ true → is_full (address_of P.the slot) (S.forest store.now) ≡ false }
+    requires forest { IsTestForest P.profile (S.forest store.now) }
+    ensures { result ≡ true → is_full (address_of P.profile slot) (S.forest store.now) ≡ false }
 {
     is_null(store.get(slot))
 }
@@ -55,7 +55,7 @@ pub fn is_untyped(cap: Cap) -> bool
 pub fn object<P: Profile>(base: u64, choice: u64) -> Cap
     requires aligned { base % 64 ≡ 0 }
     requires end { base + 64 ≤ 4096 }
-    ensures { IsLawful P.the 12 result }
+    ensures { IsLawful P.profile 12 result }
 {
     match choice {
         0 => Cap::Untyped {
@@ -88,8 +88,8 @@ pub fn object<P: Profile>(base: u64, choice: u64) -> Cap
 
 /// The first address past an object.
 pub fn end<P: Profile>(cap: Cap) -> u64
-    requires { IsLawful P.the 12 cap }
-    ensures { result ≡ end_of P.the cap }
+    requires { IsLawful P.profile 12 cap }
+    ensures { result ≡ end_of P.profile cap }
 {
     match range_of::<P>(cap) {
         Some(range) => range.first + (1 << range.bits),
@@ -98,7 +98,7 @@ pub fn end<P: Profile>(cap: Cap) -> u64
 }
 
 pub fn base<P: Profile>(cap: Cap) -> u64
-    requires { IsLawful P.the 12 cap }
+    requires { IsLawful P.profile 12 cap }
     ensures { result ≡ base_of cap }
 {
     match range_of::<P>(cap) {
@@ -109,19 +109,19 @@ pub fn base<P: Profile>(cap: Cap) -> u64
 
 /// Whether what a slot holds is apart from a capability's object.
 pub fn is_clear<P: Profile>(cap: Cap, held: Cap) -> bool
-    requires cap { IsLawful P.the 12 cap }
-    requires held { (held ≡ Null) ⊎ IsLawful P.the 12 held }
-    ensures { result ≡ is_clear_in P.the cap held }
+    requires cap { IsLawful P.profile 12 cap }
+    requires held { (held ≡ Null) ⊎ IsLawful P.profile 12 held }
+    ensures { result ≡ is_clear_in P.profile cap held }
 {
     is_null(held) || end::<P>(held) <= base::<P>(cap) || end::<P>(cap) <= base::<P>(held)
 }
 
 /// Whether what a slot holds lies outside a region, or ends in front of a capability's object.
 pub fn leaves_room<P: Profile>(region: Cap, cap: Cap, held: Cap) -> bool
-    requires region { IsLawful P.the 12 region }
-    requires cap { IsLawful P.the 12 cap }
-    requires held { (held ≡ Null) ⊎ IsLawful P.the 12 held }
-    ensures { result ≡ leaves_room_in P.the region cap held }
+    requires region { IsLawful P.profile 12 region }
+    requires cap { IsLawful P.profile 12 cap }
+    requires held { (held ≡ Null) ⊎ IsLawful P.profile 12 held }
+    ensures { result ≡ leaves_room_in P.profile region cap held }
 {
     is_null(held)
         || !(base::<P>(region) <= base::<P>(held) && end::<P>(held) <= end::<P>(region))
@@ -130,10 +130,10 @@ pub fn leaves_room<P: Profile>(region: Cap, cap: Cap, held: Cap) -> bool
 
 /// Whether a capability's object is apart from all that the store holds.
 pub fn is_apart<P: Profile, S: CapStore<P>>(store: &S, cap: Cap) -> bool
-    requires cap { IsLawful P.the 12 cap }
+    requires cap { IsLawful P.profile 12 cap }
     requires memory { S.memory_bits store.now ≡ 12 }
-    requires forest { IsTestForest P.the (S.forest store.now) }
-    ensures { result ≡ true → Each (λ (e : Entry). are_apart P.the e.cap cap ≡ true) (preorder (S.forest store.now)) }
+    requires forest { IsTestForest P.profile (S.forest store.now) }
+    ensures { result ≡ true → Each (λ (e : Entry). are_apart P.profile e.cap cap ≡ true) (preorder (S.forest store.now)) }
 {
     for i in 0..16 {
         if !is_clear::<P>(cap, store.get(slot::<P>(i))) {
@@ -145,11 +145,11 @@ pub fn is_apart<P: Profile, S: CapStore<P>>(store: &S, cap: Cap) -> bool
 
 /// Whether all else that lies in the region of a slot ends in front of a capability's object.
 pub fn has_room<P: Profile, S: CapStore<P>>(store: &S, parent: u64, region: Cap, cap: Cap) -> bool
-    requires region { IsLawful P.the 12 region }
-    requires cap { IsLawful P.the 12 cap }
+    requires region { IsLawful P.profile 12 region }
+    requires cap { IsLawful P.profile 12 cap }
     requires memory { S.memory_bits store.now ≡ 12 }
-    requires forest { IsTestForest P.the (S.forest store.now) }
-    ensures { result ≡ true → HasRoom P.the parent region cap (S.forest store.now) }
+    requires forest { IsTestForest P.profile (S.forest store.now) }
+    ensures { result ≡ true → HasRoom P.profile parent region cap (S.forest store.now) }
 {
     for i in 0..16 {
         if i != parent && !leaves_room::<P>(region, cap, store.get(slot::<P>(i))) {
@@ -163,11 +163,11 @@ pub fn has_room<P: Profile, S: CapStore<P>>(store: &S, parent: u64, region: Cap,
 /// others.
 pub fn put_root<P: Profile, S: CapStore<P>>(store: &mut S, target: u64, cap: Cap)
     requires target { target < 16 }
-    requires lawful { IsLawful P.the 12 cap }
+    requires lawful { IsLawful P.profile 12 cap }
     requires memory { S.memory_bits store.old ≡ 12 }
-    requires forest { IsTestForest P.the (S.forest store.old) }
+    requires forest { IsTestForest P.profile (S.forest store.old) }
     ensures memory { S.memory_bits store.new ≡ 12 }
-    ensures forest { IsTestForest P.the (S.forest store.new) }
+    ensures forest { IsTestForest P.profile (S.forest store.new) }
 {
     let at = slot::<P>(target);
     if !is_empty::<P, S>(store, at) || !is_apart::<P, S>(store, cap) {
@@ -180,9 +180,9 @@ pub fn put_root<P: Profile, S: CapStore<P>>(store: &mut S, target: u64, cap: Cap
 pub fn set_free<P: Profile, S: CapStore<P>>(store: &mut S, source: u64, free: u64)
     requires source { source < 16 }
     requires memory { S.memory_bits store.old ≡ 12 }
-    requires forest { IsTestForest P.the (S.forest store.old) }
+    requires forest { IsTestForest P.profile (S.forest store.old) }
     ensures memory { S.memory_bits store.new ≡ 12 }
-    ensures forest { IsTestForest P.the (S.forest store.new) }
+    ensures forest { IsTestForest P.profile (S.forest store.new) }
 {
     let at = slot::<P>(source);
     let cap = store.get(at);
@@ -195,10 +195,10 @@ pub fn set_free<P: Profile, S: CapStore<P>>(store: &mut S, source: u64, free: u6
 /// The capability of a new object at the first free byte of an untyped region, if that is a multiple of 64 and the
 /// object lies in the region.
 pub fn next_object<P: Profile>(region: Cap, choice: u64) -> Option<Cap>
-    requires { (region ≡ Null) ⊎ IsLawful P.the 12 region }
-    ensures lawful { IfSome result (λ cap. IsLawful P.the 12 cap) }
+    requires { (region ≡ Null) ⊎ IsLawful P.profile 12 region }
+    ensures lawful { IfSome result (λ cap. IsLawful P.profile 12 cap) }
     ensures untyped { IfSome result (λ cap. is_untyped_in region ≡ true) }
-    ensures contains { IfSome result (λ cap. contains P.the region cap ≡ true) }
+    ensures contains { IfSome result (λ cap. contains P.profile region cap ≡ true) }
 {
     match region {
         Cap::Untyped { base, free, .. } if (base + free) % 64 == 0 && base + free < 4096 => {
@@ -219,9 +219,9 @@ pub fn put_new<P: Profile, S: CapStore<P>>(store: &mut S, source: u64, target: u
     requires source { source < 16 }
     requires target { target < 16 }
     requires memory { S.memory_bits store.old ≡ 12 }
-    requires forest { IsTestForest P.the (S.forest store.old) }
+    requires forest { IsTestForest P.profile (S.forest store.old) }
     ensures memory { S.memory_bits store.new ≡ 12 }
-    ensures forest { IsTestForest P.the (S.forest store.new) }
+    ensures forest { IsTestForest P.profile (S.forest store.new) }
 {
     let from = slot::<P>(source);
     let to = slot::<P>(target);
@@ -238,8 +238,8 @@ pub fn put_new<P: Profile, S: CapStore<P>>(store: &mut S, source: u64, target: u
 
 /// The same capability, with a badge where it is an endpoint's without one.
 pub fn rebadged<P: Profile>(cap: Cap, badge: u64) -> Cap
-    requires { IsLawful P.the 12 cap }
-    ensures lawful { IsLawful P.the 12 result }
+    requires { IsLawful P.profile 12 cap }
+    ensures lawful { IsLawful P.profile 12 result }
     ensures same { names_same cap result ≡ true }
     ensures badge { (badge_of result ≡ badge_of cap) ⊎ (badge_of cap ≡ 0) }
 {
@@ -259,7 +259,7 @@ pub fn rebadged<P: Profile>(cap: Cap, badge: u64) -> Cap
 
 /// Whether a capability may be derived from the one in a slot: an untyped one only where the slot has no child.
 pub fn may_derive<P: Profile, S: CapStore<P>>(store: &S, source: Slot, cap: Cap) -> bool
-    ensures { result ≡ true → IsChildless P.the source cap (S.forest store.now) }
+    ensures { result ≡ true → IsChildless P.profile source cap (S.forest store.now) }
 {
     !is_untyped(cap) || store.first_child(source).is_none()
 }
@@ -269,9 +269,9 @@ pub fn derive<P: Profile, S: CapStore<P>>(store: &mut S, source: u64, target: u6
     requires source { source < 16 }
     requires target { target < 16 }
     requires memory { S.memory_bits store.old ≡ 12 }
-    requires forest { IsTestForest P.the (S.forest store.old) }
+    requires forest { IsTestForest P.profile (S.forest store.old) }
     ensures memory { S.memory_bits store.new ≡ 12 }
-    ensures forest { IsTestForest P.the (S.forest store.new) }
+    ensures forest { IsTestForest P.profile (S.forest store.new) }
 {
     let from = slot::<P>(source);
     let to = slot::<P>(target);
@@ -290,9 +290,9 @@ pub fn relocate<P: Profile, S: CapStore<P>>(store: &mut S, source: u64, target: 
     requires source { source < 16 }
     requires target { target < 16 }
     requires memory { S.memory_bits store.old ≡ 12 }
-    requires forest { IsTestForest P.the (S.forest store.old) }
+    requires forest { IsTestForest P.profile (S.forest store.old) }
     ensures memory { S.memory_bits store.new ≡ 12 }
-    ensures forest { IsTestForest P.the (S.forest store.new) }
+    ensures forest { IsTestForest P.profile (S.forest store.new) }
 {
     let from = slot::<P>(source);
     let to = slot::<P>(target);
@@ -307,9 +307,9 @@ pub fn relocate<P: Profile, S: CapStore<P>>(store: &mut S, source: u64, target: 
 pub fn remove<P: Profile, S: CapStore<P>>(store: &mut S, source: u64)
     requires source { source < 16 }
     requires memory { S.memory_bits store.old ≡ 12 }
-    requires forest { IsTestForest P.the (S.forest store.old) }
+    requires forest { IsTestForest P.profile (S.forest store.old) }
     ensures memory { S.memory_bits store.new ≡ 12 }
-    ensures forest { IsTestForest P.the (S.forest store.new) }
+    ensures forest { IsTestForest P.profile (S.forest store.new) }
 {
     let at = slot::<P>(source);
     if !is_null(store.get(at)) {
@@ -320,7 +320,7 @@ pub fn remove<P: Profile, S: CapStore<P>>(store: &mut S, source: u64)
 /// An empty store for a memory of 2^12 bytes.
 pub fn new_store<P: Profile, S: MakeStore<P>>(alloc: Global) -> Result<S, AllocError>
     ensures memory { IfOk result (λ s. S.memory_bits s ≡ 12) }
-    ensures forest { IfOk result (λ s. IsTestForest P.the (S.forest s)) }
+    ensures forest { IfOk result (λ s. IsTestForest P.profile (S.forest s)) }
 {
     let store = S::new(alloc, 12)?;
     Ok(store)

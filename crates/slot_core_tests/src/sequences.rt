@@ -14,9 +14,9 @@ use std::test::Fail;
 // A call that a number chooses: what is done, with which two of sixteen slots, and how.
 fn call<P: Profile, S: CapStore<P>>(store: &mut S, number: u64)
     requires memory { S.memory_bits store.old ≡ 12 }
-    requires forest { IsTestForest P.the (S.forest store.old) }
+    requires forest { IsTestForest P.profile (S.forest store.old) }
     ensures memory { S.memory_bits store.new ≡ 12 }
-    ensures forest { IsTestForest P.the (S.forest store.new) }
+    ensures forest { IsTestForest P.profile (S.forest store.new) }
 {
     let source = number % 16;
     let target = number / 16 % 16;

@@ -12,13 +12,13 @@ loop-slot-init g c =
     record {
       lawful = c.requires.lawful;
       within = c.requires.bits;
-      value = all_within g.P.Profile.the (cap_at (g.S.CapStore.forest c.args.store.now)) c.args.root c.args.bits c.args.address;
+      value = all_within g.P.Profile.profile (cap_at (g.S.CapStore.forest c.args.store.now)) c.args.root c.args.bits c.args.address;
       relation = λ r h. h;
     }
 
 pub choose-requires-clause-lawful : goal.choose-requires-clause-lawful
 choose-requires-clause-lawful g c =
-    lawful_in_words g.P.Profile.the _ c.loop-slot.cap c.loop-slot.invariant.lawful
+    lawful_in_words g.P.Profile.profile _ c.loop-slot.cap c.loop-slot.invariant.lawful
 
 pub returns-in_err-slot-clause-value : goal.returns-in_err-slot-clause-value
 returns-in_err-slot-clause-value g c =

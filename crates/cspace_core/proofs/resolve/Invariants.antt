@@ -11,13 +11,13 @@ use Rattle.cspace_core.proofs.resolve.Given as goal
 
 abbrev pub invariant-loop-slot : goal.invariant-loop-slot
 invariant-loop-slot g l = record {
-  lawful : (l.cap ≡ Null) ⊎ IsLawful g.P.Profile.the (g.S.CapStore.memory_bits l.store) l.cap;
-  within : l.left ≤ word_bits g.P.Profile.the;
-  value : (most : ℕ) × ((l.left < most) × (resolution_within g.P.Profile.the (cap_at (g.S.CapStore.forest l.store)) most l.cap (low_bits l.left l.address)
-      ≡ resolution g.P.Profile.the (cap_at (g.S.CapStore.forest l.store)) l.fn.root (low_bits l.fn.bits l.fn.address)));
+  lawful : (l.cap ≡ Null) ⊎ IsLawful g.P.Profile.profile (g.S.CapStore.memory_bits l.store) l.cap;
+  within : l.left ≤ word_bits g.P.Profile.profile;
+  value : (most : ℕ) × ((l.left < most) × (resolution_within g.P.Profile.profile (cap_at (g.S.CapStore.forest l.store)) most l.cap (low_bits l.left l.address)
+      ≡ resolution g.P.Profile.profile (cap_at (g.S.CapStore.forest l.store)) l.fn.root (low_bits l.fn.bits l.fn.address)));
   relation : (r : Result Found LookupFault) →
-      Resolves g.P.Profile.the (cap_at (g.S.CapStore.forest l.store)) l.cap (low_bits l.left l.address) r →
-      Resolves g.P.Profile.the (cap_at (g.S.CapStore.forest l.store)) l.fn.root (low_bits l.fn.bits l.fn.address) r;
+      Resolves g.P.Profile.profile (cap_at (g.S.CapStore.forest l.store)) l.cap (low_bits l.left l.address) r →
+      Resolves g.P.Profile.profile (cap_at (g.S.CapStore.forest l.store)) l.fn.root (low_bits l.fn.bits l.fn.address) r;
 }
 
 abbrev pub decreases-loop-slot : goal.decreases-loop-slot

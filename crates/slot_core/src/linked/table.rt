@@ -262,7 +262,7 @@ pub fn names(links: &[Link], slot: Option<Slot>, cap: Cap) -> bool
 /// badged.
 #[inline(always)]
 pub fn is_parent<P: Profile>(a: Link, b: Link) -> bool
-    ensures { result ≡ is_parent_in P.the (unplaced a) (unplaced b) }
+    ensures { result ≡ is_parent_in P.profile (unplaced a) (unplaced b) }
 {
     a.revocable && in_region::<P>(a.cap, b.cap) && badge_fits(a, b)
 }

@@ -14,7 +14,7 @@ use std::alloc::{AllocError, Global};
 
 /// Takes the slots off a stack that are no parents of a row, from the last on.
 fn leave<P: Profile>(links: &[Link], above: &mut Vec<Slot>, link: Link)
-    ensures { stack_of links.now above.new.items ≡ still_above (is_parent_in P.the) (unplaced link) (stack_of links.now above.old.items) }
+    ensures { stack_of links.now above.new.items ≡ still_above (is_parent_in P.profile) (unplaced link) (stack_of links.now above.old.items) }
 {
     while let Some(top) = above.last() {
         if is_parent::<P>(row(links, *top), link) {

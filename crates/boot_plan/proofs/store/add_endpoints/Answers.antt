@@ -7,4 +7,4 @@ use Rattle.boot_plan.proofs.store.add_endpoints.Goals as goal
 
 pub loop-j-preserved : goal.loop-j-preserved
 loop-j-preserved g c =
-    range_added (λ j. whole_endpoint (endpoint_place g.P.Profile.the c.args.plan.now j)) c.args.caps.now.items _ _ c.loop-j.j (whole_endpoint c.endpoint_place.result) c.loop-j.invariant c.in_ok-push.ensures.items (ap whole_endpoint c.endpoint_place.ensures)
+    range_added (λ j. whole_endpoint (endpoint_place g.P.Profile.profile c.args.plan.now j)) c.args.caps.now.items _ _ c.loop-j.j (whole_endpoint c.endpoint_place.result) c.loop-j.invariant c.in_ok-push.ensures.items (ap whole_endpoint c.endpoint_place.ensures)

@@ -6,4 +6,4 @@ use Rattle.abstract_kernel.specs.Boot.{whole_endpoint}
 use Rattle.boot_plan.proofs.store.add_endpoints.Given as goal
 
 abbrev pub invariant-loop-j : goal.invariant-loop-j
-invariant-loop-j g l = l.caps.items ≡ l.initial.caps.items ++ map (λ j. whole_endpoint (endpoint_place g.P.Profile.the l.plan j)) (range_with_len 0 l.j)
+invariant-loop-j g l = l.caps.items ≡ l.initial.caps.items ++ map (λ j. whole_endpoint (endpoint_place g.P.Profile.profile l.plan j)) (range_with_len 0 l.j)

@@ -7,4 +7,4 @@ use Rattle.boot_plan.proofs.store.add_tcbs.Goals as goal
 
 pub loop-i-preserved : goal.loop-i-preserved
 loop-i-preserved g c =
-    range_added (λ i. Tcb (tcb_place g.P.Profile.the c.args.plan.now i)) c.args.caps.now.items _ _ c.loop-i.i (Tcb c.tcb_place.result) c.loop-i.invariant c.in_ok-push.ensures.items (ap Tcb c.tcb_place.ensures)
+    range_added (λ i. Tcb (tcb_place g.P.Profile.profile c.args.plan.now i)) c.args.caps.now.items _ _ c.loop-i.i (Tcb c.tcb_place.result) c.loop-i.invariant c.in_ok-push.ensures.items (ap Tcb c.tcb_place.ensures)

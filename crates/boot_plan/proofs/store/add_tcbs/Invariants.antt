@@ -6,4 +6,4 @@ use Rattle.abstract_kernel.specs.Plan.{tcb_place}
 use Rattle.boot_plan.proofs.store.add_tcbs.Given as goal
 
 abbrev pub invariant-loop-i : goal.invariant-loop-i
-invariant-loop-i g l = l.caps.items ≡ l.initial.caps.items ++ map (λ i. Tcb (tcb_place g.P.Profile.the l.plan i)) (range_with_len 0 l.i)
+invariant-loop-i g l = l.caps.items ≡ l.initial.caps.items ++ map (λ i. Tcb (tcb_place g.P.Profile.profile l.plan i)) (range_with_len 0 l.i)

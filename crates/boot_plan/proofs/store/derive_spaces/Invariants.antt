@@ -10,6 +10,6 @@ abbrev pub invariant-loop-i : goal.invariant-loop-i
 invariant-loop-i g l =
     record {
       memory : g.S.CapStore.memory_bits l.store ≡ l.plan.memory_bits;
-      can : CanDerive g.P.Profile.the l.plan.memory_bits (slot_size g.P.Profile.the) 0 l.plan.root_radix (record { value = 0; size = word_bits g.P.Profile.the - l.plan.root_radix }) (drop l.i (boot_tcbs g.P.Profile.the l.plan)) (g.S.CapStore.forest l.store);
-      gives : with_spaces g.P.Profile.the (root_cap g.P.Profile.the l.plan) (drop l.i (boot_tcbs g.P.Profile.the l.plan)) (g.S.CapStore.forest l.store) ≡ boot_forest g.P.Profile.the l.plan;
+      can : CanDerive g.P.Profile.profile l.plan.memory_bits (slot_size g.P.Profile.profile) 0 l.plan.root_radix (record { value = 0; size = word_bits g.P.Profile.profile - l.plan.root_radix }) (drop l.i (boot_tcbs g.P.Profile.profile l.plan)) (g.S.CapStore.forest l.store);
+      gives : with_spaces g.P.Profile.profile (root_cap g.P.Profile.profile l.plan) (drop l.i (boot_tcbs g.P.Profile.profile l.plan)) (g.S.CapStore.forest l.store) ≡ boot_forest g.P.Profile.profile l.plan;
     }

@@ -10,6 +10,6 @@ abbrev pub invariant-loop-i : goal.invariant-loop-i
 invariant-loop-i g l =
     record {
       memory : g.S.CapStore.memory_bits l.store ≡ l.plan.memory_bits;
-      can : CanPut g.P.Profile.the l.plan.memory_bits (l.i + 1) (drop l.i l.caps) (g.S.CapStore.forest l.store);
-      gives : with_roots g.P.Profile.the (l.i + 1) (drop l.i l.caps) (g.S.CapStore.forest l.store) ≡ with_roots g.P.Profile.the 1 (boot_caps g.P.Profile.the l.plan) none;
+      can : CanPut g.P.Profile.profile l.plan.memory_bits (l.i + 1) (drop l.i l.caps) (g.S.CapStore.forest l.store);
+      gives : with_roots g.P.Profile.profile (l.i + 1) (drop l.i l.caps) (g.S.CapStore.forest l.store) ≡ with_roots g.P.Profile.profile 1 (boot_caps g.P.Profile.profile l.plan) none;
     }

@@ -12,7 +12,7 @@ use Rattle.clearing.proofs.deletion.clear.Goals as goal
 
 pub loop-next-init : goal.loop-next-init
 loop-next-init g c =
-    let p = g.P.Profile.the in
+    let p = g.P.Profile.profile in
     let f = g.S.CapStore.forest c.args.store.now in
     let s = address_of p c.args.slot in
     let e : c.push.new.self ≡ (s ∷ c.args.chain.now.0, c.args.chain.now.1) = c.push.ensures in
@@ -27,12 +27,12 @@ loop-next-init g c =
 
 pub clear_one-requires-clause-no_null : goal.clear_one-requires-clause-no_null
 clear_one-requires-clause-no_null g c =
-    let p = g.P.Profile.the in
+    let p = g.P.Profile.profile in
     midway-no_null p (g.S.CapStore.forest c.args.store.now) (g.S.CapStore.forest c.loop-next.store) (address_of p c.args.slot) c.args.chain.now.1 (address_of p c.in-Some.next) c.loop-next.chain.0 c.requires.clearable c.loop-next.invariant.midway
 
 pub clear_one-requires-clause-distinct : goal.clear_one-requires-clause-distinct
 clear_one-requires-clause-distinct g c =
-    let p = g.P.Profile.the in
+    let p = g.P.Profile.profile in
     let f = g.S.CapStore.forest c.args.store.now in
     let h = g.S.CapStore.forest c.loop-next.store in
     let s = address_of p c.args.slot in
@@ -42,7 +42,7 @@ clear_one-requires-clause-distinct g c =
 
 pub clear_one-requires-clause-within : goal.clear_one-requires-clause-within
 clear_one-requires-clause-within g c =
-    let p = g.P.Profile.the in
+    let p = g.P.Profile.profile in
     let f = g.S.CapStore.forest c.args.store.now in
     let h = g.S.CapStore.forest c.loop-next.store in
     let s = address_of p c.args.slot in
@@ -54,7 +54,7 @@ clear_one-requires-clause-within g c =
 
 pub loop-next-smaller : goal.loop-next-smaller
 loop-next-smaller g c =
-    let p = g.P.Profile.the in
+    let p = g.P.Profile.profile in
     let f = g.S.CapStore.forest c.args.store.now in
     let h = g.S.CapStore.forest c.loop-next.store in
     let s = address_of p c.args.slot in
@@ -68,7 +68,7 @@ loop-next-smaller g c =
 
 pub loop-next-preserved : goal.loop-next-preserved
 loop-next-preserved g c =
-    let p = g.P.Profile.the in
+    let p = g.P.Profile.profile in
     let f = g.S.CapStore.forest c.args.store.now in
     let h = g.S.CapStore.forest c.loop-next.store in
     let k = g.S.CapStore.forest c.clear_one.new.store in
@@ -89,7 +89,7 @@ loop-next-preserved g c =
 
 pub returns-clause-forest : goal.returns-clause-forest
 returns-clause-forest g c =
-    let p = g.P.Profile.the in
+    let p = g.P.Profile.profile in
     let f = g.S.CapStore.forest c.args.store.now in
     let h = g.S.CapStore.forest c.loop-next.store in
     let s = address_of p c.args.slot in

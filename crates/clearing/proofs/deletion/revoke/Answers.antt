@@ -25,7 +25,7 @@ loop-child-init g c =
 
 pub clear-requires-clause-within : goal.clear-requires-clause-within
 clear-requires-clause-within g c =
-    let p = g.P.Profile.the in
+    let p = g.P.Profile.profile in
     let w = child_in (address_of p c.args.slot) (address_of p c.in-Some.child) (g.S.CapStore.forest c.loop-child.store) (sym c.in-Some.ensures) in
     let x = c.loop-child.invariant.clearable.slots w.0 w.1.0 in
     let y : c.loop-child.chain.1 ≡ c.args.chain.now.1 = ap (λ v. v.1) c.loop-child.invariant.chain in
@@ -33,7 +33,7 @@ clear-requires-clause-within g c =
 
 pub loop-child-smaller : goal.loop-child-smaller
 loop-child-smaller g c =
-    let p = g.P.Profile.the in
+    let p = g.P.Profile.profile in
     let h = g.S.CapStore.forest c.loop-child.store in
     let x = child_less p (address_of p c.args.slot) (address_of p c.in-Some.child) h (sym c.in-Some.ensures) in
     let a : length (preorder (g.S.CapStore.forest c.clear.new.store)) ≡ length (preorder (clear p (address_of p c.in-Some.child) h)) = ap (λ q. length (preorder q)) c.clear.ensures.forest in
@@ -41,7 +41,7 @@ loop-child-smaller g c =
 
 pub loop-child-preserved : goal.loop-child-preserved
 loop-child-preserved g c =
-    let p = g.P.Profile.the in
+    let p = g.P.Profile.profile in
     let s = address_of p c.args.slot in
     let n = address_of p c.in-Some.child in
     let f = g.S.CapStore.forest c.args.store.now in
@@ -64,6 +64,6 @@ loop-child-preserved g c =
 
 pub returns-clause-forest : goal.returns-clause-forest
 returns-clause-forest g c =
-    let p = g.P.Profile.the in
+    let p = g.P.Profile.profile in
     let h = g.S.CapStore.forest c.loop-child.store in
     sym (c.loop-child.invariant.stands ∙ revoke_none p (address_of p c.args.slot) h (sym c.in_default.ensures))

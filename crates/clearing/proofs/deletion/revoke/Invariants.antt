@@ -10,8 +10,8 @@ use Rattle.clearing.proofs.deletion.revoke.Given as goal
 abbrev pub invariant-loop-child : goal.invariant-loop-child
 invariant-loop-child g l =
     record {
-      clearable : IsClearable g.P.Profile.the l.fn.chain.1 (preorder (g.S.CapStore.forest l.store));
-      stands : revoke g.P.Profile.the (address_of g.P.Profile.the l.fn.slot) (g.S.CapStore.forest l.fn.store) ≡ revoke g.P.Profile.the (address_of g.P.Profile.the l.fn.slot) (g.S.CapStore.forest l.store);
+      clearable : IsClearable g.P.Profile.profile l.fn.chain.1 (preorder (g.S.CapStore.forest l.store));
+      stands : revoke g.P.Profile.profile (address_of g.P.Profile.profile l.fn.slot) (g.S.CapStore.forest l.fn.store) ≡ revoke g.P.Profile.profile (address_of g.P.Profile.profile l.fn.slot) (g.S.CapStore.forest l.store);
       fewer : (c : Cap) → named (preorder (g.S.CapStore.forest l.store)) c ≡ true → named (preorder (g.S.CapStore.forest l.fn.store)) c ≡ true;
       told : g.F.Finalise.Ended (ended (g.S.CapStore.forest l.fn.store) (g.S.CapStore.forest l.store)) l.fn.rest l.rest;
       chain : l.chain ≡ l.fn.chain;

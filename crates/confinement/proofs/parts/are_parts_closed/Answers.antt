@@ -9,7 +9,7 @@ use Rattle.confinement.proofs.parts.are_parts_closed.Goals as goal
 
 pub returns-clause-value : goal.returns-clause-value
 returns-clause-value g c =
-    let p = g.P.Profile.the in
+    let p = g.P.Profile.profile in
     c.all_stand.ensures
     ∙ ap (list_all (λ (d : Derivation). entry_stands p c.args.memory.now c.args.uses.now (derivation_view p d).0)) c.as_slice.ensures.value
     ∙ all_told (entry_stands p c.args.memory.now c.args.uses.now) p c.args.kernel.now.derivations
@@ -17,4 +17,4 @@ returns-clause-value g c =
 
 pub returns-clause-ever : goal.returns-clause-ever
 returns-clause-ever g c tested =
-    confined_ever g.P.Profile.the c.args.memory.now c.args.uses.now c.args.kernel.now (sym (returns-clause-value g c) ∙ tested)
+    confined_ever g.P.Profile.profile c.args.memory.now c.args.uses.now c.args.kernel.now (sym (returns-clause-value g c) ∙ tested)

@@ -13,14 +13,14 @@ use Rattle.confinement.proofs.parts.parts_around.Goals as goal
 
 pub returns-then-branch-clause-ever : goal.returns-then-branch-clause-ever
 returns-then-branch-clause-ever g c =
-    let p = g.P.Profile.the in
+    let p = g.P.Profile.profile in
     subst (λ (m : List PartMemory). AreConfinedEver p m c.in_ok-parts.parts.uses.items c.args.kernel.now) c.as_slice-memory.ensures.value
     (subst (λ (uses : List PartUse). AreConfinedEver p c.as_slice-memory.result.now uses c.args.kernel.now) c.as_slice-uses.ensures.value
     (c.in_ok-are_right.ensures.ever c.if-branch.true))
 
 pub returns-clause-ever : goal.returns-clause-ever
 returns-clause-ever g c =
-    let p = g.P.Profile.the in
+    let p = g.P.Profile.profile in
     where_both (λ (parts : Parts). parts.memory.items ≡ whole_memory) (λ (parts : Parts). parts.uses.items ≡ [])
     (λ (parts : Parts). AreConfinedEver p parts.memory.items parts.uses.items c.args.kernel.now)
     (λ parts memory uses.

@@ -26,9 +26,9 @@ ends Narrow t h = omega (arith, h)
 
 pub of_node-root-requires-clause-aligned : goal.of_node-root-requires-clause-aligned
 of_node-root-requires-clause-aligned g c =
-    (thread_slot g.P.Profile.the (g.S.CapStore.memory_bits c.args.store.now) MAX_MEMORY_BITS c.args.thread c.requires.memory c.requires.thread).aligned
+    (thread_slot g.P.Profile.profile (g.S.CapStore.memory_bits c.args.store.now) MAX_MEMORY_BITS c.args.thread c.requires.memory c.requires.thread).aligned
 
 pub of_node-root-requires-clause-end : goal.of_node-root-requires-clause-end
 of_node-root-requires-clause-end g c =
-    ends g.P.Profile.the c.args.thread
-    (thread_slot g.P.Profile.the (g.S.CapStore.memory_bits c.args.store.now) MAX_MEMORY_BITS c.args.thread c.requires.memory c.requires.thread).within
+    ends g.P.Profile.profile c.args.thread
+    (thread_slot g.P.Profile.profile (g.S.CapStore.memory_bits c.args.store.now) MAX_MEMORY_BITS c.args.thread c.requires.memory c.requires.thread).within

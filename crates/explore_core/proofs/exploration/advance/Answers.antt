@@ -9,7 +9,7 @@ use Rattle.explore_core.proofs.exploration.advance.Goals as goal
 
 pub returns-clause-progress : goal.returns-clause-progress
 returns-clause-progress g c A first r k before =
-    let p = g.P.Profile.the in
+    let p = g.P.Profile.profile in
     let own = own_calls c.args.calls.now in
     let is = c.nodes-nodes.ensures in
     let now = c.in_ok-next.ensures (start own A) r k (subst (AreNodes p own (start own A)) (sym is) before.are) in

@@ -9,13 +9,13 @@ use Rattle.explore_core.proofs.exploration.begin.Goals as goal
 
 pub loop-i-init : goal.loop-i-init
 loop-i-init g c A r k =
-    let p = g.P.Profile.the in
+    let p = g.P.Profile.profile in
     let own = own_calls c.args.calls.now in
     begun_none p own A c.args.first.now answer_eq.ghosts.eq c.in_ok-node.node c.args.found.now.items (c.in_ok-node.ensures.node own A k (length-map c.args.calls.now _)) c.in_ok-node.ensures.order c.in_ok-node.ensures.weight
 
 pub loop-i-preserved : goal.loop-i-preserved
 loop-i-preserved g c A r k =
-    let p = g.P.Profile.the in
+    let p = g.P.Profile.profile in
     let own = own_calls c.args.calls.now in
     let before = c.loop-i.invariant A r k in
     let lt : c.loop-i.i < length c.args.first.now = omega arith in
@@ -24,7 +24,7 @@ loop-i-preserved g c A r k =
 
 pub returns : goal.returns
 returns g c A r k =
-    let p = g.P.Profile.the in
+    let p = g.P.Profile.profile in
     let own = own_calls c.args.calls.now in
     subst (λ (l : List ℕ). IsBegun p own A l c.loop-i.node answer_eq.ghosts.eq c.args.found.now.items c.loop-i.found.items)
     (take_all c.loop-i.i c.args.first.now (omega arith)) (c.loop-i.invariant A r k)

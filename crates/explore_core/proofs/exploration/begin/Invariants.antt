@@ -8,5 +8,5 @@ use Rattle.explore_core.proofs.exploration.begin.Given as goal
 
 abbrev pub invariant-loop-i : goal.invariant-loop-i
 invariant-loop-i g l =
-    (A : State) → IsReached g.P.Profile.the A → l.kernel ≡ shown A
-    → IsBegun g.P.Profile.the (own_calls l.calls) A (take l.i l.first) l.node answer_eq.ghosts.eq l.fn.found.items l.found.items
+    (A : State) → IsReached g.P.Profile.profile A → l.kernel ≡ shown A
+    → IsBegun g.P.Profile.profile (own_calls l.calls) A (take l.i l.first) l.node answer_eq.ghosts.eq l.fn.found.items l.found.items

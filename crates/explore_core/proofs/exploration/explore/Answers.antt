@@ -7,7 +7,7 @@ use Rattle.explore_core.proofs.exploration.explore.Goals as goal
 
 pub loop-alloc-init : goal.loop-alloc-init
 loop-alloc-init g c A r k =
-    let p = g.P.Profile.the in
+    let p = g.P.Profile.profile in
     let own = own_calls c.args.calls.now in
     let b = c.in_ok-explored.ensures A r k in
     let whole : c.args.count - 0 ≡ c.args.count = omega arith in (
@@ -18,7 +18,7 @@ loop-alloc-init g c A r k =
 
 pub loop-alloc-preserved : goal.loop-alloc-preserved
 loop-alloc-preserved g c A r k =
-    let p = g.P.Profile.the in
+    let p = g.P.Profile.profile in
     let own = own_calls c.args.calls.now in
     let before = c.loop-alloc.invariant A r k in (
       c.in_ok-advance.ensures.progress A c.args.first.now r k before.0,
@@ -32,7 +32,7 @@ loop-alloc-smaller g c = goes_less c.args.limit c.args.count c.loop-alloc.explor
 
 pub returns : goal.returns
 returns g c A r k =
-    let p = g.P.Profile.the in
+    let p = g.P.Profile.profile in
     let own = own_calls c.args.calls.now in
     let before = c.loop-alloc.invariant A r k in
     depth_ends p own A c.args.first.now c.args.limit c.args.count c.loop-alloc.explored c.goes_on.result (before.0).to c.goes_on.ensures c.loop-alloc-test.false before.1

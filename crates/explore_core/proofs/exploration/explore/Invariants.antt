@@ -10,7 +10,7 @@ use Rattle.explore_core.proofs.exploration.explore.Given as goal
 
 abbrev pub invariant-loop-alloc : goal.invariant-loop-alloc
 invariant-loop-alloc g l =
-    let p = g.P.Profile.the in
+    let p = g.P.Profile.profile in
     let own = own_calls l.calls in
     (A : State) → IsReached p A → l.kernel ≡ shown A
     → IsProgress p own A l.first answer_eq.ghosts.eq l.explored

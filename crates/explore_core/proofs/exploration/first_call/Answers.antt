@@ -11,7 +11,7 @@ use Rattle.explore_core.proofs.exploration.first_call.Goals as goal
 
 pub returns-in_ok-at-in-Some-clause-made : goal.returns-in_ok-at-in-Some-clause-made
 returns-in_ok-at-in-Some-clause-made g c =
-    let p = g.P.Profile.the in
+    let p = g.P.Profile.profile in
     let own = own_calls c.args.calls.now in
     if_ok c.make_call.result c.make_call.ensures.made
     (λ new h w r k node.
@@ -21,7 +21,7 @@ returns-in_ok-at-in-Some-clause-made g c =
 
 pub returns-in-None-clause-made : goal.returns-in-None-clause-made
 returns-in-None-clause-made g c =
-    let p = g.P.Profile.the in
+    let p = g.P.Profile.profile in
     let own = own_calls c.args.calls.now in
     if_ok c.uncalled.result c.uncalled.ensures.rest
     (λ new h w r k node.

@@ -10,7 +10,7 @@ use Rattle.explore_core.proofs.layers.expand.Goals as goal
 
 pub returns : goal.returns
 returns g c w r k node all =
-    let p = g.P.Profile.the in
+    let p = g.P.Profile.profile in
     let own = own_calls c.args.calls.now in
     let n = c.args.node.now in
     let shows = at_is p own w n c.in_ok-at.at node (c.in_ok-at.ensures w.kernel r k ∙ ap (λ (l : List Call). shown (state_after p w.kernel l)) c.as_slice.ensures.value) in

@@ -11,7 +11,7 @@ use Rattle.explore_core.proofs.layers.make_call.Goals as goal
 
 pub returns-clause-made : goal.returns-clause-made
 returns-clause-made g c own w r node at next_is =
-    let p = g.P.Profile.the in
+    let p = g.P.Profile.profile in
     let n = c.args.node.now in
     let client = c.args.client in
     let next = c.in_ok-next.next in

@@ -10,14 +10,14 @@ use Rattle.explore_core.proofs.layers.next_layer.Goals as goal
 
 pub loop-node-init : goal.loop-node-init
 loop-node-init g c w r k all =
-    let p = g.P.Profile.the in
+    let p = g.P.Profile.profile in
     let own = own_calls c.args.calls.now in
     subst (λ (l : List Node). IsExpanded p own w [] l answer_eq.ghosts.eq c.args.found.now c.args.found.now []) (sym c.new-next.ensures)
     (expanded_none p own w answer_eq.ghosts.eq [] c.args.found.now tt)
 
 pub loop-node-preserved : goal.loop-node-preserved
 loop-node-preserved g c w r k all =
-    let p = g.P.Profile.the in
+    let p = g.P.Profile.profile in
     let own = own_calls c.args.calls.now in
     let i = c.loop-node.node-index in
     let x = c.node-item.result in
@@ -29,7 +29,7 @@ loop-node-preserved g c w r k all =
 
 pub returns : goal.returns
 returns g c w r k all =
-    let p = g.P.Profile.the in
+    let p = g.P.Profile.profile in
     let own = own_calls c.args.calls.now in
     subst (λ (l : List Node). IsExpanded p own w [] c.loop-node.next answer_eq.ghosts.eq c.args.found.now c.loop-node.found (entries_of l))
     (take_all c.loop-node.node-index c.args.layer.now (omega arith)) (c.loop-node.invariant w r k all)

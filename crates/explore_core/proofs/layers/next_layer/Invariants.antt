@@ -9,7 +9,7 @@ use Rattle.explore_core.proofs.layers.next_layer.Given as goal
 
 abbrev pub invariant-loop-node : goal.invariant-loop-node
 invariant-loop-node g l =
-    let p = g.P.Profile.the in
+    let p = g.P.Profile.profile in
     let own = own_calls l.calls in
     (w : World) → IsReached p w.kernel → l.kernel ≡ shown w.kernel → AreNodes p own w l.layer
     → IsExpanded p own w [] l.next answer_eq.ghosts.eq l.fn.found l.found (entries_of (take l.node-index l.layer))

@@ -12,18 +12,18 @@ use Rattle.explore_core.proofs.Tables.{visited_none, visited_more}
 use Rattle.explore_core.proofs.layers.visit_clients.Goals as goal
 
 pub loop-client-init : goal.loop-client-init
-loop-client-init g c w r node at all = visited_none g.P.Profile.the (own_calls c.args.calls.now) w answer_eq.ghosts.eq c.args.nodes.now c.args.found.now.items all
+loop-client-init g c w r node at all = visited_none g.P.Profile.profile (own_calls c.args.calls.now) w answer_eq.ghosts.eq c.args.nodes.now c.args.found.now.items all
 
 pub loop-client-preserved : goal.loop-client-preserved
 loop-client-preserved g c w r node at all =
     let before = c.loop-client.invariant w r node at all in
-    visited_more g.P.Profile.the (own_calls c.args.calls.now) w answer_eq.ghosts.eq c.args.node.now.weight c.args.node.now.order.items c.loop-client.client
+    visited_more g.P.Profile.profile (own_calls c.args.calls.now) w answer_eq.ghosts.eq c.args.node.now.weight c.args.node.now.order.items c.loop-client.client
     c.args.nodes.now c.loop-client.nodes c.visit.new.nodes c.args.found.now.items c.loop-client.found.items c.visit.new.found.items
     before (c.in_ok-visit.ensures w r node at before.are)
 
 pub returns : goal.returns
 returns g c w r node at all =
-    let p = g.P.Profile.the in
+    let p = g.P.Profile.profile in
     let own = own_calls c.args.calls.now in
     let order = c.args.node.now.order.items in
     let end : c.loop-client.client ≡ length c.args.calls.now = omega arith in

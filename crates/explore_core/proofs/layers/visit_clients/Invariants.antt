@@ -13,7 +13,7 @@ use Rattle.explore_core.proofs.layers.visit_clients.Given as goal
 
 abbrev pub invariant-loop-client : goal.invariant-loop-client
 invariant-loop-client g l =
-    let p = g.P.Profile.the in
+    let p = g.P.Profile.profile in
     let own = own_calls l.calls in
     (w : World) → IsReached p w.kernel → IsNode p own w l.node → l.at ≡ shown (world_after p own w l.node.order.items).kernel → AreNodes p own w l.fn.nodes
     → IsVisited p own w l.fn.nodes l.nodes (each_times l.node.weight (map (λ c. l.node.order.items ++ c ∷ []) (filter (may_call own (world_after p own w l.node.order.items)) (below l.client))))

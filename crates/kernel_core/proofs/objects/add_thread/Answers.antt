@@ -10,14 +10,14 @@ use Rattle.kernel_core.proofs.objects.add_thread.Goals as goal
 
 pub index_mut-requires : goal.index_mut-requires
 index_mut-requires g c =
-    let p = g.P.Profile.the in
+    let p = g.P.Profile.profile in
     let size : 2 ^ c.TCB_BITS.result ≡ tcb_size p = ap (λ (n : ℕ). 2 ^ n) (c.TCB_BITS.ensures ∙ g.met.P.Profile.tcb_bits_is) in
     let lt' = subst (λ (n : ℕ). c.args.thread / n < length c.args.rows.now.items) (sym size) c.requires.within in
     omega (arith, c.args.rows.now.ok)
 
 pub returns-clause-map : goal.returns-clause-map
 returns-clause-map g c =
-    let p = g.P.Profile.the in
+    let p = g.P.Profile.profile in
     let size : 2 ^ c.TCB_BITS.result ≡ tcb_size p = ap (λ (n : ℕ). 2 ^ n) (c.TCB_BITS.ensures ∙ g.met.P.Profile.tcb_bits_is) in
     ap (λ (n : ℕ). rows_map (tcb_size p) (set c.args.rows.now.items (c.args.thread / n) (Some new_row))) size
     ∙ row_changed (tcb_size p) c.args.thread c.args.rows.now.items new_row (tcb_size-pos p) c.requires.aligned c.requires.within

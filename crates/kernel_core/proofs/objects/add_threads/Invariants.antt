@@ -12,5 +12,5 @@ abbrev pub invariant-loop-i : goal.invariant-loop-i
 invariant-loop-i g l =
     record {
       length : length l.rows.items ≡ length l.fn.rows.items;
-      map : rows_map (tcb_size g.P.Profile.the) l.rows.items ≡ with_rows (map (object_at l.placed) (range_with_len 0 l.i)) (rows_map (tcb_size g.P.Profile.the) l.fn.rows.items);
+      map : rows_map (tcb_size g.P.Profile.profile) l.rows.items ≡ with_rows (map (object_at l.placed) (range_with_len 0 l.i)) (rows_map (tcb_size g.P.Profile.profile) l.fn.rows.items);
     }

@@ -11,7 +11,7 @@ abbrev pub invariant-loop-i : goal.invariant-loop-i
 invariant-loop-i g l =
     record {
       memory : g.S.CapStore.memory_bits l.store ≡ g.S.CapStore.memory_bits l.fn.store;
-      parent : l.untyped.place * slot_size g.P.Profile.the ≡ l.new.untyped;
-      can : CanMake g.P.Profile.the (g.S.CapStore.memory_bits l.fn.store) l.new.untyped (puts_from g.P.Profile.the l.new l.i) (g.S.CapStore.forest l.store);
-      gives : with_new l.new.untyped (puts_from g.P.Profile.the l.new l.i) (g.S.CapStore.forest l.store) ≡ with_objects g.P.Profile.the l.new (g.S.CapStore.forest l.fn.store);
+      parent : l.untyped.place * slot_size g.P.Profile.profile ≡ l.new.untyped;
+      can : CanMake g.P.Profile.profile (g.S.CapStore.memory_bits l.fn.store) l.new.untyped (puts_from g.P.Profile.profile l.new l.i) (g.S.CapStore.forest l.store);
+      gives : with_new l.new.untyped (puts_from g.P.Profile.profile l.new l.i) (g.S.CapStore.forest l.store) ≡ with_objects g.P.Profile.profile l.new (g.S.CapStore.forest l.fn.store);
     }

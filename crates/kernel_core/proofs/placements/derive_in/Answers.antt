@@ -5,31 +5,31 @@ use Rattle.abstract_kernel.proofs.Capabilities.PlacementSteps.{source_aligned, s
 use Rattle.kernel_core.proofs.placements.derive_in.Goals as goal
 
 pub of_node-source-requires-clause-aligned : goal.of_node-source-requires-clause-aligned
-of_node-source-requires-clause-aligned g c = source_aligned g.P.Profile.the (g.S.CapStore.memory_bits c.args.store.now) (g.S.CapStore.forest c.args.store.now) c.requires.store c.args.placement c.requires.derivation.ends
+of_node-source-requires-clause-aligned g c = source_aligned g.P.Profile.profile (g.S.CapStore.memory_bits c.args.store.now) (g.S.CapStore.forest c.args.store.now) c.requires.store c.args.placement c.requires.derivation.ends
 
 pub of_node-source-requires-clause-end : goal.of_node-source-requires-clause-end
-of_node-source-requires-clause-end g c = source_end g.P.Profile.the (g.S.CapStore.memory_bits c.args.store.now) (g.S.CapStore.forest c.args.store.now) c.requires.store c.args.placement c.requires.derivation.ends
+of_node-source-requires-clause-end g c = source_end g.P.Profile.profile (g.S.CapStore.memory_bits c.args.store.now) (g.S.CapStore.forest c.args.store.now) c.requires.store c.args.placement c.requires.derivation.ends
 
 pub of_node-slot-requires-clause-aligned : goal.of_node-slot-requires-clause-aligned
-of_node-slot-requires-clause-aligned g c = slot_aligned g.P.Profile.the (g.S.CapStore.memory_bits c.args.store.now) (g.S.CapStore.forest c.args.store.now) c.requires.store c.args.placement c.requires.derivation.ends
+of_node-slot-requires-clause-aligned g c = slot_aligned g.P.Profile.profile (g.S.CapStore.memory_bits c.args.store.now) (g.S.CapStore.forest c.args.store.now) c.requires.store c.args.placement c.requires.derivation.ends
 
 pub of_node-slot-requires-clause-end : goal.of_node-slot-requires-clause-end
-of_node-slot-requires-clause-end g c = slot_end g.P.Profile.the (g.S.CapStore.memory_bits c.args.store.now) (g.S.CapStore.forest c.args.store.now) c.requires.store c.args.placement c.requires.derivation.ends
+of_node-slot-requires-clause-end g c = slot_end g.P.Profile.profile (g.S.CapStore.memory_bits c.args.store.now) (g.S.CapStore.forest c.args.store.now) c.requires.store c.args.placement c.requires.derivation.ends
 
 pub derive-requires-clause-lawful : goal.derive-requires-clause-lawful
 derive-requires-clause-lawful g c = c.requires.derivation.ends.lawful (g.S.CapStore.memory_bits c.args.store.now) c.requires.store.lawful
 
 pub derive-requires-clause-disjoint : goal.derive-requires-clause-disjoint
-derive-requires-clause-disjoint g c = derive_disjoint g.P.Profile.the (g.S.CapStore.memory_bits c.args.store.now) (g.S.CapStore.forest c.args.store.now) c.requires.store c.args.placement (c.of_node-source.result.place * slot_size g.P.Profile.the) (c.of_node-slot.result.place * slot_size g.P.Profile.the) c.of_node-source.ensures c.of_node-slot.ensures c.requires.derivation
+derive-requires-clause-disjoint g c = derive_disjoint g.P.Profile.profile (g.S.CapStore.memory_bits c.args.store.now) (g.S.CapStore.forest c.args.store.now) c.requires.store c.args.placement (c.of_node-source.result.place * slot_size g.P.Profile.profile) (c.of_node-slot.result.place * slot_size g.P.Profile.profile) c.of_node-source.ensures c.of_node-slot.ensures c.requires.derivation
 
 pub overflow_shl-bits : goal.overflow_shl-bits
-overflow_shl-bits g c = few_bits g.P.Profile.the (g.S.CapStore.memory_bits c.args.store.now) (g.S.CapStore.forest c.args.store.now) c.requires.store c.args.placement (c.of_node-source.result.place * slot_size g.P.Profile.the) (c.of_node-slot.result.place * slot_size g.P.Profile.the) c.of_node-source.ensures c.of_node-slot.ensures c.requires.derivation c.in-Untyped.base c.in-Untyped.bits c.in-Untyped.free c.in-Untyped.is (g.S.CapStore.forest c.derive.new.self) c.derive.ensures.forest
+overflow_shl-bits g c = few_bits g.P.Profile.profile (g.S.CapStore.memory_bits c.args.store.now) (g.S.CapStore.forest c.args.store.now) c.requires.store c.args.placement (c.of_node-source.result.place * slot_size g.P.Profile.profile) (c.of_node-slot.result.place * slot_size g.P.Profile.profile) c.of_node-source.ensures c.of_node-slot.ensures c.requires.derivation c.in-Untyped.base c.in-Untyped.bits c.in-Untyped.free c.in-Untyped.is (g.S.CapStore.forest c.derive.new.self) c.derive.ensures.forest
 
 pub set_free-requires-clause-untyped : goal.set_free-requires-clause-untyped
-set_free-requires-clause-untyped g c = free_untyped g.P.Profile.the (g.S.CapStore.memory_bits c.args.store.now) (g.S.CapStore.forest c.args.store.now) c.requires.store c.args.placement (c.of_node-source.result.place * slot_size g.P.Profile.the) (c.of_node-slot.result.place * slot_size g.P.Profile.the) c.of_node-source.ensures c.of_node-slot.ensures c.requires.derivation c.in-Untyped.base c.in-Untyped.bits c.in-Untyped.free c.in-Untyped.is (g.S.CapStore.forest c.derive.new.self) c.derive.ensures.forest
+set_free-requires-clause-untyped g c = free_untyped g.P.Profile.profile (g.S.CapStore.memory_bits c.args.store.now) (g.S.CapStore.forest c.args.store.now) c.requires.store c.args.placement (c.of_node-source.result.place * slot_size g.P.Profile.profile) (c.of_node-slot.result.place * slot_size g.P.Profile.profile) c.of_node-source.ensures c.of_node-slot.ensures c.requires.derivation c.in-Untyped.base c.in-Untyped.bits c.in-Untyped.free c.in-Untyped.is (g.S.CapStore.forest c.derive.new.self) c.derive.ensures.forest
 
 pub set_free-requires-clause-lawful : goal.set_free-requires-clause-lawful
-set_free-requires-clause-lawful g c = free_lawful g.P.Profile.the (g.S.CapStore.memory_bits c.args.store.now) (g.S.CapStore.forest c.args.store.now) c.requires.store c.args.placement (c.of_node-source.result.place * slot_size g.P.Profile.the) (c.of_node-slot.result.place * slot_size g.P.Profile.the) c.of_node-source.ensures c.of_node-slot.ensures c.requires.derivation c.in-Untyped.base c.in-Untyped.bits c.in-Untyped.free c.in-Untyped.is (g.S.CapStore.forest c.derive.new.self) c.derive.ensures.forest (g.S.CapStore.memory_bits c.derive.new.self) c.derive.ensures.memory
+set_free-requires-clause-lawful g c = free_lawful g.P.Profile.profile (g.S.CapStore.memory_bits c.args.store.now) (g.S.CapStore.forest c.args.store.now) c.requires.store c.args.placement (c.of_node-source.result.place * slot_size g.P.Profile.profile) (c.of_node-slot.result.place * slot_size g.P.Profile.profile) c.of_node-source.ensures c.of_node-slot.ensures c.requires.derivation c.in-Untyped.base c.in-Untyped.bits c.in-Untyped.free c.in-Untyped.is (g.S.CapStore.forest c.derive.new.self) c.derive.ensures.forest (g.S.CapStore.memory_bits c.derive.new.self) c.derive.ensures.memory
 
 pub returns-in-Untyped-clause-forest : goal.returns-in-Untyped-clause-forest
-returns-in-Untyped-clause-forest g c = used_up g.P.Profile.the (g.S.CapStore.memory_bits c.args.store.now) (g.S.CapStore.forest c.args.store.now) c.requires.store c.args.placement (c.of_node-source.result.place * slot_size g.P.Profile.the) (c.of_node-slot.result.place * slot_size g.P.Profile.the) c.of_node-source.ensures c.of_node-slot.ensures c.requires.derivation c.in-Untyped.base c.in-Untyped.bits c.in-Untyped.free c.in-Untyped.is (g.S.CapStore.forest c.derive.new.self) c.derive.ensures.forest (g.S.CapStore.forest c.set_free.new.self) c.set_free.ensures.forest
+returns-in-Untyped-clause-forest g c = used_up g.P.Profile.profile (g.S.CapStore.memory_bits c.args.store.now) (g.S.CapStore.forest c.args.store.now) c.requires.store c.args.placement (c.of_node-source.result.place * slot_size g.P.Profile.profile) (c.of_node-slot.result.place * slot_size g.P.Profile.profile) c.of_node-source.ensures c.of_node-slot.ensures c.requires.derivation c.in-Untyped.base c.in-Untyped.bits c.in-Untyped.free c.in-Untyped.is (g.S.CapStore.forest c.derive.new.self) c.derive.ensures.forest (g.S.CapStore.forest c.set_free.new.self) c.set_free.ensures.forest

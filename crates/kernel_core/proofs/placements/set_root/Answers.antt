@@ -11,5 +11,5 @@ returns-then-is_filled-2-clause-forest g c =
     let new = c.args.new in
     let source = sym c.is_filled.ensures ∙ c.if-is_filled.true in
     let invoked = sym c.is_filled-then-is_filled.ensures ∙ c.if-is_filled-2.true in
-    c.derive_in.ensures.forest ∙ node_derived g.P.Profile.the (space_placement new) f c.requires.node
+    c.derive_in.ensures.forest ∙ node_derived g.P.Profile.profile (space_placement new) f c.requires.node
     ∙ sym (λ i. cond (source i && invoked i) (derived new.source new.tcb new.cap f) f)

@@ -8,7 +8,7 @@ use Rattle.kernel_core.proofs.rows.row_at.Goals.{then-thread-TCB_BITS-ne0-via-th
 
 pub returns-then-thread-TCB_BITS-ne0 : goal.returns-then-thread-TCB_BITS-ne0
 returns-then-thread-TCB_BITS-ne0 g c =
-    let p = g.P.Profile.the in
+    let p = g.P.Profile.profile in
     let t = c.args.thread in
     let size : 2 ^ c.TCB_BITS.result ≡ tcb_size p = ap (λ (n : ℕ). 2 ^ n) (c.TCB_BITS.ensures ∙ g.met.P.Profile.tcb_bits_is) in
     let size' = tcb_size-shifted p c.TCB_BITS-2.result (c.TCB_BITS-2.ensures ∙ g.met.P.Profile.tcb_bits_is) in
@@ -22,7 +22,7 @@ returns-then-thread-TCB_BITS-ne0 g c =
 
 pub returns : goal.returns
 returns g c =
-    let p = g.P.Profile.the in
+    let p = g.P.Profile.profile in
     let t = c.args.thread in
     let size : 2 ^ c.TCB_BITS.result ≡ tcb_size p = ap (λ (n : ℕ). 2 ^ n) (c.TCB_BITS.ensures ∙ g.met.P.Profile.tcb_bits_is) in
     let size' = tcb_size-shifted p c.TCB_BITS-2.result (c.TCB_BITS-2.ensures ∙ g.met.P.Profile.tcb_bits_is) in

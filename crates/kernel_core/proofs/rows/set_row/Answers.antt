@@ -9,7 +9,7 @@ use Rattle.kernel_core.proofs.rows.set_row.Goals as goal
 
 pub index_mut-requires : goal.index_mut-requires
 index_mut-requires g c =
-    let p = g.P.Profile.the in
+    let p = g.P.Profile.profile in
     let size : 2 ^ c.TCB_BITS.result ≡ tcb_size p = ap (λ (n : ℕ). 2 ^ n) (c.TCB_BITS.ensures ∙ g.met.P.Profile.tcb_bits_is) in
     let lt = (row_is_there (tcb_size p) c.args.thread c.args.rows.now.items (tcb_size-pos p) c.requires).1 in
     let lt' = subst (λ (n : ℕ). c.args.thread / n < length c.args.rows.now.items) (sym size) lt in
@@ -17,7 +17,7 @@ index_mut-requires g c =
 
 pub returns-clause-map : goal.returns-clause-map
 returns-clause-map g c =
-    let p = g.P.Profile.the in
+    let p = g.P.Profile.profile in
     let size : 2 ^ c.TCB_BITS.result ≡ tcb_size p = ap (λ (n : ℕ). 2 ^ n) (c.TCB_BITS.ensures ∙ g.met.P.Profile.tcb_bits_is) in
     let there = row_is_there (tcb_size p) c.args.thread c.args.rows.now.items (tcb_size-pos p) c.requires in
     ap (λ (n : ℕ). rows_map (tcb_size p) (set c.args.rows.now.items (c.args.thread / n) (Some c.args.row))) size

@@ -11,7 +11,7 @@ loop-read-init g c = record {
   wide = c.requires.wide;
   bits = starts_within (map (λ r. r.items) c.args.rows.now.items) c.requires.starts;
   front = λ place. refl;
-  explored = λ f are. explored_first g.P.Profile.the f c.args.filled.now (map (λ r. r.items) c.args.rows.now.items) c.requires.starts;
+  explored = λ f are. explored_first g.P.Profile.profile f c.args.filled.now (map (λ r. r.items) c.args.rows.now.items) c.requires.starts;
 }
 
 pub loop-read-preserved : goal.loop-read-preserved
@@ -22,15 +22,15 @@ loop-read-preserved g c =
     let s = c.extend_row.ensures.extends in
     record {
       wide = c.extend_row.ensures.wide;
-      bits = bits_more g.P.Profile.the c.args.filled.now c.loop-read.read (length c.args.filled.now) old new c.requires.lawful c.loop-read.invariant.bits s;
+      bits = bits_more g.P.Profile.profile c.args.filled.now c.loop-read.read (length c.args.filled.now) old new c.requires.lawful c.loop-read.invariant.bits s;
       front = λ place. s.front 0 place (omega arith) ∙ c.loop-read.invariant.front place;
-      explored = λ f are. explored_more g.P.Profile.the (word_bits g.P.Profile.the) f c.args.filled.now first old new c.loop-read.read
-          (all_lawful g.P.Profile.the f c.args.filled.now are c.requires.lawful) are s (c.loop-read.invariant.explored f are);
+      explored = λ f are. explored_more g.P.Profile.profile (word_bits g.P.Profile.profile) f c.args.filled.now first old new c.loop-read.read
+          (all_lawful g.P.Profile.profile f c.args.filled.now are c.requires.lawful) are s (c.loop-read.invariant.explored f are);
     }
 
 pub returns-clause-explored : goal.returns-clause-explored
 returns-clause-explored g c f are =
-    let done : word_bits g.P.Profile.the + 1 ≡ c.loop-read.read =
+    let done : word_bits g.P.Profile.profile + 1 ≡ c.loop-read.read =
     (let h = c.requires.wide.high in let m : length (map (λ r. r.items) c.args.rows.now.items) ≡ length c.args.rows.now.items = rw length-map refl in
     omega (arith, h, m, c.len-read-end.ensures, c.args.rows.now.ok.0, c.loop-read-test.false, c.loop-read.auto.read-end)) in
     rw done (c.loop-read.invariant.explored f are)

@@ -9,8 +9,8 @@ use Rattle.reach_core.proofs.explore.explore.Given as goal
 
 abbrev pub invariant-loop-read : goal.invariant-loop-read
 invariant-loop-read g l = record {
-  wide : IsWide (word_bits g.P.Profile.the + 1) (length l.filled) (map (λ r. r.items) l.rows.items);
+  wide : IsWide (word_bits g.P.Profile.profile + 1) (length l.filled) (map (λ r. r.items) l.rows.items);
   bits : AreWithinBits (map (λ r. r.items) l.rows.items);
   front : (place : ℕ) → path_at (map (λ r. r.items) l.rows.items) 0 place ≡ path_at (map (λ r. r.items) l.fn.rows.items) 0 place;
-  explored : (f : Forest Entry) → AreFullSlots f l.filled → IsExplored g.P.Profile.the f l.filled (map (λ r. r.items) l.fn.rows.items) (map (λ r. r.items) l.rows.items) l.read;
+  explored : (f : Forest Entry) → AreFullSlots f l.filled → IsExplored g.P.Profile.profile f l.filled (map (λ r. r.items) l.fn.rows.items) (map (λ r. r.items) l.rows.items) l.read;
 }

@@ -6,6 +6,6 @@ use Rattle.reach_core.proofs.explore.extend.Given as goal
 
 abbrev pub invariant-loop-place : goal.invariant-loop-place
 invariant-loop-place g l = record {
-  wide : IsWide (word_bits g.P.Profile.the + 1) (length l.filled) (map (λ r. r.items) l.rows.items);
-  extends : Extends g.P.Profile.the l.from l.read l.path l.filled l.place (map (λ r. r.items) l.fn.rows.items) (map (λ r. r.items) l.rows.items);
+  wide : IsWide (word_bits g.P.Profile.profile + 1) (length l.filled) (map (λ r. r.items) l.rows.items);
+  extends : Extends g.P.Profile.profile l.from l.read l.path l.filled l.place (map (λ r. r.items) l.fn.rows.items) (map (λ r. r.items) l.rows.items);
 }

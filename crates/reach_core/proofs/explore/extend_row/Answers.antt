@@ -46,12 +46,12 @@ loop-place-preserved g c =
     elim c.match-index.branch [
       | in-Some w ↦ rw w.rows-is (record {
         wide = w.extend.ensures.wide;
-        extends = extend_row_more g.P.Profile.the c.args.read c.args.filled.now c.loop-place.place _ _ _ (get_or c.args.filled.now c.loop-place.place none) w.in-Some.path
+        extends = extend_row_more g.P.Profile.profile c.args.read c.args.filled.now c.loop-place.place _ _ _ (get_or c.args.filled.now c.loop-place.place none) w.in-Some.path
             (slice_get-get_or c.args.filled.now c.loop-place.place none c.loop-place-test.true) (read (Some w.in-Some.path) w.in-Some.is)
             c.loop-place.invariant.extends w.extend.ensures.extends;
       })
       | in_default w ↦ rw w.rows-is (record {
         wide = c.loop-place.invariant.wide;
-        extends = extend_row_skip g.P.Profile.the c.args.read c.args.filled.now c.loop-place.place _ _ (read None w.in_default.is) c.loop-place.invariant.extends;
+        extends = extend_row_skip g.P.Profile.profile c.args.read c.args.filled.now c.loop-place.place _ _ (read None w.in_default.is) c.loop-place.invariant.extends;
       })
     ]

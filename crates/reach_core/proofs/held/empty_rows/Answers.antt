@@ -9,6 +9,6 @@ loop-read-preserved g c =
 
 pub returns : goal.returns
 returns g c =
-    let bits : c.WORD_BITS-read-end.result ≡ word_bits g.P.Profile.the = c.WORD_BITS-read-end.ensures ∙ g.met.P.Profile.word_bits_is in
-    let done : word_bits g.P.Profile.the + 1 ≡ c.loop-read.read = omega (arith, bits, c.loop-read-test.false, c.loop-read.auto.read-end) in
+    let bits : c.WORD_BITS-read-end.result ≡ word_bits g.P.Profile.profile = c.WORD_BITS-read-end.ensures ∙ g.met.P.Profile.word_bits_is in
+    let done : word_bits g.P.Profile.profile + 1 ≡ c.loop-read.read = omega (arith, bits, c.loop-read-test.false, c.loop-read.auto.read-end) in
     rw done c.loop-read.invariant

@@ -13,7 +13,7 @@ pub index-requires-in-loop-depth : goal.index-requires-in-loop-depth
 index-requires-in-loop-depth g c =
     let wide = c.requires.1.1 in
     let m : length (map (λ r. r.items) c.args.rows.now) ≡ length c.args.rows.now = rw length-map refl in
-    let low : c.loop-depth.depth < word_bits g.P.Profile.the + 1 = omega (arith, wide.high, m, c.loop-depth-test.true) in
+    let low : c.loop-depth.depth < word_bits g.P.Profile.profile + 1 = omega (arith, wide.high, m, c.loop-depth-test.true) in
     let row = row_wide (λ r. r.items) c.args.rows.now c.loop-depth.depth c.requires.0 c.index-rows-depth.result c.loop-depth-test.true c.index-rows-depth.is
     (wide.wide c.loop-depth.depth low) in
     omega (arith, row, c.index-rows-depth.result.ok.0, c.requires.1.0)
@@ -23,7 +23,7 @@ loop-depth-preserved g c =
     let wide = c.requires.1.1 in
     let rows : List (List (Option Path)) = map (λ r. r.items) c.args.rows.now in
     let m : length rows ≡ length c.args.rows.now = rw length-map refl in
-    let low : c.loop-depth.depth < word_bits g.P.Profile.the + 1 = omega (arith, wide.high, m, c.loop-depth-test.true) in
+    let low : c.loop-depth.depth < word_bits g.P.Profile.profile + 1 = omega (arith, wide.high, m, c.loop-depth-test.true) in
     let row = row_wide (λ r. r.items) c.args.rows.now c.loop-depth.depth c.requires.0 c.index-rows-depth.result c.loop-depth-test.true c.index-rows-depth.is
     (wide.wide c.loop-depth.depth low) in
     let read = λ (o : Option Path) (e : c.index-in-loop-depth.result.now ≡ o).

@@ -8,8 +8,8 @@ pub returns : goal.returns
 returns g c f thread are reach =
     let first : List (List (Option Path)) = map (λ r. r.items) c.in_ok-rows.rows.items in
     let rows : List (List (Option Path)) = map (λ r. r.items) c.explore.new.rows.items in
-    let s : IsSearched g.P.Profile.the f thread c.args.filled.now c.args.reached.now first rows = record {
-      lawful = all_lawful g.P.Profile.the f c.args.filled.now are c.requires.lawful;
+    let s : IsSearched g.P.Profile.profile f thread c.args.filled.now c.args.reached.now first rows = record {
+      lawful = all_lawful g.P.Profile.profile f c.args.filled.now are c.requires.lawful;
       are = are;
       up = c.requires.rising;
       reach = reach;
@@ -19,6 +19,6 @@ returns g c f thread are reach =
       bits = c.explore.ensures.bits;
       explored = c.explore.ensures.explored f are;
     } in
-    are_held g.P.Profile.the f thread c.args.filled.now c.args.reached.now first rows c.in_ok-list.list.items c.put_in_order.new.list.items s
+    are_held g.P.Profile.profile f thread c.args.filled.now c.args.reached.now first rows c.in_ok-list.list.items c.put_in_order.new.list.items s
     (rw c.as_slice.ensures.value at c.in_ok-list.ensures.only) (rw c.as_slice.ensures.value at c.in_ok-list.ensures.all)
     (λ h in'. same_slot h c.put_in_order.new.list.items (c.in_ok-put_in_order.ensures.kept h in')) c.in_ok-put_in_order.ensures.only c.in_ok-put_in_order.ensures.order

@@ -12,9 +12,9 @@ use Rattle.reach_core.proofs.held.start_rows.Goals.{in-Some, in_default}
 pub loop-r-init : goal.loop-r-init
 loop-r-init g c =
     let rows : List (List (Option Path)) = map (λ r. r.items) c.in_ok-rows.rows.items in
-    let none = empty_none (word_bits g.P.Profile.the + 1) (length c.args.filled.now) rows (c.in_ok-rows.ensures) in
+    let none = empty_none (word_bits g.P.Profile.profile + 1) (length c.args.filled.now) rows (c.in_ok-rows.ensures) in
     record {
-      wide = empty_wide (word_bits g.P.Profile.the + 1) (length c.args.filled.now) rows c.in_ok-rows.ensures;
+      wide = empty_wide (word_bits g.P.Profile.profile + 1) (length c.args.filled.now) rows c.in_ok-rows.ensures;
       starts = starts_nothing rows none;
       of = starts_none c.args.filled.now c.args.reached.now rows none;
     }
@@ -41,7 +41,7 @@ loop-r-preserved g c =
           let path : Path = record { word = r.word; index = 0 } in
           let put = is_put rows 0 w.in-Some.place path (omega (arith, wide.high)) (omega (arith, row, within)) in
           record {
-            wide = put_wide (word_bits g.P.Profile.the + 1) (length c.args.filled.now) rows 0 w.in-Some.place path (omega arith) wide;
+            wide = put_wide (word_bits g.P.Profile.profile + 1) (length c.args.filled.now) rows 0 w.in-Some.place path (omega arith) wide;
             starts = starts_put rows _ w.in-Some.place r.word put c.loop-r.invariant.starts;
             of = starts_more c.args.filled.now c.args.reached.now c.loop-r.r-index w.in-Some.place rows _ r at.0 c.requires here at.1.0 at.1.1 put c.loop-r.invariant.of;
           })

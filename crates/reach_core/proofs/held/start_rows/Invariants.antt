@@ -7,7 +7,7 @@ use Rattle.reach_core.proofs.held.start_rows.Given as goal
 
 abbrev pub invariant-loop-r : goal.invariant-loop-r
 invariant-loop-r g l = record {
-  wide : IsWide (word_bits g.P.Profile.the + 1) (length l.filled) (map (λ r. r.items) l.rows.items);
+  wide : IsWide (word_bits g.P.Profile.profile + 1) (length l.filled) (map (λ r. r.items) l.rows.items);
   starts : AreStarts (map (λ r. r.items) l.rows.items);
   of : HasStarts l.filled l.reached l.r-index (map (λ r. r.items) l.rows.items);
 }

@@ -5,5 +5,5 @@ use Rattle.reach_core.proofs.search.expand.Given as goal
 abbrev pub invariant-loop-place : goal.invariant-loop-place
 invariant-loop-place g l = record {
   shape : SameShape (map (λ r. r.items) l.fn.rows.items) (map (λ r. r.items) l.rows.items);
-  spreads : Spreads g.P.Profile.the l.from l.left l.word l.filled l.place (map (λ r. r.items) l.fn.rows.items) (map (λ r. r.items) l.rows.items);
+  spreads : Spreads g.P.Profile.profile l.from l.left l.word l.filled l.place (map (λ r. r.items) l.fn.rows.items) (map (λ r. r.items) l.rows.items);
 }

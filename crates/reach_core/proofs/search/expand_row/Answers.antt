@@ -18,14 +18,14 @@ loop-place-preserved g c =
     elim c.match-row-place.branch [
       | in-Some w ↦ rw w.rows-is (record {
         shape = shapes _ _ _ c.loop-place.invariant.shape w.expand.ensures.shape;
-        spreads = row_spread_more g.P.Profile.the c.args.row.now c.args.left c.args.filled.now c.loop-place.place _ _ _ (get_or c.args.filled.now c.loop-place.place none) w.in-Some.word
+        spreads = row_spread_more g.P.Profile.profile c.args.row.now c.args.left c.args.filled.now c.loop-place.place _ _ _ (get_or c.args.filled.now c.loop-place.place none) w.in-Some.word
             (slice_get-get_or c.args.filled.now c.loop-place.place none c.loop-place-test.true)
             (word_read c.args.row.now c.loop-place.place None (Some w.in-Some.word) within w.in-Some.is)
             c.loop-place.invariant.spreads w.expand.ensures.spreads;
       })
       | in_default w ↦ rw w.rows-is (record {
         shape = c.loop-place.invariant.shape;
-        spreads = row_spread_skip g.P.Profile.the c.args.row.now c.args.left c.args.filled.now c.loop-place.place _ _
+        spreads = row_spread_skip g.P.Profile.profile c.args.row.now c.args.left c.args.filled.now c.loop-place.place _ _
             (word_read c.args.row.now c.loop-place.place None None within w.in_default.is) c.loop-place.invariant.spreads;
       })
     ]

@@ -5,5 +5,5 @@ use Rattle.reach_core.proofs.search.expand_row.Given as goal
 abbrev pub invariant-loop-place : goal.invariant-loop-place
 invariant-loop-place g l = record {
   shape : SameShape (map (λ r. r.items) l.fn.rows.items) (map (λ r. r.items) l.rows.items);
-  spreads : RowSpreads g.P.Profile.the l.row l.left l.filled l.place (map (λ r. r.items) l.fn.rows.items) (map (λ r. r.items) l.rows.items);
+  spreads : RowSpreads g.P.Profile.profile l.row l.left l.filled l.place (map (λ r. r.items) l.fn.rows.items) (map (λ r. r.items) l.rows.items);
 }

@@ -22,14 +22,14 @@ loop-rows-preserved g c =
     let fewer : vec_len c.pop.new.self + 1 ≡ vec_len c.loop-rows.rows = search rules in
     let left : c.len-in-loop-rows.result ≡ length old = c.len-in-loop-rows.ensures ∙ sym height in
     let some : 0 < length old = omega (arith, height, fewer, c.loop-rows-test.true) in
-    let short : length old ≤ word_bits g.P.Profile.the = omega (arith, height, fewer, c.loop-rows.invariant.rows) in
-    let spreads : RowSpreads g.P.Profile.the row (length old) c.args.filled.now (length c.args.filled.now) old new = rw (c.as_slice.ensures.value, left) at c.expand_row.ensures.spreads in
+    let short : length old ≤ word_bits g.P.Profile.profile = omega (arith, height, fewer, c.loop-rows.invariant.rows) in
+    let spreads : RowSpreads g.P.Profile.profile row (length old) c.args.filled.now (length c.args.filled.now) old new = rw (c.as_slice.ensures.value, left) at c.expand_row.ensures.spreads in
     record {
       some = omega (arith, some, height', c.expand_row.ensures.shape.height);
       rows = omega (arith, short, height', c.expand_row.ensures.shape.height);
-      bounded = bounded_more g.P.Profile.the c.args.filled.now old new row (length c.args.filled.now) c.requires.lawful short (rw eq at c.loop-rows.invariant.bounded) spreads;
+      bounded = bounded_more g.P.Profile.profile c.args.filled.now old new row (length c.args.filled.now) c.requires.lawful short (rw eq at c.loop-rows.invariant.bounded) spreads;
       places = λ t h. c.expand_row.ensures.shape.width t
           ∙ popped_places (map (λ r. r.items) c.loop-rows.rows.items) old row (length c.args.filled.now) eq c.loop-rows.invariant.places t (omega (arith, h, c.expand_row.ensures.shape.height));
       found = λ memory f thread all are was.
-          search_more g.P.Profile.the memory f thread c.args.filled.now old new row all are some (rw eq at (c.loop-rows.invariant.found memory f thread all are was)) spreads;
+          search_more g.P.Profile.profile memory f thread c.args.filled.now old new row all are some (rw eq at (c.loop-rows.invariant.found memory f thread all are was)) spreads;
     }

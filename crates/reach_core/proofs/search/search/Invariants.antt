@@ -12,11 +12,11 @@ use Rattle.reach_core.proofs.search.search.Given as goal
 abbrev pub invariant-loop-rows : goal.invariant-loop-rows
 invariant-loop-rows g l = record {
   some : 0 < vec_len l.rows;
-  rows : vec_len l.rows ≤ word_bits g.P.Profile.the + 1;
-  bounded : IsBounded g.P.Profile.the (map (λ r. r.items) l.rows.items);
+  rows : vec_len l.rows ≤ word_bits g.P.Profile.profile + 1;
+  bounded : IsBounded g.P.Profile.profile (map (λ r. r.items) l.rows.items);
   places : (t : ℕ) → t < length (map (λ r. r.items) l.rows.items) → length (row_at (map (λ r. r.items) l.rows.items) t) ≡ length l.filled;
-  found : (memory : ℕ) (f : Forest Entry) (thread : ℕ) → ((s : ℕ) → (cap_at f s ≡ Null) ⊎ IsLawful g.P.Profile.the memory (cap_at f s)) → AreFullSlots f l.filled
-      → IsSearch g.P.Profile.the f thread l.filled (map (λ r. r.items) l.fn.rows.items) → IsSearch g.P.Profile.the f thread l.filled (map (λ r. r.items) l.rows.items);
+  found : (memory : ℕ) (f : Forest Entry) (thread : ℕ) → ((s : ℕ) → (cap_at f s ≡ Null) ⊎ IsLawful g.P.Profile.profile memory (cap_at f s)) → AreFullSlots f l.filled
+      → IsSearch g.P.Profile.profile f thread l.filled (map (λ r. r.items) l.fn.rows.items) → IsSearch g.P.Profile.profile f thread l.filled (map (λ r. r.items) l.rows.items);
 }
 
 abbrev pub decreases-loop-rows : goal.decreases-loop-rows

@@ -11,12 +11,12 @@ pub loop-slot-init : goal.loop-slot-init
 loop-slot-init g c =
     record {
       within = c.requires.bits;
-      value = all_within g.P.Profile.the (cap_at (g.S.CapStore.forest c.args.store.now)) (address_of g.P.Profile.the c.args.root) c.args.bits c.args.address;
+      value = all_within g.P.Profile.profile (cap_at (g.S.CapStore.forest c.args.store.now)) (address_of g.P.Profile.profile c.args.root) c.args.bits c.args.address;
     }
 
 pub choose-requires-clause-lawful : goal.choose-requires-clause-lawful
 choose-requires-clause-lawful g c =
-    lawful_in_words g.P.Profile.the _ c.get-cap.result c.get-cap.ensures.lawful
+    lawful_in_words g.P.Profile.profile _ c.get-cap.result c.get-cap.ensures.lawful
 
 pub returns-in_err-slot : goal.returns-in_err-slot
 returns-in_err-slot g c =

@@ -8,9 +8,9 @@ use Rattle.reasons.proofs.lookup.walk.Given as goal
 
 abbrev pub invariant-loop-slot : goal.invariant-loop-slot
 invariant-loop-slot g l = record {
-  within : l.left ≤ word_bits g.P.Profile.the;
-  value : (most : ℕ) × ((l.left < most) × (walked_within g.P.Profile.the (cap_at (g.S.CapStore.forest l.store)) most (address_of g.P.Profile.the l.at) (low_bits l.left l.address)
-      ≡ walked g.P.Profile.the (cap_at (g.S.CapStore.forest l.store)) (address_of g.P.Profile.the l.fn.root) (low_bits l.fn.bits l.fn.address)));
+  within : l.left ≤ word_bits g.P.Profile.profile;
+  value : (most : ℕ) × ((l.left < most) × (walked_within g.P.Profile.profile (cap_at (g.S.CapStore.forest l.store)) most (address_of g.P.Profile.profile l.at) (low_bits l.left l.address)
+      ≡ walked g.P.Profile.profile (cap_at (g.S.CapStore.forest l.store)) (address_of g.P.Profile.profile l.fn.root) (low_bits l.fn.bits l.fn.address)));
 }
 
 abbrev pub decreases-loop-slot : goal.decreases-loop-slot

@@ -11,12 +11,12 @@ use Rattle.slot_core_tests.proofs.calls.derive.Goals as goal
 
 pub derive-requires-clause-source : goal.derive-requires-clause-source
 derive-requires-clause-source g c =
-    full_from (address_of g.P.Profile.the c.slot-from.result) (g.S.CapStore.forest c.args.store.now)
+    full_from (address_of g.P.Profile.profile c.slot-from.result) (g.S.CapStore.forest c.args.store.now)
     (ap is_null (sym c.get-held.ensures.cap) ∙ sym c.is_null.ensures ∙ c.if-is_null.false)
 
 pub derive-requires-clause-disjoint : goal.derive-requires-clause-disjoint
 derive-requires-clause-disjoint g c =
-    let p = g.P.Profile.the in
+    let p = g.P.Profile.profile in
     let f = g.S.CapStore.forest c.args.store.now in
     let a = address_of p c.slot-from.result in
     let full : is_full a f ≡ true = full_from a f (ap is_null (sym c.get-held.ensures.cap) ∙ sym c.is_null.ensures ∙ c.if-is_null.false) in
@@ -26,7 +26,7 @@ derive-requires-clause-disjoint g c =
 
 pub returns-then-may_derive-clause-forest : goal.returns-then-may_derive-clause-forest
 returns-then-may_derive-clause-forest g c =
-    let p = g.P.Profile.the in
+    let p = g.P.Profile.profile in
     let f = g.S.CapStore.forest c.args.store.now in
     let a = address_of p c.slot-from.result in
     let full : is_full a f ≡ true = full_from a f (ap is_null (sym c.get-held.ensures.cap) ∙ sym c.is_null.ensures ∙ c.if-is_null.false) in

@@ -9,7 +9,7 @@ use Rattle.slot_core_tests.proofs.calls.has_room.Goals as goal
 
 pub loop-i-preserved : goal.loop-i-preserved
 loop-i-preserved g c =
-    let p = g.P.Profile.the in
+    let p = g.P.Profile.profile in
     let f = g.S.CapStore.forest c.args.store.now in
     each_next (λ k. k ≢ c.args.parent → leaves_room p c.args.region c.args.cap (cap_at f (k * slot_size p)) ≡ true) c.loop-i.i c.loop-i.invariant
     (elim c.else-i-parent.branch [
@@ -19,4 +19,4 @@ loop-i-preserved g c =
     ])
 
 pub returns : goal.returns
-returns g c e = room_all g.P.Profile.the c.args.parent c.args.region c.args.cap (g.S.CapStore.forest c.args.store.now) c.requires.forest (λ k h. c.loop-i.invariant k (omega arith))
+returns g c e = room_all g.P.Profile.profile c.args.parent c.args.region c.args.cap (g.S.CapStore.forest c.args.store.now) c.requires.forest (λ k h. c.loop-i.invariant k (omega arith))

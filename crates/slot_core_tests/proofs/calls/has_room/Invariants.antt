@@ -6,4 +6,4 @@ use Rattle.slot_core_tests.proofs.calls.has_room.Given as goal
 
 abbrev pub invariant-loop-i : goal.invariant-loop-i
 invariant-loop-i g l =
-    (k : ℕ) → k < l.i → k ≢ l.parent → leaves_room g.P.Profile.the l.region l.cap (cap_at (g.S.CapStore.forest l.store) (k * slot_size g.P.Profile.the)) ≡ true
+    (k : ℕ) → k < l.i → k ≢ l.parent → leaves_room g.P.Profile.profile l.region l.cap (cap_at (g.S.CapStore.forest l.store) (k * slot_size g.P.Profile.profile)) ≡ true

@@ -7,10 +7,10 @@ use Rattle.slot_core_tests.proofs.calls.is_apart.Goals as goal
 
 pub loop-i-preserved : goal.loop-i-preserved
 loop-i-preserved g c =
-    let p = g.P.Profile.the in
+    let p = g.P.Profile.profile in
     let f = g.S.CapStore.forest c.args.store.now in
     let at : c.get.result ≡ cap_at f (c.loop-i.i * slot_size p) = c.get.ensures.cap ∙ ap (cap_at f) c.slot.ensures in
     each_next (λ k. is_clear p c.args.cap (cap_at f (k * slot_size p)) ≡ true) c.loop-i.i c.loop-i.invariant (ap (is_clear p c.args.cap) (sym at) ∙ sym c.is_clear.ensures ∙ c.if-not-is_clear.false)
 
 pub returns : goal.returns
-returns g c e = apart_all g.P.Profile.the c.args.cap (g.S.CapStore.forest c.args.store.now) c.requires.forest (λ k h. c.loop-i.invariant k (omega arith))
+returns g c e = apart_all g.P.Profile.profile c.args.cap (g.S.CapStore.forest c.args.store.now) c.requires.forest (λ k h. c.loop-i.invariant k (omega arith))

@@ -6,5 +6,5 @@ use Rattle.slot_core_tests.proofs.calls.is_last.Goals as goal
 
 pub is_last-requires : goal.is_last-requires
 is_last-requires g c = record {
-  full = full_from (address_of g.P.Profile.the c.args.slot) (g.S.CapStore.forest c.args.store.now) (ap is_null (sym c.get.ensures.cap) ∙ sym c.is_null.ensures ∙ c.if-not-is_null.true);
+  full = full_from (address_of g.P.Profile.profile c.args.slot) (g.S.CapStore.forest c.args.store.now) (ap is_null (sym c.get.ensures.cap) ∙ sym c.is_null.ensures ∙ c.if-not-is_null.true);
 }

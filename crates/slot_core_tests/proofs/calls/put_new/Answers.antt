@@ -11,7 +11,7 @@ use Rattle.slot_core_tests.proofs.calls.put_new.Goals as goal
 
 pub put_new-requires-clause-unnamed : goal.put_new-requires-clause-unnamed
 put_new-requires-clause-unnamed g c =
-    let p = g.P.Profile.the in
+    let p = g.P.Profile.profile in
     let f = g.S.CapStore.forest c.args.store.now in
     let a = address_of p c.slot-from.result in
     let r : c.get-region.result ≡ cap_at f a = c.get-region.ensures.cap in
@@ -22,7 +22,7 @@ put_new-requires-clause-unnamed g c =
 
 pub put_new-requires-clause-disjoint : goal.put_new-requires-clause-disjoint
 put_new-requires-clause-disjoint g c =
-    let p = g.P.Profile.the in
+    let p = g.P.Profile.profile in
     let f = g.S.CapStore.forest c.args.store.now in
     let a = address_of p c.slot-from.result in
     let r : c.get-region.result ≡ cap_at f a = c.get-region.ensures.cap in
@@ -34,7 +34,7 @@ put_new-requires-clause-disjoint g c =
 
 pub set_free-requires-clause-forest : goal.set_free-requires-clause-forest
 set_free-requires-clause-forest g c =
-    let p = g.P.Profile.the in
+    let p = g.P.Profile.profile in
     let f = g.S.CapStore.forest c.args.store.now in
     let a = address_of p c.slot-from.result in
     let r : c.get-region.result ≡ cap_at f a = c.get-region.ensures.cap in

@@ -12,12 +12,12 @@ use Rattle.slot_core_tests.proofs.calls.relocate.Goals as goal
 
 pub relocate-requires-clause-source : goal.relocate-requires-clause-source
 relocate-requires-clause-source g c =
-    full_from (address_of g.P.Profile.the c.slot-from.result) (g.S.CapStore.forest c.args.store.now)
+    full_from (address_of g.P.Profile.profile c.slot-from.result) (g.S.CapStore.forest c.args.store.now)
     (ap is_null (sym c.get-cap.ensures.cap) ∙ sym c.is_null.ensures ∙ c.if-is_null.false)
 
 pub relocate-requires-clause-disjoint : goal.relocate-requires-clause-disjoint
 relocate-requires-clause-disjoint g c =
-    let p = g.P.Profile.the in
+    let p = g.P.Profile.profile in
     let f = g.S.CapStore.forest c.args.store.now in
     let a = address_of p c.slot-from.result in
     let n : is_null (cap_at f a) ≡ false = ap is_null (sym c.get-cap.ensures.cap) ∙ sym c.is_null.ensures ∙ c.if-is_null.false in
@@ -27,7 +27,7 @@ relocate-requires-clause-disjoint g c =
 
 pub returns-clause-forest : goal.returns-clause-forest
 returns-clause-forest g c =
-    let p = g.P.Profile.the in
+    let p = g.P.Profile.profile in
     let f = g.S.CapStore.forest c.args.store.now in
     let a = address_of p c.slot-from.result in
     let n : is_null (cap_at f a) ≡ false = ap is_null (sym c.get-cap.ensures.cap) ∙ sym c.is_null.ensures ∙ c.if-is_null.false in

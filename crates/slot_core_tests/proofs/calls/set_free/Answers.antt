@@ -10,7 +10,7 @@ use Rattle.slot_core_tests.proofs.calls.set_free.Goals as goal
 
 pub returns-clause-forest : goal.returns-clause-forest
 returns-clause-forest g c =
-    let p = g.P.Profile.the in
+    let p = g.P.Profile.profile in
     let f = g.S.CapStore.forest c.args.store.now in
     let a = address_of p c.slot-at.result in
     let t : is_untyped (cap_at f a) ≡ true = ap is_untyped (sym c.get-cap.ensures.cap) ∙ sym c.is_untyped.ensures ∙ c.if-not-is_untyped.false in

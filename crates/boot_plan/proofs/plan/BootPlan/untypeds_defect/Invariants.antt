@@ -6,4 +6,4 @@ use Rattle.boot_plan.proofs.plan.BootPlan.untypeds_defect.Given as goal
 -- the regions before `place` have no defect
 abbrev pub invariant-loop-place : goal.invariant-loop-place
 invariant-loop-place g l =
-    untypeds_defect g.P.Profile.the l.self l.place (drop l.place l.self.untypeds) ≡ untypeds_defect g.P.Profile.the l.self 0 l.self.untypeds
+    untypeds_defect g.P.Profile.profile l.self l.place (drop l.place l.self.untypeds) ≡ untypeds_defect g.P.Profile.profile l.self 0 l.self.untypeds

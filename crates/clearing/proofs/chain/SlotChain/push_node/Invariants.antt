@@ -7,7 +7,7 @@ abbrev pub invariant-loop-left : goal.invariant-loop-left
 invariant-loop-left g l =
     record {
       within : l.left ≤ l.count;
-      pushed : l.self ≡ (addresses (slot_size g.P.Profile.the) (l.base + l.left * slot_size g.P.Profile.the) (l.count - l.left) ++ l.fn.self.0, l.fn.self.1);
+      pushed : l.self ≡ (addresses (slot_size g.P.Profile.profile) (l.base + l.left * slot_size g.P.Profile.profile) (l.count - l.left) ++ l.fn.self.0, l.fn.self.1);
     }
 
 abbrev pub decreases-loop-left : goal.decreases-loop-left

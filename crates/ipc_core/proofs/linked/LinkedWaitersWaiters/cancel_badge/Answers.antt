@@ -7,9 +7,9 @@ use Rattle.ipc_core.proofs.linked.LinkedWaitersWaiters.cancel_badge.Goals as goa
 
 pub returns-clause-histories : goal.returns-clause-histories
 returns-clause-histories g c =
-    badge_by_histories c.args.endpoint c.args.badge (waits_in g.P.Profile.the c.args.self.now.tables) (waits_in g.P.Profile.the c.cancel_badge.new.self) c.cancel_badge.ensures.waits
+    badge_by_histories c.args.endpoint c.args.badge (waits_in g.P.Profile.profile c.args.self.now.tables) (waits_in g.P.Profile.profile c.cancel_badge.new.self) c.cancel_badge.ensures.waits
 
 pub invariant_of-self-clause-alike : goal.invariant_of-self-clause-alike
 invariant_of-self-clause-alike g c =
     let own = c.args.self.now in
-    subst AreAlike (sym c.cancel_badge.ensures.waits) (alike_cancel_badge (waits_in g.P.Profile.the own.tables) own.alike c.args.endpoint c.args.badge)
+    subst AreAlike (sym c.cancel_badge.ensures.waits) (alike_cancel_badge (waits_in g.P.Profile.profile own.tables) own.alike c.args.endpoint c.args.badge)

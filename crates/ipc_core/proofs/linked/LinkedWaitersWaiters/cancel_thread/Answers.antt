@@ -7,9 +7,9 @@ use Rattle.ipc_core.proofs.linked.LinkedWaitersWaiters.cancel_thread.Goals as go
 
 pub returns-clause-histories : goal.returns-clause-histories
 returns-clause-histories g c =
-    thread_by_histories c.args.thread (waits_in g.P.Profile.the c.args.self.now.tables) (waits_in g.P.Profile.the c.take_out.new.self) c.take_out.ensures.waits
+    thread_by_histories c.args.thread (waits_in g.P.Profile.profile c.args.self.now.tables) (waits_in g.P.Profile.profile c.take_out.new.self) c.take_out.ensures.waits
 
 pub invariant_of-self-clause-alike : goal.invariant_of-self-clause-alike
 invariant_of-self-clause-alike g c =
     let own = c.args.self.now in
-    subst AreAlike (sym c.take_out.ensures.waits) (alike_cancel_thread (waits_in g.P.Profile.the own.tables) own.alike c.args.thread)
+    subst AreAlike (sym c.take_out.ensures.waits) (alike_cancel_thread (waits_in g.P.Profile.profile own.tables) own.alike c.args.thread)

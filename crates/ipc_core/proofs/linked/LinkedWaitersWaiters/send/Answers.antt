@@ -14,11 +14,11 @@ use Rattle.ipc_core.proofs.linked.LinkedWaitersWaiters.send.Goals as goal
 pub take_out-requires-clause-row : goal.take_out-requires-clause-row
 take_out-requires-clause-row g c =
     let own = c.args.self.now in
-    receiver_row g.P.Profile.the own.tables own.linked c.args.endpoint c.in-Some.to (sym c.first_receiver.ensures ∙ c.in-Some.is)
+    receiver_row g.P.Profile.profile own.tables own.linked c.args.endpoint c.in-Some.to (sym c.first_receiver.ensures ∙ c.in-Some.is)
 
 pub returns-in-Some-clause-waits : goal.returns-in-Some-clause-waits
 returns-in-Some-clause-waits g c =
-    let p = g.P.Profile.the in
+    let p = g.P.Profile.profile in
     let own = c.args.self.now in
     let first = sym c.first_receiver.ensures ∙ c.in-Some.is in
     send_serves c.args.block c.args.endpoint c.args.thread c.args.badge c.args.message (waits_in p own.tables) (waits_in p c.take_out.new.self) c.in-Some.to first
@@ -27,7 +27,7 @@ returns-in-Some-clause-waits g c =
 
 pub returns-in-Some-clause-histories : goal.returns-in-Some-clause-histories
 returns-in-Some-clause-histories g c =
-    let p = g.P.Profile.the in
+    let p = g.P.Profile.profile in
     let own = c.args.self.now in
     let first = sym c.first_receiver.ensures ∙ c.in-Some.is in
     send_by_histories c.args.block c.args.endpoint c.args.thread c.args.badge c.args.message (waits_in p own.tables) (waits_in p c.take_out.new.self) _
@@ -38,7 +38,7 @@ returns-in-Some-clause-histories g c =
 
 pub returns-in-None-clause-histories : goal.returns-in-None-clause-histories
 returns-in-None-clause-histories g c =
-    let p = g.P.Profile.the in
+    let p = g.P.Profile.profile in
     let own = c.args.self.now in
     let first = sym c.first_receiver.ensures ∙ c.in-None.is in
     let put = c.wait_last.ensures.waits (Sending c.args.endpoint) (ap (λ (row : ThreadRow). row.role) c.sending-row.ensures)
@@ -49,7 +49,7 @@ returns-in-None-clause-histories g c =
 
 pub returns-in-None-2-clause-histories : goal.returns-in-None-2-clause-histories
 returns-in-None-2-clause-histories g c =
-    let p = g.P.Profile.the in
+    let p = g.P.Profile.profile in
     let own = c.args.self.now in
     let first = sym c.first_receiver.ensures ∙ c.in-None.is in
     send_by_histories c.args.block c.args.endpoint c.args.thread c.args.badge c.args.message (waits_in p own.tables) (waits_in p own.tables) _
@@ -58,13 +58,13 @@ returns-in-None-2-clause-histories g c =
 
 pub invariant_of-self-clause-alike : goal.invariant_of-self-clause-alike
 invariant_of-self-clause-alike g c =
-    let p = g.P.Profile.the in
+    let p = g.P.Profile.profile in
     let own = c.args.self.now in
     subst AreAlike (sym c.take_out.ensures.waits) (alike_cancel_thread (waits_in p own.tables) own.alike c.in-Some.to)
 
 pub invariant_of-self-in-None-clause-alike : goal.invariant_of-self-in-None-clause-alike
 invariant_of-self-in-None-clause-alike g c =
-    let p = g.P.Profile.the in
+    let p = g.P.Profile.profile in
     let own = c.args.self.now in
     let first = sym c.first_receiver.ensures ∙ c.in-None.is in
     let put = c.wait_last.ensures.waits (Sending c.args.endpoint) (ap (λ (row : ThreadRow). row.role) c.sending-row.ensures)

@@ -10,11 +10,11 @@ use Rattle.ipc_core.proofs.rows.RowWaitersMakeWaiters.new.Goals as goal
 
 pub invariant_of-result-clause-room : goal.invariant_of-result-clause-room
 invariant_of-result-clause-room g c =
-    let bits : c.TCB_BITS.result ≡ tcb_bits g.P.Profile.the = c.TCB_BITS.ensures ∙ g.met.P.Profile.tcb_bits_is in
-    let most : tcb_bits g.P.Profile.the ≤ 11 = tcb_bits-most g.P.Profile.the in
-    let one = one_shl (c.args.memory_bits - tcb_bits g.P.Profile.the) 64 (omega arith) in
+    let bits : c.TCB_BITS.result ≡ tcb_bits g.P.Profile.profile = c.TCB_BITS.ensures ∙ g.met.P.Profile.tcb_bits_is in
+    let most : tcb_bits g.P.Profile.profile ≤ 11 = tcb_bits-most g.P.Profile.profile in
+    let one = one_shl (c.args.memory_bits - tcb_bits g.P.Profile.profile) 64 (omega arith) in
     let exact = (rw bits at c.in_ok-with_capacity.ensures.exact) ∙ one in
-    enough_room c.args.memory_bits (tcb_bits g.P.Profile.the) _ (omega arith) exact
+    enough_room c.args.memory_bits (tcb_bits g.P.Profile.profile) _ (omega arith) exact
 
 pub invariant_of-result-clause-alike : goal.invariant_of-result-clause-alike
 invariant_of-result-clause-alike g c =

@@ -27,11 +27,11 @@ pub invariant_of-self-clause-placed : goal.invariant_of-self-clause-placed
 invariant_of-self-clause-placed g c =
     let own = c.args.self.now in
     let left = filter_same _ (keeps c.args.endpoint c.args.badge) _ (λ x b f' k. search rules) own.rows.items _ c.retain.ensures.filtered in
-    subst (ArePlaced g.P.Profile.the own.memory_bits) (sym left) (All-filter (keeps c.args.endpoint c.args.badge) (λ row. IsThreadAddress g.P.Profile.the own.memory_bits (row_thread row)) own.rows.items own.placed)
+    subst (ArePlaced g.P.Profile.profile own.memory_bits) (sym left) (All-filter (keeps c.args.endpoint c.args.badge) (λ row. IsThreadAddress g.P.Profile.profile own.memory_bits (row_thread row)) own.rows.items own.placed)
 
 pub invariant_of-self-clause-room : goal.invariant_of-self-clause-room
 invariant_of-self-clause-room g c =
-    subst (λ (n : ℕ). 2 ^ c.args.self.now.memory_bits ≤ n * tcb_size g.P.Profile.the) (sym c.retain.ensures.capacity) c.args.self.now.room
+    subst (λ (n : ℕ). 2 ^ c.args.self.now.memory_bits ≤ n * tcb_size g.P.Profile.profile) (sym c.retain.ensures.capacity) c.args.self.now.room
 
 pub returns-clause-waits : goal.returns-clause-waits
 returns-clause-waits g c =

@@ -15,12 +15,12 @@ use Rattle.ipc_core.proofs.rows.RowWaitersWaiters.recv.Goals as goal
 pub push_row-requires-clause-room : goal.push_row-requires-clause-room
 push_row-requires-clause-room g c =
     let own = c.args.self.now in
-    let left = room_left own.rows.items (record { endpoint = c.args.endpoint; waiter = Receiver c.args.thread }) g.P.Profile.the own.memory_bits (vec_capacity own.rows) own.distinct own.placed own.room c.requires.thread c.requires.free in
+    let left = room_left own.rows.items (record { endpoint = c.args.endpoint; waiter = Receiver c.args.thread }) g.P.Profile.profile own.memory_bits (vec_capacity own.rows) own.distinct own.placed own.room c.requires.thread c.requires.free in
     omega (arith, own.rows.ok)
 
 pub invariant_of-self-clause-room : goal.invariant_of-self-clause-room
 invariant_of-self-clause-room g c =
-    subst (λ (n : ℕ). 2 ^ c.args.self.now.memory_bits ≤ n * tcb_size g.P.Profile.the) (sym c.remove_first.ensures.capacity) c.args.self.now.room
+    subst (λ (n : ℕ). 2 ^ c.args.self.now.memory_bits ≤ n * tcb_size g.P.Profile.profile) (sym c.remove_first.ensures.capacity) c.args.self.now.room
 
 pub invariant_of-self-clause-placed : goal.invariant_of-self-clause-placed
 invariant_of-self-clause-placed g c = c.remove_first.ensures.placed _ _ c.args.self.now.placed
@@ -63,5 +63,5 @@ invariant_of-self-in-None-clause-alike g c =
 pub invariant_of-self-in-None-clause-placed : goal.invariant_of-self-in-None-clause-placed
 invariant_of-self-in-None-clause-placed g c =
     let own = c.args.self.now in
-    subst (ArePlaced g.P.Profile.the own.memory_bits) (sym c.push_row.ensures.rows)
-    (All-push (λ row. IsThreadAddress g.P.Profile.the own.memory_bits (row_thread row)) own.rows.items (record { endpoint = c.args.endpoint; waiter = Receiver c.args.thread }) own.placed c.requires.thread)
+    subst (ArePlaced g.P.Profile.profile own.memory_bits) (sym c.push_row.ensures.rows)
+    (All-push (λ row. IsThreadAddress g.P.Profile.profile own.memory_bits (row_thread row)) own.rows.items (record { endpoint = c.args.endpoint; waiter = Receiver c.args.thread }) own.placed c.requires.thread)

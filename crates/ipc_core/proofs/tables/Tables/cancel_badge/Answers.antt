@@ -9,18 +9,18 @@ use Rattle.ipc_core.proofs.tables.Tables.cancel_badge.Goals as goal
 pub thread-row-requires : goal.thread-row-requires
 thread-row-requires g c =
     let i = c.loop-here.invariant in
-    here_row g.P.Profile.the c.loop-here.self i.linked c.args.endpoint c.in-Some.thread c.loop-here.here (is_sender_with c.args.badge) i.stands c.in-Some.is
+    here_row g.P.Profile.profile c.loop-here.self i.linked c.args.endpoint c.in-Some.thread c.loop-here.here (is_sender_with c.args.badge) i.stands c.in-Some.is
 
 pub loop-here-smaller-then-sends_with : goal.loop-here-smaller-then-sends_with
 loop-here-smaller-then-sends_with g c =
     let i = c.loop-here.invariant in
     let next = ap (λ (row : ThreadRow). row.next) c.thread-row.ensures in
-    shorter_out g.P.Profile.the c.loop-here.self i.linked c.args.endpoint c.in-Some.thread c.loop-here.here (is_sender_with c.args.badge) i.stands c.in-Some.is c.take_out.new.self c.take_out.ensures.linked c.thread-row.result.next next c.take_out.ensures.orders
+    shorter_out g.P.Profile.profile c.loop-here.self i.linked c.args.endpoint c.in-Some.thread c.loop-here.here (is_sender_with c.args.badge) i.stands c.in-Some.is c.take_out.new.self c.take_out.ensures.linked c.thread-row.result.next next c.take_out.ensures.orders
 
 pub loop-here-preserved-then-sends_with : goal.loop-here-preserved-then-sends_with
 loop-here-preserved-then-sends_with g c =
     let i = c.loop-here.invariant in
-    let p = g.P.Profile.the in
+    let p = g.P.Profile.profile in
     let own = c.loop-here.self in
     let names = is_sender_with c.args.badge in
     let next = ap (λ (row : ThreadRow). row.next) c.thread-row.ensures in
@@ -38,12 +38,12 @@ pub loop-here-smaller : goal.loop-here-smaller
 loop-here-smaller g c =
     let i = c.loop-here.invariant in
     let next = ap (λ (row : ThreadRow). row.next) c.thread-row.ensures in
-    shorter_past g.P.Profile.the c.loop-here.self i.linked c.args.endpoint c.in-Some.thread c.loop-here.here (is_sender_with c.args.badge) i.stands c.in-Some.is c.thread-row.result.next next
+    shorter_past g.P.Profile.profile c.loop-here.self i.linked c.args.endpoint c.in-Some.thread c.loop-here.here (is_sender_with c.args.badge) i.stands c.in-Some.is c.thread-row.result.next next
 
 pub loop-here-preserved : goal.loop-here-preserved
 loop-here-preserved g c =
     let i = c.loop-here.invariant in
-    let p = g.P.Profile.the in
+    let p = g.P.Profile.profile in
     let own = c.loop-here.self in
     let names = is_sender_with c.args.badge in
     let next = ap (λ (row : ThreadRow). row.next) c.thread-row.ensures in
@@ -54,4 +54,4 @@ loop-here-preserved g c =
 pub returns-clause-waits : goal.returns-clause-waits
 returns-clause-waits g c =
     let i = c.loop-here.invariant in
-    sym (at_end g.P.Profile.the c.loop-here.self i.linked c.args.endpoint c.loop-here.here (is_sender_with c.args.badge) i.stands (none_of c.loop-here.here c.in_default.not-Some)) ∙ i.waits
+    sym (at_end g.P.Profile.profile c.loop-here.self i.linked c.args.endpoint c.loop-here.here (is_sender_with c.args.badge) i.stands (none_of c.loop-here.here c.in_default.not-Some)) ∙ i.waits

@@ -7,21 +7,21 @@ use Rattle.ipc_core.proofs.tables.Tables.take_out.Goals as goal
 
 pub lead-requires-clause-endpoint : goal.lead-requires-clause-endpoint
 lead-requires-clause-endpoint g c =
-    let p = g.P.Profile.the in
+    let p = g.P.Profile.profile in
     let old = c.args.self.now in
     let waits = sym (ap (λ (row : ThreadRow). row.role) c.thread-row.ensures) ∙ c.in-Some.is in
     subst (HasRow (endpoint_size p) old.endpoints.items) (sym c.endpoint-endpoint.ensures) (endpoint_there p old c.requires.linked c.args.thread c.in-Some.role waits)
 
 pub lead-requires-clause-previous : goal.lead-requires-clause-previous
 lead-requires-clause-previous g c =
-    let p = g.P.Profile.the in
+    let p = g.P.Profile.profile in
     let old = c.args.self.now in
     let waits = sym (ap (λ (row : ThreadRow). row.role) c.thread-row.ensures) ∙ c.in-Some.is in
     subst (λ (row : ThreadRow). IfSome row.previous (HasRow (tcb_size p) old.threads.items)) (sym c.thread-row.ensures) (previous_there p old c.requires.linked c.args.thread c.in-Some.role waits)
 
 pub lead_back-requires-clause-endpoint : goal.lead_back-requires-clause-endpoint
 lead_back-requires-clause-endpoint g c =
-    let p = g.P.Profile.the in
+    let p = g.P.Profile.profile in
     let old = c.args.self.now in
     let waits = sym (ap (λ (row : ThreadRow). row.role) c.thread-row.ensures) ∙ c.in-Some.is in
     still_has (endpoint_size p) old.endpoints.items c.lead.new.self.endpoints.items c.endpoint-endpoint.result c.lead.ensures.endpoints
@@ -29,7 +29,7 @@ lead_back-requires-clause-endpoint g c =
 
 pub lead_back-requires-clause-next : goal.lead_back-requires-clause-next
 lead_back-requires-clause-next g c =
-    let p = g.P.Profile.the in
+    let p = g.P.Profile.profile in
     let old = c.args.self.now in
     let waits = sym (ap (λ (row : ThreadRow). row.role) c.thread-row.ensures) ∙ c.in-Some.is in
     let there = subst (λ (row : ThreadRow). IfSome row.next (HasRow (tcb_size p) old.threads.items)) (sym c.thread-row.ensures) (next_there p old c.requires.linked c.args.thread c.in-Some.role waits) in
@@ -37,7 +37,7 @@ lead_back-requires-clause-next g c =
 
 pub returns-in-Some-clause-linked : goal.returns-in-Some-clause-linked
 returns-in-Some-clause-linked g c =
-    let p = g.P.Profile.the in
+    let p = g.P.Profile.profile in
     let old = c.args.self.now in
     let waits = sym (ap (λ (row : ThreadRow). row.role) c.thread-row.ensures) ∙ c.in-Some.is in
     let links = out_links p old c.requires.linked c.args.thread c.in-Some.role waits c.thread-row.result c.endpoint-endpoint.result c.lead.new.self c.lead_back.new.self c.set_role.new.self
@@ -46,7 +46,7 @@ returns-in-Some-clause-linked g c =
 
 pub returns-in-Some-clause-waits : goal.returns-in-Some-clause-waits
 returns-in-Some-clause-waits g c =
-    let p = g.P.Profile.the in
+    let p = g.P.Profile.profile in
     let old = c.args.self.now in
     let waits = sym (ap (λ (row : ThreadRow). row.role) c.thread-row.ensures) ∙ c.in-Some.is in
     let links = out_links p old c.requires.linked c.args.thread c.in-Some.role waits c.thread-row.result c.endpoint-endpoint.result c.lead.new.self c.lead_back.new.self c.set_role.new.self
@@ -55,7 +55,7 @@ returns-in-Some-clause-waits g c =
 
 pub returns-in-Some-clause-orders : goal.returns-in-Some-clause-orders
 returns-in-Some-clause-orders g c =
-    let p = g.P.Profile.the in
+    let p = g.P.Profile.profile in
     let old = c.args.self.now in
     let waits = sym (ap (λ (row : ThreadRow). row.role) c.thread-row.ensures) ∙ c.in-Some.is in
     let links = out_links p old c.requires.linked c.args.thread c.in-Some.role waits c.thread-row.result c.endpoint-endpoint.result c.lead.new.self c.lead_back.new.self c.set_role.new.self
@@ -64,15 +64,15 @@ returns-in-Some-clause-orders g c =
 
 pub returns-in_default-clause-waits : goal.returns-in_default-clause-waits
 returns-in_default-clause-waits g c =
-    waits_free g.P.Profile.the c.args.self.now c.requires.linked c.args.thread (sym (ap (λ (row : ThreadRow). row.role) c.thread-row.ensures) ∙ none_of c.thread-row.result.role c.in_default.not-Some)
+    waits_free g.P.Profile.profile c.args.self.now c.requires.linked c.args.thread (sym (ap (λ (row : ThreadRow). row.role) c.thread-row.ensures) ∙ none_of c.thread-row.result.role c.in_default.not-Some)
 
 pub returns-in_default-clause-orders : goal.returns-in_default-clause-orders
 returns-in_default-clause-orders g c =
-    orders_free g.P.Profile.the c.args.self.now c.requires.linked c.args.thread (sym (ap (λ (row : ThreadRow). row.role) c.thread-row.ensures) ∙ none_of c.thread-row.result.role c.in_default.not-Some)
+    orders_free g.P.Profile.profile c.args.self.now c.requires.linked c.args.thread (sym (ap (λ (row : ThreadRow). row.role) c.thread-row.ensures) ∙ none_of c.thread-row.result.role c.in_default.not-Some)
 
 pub returns-in-Some-clause-others : goal.returns-in-Some-clause-others
 returns-in-Some-clause-others g c =
-    let p = g.P.Profile.the in
+    let p = g.P.Profile.profile in
     let old = c.args.self.now in
     let waits = sym (ap (λ (row : ThreadRow). row.role) c.thread-row.ensures) ∙ c.in-Some.is in
     let links = out_links p old c.requires.linked c.args.thread c.in-Some.role waits c.thread-row.result c.endpoint-endpoint.result c.lead.new.self c.lead_back.new.self c.set_role.new.self

@@ -7,7 +7,7 @@ use Rattle.ipc_core.proofs.tables.Tables.wait_last.Goals as goal
 
 pub lead-requires-clause-previous : goal.lead-requires-clause-previous
 lead-requires-clause-previous g c =
-    let p = g.P.Profile.the in
+    let p = g.P.Profile.profile in
     let old = c.args.self.now in
     still_if (tcb_size p) old.threads.items c.set_thread.new.self.threads.items c.endpoint-last.result.last c.set_thread.ensures.threads
     (subst (λ (row : EndpointRow). IfSome row.last (HasRow (tcb_size p) old.threads.items)) (sym c.endpoint-last.ensures)
@@ -15,7 +15,7 @@ lead-requires-clause-previous g c =
 
 pub returns-clause-linked : goal.returns-clause-linked
 returns-clause-linked g c =
-    let p = g.P.Profile.the in
+    let p = g.P.Profile.profile in
     let old = c.args.self.now in
     let links = last_links p old c.requires.linked c.args.endpoint c.args.thread c.args.row c.requires.free c.requires.role c.requires.thread
     c.endpoint-last.result.last c.set_thread.new.self c.lead.new.self c.lead_back.new.self (ap (λ (row : EndpointRow). row.last) c.endpoint-last.ensures)
@@ -25,7 +25,7 @@ returns-clause-linked g c =
 
 pub returns-clause-waits : goal.returns-clause-waits
 returns-clause-waits g c =
-    let p = g.P.Profile.the in
+    let p = g.P.Profile.profile in
     let old = c.args.self.now in
     let links = last_links p old c.requires.linked c.args.endpoint c.args.thread c.args.row c.requires.free c.requires.role c.requires.thread
     c.endpoint-last.result.last c.set_thread.new.self c.lead.new.self c.lead_back.new.self (ap (λ (row : EndpointRow). row.last) c.endpoint-last.ensures)

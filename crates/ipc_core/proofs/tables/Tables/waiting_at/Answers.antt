@@ -6,7 +6,7 @@ use Rattle.ipc_core.proofs.tables.Tables.waiting_at.Goals as goal
 
 pub loop-preserved : goal.loop-preserved
 loop-preserved g c =
-    let p = g.P.Profile.the in
+    let p = g.P.Profile.profile in
     let own = c.args.self.now in
     let more : suc c.loop.counter ≡ c.loop.counter + 1 = omega arith in
     ap (λ (row : ThreadRow). row.next) c.thread-here.ensures

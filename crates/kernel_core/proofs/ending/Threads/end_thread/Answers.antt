@@ -5,7 +5,7 @@ use Rattle.kernel_core.proofs.ending.Threads.end_thread.Goals as goal
 
 pub returns-then-is_thread_address : goal.returns-then-is_thread_address
 returns-then-is_thread_address g c placed =
-    let p = g.P.Profile.the in
+    let p = g.P.Profile.profile in
     let own = c.args.self.now in
     thread_left p own.memory_bits own.memory_bits _ c.args.tcb own.rows.items (g.W.Waiters.waits own.waiters) (g.W.Waiters.waits c.cancel_thread.new.self) refl c.cancel_thread.ensures.waits
     (ap (λ (n : ℕ). c.args.tcb / 2 ^ n) (c.TCB_BITS.ensures ∙ g.met.P.Profile.tcb_bits_is)) placed.aligned (row_within p c.args.tcb own.memory_bits own.rows.items own.fill placed.within)

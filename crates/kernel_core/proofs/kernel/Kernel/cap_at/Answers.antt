@@ -9,15 +9,15 @@ use Rattle.kernel_core.proofs.kernel.Kernel.cap_at.Goals as goal
 
 pub returns-in-Some-clause-aligned : goal.returns-in-Some-clause-aligned
 returns-in-Some-clause-aligned g c =
-    subst (λ (v : Shown). All (IsAligned g.P.Profile.the) (slots v.derivations)) c.self.view_is
-    (all_aligned g.P.Profile.the c.self.inside.threads.memory_bits (g.S.CapStore.forest c.self.inside.store) c.self.invariant.kernel.slots_placed)
+    subst (λ (v : Shown). All (IsAligned g.P.Profile.profile) (slots v.derivations)) c.self.view_is
+    (all_aligned g.P.Profile.profile c.self.inside.threads.memory_bits (g.S.CapStore.forest c.self.inside.store) c.self.invariant.kernel.slots_placed)
 
 pub returns-in-None-clause-cap : goal.returns-in-None-clause-cap
 returns-in-None-clause-cap g c =
     sym (ap (λ (v : Shown). cap_at v.derivations c.args.slot) (sym c.self.view_is)
-    ∙ no_cap (g.S.CapStore.forest c.self.inside.store) c.args.slot (IsSlotAddress g.P.Profile.the c.self.inside.threads.memory_bits) c.self.invariant.kernel.slots_placed c.in-None.ensures.none)
+    ∙ no_cap (g.S.CapStore.forest c.self.inside.store) c.args.slot (IsSlotAddress g.P.Profile.profile c.self.inside.threads.memory_bits) c.self.invariant.kernel.slots_placed c.in-None.ensures.none)
 
 pub returns-in-None-clause-aligned : goal.returns-in-None-clause-aligned
 returns-in-None-clause-aligned g c =
-    subst (λ (v : Shown). All (IsAligned g.P.Profile.the) (slots v.derivations)) c.self.view_is
-    (all_aligned g.P.Profile.the c.self.inside.threads.memory_bits (g.S.CapStore.forest c.self.inside.store) c.self.invariant.kernel.slots_placed)
+    subst (λ (v : Shown). All (IsAligned g.P.Profile.profile) (slots v.derivations)) c.self.view_is
+    (all_aligned g.P.Profile.profile c.self.inside.threads.memory_bits (g.S.CapStore.forest c.self.inside.store) c.self.invariant.kernel.slots_placed)

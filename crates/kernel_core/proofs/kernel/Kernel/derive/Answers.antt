@@ -3,7 +3,7 @@ use Rattle.kernel_core.proofs.Capabilities.RearrangedKernel.{derived_kernel, der
 use Rattle.kernel_core.proofs.kernel.Kernel.derive.Goals as goal
 
 pub invariant_of-self : goal.invariant_of-self
-invariant_of-self g c = record { kernel = derived_kernel g.P.Profile.the c.self.inside.threads.memory_bits (g.S.CapStore.memory_bits c.self.inside.store) (g.W.Waiters.memory_bits c.self.inside.threads.waiters) (g.S.CapStore.forest c.self.inside.store) c.self.inside.threads.rows.items (g.W.Waiters.waits c.self.inside.threads.waiters) c.self.invariant.kernel c.args.placement c.args.self.now c.self.view_is c.requires (g.S.CapStore.memory_bits c.derive_in.new.store) (g.S.CapStore.forest c.derive_in.new.store) c.derive_in.ensures.memory c.derive_in.ensures.forest; chain_is = c.self.invariant.chain_is }
+invariant_of-self g c = record { kernel = derived_kernel g.P.Profile.profile c.self.inside.threads.memory_bits (g.S.CapStore.memory_bits c.self.inside.store) (g.W.Waiters.memory_bits c.self.inside.threads.waiters) (g.S.CapStore.forest c.self.inside.store) c.self.inside.threads.rows.items (g.W.Waiters.waits c.self.inside.threads.waiters) c.self.invariant.kernel c.args.placement c.args.self.now c.self.view_is c.requires (g.S.CapStore.memory_bits c.derive_in.new.store) (g.S.CapStore.forest c.derive_in.new.store) c.derive_in.ensures.memory c.derive_in.ensures.forest; chain_is = c.self.invariant.chain_is }
 
 pub returns-clause-after : goal.returns-clause-after
-returns-clause-after g c = derived_shown g.P.Profile.the c.self.inside.threads.memory_bits (g.S.CapStore.memory_bits c.self.inside.store) (g.W.Waiters.memory_bits c.self.inside.threads.waiters) (g.S.CapStore.forest c.self.inside.store) c.self.inside.threads.rows.items (g.W.Waiters.waits c.self.inside.threads.waiters) c.self.invariant.kernel c.args.placement c.args.self.now c.self.view_is (g.S.CapStore.forest c.derive_in.new.store) c.derive_in.ensures.forest
+returns-clause-after g c = derived_shown g.P.Profile.profile c.self.inside.threads.memory_bits (g.S.CapStore.memory_bits c.self.inside.store) (g.W.Waiters.memory_bits c.self.inside.threads.waiters) (g.S.CapStore.forest c.self.inside.store) c.self.inside.threads.rows.items (g.W.Waiters.waits c.self.inside.threads.waiters) c.self.invariant.kernel c.args.placement c.args.self.now c.self.view_is (g.S.CapStore.forest c.derive_in.new.store) c.derive_in.ensures.forest

@@ -8,4 +8,4 @@ use Rattle.kernel_core.proofs.kernel.Kernel.has_children.Goals as goal
 pub returns-in-None : goal.returns-in-None
 returns-in-None g c =
     sym (ap (λ (v : Shown). has_child c.args.slot v.derivations) (sym c.self.view_is)
-    ∙ ap is_some (no_child (g.S.CapStore.forest c.self.inside.store) c.args.slot (IsSlotAddress g.P.Profile.the c.self.inside.threads.memory_bits) c.self.invariant.kernel.slots_placed c.in-None.ensures.none))
+    ∙ ap is_some (no_child (g.S.CapStore.forest c.self.inside.store) c.args.slot (IsSlotAddress g.P.Profile.profile c.self.inside.threads.memory_bits) c.self.invariant.kernel.slots_placed c.in-None.ensures.none))

@@ -7,7 +7,7 @@ use Rattle.kernel_core.proofs.kernel.Kernel.keeps_objects.Goals as goal
 
 pub returns : goal.returns
 returns g c = record {
-  apart = subst (λ (v : Shown). AreObjectsApart g.P.Profile.the v.derivations) c.self.view_is
+  apart = subst (λ (v : Shown). AreObjectsApart g.P.Profile.profile v.derivations) c.self.view_is
       (record { disjoint = c.self.invariant.kernel.disjoint; used = c.self.invariant.kernel.regions.used });
-  housed = subst (λ (v : Shown). IsHoused g.P.Profile.the v.derivations) c.self.view_is c.self.invariant.kernel.housed;
+  housed = subst (λ (v : Shown). IsHoused g.P.Profile.profile v.derivations) c.self.view_is c.self.invariant.kernel.housed;
 }

@@ -14,6 +14,6 @@ pub returns-in-None : goal.returns-in-None
 returns-in-None g c =
     let nothing : cap_at c.args.self.now.derivations c.args.slot ≡ Null =
     ap (λ (v : Shown). cap_at v.derivations c.args.slot) (sym c.self.view_is)
-    ∙ no_cap (g.S.CapStore.forest c.self.inside.store) c.args.slot (IsSlotAddress g.P.Profile.the c.self.inside.threads.memory_bits) c.self.invariant.kernel.slots_placed c.in-None.ensures.none in
+    ∙ no_cap (g.S.CapStore.forest c.self.inside.store) c.args.slot (IsSlotAddress g.P.Profile.profile c.self.inside.threads.memory_bits) c.self.invariant.kernel.slots_placed c.in-None.ensures.none in
     subst (λ (items : List Held). IfOk c.path_of_one.result (λ path. path.items ≡ items))
-    (path_nowhere g.P.Profile.the (cap_at c.args.self.now.derivations) c.args.slot (low_bits c.args.bits c.args.address) nothing) c.path_of_one.ensures
+    (path_nowhere g.P.Profile.profile (cap_at c.args.self.now.derivations) c.args.slot (low_bits c.args.bits c.args.address) nothing) c.path_of_one.ensures

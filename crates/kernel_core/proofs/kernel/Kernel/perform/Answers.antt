@@ -9,7 +9,7 @@ pub returns-in-Ok : goal.returns-in-Ok
 returns-in-Ok g c =
     let is = sym c.decode_call.ensures.invocation ∙ c.in-Ok.is in
     record {
-      reply = c.perform_invocation.ensures.reply ∙ sym (ap (λ (r : Result Invocation Refusal). (decoded_effect g.P.Profile.the c.args.self.now c.args.call.now.thread r).reply) is);
-      after = c.perform_invocation.ensures.after ∙ sym (ap (λ (r : Result Invocation Refusal). (decoded_effect g.P.Profile.the c.args.self.now c.args.call.now.thread r).after) is);
+      reply = c.perform_invocation.ensures.reply ∙ sym (ap (λ (r : Result Invocation Refusal). (decoded_effect g.P.Profile.profile c.args.self.now c.args.call.now.thread r).reply) is);
+      after = c.perform_invocation.ensures.after ∙ sym (ap (λ (r : Result Invocation Refusal). (decoded_effect g.P.Profile.profile c.args.self.now c.args.call.now.thread r).after) is);
       within = c.perform_invocation.ensures.within;
     }

@@ -12,7 +12,7 @@ use Rattle.kernel_core.proofs.kernel.Kernel.revoke_slot.Goals as goal
 pub returns : goal.returns
 unfolding shown
 returns g c = λ A reached shows.
-    let p = g.P.Profile.the in
+    let p = g.P.Profile.profile in
     let slot = c.args.slot in
     c.clear_below.ensures
     ∙ ap (λ (v : Shown). after_ending v (revoke p slot v.derivations)) shows

@@ -9,7 +9,7 @@ use Rattle.kernel_core.proofs.kernel.Kernel.run.Goals as goal
 
 pub loop-call-preserved : goal.loop-call-preserved
 loop-call-preserved g c =
-    let p = g.P.Profile.the in
+    let p = g.P.Profile.profile in
     let calls = c.args.calls.now in
     let i = c.loop-call.call-index in
     record {
@@ -21,7 +21,7 @@ loop-call-preserved g c =
 
 pub returns-clause-in_order : goal.returns-clause-in_order
 returns-clause-in_order g c A r s e =
-    let p = g.P.Profile.the in
+    let p = g.P.Profile.profile in
     let calls = c.args.calls.now in
     let whole : take c.loop-call.call-index calls ≡ calls = take_all c.loop-call.call-index calls (omega arith) in
     replies_grow p A calls c.args.replies.now.items _ r

@@ -10,7 +10,7 @@ abbrev pub invariant-loop-call : goal.invariant-loop-call
 invariant-loop-call g l =
     record {
       room : vec_len l.replies + (length l.calls - l.call-index) ≤ vec_capacity l.replies;
-      so_far : (A : State) → IsReached g.P.Profile.the A → l.fn.self ≡ shown A → l.replies.items ≡ l.fn.replies.items ++ replies_of g.P.Profile.the A (take l.call-index l.calls);
-      stands : (A : State) → IsReached g.P.Profile.the A → l.fn.self ≡ shown A → l.self ≡ shown (state_after g.P.Profile.the A (take l.call-index l.calls));
-      within : (memory : ℕ) → IsInMemory g.P.Profile.the memory l.fn.self → IsInMemory g.P.Profile.the memory l.self;
+      so_far : (A : State) → IsReached g.P.Profile.profile A → l.fn.self ≡ shown A → l.replies.items ≡ l.fn.replies.items ++ replies_of g.P.Profile.profile A (take l.call-index l.calls);
+      stands : (A : State) → IsReached g.P.Profile.profile A → l.fn.self ≡ shown A → l.self ≡ shown (state_after g.P.Profile.profile A (take l.call-index l.calls));
+      within : (memory : ℕ) → IsInMemory g.P.Profile.profile memory l.fn.self → IsInMemory g.P.Profile.profile memory l.self;
     }

@@ -6,7 +6,7 @@ use Rattle.kernel_core.proofs.kernel.Kernel.step.Goals as goal
 
 pub returns : goal.returns
 returns g c = record {
-  stands = λ A reached shows. stands g.P.Profile.the A c.args.call _ _ _ reached shows c.perform.ensures.reply c.perform.ensures.after;
-  refused = λ refusal is. c.perform.ensures.after ∙ refused_keeps g.P.Profile.the c.args.self.now c.args.call refusal (sym c.perform.ensures.reply ∙ is);
+  stands = λ A reached shows. stands g.P.Profile.profile A c.args.call _ _ _ reached shows c.perform.ensures.reply c.perform.ensures.after;
+  refused = λ refusal is. c.perform.ensures.after ∙ refused_keeps g.P.Profile.profile c.args.self.now c.args.call refusal (sym c.perform.ensures.reply ∙ is);
   within = c.perform.ensures.within;
 }

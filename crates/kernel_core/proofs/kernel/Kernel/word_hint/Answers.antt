@@ -12,5 +12,5 @@ pub returns-in-None : goal.returns-in-None
 returns-in-None g c =
     let nothing : cap_at c.args.self.now.derivations c.args.root ≡ Null =
     ap (λ (v : Shown). cap_at v.derivations c.args.root) (sym c.self.view_is)
-    ∙ no_cap (g.S.CapStore.forest c.self.inside.store) c.args.root (IsSlotAddress g.P.Profile.the c.self.inside.threads.memory_bits) c.self.invariant.kernel.slots_placed c.in-None.ensures.none in
-    word_hint_nowhere g.P.Profile.the c.args.self.now.derivations c.args.root c.args.word nothing
+    ∙ no_cap (g.S.CapStore.forest c.self.inside.store) c.args.root (IsSlotAddress g.P.Profile.profile c.self.inside.threads.memory_bits) c.self.invariant.kernel.slots_placed c.in-None.ensures.none in
+    word_hint_nowhere g.P.Profile.profile c.args.self.now.derivations c.args.root c.args.word nothing

@@ -17,7 +17,7 @@ returns-in-State g c =
     let t : c.thread_state.result ≡ state_at b.kernel c.in-State.tcb = search rules in
     subst (λ (u : Query). IsAnswer g.N.Naming.profile g.N.Naming.opening c.args.self.now u answer) (sym c.in-State.is)
     (subst (λ (p : ProfileName). IsAnswer p g.N.Naming.opening c.args.self.now (q.State c.in-State.tcb) answer) (sym c.self.invariant.1)
-    (subst (λ (h : List Entry). IsAnswer g.P.Profile.the g.N.Naming.opening h (q.State c.in-State.tcb) answer) c.self.view_is
+    (subst (λ (h : List Entry). IsAnswer g.P.Profile.profile g.N.Naming.opening h (q.State c.in-State.tcb) answer) c.self.view_is
     (read_is state_set (λ (v : Shown). state_at v c.in-State.tcb) _ _ b.kernel _ _ b.stands t)))
 
 pub returns-in-InboxOf : goal.returns-in-InboxOf
@@ -27,7 +27,7 @@ returns-in-InboxOf g c =
     let t : c.inbox.result ≡ inbox_at b.kernel c.in-InboxOf.tcb = search rules in
     subst (λ (u : Query). IsAnswer g.N.Naming.profile g.N.Naming.opening c.args.self.now u answer) (sym c.in-InboxOf.is)
     (subst (λ (p : ProfileName). IsAnswer p g.N.Naming.opening c.args.self.now (q.InboxOf c.in-InboxOf.tcb) answer) (sym c.self.invariant.1)
-    (subst (λ (h : List Entry). IsAnswer g.P.Profile.the g.N.Naming.opening h (q.InboxOf c.in-InboxOf.tcb) answer) c.self.view_is
+    (subst (λ (h : List Entry). IsAnswer g.P.Profile.profile g.N.Naming.opening h (q.InboxOf c.in-InboxOf.tcb) answer) c.self.view_is
     (read_is inbox_set (λ (v : Shown). inbox_at v c.in-InboxOf.tcb) _ _ b.kernel _ _ b.stands t)))
 
 pub returns-in-CapAt : goal.returns-in-CapAt
@@ -37,7 +37,7 @@ returns-in-CapAt g c =
     let t : c.cap_at.result ≡ cap_at b.kernel.derivations c.in-CapAt.slot = search rules in
     subst (λ (u : Query). IsAnswer g.N.Naming.profile g.N.Naming.opening c.args.self.now u answer) (sym c.in-CapAt.is)
     (subst (λ (p : ProfileName). IsAnswer p g.N.Naming.opening c.args.self.now (q.CapAt c.in-CapAt.slot) answer) (sym c.self.invariant.1)
-    (subst (λ (h : List Entry). IsAnswer g.P.Profile.the g.N.Naming.opening h (q.CapAt c.in-CapAt.slot) answer) c.self.view_is
+    (subst (λ (h : List Entry). IsAnswer g.P.Profile.profile g.N.Naming.opening h (q.CapAt c.in-CapAt.slot) answer) c.self.view_is
     (read_is cap_set (λ (v : Shown). cap_at v.derivations c.in-CapAt.slot) _ _ b.kernel _ _ b.stands t)))
 
 pub returns-in-WaitingAt : goal.returns-in-WaitingAt
@@ -48,5 +48,5 @@ returns-in-WaitingAt g c =
     let t : c.waiting.result ≡ waiting_thread b.kernel c.in-WaitingAt.endpoint c.in-WaitingAt.place = search rules in
     subst (λ (u : Query). IsAnswer g.N.Naming.profile g.N.Naming.opening c.args.self.now u answer) (sym c.in-WaitingAt.is)
     (subst (λ (p : ProfileName). IsAnswer p g.N.Naming.opening c.args.self.now query answer) (sym c.self.invariant.1)
-    (subst (λ (h : List Entry). IsAnswer g.P.Profile.the g.N.Naming.opening h query answer) c.self.view_is
+    (subst (λ (h : List Entry). IsAnswer g.P.Profile.profile g.N.Naming.opening h query answer) c.self.view_is
     (read_is thread_set (λ (v : Shown). waiting_thread v c.in-WaitingAt.endpoint c.in-WaitingAt.place) _ _ b.kernel _ _ b.stands t)))

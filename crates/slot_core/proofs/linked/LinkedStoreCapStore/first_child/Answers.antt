@@ -10,7 +10,7 @@ use Rattle.slot_core.proofs.linked.LinkedStoreCapStore.first_child.Goals as goal
 
 pub returns-in_err-next : goal.returns-in_err-next
 returns-in_err-next g c =
-    let p = g.P.Profile.the in
+    let p = g.P.Profile.profile in
     let l = c.self.inside.links.items in
     let e = c.row-link.ensures ∙ ap (λ (m : List Link). link_at m c.args.slot.place) c.deref.ensures.value in
     ap (option_map (address_of p)) c.from_residual.ensures
@@ -19,7 +19,7 @@ returns-in_err-next g c =
 
 pub returns-then-is_parent : goal.returns-then-is_parent
 returns-then-is_parent g c =
-    let p = g.P.Profile.the in
+    let p = g.P.Profile.profile in
     let l = c.self.inside.links.items in
     let e = c.row-link.ensures ∙ ap (λ (m : List Link). link_at m c.args.slot.place) c.deref.ensures.value in
     let e' = c.row.ensures ∙ ap (λ (m : List Link). link_at m c.in_ok-next.next.place) c.deref-2.ensures.value in
@@ -31,7 +31,7 @@ returns-then-is_parent g c =
 
 pub returns-else-is_parent : goal.returns-else-is_parent
 returns-else-is_parent g c =
-    let p = g.P.Profile.the in
+    let p = g.P.Profile.profile in
     let l = c.self.inside.links.items in
     let e = c.row-link.ensures ∙ ap (λ (m : List Link). link_at m c.args.slot.place) c.deref.ensures.value in
     let e' = c.row.ensures ∙ ap (λ (m : List Link). link_at m c.in_ok-next.next.place) c.deref-2.ensures.value in

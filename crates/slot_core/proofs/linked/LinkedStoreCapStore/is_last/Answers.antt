@@ -12,7 +12,7 @@ use Rattle.slot_core.proofs.linked.LinkedStoreCapStore.is_last.Goals as goal
 
 pub returns-in-Untyped : goal.returns-in-Untyped
 returns-in-Untyped g c =
-    let p = g.P.Profile.the in
+    let p = g.P.Profile.profile in
     let l = c.self.inside.links.items in
     let e = c.row-link.ensures ∙ ap (λ (m : List Link). link_at m c.args.slot.place) c.deref.ensures.value in
     sym (last_untyped p l (place_in c.self.inside.first) (place_in c.self.inside.last) c.args.slot.place c.self.invariant (ap (λ (x : Link). is_untyped x.cap) (sym e) ∙ ap is_untyped c.in-Untyped.is))
@@ -20,7 +20,7 @@ returns-in-Untyped g c =
 
 pub returns-then-not-names : goal.returns-then-not-names
 returns-then-not-names g c =
-    let p = g.P.Profile.the in
+    let p = g.P.Profile.profile in
     let l = c.self.inside.links.items in
     let n = c.args.slot.place in
     let e = c.row-link.ensures ∙ ap (λ (m : List Link). link_at m n) c.deref.ensures.value in
@@ -37,7 +37,7 @@ returns-then-not-names g c =
 
 pub returns-else-not-names : goal.returns-else-not-names
 returns-else-not-names g c =
-    let p = g.P.Profile.the in
+    let p = g.P.Profile.profile in
     let l = c.self.inside.links.items in
     let n = c.args.slot.place in
     let e = c.row-link.ensures ∙ ap (λ (m : List Link). link_at m n) c.deref.ensures.value in

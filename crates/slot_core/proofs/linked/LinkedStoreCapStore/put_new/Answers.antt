@@ -6,18 +6,18 @@ use Rattle.slot_core.proofs.linked.LinkedStoreCapStore.put_new.Goals as goal
 
 pub insert_after-requires-clause-source_in : goal.insert_after-requires-clause-source_in
 insert_after-requires-clause-source_in g c =
-    in_table g.P.Profile.the c.self.inside.links.items c.deref_mut.result.now (place_in c.self.inside.first) (place_in c.self.inside.last) c.args.parent.place c.deref_mut.ensures.value
-    (found g.P.Profile.the c.self.inside.links.items (place_in c.self.inside.first) (place_in c.self.inside.last) c.args.parent.place c.args.self.now c.self.view_is c.self.invariant (full_untyped g.P.Profile.the c.args.parent.place c.args.self.now.0 c.requires.parent))
+    in_table g.P.Profile.profile c.self.inside.links.items c.deref_mut.result.now (place_in c.self.inside.first) (place_in c.self.inside.last) c.args.parent.place c.deref_mut.ensures.value
+    (found g.P.Profile.profile c.self.inside.links.items (place_in c.self.inside.first) (place_in c.self.inside.last) c.args.parent.place c.args.self.now c.self.view_is c.self.invariant (full_untyped g.P.Profile.profile c.args.parent.place c.args.self.now.0 c.requires.parent))
 
 pub insert_after-requires-clause-next_in : goal.insert_after-requires-clause-next_in
 insert_after-requires-clause-next_in g c =
-    in_next g.P.Profile.the c.self.inside.links.items c.deref_mut.result.now (place_in c.self.inside.first) (place_in c.self.inside.last) c.args.parent.place c.deref_mut.ensures.value
-    (found g.P.Profile.the c.self.inside.links.items (place_in c.self.inside.first) (place_in c.self.inside.last) c.args.parent.place c.args.self.now c.self.view_is c.self.invariant (full_untyped g.P.Profile.the c.args.parent.place c.args.self.now.0 c.requires.parent))
+    in_next g.P.Profile.profile c.self.inside.links.items c.deref_mut.result.now (place_in c.self.inside.first) (place_in c.self.inside.last) c.args.parent.place c.deref_mut.ensures.value
+    (found g.P.Profile.profile c.self.inside.links.items (place_in c.self.inside.first) (place_in c.self.inside.last) c.args.parent.place c.args.self.now c.self.view_is c.self.invariant (full_untyped g.P.Profile.profile c.args.parent.place c.args.self.now.0 c.requires.parent))
 
 pub invariant_of-self : goal.invariant_of-self
 invariant_of-self g c =
     let h = c.insert_after.ensures in
-    (retyped_call g.P.Profile.the c.self.inside.links.items c.deref_mut.result.now c.insert_after.new.links _ (place_in c.self.inside.first) (place_in c.insert_after.new.first) (place_in c.self.inside.last) (place_in c.insert_after.new.last) c.args.parent.place c.args.slot.place c.args.cap c.args.self.now
+    (retyped_call g.P.Profile.profile c.self.inside.links.items c.deref_mut.result.now c.insert_after.new.links _ (place_in c.self.inside.first) (place_in c.insert_after.new.first) (place_in c.self.inside.last) (place_in c.insert_after.new.last) c.args.parent.place c.args.slot.place c.args.cap c.args.self.now
     c.deref_mut.ensures.value (with_items_is c.self.inside.links c.insert_after.new.links (h.size ∙ c.deref_mut.ensures.len)) c.self.view_is c.self.invariant
     c.requires.parent c.requires.contains c.requires.within c.requires.empty c.requires.lawful c.requires.unnamed c.requires.disjoint
     h).kept
@@ -25,7 +25,7 @@ invariant_of-self g c =
 pub returns : goal.returns
 returns g c =
     let h = c.insert_after.ensures in
-    let b = retyped_call g.P.Profile.the c.self.inside.links.items c.deref_mut.result.now c.insert_after.new.links _ (place_in c.self.inside.first) (place_in c.insert_after.new.first) (place_in c.self.inside.last) (place_in c.insert_after.new.last) c.args.parent.place c.args.slot.place c.args.cap c.args.self.now
+    let b = retyped_call g.P.Profile.profile c.self.inside.links.items c.deref_mut.result.now c.insert_after.new.links _ (place_in c.self.inside.first) (place_in c.insert_after.new.first) (place_in c.self.inside.last) (place_in c.insert_after.new.last) c.args.parent.place c.args.slot.place c.args.cap c.args.self.now
     c.deref_mut.ensures.value (with_items_is c.self.inside.links c.insert_after.new.links (h.size ∙ c.deref_mut.ensures.len)) c.self.view_is c.self.invariant
     c.requires.parent c.requires.contains c.requires.within c.requires.empty c.requires.lawful c.requires.unnamed c.requires.disjoint
     h in

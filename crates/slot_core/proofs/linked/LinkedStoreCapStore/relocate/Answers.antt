@@ -6,23 +6,23 @@ use Rattle.slot_core.proofs.linked.LinkedStoreCapStore.relocate.Goals as goal
 
 pub replace-requires-clause-source_in : goal.replace-requires-clause-source_in
 replace-requires-clause-source_in g c =
-    in_table g.P.Profile.the c.self.inside.links.items c.deref_mut.result.now (place_in c.self.inside.first) (place_in c.self.inside.last) c.args.source.place c.deref_mut.ensures.value
-    (found g.P.Profile.the c.self.inside.links.items (place_in c.self.inside.first) (place_in c.self.inside.last) c.args.source.place c.args.self.now c.self.view_is c.self.invariant c.requires.source)
+    in_table g.P.Profile.profile c.self.inside.links.items c.deref_mut.result.now (place_in c.self.inside.first) (place_in c.self.inside.last) c.args.source.place c.deref_mut.ensures.value
+    (found g.P.Profile.profile c.self.inside.links.items (place_in c.self.inside.first) (place_in c.self.inside.last) c.args.source.place c.args.self.now c.self.view_is c.self.invariant c.requires.source)
 
 pub replace-requires-clause-next_in : goal.replace-requires-clause-next_in
 replace-requires-clause-next_in g c =
-    in_next g.P.Profile.the c.self.inside.links.items c.deref_mut.result.now (place_in c.self.inside.first) (place_in c.self.inside.last) c.args.source.place c.deref_mut.ensures.value
-    (found g.P.Profile.the c.self.inside.links.items (place_in c.self.inside.first) (place_in c.self.inside.last) c.args.source.place c.args.self.now c.self.view_is c.self.invariant c.requires.source)
+    in_next g.P.Profile.profile c.self.inside.links.items c.deref_mut.result.now (place_in c.self.inside.first) (place_in c.self.inside.last) c.args.source.place c.deref_mut.ensures.value
+    (found g.P.Profile.profile c.self.inside.links.items (place_in c.self.inside.first) (place_in c.self.inside.last) c.args.source.place c.args.self.now c.self.view_is c.self.invariant c.requires.source)
 
 pub replace-requires-clause-previous_in : goal.replace-requires-clause-previous_in
 replace-requires-clause-previous_in g c =
-    in_previous g.P.Profile.the c.self.inside.links.items c.deref_mut.result.now (place_in c.self.inside.first) (place_in c.self.inside.last) c.args.source.place c.deref_mut.ensures.value
-    (found g.P.Profile.the c.self.inside.links.items (place_in c.self.inside.first) (place_in c.self.inside.last) c.args.source.place c.args.self.now c.self.view_is c.self.invariant c.requires.source)
+    in_previous g.P.Profile.profile c.self.inside.links.items c.deref_mut.result.now (place_in c.self.inside.first) (place_in c.self.inside.last) c.args.source.place c.deref_mut.ensures.value
+    (found g.P.Profile.profile c.self.inside.links.items (place_in c.self.inside.first) (place_in c.self.inside.last) c.args.source.place c.args.self.now c.self.view_is c.self.invariant c.requires.source)
 
 pub invariant_of-self : goal.invariant_of-self
 invariant_of-self g c =
     let h = c.replace.ensures in
-    (moved_call g.P.Profile.the c.self.inside.links.items c.deref_mut.result.now c.replace.new.links _ (place_in c.self.inside.first) (place_in c.replace.new.first) (place_in c.self.inside.last) (place_in c.replace.new.last) c.args.source.place c.args.slot.place c.args.cap c.args.self.now
+    (moved_call g.P.Profile.profile c.self.inside.links.items c.deref_mut.result.now c.replace.new.links _ (place_in c.self.inside.first) (place_in c.replace.new.first) (place_in c.self.inside.last) (place_in c.replace.new.last) c.args.source.place c.args.slot.place c.args.cap c.args.self.now
     c.deref_mut.ensures.value (with_items_is c.self.inside.links c.replace.new.links (h.size ∙ c.deref_mut.ensures.len)) c.self.view_is c.self.invariant
     c.requires.source c.requires.within c.requires.empty c.requires.lawful c.requires.same c.requires.badge c.requires.disjoint
     h).kept
@@ -30,7 +30,7 @@ invariant_of-self g c =
 pub returns : goal.returns
 returns g c =
     let h = c.replace.ensures in
-    let b = moved_call g.P.Profile.the c.self.inside.links.items c.deref_mut.result.now c.replace.new.links _ (place_in c.self.inside.first) (place_in c.replace.new.first) (place_in c.self.inside.last) (place_in c.replace.new.last) c.args.source.place c.args.slot.place c.args.cap c.args.self.now
+    let b = moved_call g.P.Profile.profile c.self.inside.links.items c.deref_mut.result.now c.replace.new.links _ (place_in c.self.inside.first) (place_in c.replace.new.first) (place_in c.self.inside.last) (place_in c.replace.new.last) c.args.source.place c.args.slot.place c.args.cap c.args.self.now
     c.deref_mut.ensures.value (with_items_is c.self.inside.links c.replace.new.links (h.size ∙ c.deref_mut.ensures.len)) c.self.view_is c.self.invariant
     c.requires.source c.requires.within c.requires.empty c.requires.lawful c.requires.same c.requires.badge c.requires.disjoint
     h in

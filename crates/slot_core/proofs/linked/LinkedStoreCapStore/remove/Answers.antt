@@ -6,23 +6,23 @@ use Rattle.slot_core.proofs.linked.LinkedStoreCapStore.remove.Goals as goal
 
 pub unlink-requires-clause-slot_in : goal.unlink-requires-clause-slot_in
 unlink-requires-clause-slot_in g c =
-    in_table g.P.Profile.the c.self.inside.links.items c.deref_mut.result.now (place_in c.self.inside.first) (place_in c.self.inside.last) c.args.slot.place c.deref_mut.ensures.value
-    (found g.P.Profile.the c.self.inside.links.items (place_in c.self.inside.first) (place_in c.self.inside.last) c.args.slot.place c.args.self.now c.self.view_is c.self.invariant c.requires.full)
+    in_table g.P.Profile.profile c.self.inside.links.items c.deref_mut.result.now (place_in c.self.inside.first) (place_in c.self.inside.last) c.args.slot.place c.deref_mut.ensures.value
+    (found g.P.Profile.profile c.self.inside.links.items (place_in c.self.inside.first) (place_in c.self.inside.last) c.args.slot.place c.args.self.now c.self.view_is c.self.invariant c.requires.full)
 
 pub unlink-requires-clause-next_in : goal.unlink-requires-clause-next_in
 unlink-requires-clause-next_in g c =
-    in_next g.P.Profile.the c.self.inside.links.items c.deref_mut.result.now (place_in c.self.inside.first) (place_in c.self.inside.last) c.args.slot.place c.deref_mut.ensures.value
-    (found g.P.Profile.the c.self.inside.links.items (place_in c.self.inside.first) (place_in c.self.inside.last) c.args.slot.place c.args.self.now c.self.view_is c.self.invariant c.requires.full)
+    in_next g.P.Profile.profile c.self.inside.links.items c.deref_mut.result.now (place_in c.self.inside.first) (place_in c.self.inside.last) c.args.slot.place c.deref_mut.ensures.value
+    (found g.P.Profile.profile c.self.inside.links.items (place_in c.self.inside.first) (place_in c.self.inside.last) c.args.slot.place c.args.self.now c.self.view_is c.self.invariant c.requires.full)
 
 pub unlink-requires-clause-previous_in : goal.unlink-requires-clause-previous_in
 unlink-requires-clause-previous_in g c =
-    in_previous g.P.Profile.the c.self.inside.links.items c.deref_mut.result.now (place_in c.self.inside.first) (place_in c.self.inside.last) c.args.slot.place c.deref_mut.ensures.value
-    (found g.P.Profile.the c.self.inside.links.items (place_in c.self.inside.first) (place_in c.self.inside.last) c.args.slot.place c.args.self.now c.self.view_is c.self.invariant c.requires.full)
+    in_previous g.P.Profile.profile c.self.inside.links.items c.deref_mut.result.now (place_in c.self.inside.first) (place_in c.self.inside.last) c.args.slot.place c.deref_mut.ensures.value
+    (found g.P.Profile.profile c.self.inside.links.items (place_in c.self.inside.first) (place_in c.self.inside.last) c.args.slot.place c.args.self.now c.self.view_is c.self.invariant c.requires.full)
 
 pub invariant_of-self : goal.invariant_of-self
 invariant_of-self g c =
     let h = c.unlink.ensures in
-    (emptied_call g.P.Profile.the c.self.inside.links.items c.deref_mut.result.now c.unlink.new.links _ (place_in c.self.inside.first) (place_in c.unlink.new.first) (place_in c.self.inside.last) (place_in c.unlink.new.last) c.args.slot.place c.args.self.now
+    (emptied_call g.P.Profile.profile c.self.inside.links.items c.deref_mut.result.now c.unlink.new.links _ (place_in c.self.inside.first) (place_in c.unlink.new.first) (place_in c.self.inside.last) (place_in c.unlink.new.last) c.args.slot.place c.args.self.now
     c.deref_mut.ensures.value (with_items_is c.self.inside.links c.unlink.new.links (h.size ∙ c.deref_mut.ensures.len)) c.self.view_is c.self.invariant
     c.requires.full
     h).kept
@@ -30,7 +30,7 @@ invariant_of-self g c =
 pub returns : goal.returns
 returns g c =
     let h = c.unlink.ensures in
-    let b = emptied_call g.P.Profile.the c.self.inside.links.items c.deref_mut.result.now c.unlink.new.links _ (place_in c.self.inside.first) (place_in c.unlink.new.first) (place_in c.self.inside.last) (place_in c.unlink.new.last) c.args.slot.place c.args.self.now
+    let b = emptied_call g.P.Profile.profile c.self.inside.links.items c.deref_mut.result.now c.unlink.new.links _ (place_in c.self.inside.first) (place_in c.unlink.new.first) (place_in c.self.inside.last) (place_in c.unlink.new.last) c.args.slot.place c.args.self.now
     c.deref_mut.ensures.value (with_items_is c.self.inside.links c.unlink.new.links (h.size ∙ c.deref_mut.ensures.len)) c.self.view_is c.self.invariant
     c.requires.full
     h in

@@ -7,14 +7,14 @@ use Rattle.slot_core.proofs.linked.LinkedStoreCapStore.set_free.Goals as goal
 pub free_from-requires : goal.free_from-requires
 free_from-requires g c =
     record {
-      slot_in = in_table g.P.Profile.the c.self.inside.links.items c.deref_mut.result.now (place_in c.self.inside.first) (place_in c.self.inside.last) c.args.slot.place c.deref_mut.ensures.value
-          (found g.P.Profile.the c.self.inside.links.items (place_in c.self.inside.first) (place_in c.self.inside.last) c.args.slot.place c.args.self.now c.self.view_is c.self.invariant (full_untyped g.P.Profile.the c.args.slot.place c.args.self.now.0 c.requires.untyped));
+      slot_in = in_table g.P.Profile.profile c.self.inside.links.items c.deref_mut.result.now (place_in c.self.inside.first) (place_in c.self.inside.last) c.args.slot.place c.deref_mut.ensures.value
+          (found g.P.Profile.profile c.self.inside.links.items (place_in c.self.inside.first) (place_in c.self.inside.last) c.args.slot.place c.args.self.now c.self.view_is c.self.invariant (full_untyped g.P.Profile.profile c.args.slot.place c.args.self.now.0 c.requires.untyped));
     }
 
 pub invariant_of-self : goal.invariant_of-self
 invariant_of-self g c =
     let h = c.free_from.ensures in
-    (freed_call g.P.Profile.the c.self.inside.links.items c.deref_mut.result.now c.free_from.new.links _ (place_in c.self.inside.first) (place_in c.self.inside.last) c.args.slot.place c.args.free c.args.self.now
+    (freed_call g.P.Profile.profile c.self.inside.links.items c.deref_mut.result.now c.free_from.new.links _ (place_in c.self.inside.first) (place_in c.self.inside.last) c.args.slot.place c.args.free c.args.self.now
     c.deref_mut.ensures.value (with_items_is c.self.inside.links c.free_from.new.links (h.size ∙ c.deref_mut.ensures.len)) c.self.view_is c.self.invariant
     c.requires.untyped c.requires.lawful
     h).kept
@@ -22,7 +22,7 @@ invariant_of-self g c =
 pub returns : goal.returns
 returns g c =
     let h = c.free_from.ensures in
-    let b = freed_call g.P.Profile.the c.self.inside.links.items c.deref_mut.result.now c.free_from.new.links _ (place_in c.self.inside.first) (place_in c.self.inside.last) c.args.slot.place c.args.free c.args.self.now
+    let b = freed_call g.P.Profile.profile c.self.inside.links.items c.deref_mut.result.now c.free_from.new.links _ (place_in c.self.inside.first) (place_in c.self.inside.last) c.args.slot.place c.args.free c.args.self.now
     c.deref_mut.ensures.value (with_items_is c.self.inside.links c.free_from.new.links (h.size ∙ c.deref_mut.ensures.len)) c.self.view_is c.self.invariant
     c.requires.untyped c.requires.lawful
     h in

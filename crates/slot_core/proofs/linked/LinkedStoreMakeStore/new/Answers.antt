@@ -10,7 +10,7 @@ use Rattle.slot_core.proofs.linked.LinkedStoreMakeStore.new.Goals as goal
 
 pub invariant_of-result : goal.invariant_of-result
 invariant_of-result g c =
-    let p = g.P.Profile.the in
+    let p = g.P.Profile.profile in
     let l = c.in_ok-from_elem.field-0.items in
     let bits : c.SLOT_BITS.result ≡ slot_bits p = c.SLOT_BITS.ensures ∙ g.met.P.Profile.slot_bits_is in
     let most : slot_bits p ≤ 5 = slot_bits-most p in
@@ -21,7 +21,7 @@ invariant_of-result g c =
 
 pub returns-clause-memory : goal.returns-clause-memory
 returns-clause-memory g c =
-    let p = g.P.Profile.the in
+    let p = g.P.Profile.profile in
     let bits : c.SLOT_BITS.result ≡ slot_bits p = c.SLOT_BITS.ensures ∙ g.met.P.Profile.slot_bits_is in
     let most : slot_bits p ≤ 5 = slot_bits-most p in
     let one = one_shl (c.args.memory_bits - slot_bits p) 64 (omega arith) in

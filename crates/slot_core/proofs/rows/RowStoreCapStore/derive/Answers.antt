@@ -12,7 +12,7 @@ use Rattle.slot_core.proofs.rows.RowStoreCapStore.derive.Goals as goal
 
 pub index-requires : goal.index-requires
 index-requires g c =
-    let p = g.P.Profile.the in
+    let p = g.P.Profile.profile in
     let l = c.self.inside.rows.items in
     let h = full_seen p c.args.source true l c.self.inside.memory_bits c.args.self.now c.self.view_is c.requires.source in
     let e = place_seen c.args.source l c.deref.result.now c.place_of-i.result c.deref.ensures.value c.place_of-i.ensures in
@@ -20,7 +20,7 @@ index-requires g c =
 
 pub derived-row-requires : goal.derived-row-requires
 derived-row-requires g c =
-    let p = g.P.Profile.the in
+    let p = g.P.Profile.profile in
     let l = c.self.inside.rows.items in
     let h = full_seen p c.args.source true l c.self.inside.memory_bits c.args.self.now c.self.view_is c.requires.source in
     let e = place_seen c.args.source l c.deref.result.now c.place_of-i.result c.deref.ensures.value c.place_of-i.ensures in
@@ -28,7 +28,7 @@ derived-row-requires g c =
 
 pub overflow_add-i : goal.overflow_add-i
 overflow_add-i g c =
-    let p = g.P.Profile.the in
+    let p = g.P.Profile.profile in
     let l = c.self.inside.rows.items in
     let h = full_seen p c.args.source true l c.self.inside.memory_bits c.args.self.now c.self.view_is c.requires.source in
     let e = place_seen c.args.source l c.deref.result.now c.place_of-i.result c.deref.ensures.value c.place_of-i.ensures in
@@ -36,7 +36,7 @@ overflow_add-i g c =
 
 pub insert-requires : goal.insert-requires
 insert-requires g c =
-    let p = g.P.Profile.the in
+    let p = g.P.Profile.profile in
     let l = c.self.inside.rows.items in
     let h = full_seen p c.args.source true l c.self.inside.memory_bits c.args.self.now c.self.view_is c.requires.source in
     let e = place_seen c.args.source l c.deref.result.now c.place_of-i.result c.deref.ensures.value c.place_of-i.ensures in
@@ -44,7 +44,7 @@ insert-requires g c =
 
 pub unreachable-requires : goal.unreachable-requires
 unreachable-requires g c =
-    let p = g.P.Profile.the in
+    let p = g.P.Profile.profile in
     let l = c.self.inside.rows.items in
     let x : Row = record { slot = c.args.slot; cap = c.args.cap; original = true; depth = 0 } in
     let v : c.args.self.now ≡ (l, c.self.inside.memory_bits) = sym c.self.view_is in
@@ -54,7 +54,7 @@ unreachable-requires g c =
 
 pub invariant_of-self : goal.invariant_of-self
 invariant_of-self g c =
-    let p = g.P.Profile.the in
+    let p = g.P.Profile.profile in
     let l = c.self.inside.rows.items in
     let m = c.self.inside.memory_bits in
     let v : c.args.self.now ≡ (l, m) = sym c.self.view_is in
@@ -72,7 +72,7 @@ invariant_of-self g c =
 
 pub returns-clause-forest : goal.returns-clause-forest
 returns-clause-forest g c =
-    let p = g.P.Profile.the in
+    let p = g.P.Profile.profile in
     let l = c.self.inside.rows.items in
     let full = full_seen p c.args.source true l c.self.inside.memory_bits c.args.self.now c.self.view_is c.requires.source in
     let e = place_seen c.args.source l c.deref.result.now c.place_of-i.result c.deref.ensures.value c.place_of-i.ensures in

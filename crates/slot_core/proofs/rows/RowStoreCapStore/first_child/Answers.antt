@@ -12,7 +12,7 @@ use Rattle.slot_core.proofs.rows.RowStoreCapStore.first_child.Goals as goal
 
 pub returns-in_err-row : goal.returns-in_err-row
 returns-in_err-row g c =
-    let p = g.P.Profile.the in
+    let p = g.P.Profile.profile in
     let l = c.self.inside.rows.items in
     let a = not_found p c.args.slot l c.place_of-i.result (c.place_of-i.ensures ∙ ap (place_of c.args.slot.place) c.deref.ensures.value)
     (let n = ap length c.deref-2.ensures.value in grind (arith, nat_tests, c.in_err-row.ensures.lookup.0, n)) in
@@ -21,7 +21,7 @@ returns-in_err-row g c =
 
 pub returns-in_err-next : goal.returns-in_err-next
 returns-in_err-next g c =
-    let p = g.P.Profile.the in
+    let p = g.P.Profile.profile in
     let l = c.self.inside.rows.items in
     let e = place_seen c.args.slot l c.deref.result.now c.place_of-i.result c.deref.ensures.value c.place_of-i.ensures in
     let f = found p c.args.slot l c.place_of-i.result c.in_ok-row.row.now e
@@ -33,7 +33,7 @@ returns-in_err-next g c =
 
 pub returns-then-row-next : goal.returns-then-row-next
 returns-then-row-next g c =
-    let p = g.P.Profile.the in
+    let p = g.P.Profile.profile in
     let l = c.self.inside.rows.items in
     let e = place_seen c.args.slot l c.deref.result.now c.place_of-i.result c.deref.ensures.value c.place_of-i.ensures in
     let f = found p c.args.slot l c.place_of-i.result c.in_ok-row.row.now e
@@ -47,7 +47,7 @@ returns-then-row-next g c =
 
 pub returns-else-row-next : goal.returns-else-row-next
 returns-else-row-next g c =
-    let p = g.P.Profile.the in
+    let p = g.P.Profile.profile in
     let l = c.self.inside.rows.items in
     let e = place_seen c.args.slot l c.deref.result.now c.place_of-i.result c.deref.ensures.value c.place_of-i.ensures in
     let f = found p c.args.slot l c.place_of-i.result c.in_ok-row.row.now e

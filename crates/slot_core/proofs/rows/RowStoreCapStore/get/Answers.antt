@@ -10,7 +10,7 @@ use Rattle.slot_core.proofs.rows.RowStoreCapStore.get.Goals as goal
 
 pub returns-in-Some-clause-cap : goal.returns-in-Some-clause-cap
 returns-in-Some-clause-cap g c =
-    let p = g.P.Profile.the in
+    let p = g.P.Profile.profile in
     let l = c.self.inside.rows.items in
     let f = found p c.args.slot l c.place_of.result c.in-Some.row.now (c.place_of.ensures ∙ ap (place_of c.args.slot.place) c.deref-2.ensures.value)
     (let n = ap length c.deref.ensures.value in grind (arith, nat_tests, c.in-Some.ensures.lookup.0, n))
@@ -20,7 +20,7 @@ returns-in-Some-clause-cap g c =
 
 pub returns-in-Some-clause-past : goal.returns-in-Some-clause-past
 returns-in-Some-clause-past g c h =
-    let p = g.P.Profile.the in
+    let p = g.P.Profile.profile in
     let l = c.self.inside.rows.items in
     let f = found p c.args.slot l c.place_of.result c.in-Some.row.now (c.place_of.ensures ∙ ap (place_of c.args.slot.place) c.deref-2.ensures.value)
     (let n = ap length c.deref.ensures.value in grind (arith, nat_tests, c.in-Some.ensures.lookup.0, n))
@@ -31,7 +31,7 @@ returns-in-Some-clause-past g c h =
 
 pub returns-in-None-clause-cap : goal.returns-in-None-clause-cap
 returns-in-None-clause-cap g c =
-    let p = g.P.Profile.the in
+    let p = g.P.Profile.profile in
     let l = c.self.inside.rows.items in
     let a = not_found p c.args.slot l c.place_of.result (c.place_of.ensures ∙ ap (place_of c.args.slot.place) c.deref-2.ensures.value)
     (let n = ap length c.deref.ensures.value in grind (arith, nat_tests, c.in-None.ensures.lookup.0, n)) in

@@ -11,7 +11,7 @@ use Rattle.slot_core.proofs.rows.RowStoreCapStore.is_last.Goals as goal
 
 pub returns-in_default : goal.returns-in_default
 returns-in_default g c =
-    let p = g.P.Profile.the in
+    let p = g.P.Profile.profile in
     let l = c.self.inside.rows.items in
     ap not (c.is_named_elsewhere.ensures ∙ ap (list_any (names_elsewhere c.args.slot.place c.get-cap.result)) c.deref.ensures.value)
     ∙ rows_last p c.args.slot l c.get-cap.result (c.get-cap.ensures.cap ∙ ap (λ (v : List Row × ℕ). cap_at (forest_of p v.0) (address_of p c.args.slot)) (sym c.self.view_is)) (not_untyped c.get-cap.result c.in_default.not-Untyped)

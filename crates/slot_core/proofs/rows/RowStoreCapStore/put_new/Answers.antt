@@ -16,7 +16,7 @@ use Rattle.slot_core.proofs.rows.RowStoreCapStore.put_new.Goals as goal
 
 pub index-requires : goal.index-requires
 index-requires g c =
-    let p = g.P.Profile.the in
+    let p = g.P.Profile.profile in
     let l = c.self.inside.rows.items in
     let u = untyped_seen p c.args.parent l c.self.inside.memory_bits c.args.self.now c.self.view_is c.requires.parent in
     let full : is_full (address_of p c.args.parent) (forest_of p l) ≡ true = untyped_full (address_of p c.args.parent) (preorder (forest_of p l)) u in
@@ -25,7 +25,7 @@ index-requires g c =
 
 pub overflow_add-child : goal.overflow_add-child
 overflow_add-child g c =
-    let p = g.P.Profile.the in
+    let p = g.P.Profile.profile in
     let l = c.self.inside.rows.items in
     let u = untyped_seen p c.args.parent l c.self.inside.memory_bits c.args.self.now c.self.view_is c.requires.parent in
     let full : is_full (address_of p c.args.parent) (forest_of p l) ≡ true = untyped_full (address_of p c.args.parent) (preorder (forest_of p l)) u in
@@ -34,7 +34,7 @@ overflow_add-child g c =
 
 pub overflow_add-i : goal.overflow_add-i
 overflow_add-i g c =
-    let p = g.P.Profile.the in
+    let p = g.P.Profile.profile in
     let l = c.self.inside.rows.items in
     let u = untyped_seen p c.args.parent l c.self.inside.memory_bits c.args.self.now c.self.view_is c.requires.parent in
     let full : is_full (address_of p c.args.parent) (forest_of p l) ≡ true = untyped_full (address_of p c.args.parent) (preorder (forest_of p l)) u in
@@ -43,7 +43,7 @@ overflow_add-i g c =
 
 pub insert-requires : goal.insert-requires
 insert-requires g c =
-    let p = g.P.Profile.the in
+    let p = g.P.Profile.profile in
     let l = c.self.inside.rows.items in
     let u = untyped_seen p c.args.parent l c.self.inside.memory_bits c.args.self.now c.self.view_is c.requires.parent in
     let full : is_full (address_of p c.args.parent) (forest_of p l) ≡ true = untyped_full (address_of p c.args.parent) (preorder (forest_of p l)) u in
@@ -52,7 +52,7 @@ insert-requires g c =
 
 pub unreachable-requires : goal.unreachable-requires
 unreachable-requires g c =
-    let p = g.P.Profile.the in
+    let p = g.P.Profile.profile in
     let l = c.self.inside.rows.items in
     let x : Row = record { slot = c.args.slot; cap = c.args.cap; original = true; depth = 0 } in
     let v : c.args.self.now ≡ (l, c.self.inside.memory_bits) = sym c.self.view_is in
@@ -62,7 +62,7 @@ unreachable-requires g c =
 
 pub invariant_of-self : goal.invariant_of-self
 invariant_of-self g c =
-    let p = g.P.Profile.the in
+    let p = g.P.Profile.profile in
     let l = c.self.inside.rows.items in
     let u = untyped_seen p c.args.parent l c.self.inside.memory_bits c.args.self.now c.self.view_is c.requires.parent in
     let full : is_full (address_of p c.args.parent) (forest_of p l) ≡ true = untyped_full (address_of p c.args.parent) (preorder (forest_of p l)) u in
@@ -84,7 +84,7 @@ invariant_of-self g c =
 
 pub returns-clause-forest : goal.returns-clause-forest
 returns-clause-forest g c =
-    let p = g.P.Profile.the in
+    let p = g.P.Profile.profile in
     let l = c.self.inside.rows.items in
     let u = untyped_seen p c.args.parent l c.self.inside.memory_bits c.args.self.now c.self.view_is c.requires.parent in
     let full : is_full (address_of p c.args.parent) (forest_of p l) ≡ true = untyped_full (address_of p c.args.parent) (preorder (forest_of p l)) u in

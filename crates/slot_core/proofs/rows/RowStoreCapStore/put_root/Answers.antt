@@ -11,7 +11,7 @@ use Rattle.slot_core.proofs.rows.RowStoreCapStore.put_root.Goals as goal
 
 pub unreachable-requires : goal.unreachable-requires
 unreachable-requires g c =
-    let p = g.P.Profile.the in
+    let p = g.P.Profile.profile in
     let l = c.self.inside.rows.items in
     let x : Row = record { slot = c.args.slot; cap = c.args.cap; original = true; depth = 0 } in
     let v : c.args.self.now ≡ (l, c.self.inside.memory_bits) = sym c.self.view_is in
@@ -21,7 +21,7 @@ unreachable-requires g c =
 
 pub invariant_of-self : goal.invariant_of-self
 invariant_of-self g c =
-    let p = g.P.Profile.the in
+    let p = g.P.Profile.profile in
     let l = c.self.inside.rows.items in
     let m = c.self.inside.memory_bits in
     let x : Row = record { slot = c.args.slot; cap = c.args.cap; original = true; depth = 0 } in
@@ -34,7 +34,7 @@ invariant_of-self g c =
 
 pub returns-clause-forest : goal.returns-clause-forest
 returns-clause-forest g c =
-    let p = g.P.Profile.the in
+    let p = g.P.Profile.profile in
     let l = c.self.inside.rows.items in
     let x : Row = record { slot = c.args.slot; cap = c.args.cap; original = true; depth = 0 } in
     ap (forest_of p) c.in-Ok.ensures.items ∙ rows_root p c.args.slot c.args.cap l x refl refl

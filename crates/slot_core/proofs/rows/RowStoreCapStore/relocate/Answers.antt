@@ -11,7 +11,7 @@ use Rattle.slot_core.proofs.rows.RowStoreCapStore.relocate.Goals as goal
 
 pub index_mut-row-requires : goal.index_mut-row-requires
 index_mut-row-requires g c =
-    let p = g.P.Profile.the in
+    let p = g.P.Profile.profile in
     let l = c.self.inside.rows.items in
     let h = full_seen p c.args.source true l c.self.inside.memory_bits c.args.self.now c.self.view_is c.requires.source in
     let e = place_seen c.args.source l c.deref.result.now c.place_of-i.result c.deref.ensures.value c.place_of-i.ensures in
@@ -19,7 +19,7 @@ index_mut-row-requires g c =
 
 pub invariant_of-self : goal.invariant_of-self
 invariant_of-self g c =
-    let p = g.P.Profile.the in
+    let p = g.P.Profile.profile in
     let l = c.self.inside.rows.items in
     let m = c.self.inside.memory_bits in
     let v : c.args.self.now ≡ (l, m) = sym c.self.view_is in
@@ -37,7 +37,7 @@ invariant_of-self g c =
 
 pub returns-clause-forest : goal.returns-clause-forest
 returns-clause-forest g c =
-    let p = g.P.Profile.the in
+    let p = g.P.Profile.profile in
     let l = c.self.inside.rows.items in
     let full = full_seen p c.args.source true l c.self.inside.memory_bits c.args.self.now c.self.view_is c.requires.source in
     let e = place_seen c.args.source l c.deref.result.now c.place_of-i.result c.deref.ensures.value c.place_of-i.ensures in

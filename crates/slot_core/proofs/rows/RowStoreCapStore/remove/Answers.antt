@@ -12,7 +12,7 @@ use Rattle.slot_core.proofs.rows.RowStoreCapStore.remove.Goals as goal
 
 pub remove-row-requires : goal.remove-row-requires
 remove-row-requires g c =
-    let p = g.P.Profile.the in
+    let p = g.P.Profile.profile in
     let l = c.self.inside.rows.items in
     let h = full_seen p c.args.slot true l c.self.inside.memory_bits c.args.self.now c.self.view_is c.requires.full in
     let e = place_seen c.args.slot l c.deref.result.now c.place_of-i.result c.deref.ensures.value c.place_of-i.ensures in
@@ -20,7 +20,7 @@ remove-row-requires g c =
 
 pub invariant_of-self : goal.invariant_of-self
 invariant_of-self g c =
-    let p = g.P.Profile.the in
+    let p = g.P.Profile.profile in
     let l = c.self.inside.rows.items in
     let m = c.remove-row.new.self.items in
     let d = c.deref_mut.result.now in
@@ -38,7 +38,7 @@ invariant_of-self g c =
 
 pub returns-clause-forest : goal.returns-clause-forest
 returns-clause-forest g c =
-    let p = g.P.Profile.the in
+    let p = g.P.Profile.profile in
     let l = c.self.inside.rows.items in
     let m = c.remove-row.new.self.items in
     let d = c.deref_mut.result.now in

@@ -14,7 +14,7 @@ use Rattle.slot_core.proofs.rows.RowStoreCapStore.set_free.Goals as goal
 
 pub index_mut-row-requires : goal.index_mut-row-requires
 index_mut-row-requires g c =
-    let p = g.P.Profile.the in
+    let p = g.P.Profile.profile in
     let l = c.self.inside.rows.items in
     let u = untyped_seen p c.args.slot l c.self.inside.memory_bits c.args.self.now c.self.view_is c.requires.untyped in
     let h : is_full (address_of p c.args.slot) (forest_of p l) ≡ true = untyped_full (address_of p c.args.slot) (preorder (forest_of p l)) u in
@@ -23,7 +23,7 @@ index_mut-row-requires g c =
 
 pub invariant_of-self : goal.invariant_of-self
 invariant_of-self g c =
-    let p = g.P.Profile.the in
+    let p = g.P.Profile.profile in
     let l = c.self.inside.rows.items in
     let m = c.self.inside.memory_bits in
     let v : c.args.self.now ≡ (l, m) = sym c.self.view_is in
@@ -40,7 +40,7 @@ invariant_of-self g c =
 
 pub returns-clause-forest : goal.returns-clause-forest
 returns-clause-forest g c =
-    let p = g.P.Profile.the in
+    let p = g.P.Profile.profile in
     let l = c.self.inside.rows.items in
     let u = untyped_seen p c.args.slot l c.self.inside.memory_bits c.args.self.now c.self.view_is c.requires.untyped in
     let full : is_full (address_of p c.args.slot) (forest_of p l) ≡ true = untyped_full (address_of p c.args.slot) (preorder (forest_of p l)) u in

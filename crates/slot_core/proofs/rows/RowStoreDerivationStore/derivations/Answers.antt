@@ -8,7 +8,7 @@ use Rattle.slot_core.proofs.rows.RowStoreDerivationStore.derivations.Goals as go
 
 pub returns : goal.returns
 returns g c =
-    let p = g.P.Profile.the in
+    let p = g.P.Profile.profile in
     let rows = c.deref-row-items.result.now in
     let over : length rows ≤ c.loop-row.row-index = omega arith in
     sym (all_found p c.loop-row.found.items c.loop-row.above.items)

@@ -14,7 +14,7 @@ use Rattle.slot_core.proofs.linked.walk.LinkedStoreDerivationStore.derivations.G
 
 pub returns-in_default : goal.returns-in_default
 returns-in_default g c =
-    let p = g.P.Profile.the in
+    let p = g.P.Profile.profile in
     let links = c.self.inside.links.items in
     let none : c.loop.here ≡ None = search rules in
     sym (ended p links c.loop.found.items c.loop.above.items (length links - c.loop.counter))
@@ -25,7 +25,7 @@ returns-in_default g c =
 
 pub loop-preserved : goal.loop-preserved
 loop-preserved g c =
-    let p = g.P.Profile.the in
+    let p = g.P.Profile.profile in
     let links = c.self.inside.links.items in
     let slot = c.in-Some.slot in
     let e : c.row-link.result ≡ link_at links slot.place = c.row-link.ensures ∙ ap (λ (m : List Link). link_at m slot.place) c.deref.ensures.value in
@@ -47,7 +47,7 @@ loop-preserved g c =
 
 pub returns : goal.returns
 returns g c =
-    let p = g.P.Profile.the in
+    let p = g.P.Profile.profile in
     let links = c.self.inside.links.items in
     let over : 0 ≡ length links - c.loop.counter = omega arith in
     sym (all_found p links c.loop.found.items c.loop.above.items c.loop.here)
