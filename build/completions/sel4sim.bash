@@ -5,9 +5,18 @@ _sel4sim() {
         case ${COMP_WORDS[at]} in -*) ;; *) command=${COMP_WORDS[at]}; break ;; esac
     done
     COMPREPLY=()
+    case ${COMP_WORDS[COMP_CWORD-1]} in
+        --call) COMPREPLY=($(compgen -W '' -- "$word")); return ;;
+        --after) COMPREPLY=($(compgen -W '' -- "$word")); return ;;
+        --slot) COMPREPLY=($(compgen -W '' -- "$word")); return ;;
+        --without) COMPREPLY=($(compgen -W '' -- "$word")); return ;;
+        --first) COMPREPLY=($(compgen -W '' -- "$word")); return ;;
+        --states) COMPREPLY=($(compgen -W '' -- "$word")); return ;;
+        --witness) COMPREPLY=($(compgen -W '' -- "$word")); return ;;
+    esac
     case $command in
         '')
-            COMPREPLY=($(compgen -W 'check trace threads migrate -V --version -h --help' -- "$word"))
+            COMPREPLY=($(compgen -W 'check trace threads migrate why audit explore -V --version -h --help' -- "$word"))
             [[ $word == -* ]] || mapfile -t -O "${#COMPREPLY[@]}" COMPREPLY < <(compgen -f -- "$word")
             ;;
         check)
@@ -24,6 +33,18 @@ _sel4sim() {
             ;;
         migrate)
             COMPREPLY=($(compgen -W '-h --help' -- "$word"))
+            [[ $word == -* ]] || mapfile -t -O "${#COMPREPLY[@]}" COMPREPLY < <(compgen -f -- "$word")
+            ;;
+        why)
+            COMPREPLY=($(compgen -W '--call -h --help' -- "$word"))
+            [[ $word == -* ]] || mapfile -t -O "${#COMPREPLY[@]}" COMPREPLY < <(compgen -f -- "$word")
+            ;;
+        audit)
+            COMPREPLY=($(compgen -W '--after --slot --ever --without -h --help' -- "$word"))
+            [[ $word == -* ]] || mapfile -t -O "${#COMPREPLY[@]}" COMPREPLY < <(compgen -f -- "$word")
+            ;;
+        explore)
+            COMPREPLY=($(compgen -W '--first --states --witness -h --help' -- "$word"))
             [[ $word == -* ]] || mapfile -t -O "${#COMPREPLY[@]}" COMPREPLY < <(compgen -f -- "$word")
             ;;
     esac

@@ -15,3 +15,20 @@ complete -c sel4sim -n '__fish_seen_subcommand_from threads' -F
 complete -c sel4sim -n '__fish_use_subcommand' -a migrate -d 'Prints a set-up of format 1 as one of format 2'
 complete -c sel4sim -n '__fish_seen_subcommand_from migrate' -s h -l help -d 'Print help'
 complete -c sel4sim -n '__fish_seen_subcommand_from migrate' -F
+complete -c sel4sim -n '__fish_use_subcommand' -a why -d 'Runs a set-up and prints why its calls are refused'
+complete -c sel4sim -n '__fish_seen_subcommand_from why' -l call -x -a '' -d 'Tell of call N alone'
+complete -c sel4sim -n '__fish_seen_subcommand_from why' -s h -l help -d 'Print help'
+complete -c sel4sim -n '__fish_seen_subcommand_from why' -F
+complete -c sel4sim -n '__fish_use_subcommand' -a audit -d 'Runs a set-up and prints who reaches what, who can send to whom, and what a revoke would destroy'
+complete -c sel4sim -n '__fish_seen_subcommand_from audit' -l after -x -a '' -d 'Make the first N calls alone'
+complete -c sel4sim -n '__fish_seen_subcommand_from audit' -l slot -x -a '' -d 'Tell what a revoke of the slot at N would change'
+complete -c sel4sim -n '__fish_seen_subcommand_from audit' -l ever -d 'Tell what the threads can never get, whatever they call'
+complete -c sel4sim -n '__fish_seen_subcommand_from audit' -l without -x -a '' -d 'With --ever: these threads, with commas between them, make no more calls'
+complete -c sel4sim -n '__fish_seen_subcommand_from audit' -s h -l help -d 'Print help'
+complete -c sel4sim -n '__fish_seen_subcommand_from audit' -F
+complete -c sel4sim -n '__fish_use_subcommand' -a explore -d 'Runs the clients of a set-up in every order of their calls and prints what can happen'
+complete -c sel4sim -n '__fish_seen_subcommand_from explore' -l first -x -a '' -d 'Make the first N calls before the clients begin'
+complete -c sel4sim -n '__fish_seen_subcommand_from explore' -l states -x -a '' -d 'Keep at most N states'
+complete -c sel4sim -n '__fish_seen_subcommand_from explore' -l witness -x -a '' -d 'Write the set-up of one order: I.J of answer J of call I, or stuck.J'
+complete -c sel4sim -n '__fish_seen_subcommand_from explore' -s h -l help -d 'Print help'
+complete -c sel4sim -n '__fish_seen_subcommand_from explore' -F

@@ -16,7 +16,7 @@ use Rattle.clap.proofs.OnLiterals.{clap_on_literals}
 use Rattle.clap.proofs.WalkLemmas.{both}
 use Rattle.command_line.specs.CommandLine.{command, job_named, job_of, Explains, StandsFor}
 use Rattle.command_line.specs.declared.arguments.LineFault.{LineFault}
-use Rattle.command_line.specs.declared.arguments.LineFault.TheVariants.{Help, Refused, Memory}
+use Rattle.command_line.specs.declared.arguments.LineFault.TheVariants.{Help, Refused, Conflict, Memory}
 
 pub command_is_simple : is_simple command ≡ true
 unfolding command clap_on_literals
@@ -99,4 +99,5 @@ explained words e (Help text) kinds passes stands =
     (not_taken _ _ passes other, subst (λ k. IsAmong k (fault_of command words)) stands (among _ e kinds other))
 explained words e Refused kinds passes stands =
     (not_taken _ _ passes stands.1, (kind_of e, among _ e kinds stands.1, stands.0))
+explained words e (Conflict text) kinds passes stands = absurd stands
 explained words e Memory kinds passes stands = tt

@@ -1,16 +1,19 @@
 -- The program's command as clap's definition, and what clap's matches for the words say.
-use Rattle.std.specs.Prelude.{◌≡◌, ◌≢◌, ⊤, true, false, codes, List, Option, Some, None, if◌then◌else◌}
+use Rattle.std.specs.Prelude.{◌≡◌, ◌≢◌, ◌<◌, ◌^◌, ⊤, Bool, true, false, not, codes, ℕ, List, [], Option, Some, None, is_some, option_map, if◌then◌else◌}
+use Rattle.std.specs.Str.Parse.{IsNumeral, digits_value, without_leading_plus}
 use Rattle.std.specs.Option.{option_or}
 use Rattle.std.specs.Str.{bytes_eq}
 use Rattle.clap.specs.Words.{App, Kinds, Row, Rule, Text, first_of, matches_of, new_app, new_rule, with_rule, with_subcommand, subcommand_of, takes, fault_of, IsAmong}
 use Rattle.clap.specs.Simple.{on_top}
 use Rattle.clap.specs.declared.builder.action.ArgAction.TheVariants as action
+use Rattle.clap.specs.declared.builder.value_parser.ValueParser.TheVariants.{Unsigned}
 use Rattle.clap.specs.declared.error.kind.ErrorKind.{ErrorKind}
 use Rattle.clap.specs.declared.error.kind.ErrorKind.TheVariants.{DisplayHelp, OutOfMemory}
 use Rattle.command_line.specs.declared.arguments.Job.{Job}
-use Rattle.command_line.specs.declared.arguments.Job.TheVariants.{Check, Trace, Threads, Migrate}
+use Rattle.command_line.specs.declared.arguments.Job.TheVariants.{Check, Trace, Threads, Migrate, Why, Audit, Explore}
 use Rattle.command_line.specs.declared.arguments.LineFault.{LineFault}
-use Rattle.command_line.specs.declared.arguments.LineFault.TheVariants.{Help, Refused, Memory}
+use Rattle.command_line.specs.declared.arguments.LineFault.TheVariants.{Help, Refused, Conflict, Memory}
+use Rattle.command_line.specs.declared.arguments.Options.{Options}
 
 -- the argument FILE
 abbrev pub file_rule : Rule
@@ -37,12 +40,52 @@ bare_command =
 abbrev pub and_subcommand : App → App → App
 and_subcommand made app = with_subcommand app made.top
 
--- `sel4sim`, with the subcommands `check`, `trace`, `threads` and `migrate`
-unfoldable pub command : App
-command =
+-- an option that takes a number of 64 bits, by its long name
+abbrev pub number_rule : Text → Rule
+number_rule name = record (new_rule name) {
+  long = Some name;
+  value_names = 1;
+  parser = Some (Unsigned 0 18446744073709551615);
+}
+
+-- an option that takes no value, by its long name
+abbrev pub flag_rule : Text → Rule
+flag_rule name = record (new_rule name) {
+  long = Some name;
+  action = Some action.SetTrue;
+}
+
+-- an option that takes a text, by its long name
+abbrev pub text_rule : Text → Rule
+text_rule name = record (new_rule name) {
+  long = Some name;
+  value_names = 1;
+}
+
+-- the subcommands that have options
+abbrev pub why_command : App
+why_command = with_rule (with_file (codes "why")) (number_rule (codes "call"))
+
+abbrev pub audit_command : App
+audit_command =
+    with_rule (with_rule (with_rule (with_rule (with_file (codes "audit"))
+    (number_rule (codes "after"))) (number_rule (codes "slot"))) (flag_rule (codes "ever"))) (text_rule (codes "without"))
+
+abbrev pub explore_command : App
+explore_command =
+    with_rule (with_rule (with_rule (with_file (codes "explore"))
+    (number_rule (codes "first"))) (number_rule (codes "states"))) (text_rule (codes "witness"))
+
+-- `sel4sim`, with the subcommands that have no options
+abbrev pub plain_command : App
+plain_command =
     and_subcommand (with_file (codes "migrate"))
     (and_subcommand (with_file (codes "threads"))
     (and_subcommand (with_file (codes "trace")) (and_subcommand (with_file (codes "check")) bare_command)))
+
+-- `sel4sim`, with all its subcommands
+unfoldable pub command : App
+command = and_subcommand explore_command (and_subcommand audit_command (and_subcommand why_command plain_command))
 
 -- the job of a subcommand's name
 abbrev pub job_named : Text → Option Job
@@ -51,6 +94,9 @@ job_named name =
     else if bytes_eq name (codes "trace") then Some Trace
     else if bytes_eq name (codes "threads") then Some Threads
     else if bytes_eq name (codes "migrate") then Some Migrate
+    else if bytes_eq name (codes "why") then Some Why
+    else if bytes_eq name (codes "audit") then Some Audit
+    else if bytes_eq name (codes "explore") then Some Explore
     else None
 
 -- the job where a subcommand of that name with these matches is met, and where none is
@@ -63,6 +109,41 @@ abbrev pub file_of : List Row → Option (Text × List Row) → Option Text
 file_of above None = first_of (codes "FILE") above
 file_of above (Some met) = option_or (first_of (codes "FILE") met.1) (first_of (codes "FILE") above)
 
+-- a text of decimal digits, which can begin with a plus, of a number of 64 bits
+abbrev pub IsNumber : Text → Type 0
+IsNumber text = IsNumeral 10 (without_leading_plus text) × (digits_value 10 (without_leading_plus text) < 2 ^ 64)
+
+-- the number that an option's text says, where the option is there
+abbrev pub Says : Option Text → Option ℕ → Type 0
+Says None number = number ≡ None
+Says (Some text) None = ¬ (IsNumber text)
+Says (Some text) (Some number) = IsNumber text × (number ≡ digits_value 10 (without_leading_plus text))
+
+-- an option that takes no value is there: clap's text of it is then `true`
+abbrev pub is_set : Option Text → Bool
+is_set None = false
+is_set (Some text) = bytes_eq text (codes "true")
+
+-- what a subcommand's matches give to its options
+pub record HasOptions (rows : List Row) (options : Options) : Type 0 where
+  pub call : Says (first_of (codes "call") rows) options.call
+  pub after : Says (first_of (codes "after") rows) options.after
+  pub slot : Says (first_of (codes "slot") rows) options.slot
+  pub ever : options.ever ≡ is_set (first_of (codes "ever") rows)
+  pub without : option_map (λ s. s.now) options.without ≡ first_of (codes "without") rows
+  pub first : Says (first_of (codes "first") rows) options.first
+  pub states : Says (first_of (codes "states") rows) options.states
+  pub witness : option_map (λ s. s.now) options.witness ≡ first_of (codes "witness") rows
+
+-- the options go together: `--ever` tells of no slot, and `--without` needs it
+abbrev pub agrees : Options → Bool
+agrees options = if options.ever then not (is_some options.slot) else not (is_some options.without)
+
+-- the matches of the subcommand that is met
+abbrev pub own_rows : Option (Text × List Row) → List Row
+own_rows None = []
+own_rows (Some met) = met.1
+
 -- the job that clap's matches for the words give, and the file
 abbrev pub job_asked : List Text → Option Job
 job_asked words = job_of (subcommand_of command words)
@@ -74,14 +155,22 @@ file_asked words = file_of (matches_of command words) (subcommand_of command wor
 abbrev pub HasOtherFault : Kinds → Type 0
 HasOtherFault kinds = (kind : ErrorKind) × IsAmong kind kinds × (kind ≢ DisplayHelp)
 
--- the command doesn't take the words, and their fault by clap's definition can be a call for help, or can be another
+-- clap takes the words, and the options that their matches give do not go together
+abbrev pub HasConflict : List Text → Type 0
+HasConflict words = (fault_of command words ≡ [])
+    × (options : Options) × HasOptions (own_rows (subcommand_of command words)) options × (agrees options ≡ false)
+
+-- the command doesn't take the words, and their fault by clap's definition can be a call for help, or can be another; or
+-- it takes them, and the options do not go together
 abbrev pub Explains : List Text → LineFault → Type 0
 Explains words (Help text) = (takes command words ≡ false) × IsAmong DisplayHelp (fault_of command words)
 Explains words Refused = (takes command words ≡ false) × HasOtherFault (fault_of command words)
+Explains words (Conflict text) = HasConflict words
 Explains words Memory = ⊤
 
 -- the fault that stands for an error of clap
 abbrev pub StandsFor : ErrorKind → LineFault → Type 0
 StandsFor kind (Help text) = kind ≡ DisplayHelp
 StandsFor kind Refused = (kind ≢ DisplayHelp) × (kind ≢ OutOfMemory)
+StandsFor kind (Conflict text) = ⊥
 StandsFor kind Memory = ⊤

@@ -14,13 +14,43 @@ pub enum Job {
     Threads,
     /// Write a set-up of format 1 in format 2.
     Migrate,
+    /// Run a set-up and tell why its calls are refused.
+    Why,
+    /// Run a set-up and tell who reaches what, who can send to whom, and what a revoke would destroy.
+    Audit,
+    /// Run a set-up's clients in every order of their calls.
+    Explore,
 }
 
-/// A command line that was taken: what to do, and with which file; without a file, with standard input.
+/// What the options of a command line give; `None` where an option is not there.
+#[derive(Clone, Copy, Drop)]
+pub struct Options<'a> {
+    /// `--call` of `why`: the call that is told of, from 1.
+    pub call: Option<u64>,
+    /// `--after` of `audit`: how many calls are made.
+    pub after: Option<u64>,
+    /// `--slot` of `audit`: the address of a slot.
+    pub slot: Option<u64>,
+    /// Whether `--ever` of `audit` is there: what threads can never get is asked for.
+    pub ever: bool,
+    /// `--without` of `audit --ever`: the threads that are trusted to make no more calls, with commas between them.
+    pub without: Option<&'a str>,
+    /// `--first` of `explore`: how many calls are made before the clients begin.
+    pub first: Option<u64>,
+    /// `--states` of `explore`: the most states that are kept.
+    pub states: Option<u64>,
+    /// `--witness` of `explore`: the order whose set-up is written, by the report's name of what it tells.
+    pub witness: Option<&'a str>,
+}
+
+/// A command line that was taken: what to do, by which options, and with which file; without a file, with standard
+/// input.
 #[derive(Clone, Copy, Drop)]
 pub struct Line<'a> {
     /// What to do.
     pub job: Job,
+    /// What the options say.
+    pub options: Options<'a>,
     /// The file's name.
     pub file: Option<&'a str>,
 }
@@ -34,6 +64,9 @@ pub enum LineFault {
     /// It is none that the program takes.
     #[error("command line refused")]
     Refused,
+    /// Options of it do not go together; the text says which.
+    #[error("command line refused")]
+    Conflict(&'static str),
     /// Memory ran out.
     #[error("out of memory")]
     Memory,
@@ -42,13 +75,14 @@ pub enum LineFault {
 impl LineFault {
     ghost use Rattle.command_line.specs.Statuses.{line_status};
 
-    /// The program's exit status after this fault: 0 after help, 4 after a refusal, 3 where memory ran out.
+    /// The program's exit status after this fault: 0 after help, 4 after a refusal or a conflict, 3 where memory ran out.
     pub fn status(&self) -> u8
         ensures { result ≡ line_status self.now }
     {
         match self {
             LineFault::Help(_) => 0,
             LineFault::Refused => 4,
+            LineFault::Conflict(_) => 4,
             LineFault::Memory => 3,
         }
     }
@@ -69,6 +103,12 @@ impl Job {
             Some(Job::Threads)
         } else if name == "migrate" {
             Some(Job::Migrate)
+        } else if name == "why" {
+            Some(Job::Why)
+        } else if name == "audit" {
+            Some(Job::Audit)
+        } else if name == "explore" {
+            Some(Job::Explore)
         } else {
             None
         }

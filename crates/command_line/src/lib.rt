@@ -4,5 +4,5 @@
 mod arguments;
 mod reading;
 
-pub use arguments::{Job, Line, LineFault};
+pub use arguments::{Job, Line, LineFault, Options};
 pub use reading::{line, refused_line_words};

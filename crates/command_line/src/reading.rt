@@ -1,12 +1,13 @@
 //! The words of the command line.
-ghost use Rattle.std.specs.Prelude.{◌≡◌, [], false, option_map, IfOk, IfErr, IsSome, OnOk};
-ghost use Rattle.clap.specs.Words.{app_of, fault_of, found_of, rows_of, rule_of, subcommand_rows_of};
+ghost use Rattle.std.specs.Prelude.{◌≡◌, [], true, false, not, is_some, option_map, IfOk, IfErr, IsSome, OnOk};
+ghost use Rattle.clap.specs.Words.{app_of, fault_of, first_of, found_of, rows_of, rule_of, subcommand_of, subcommand_rows_of};
 ghost use Rattle.clap.specs.declared.builder.command.Command.TheViews.{out-Command};
 ghost use Rattle.clap.specs.Values.{kind_of};
 ghost use Rattle.clap.specs.Walk.{texts};
-ghost use Rattle.command_line.specs.CommandLine.{Explains, StandsFor, and_subcommand, bare_command, command as definition, file_asked, file_of, file_rule, job_asked, job_of, version_rule, with_file as with_file_definition};
+ghost use Rattle.command_line.specs.CommandLine.{Explains, HasOptions, Says, StandsFor, agrees, and_subcommand, audit_command, bare_command, command as definition, explore_command, file_asked, file_of, file_rule, flag_rule, is_set, job_asked, job_of, number_rule, own_rows, plain_command, text_rule, version_rule, why_command, with_file as with_file_definition};
 
-use crate::arguments::{Job, Line, LineFault};
+use crate::arguments::{Job, Line, LineFault, Options};
+use clap::builder::ValueParser;
 use clap::error::ErrorKind;
 use clap::{Arg, ArgAction, ArgMatches, Command, Error};
 use std::alloc::{AllocError, Global};
@@ -23,6 +24,11 @@ Without a command, FILE is run as by check.
 Examples:
   sel4sim layout.toml            the report of a set-up
   sel4sim trace layout.toml      what each of its calls changed
+  sel4sim why layout.toml        why its calls are refused
+  sel4sim audit layout.toml      who reaches what, and who can send to whom
+  sel4sim audit --ever --without loader layout.toml
+                                 what the clients can never get
+  sel4sim explore layout.toml    what every order of its calls comes to
   sel4sim check - < layout.toml  the set-up on standard input
 
 Exit status:
@@ -30,9 +36,17 @@ Exit status:
   1  an expectation is not met
   2  the set-up is refused
   3  reading or writing failed, memory ran out, or a thread was not started
-  4  the command line is refused
+  4  the command line is refused, or names what the set-up does not have
 
 Pages: docs/first-set-up.md, and below the installation share/doc/sel4sim";
+
+/// What is said of options that do not go together.
+const SLOT_WITH_EVER: &str = "--slot and --ever do not go together";
+
+const WITHOUT_ALONE: &str = "--without goes with --ever alone";
+
+/// The base in which the numbers of options are written.
+const DECIMAL: u32 = 10;
 
 /// The argument FILE.
 fn file<'a>(alloc: Global) -> Arg<'a>
@@ -90,9 +104,113 @@ fn and_with_file<'a>(
     Ok(whole)
 }
 
-/// The command as clap reads it.
-fn command<'a>(alloc: Global) -> Result<Command<'a>, AllocError>
-    ensures { IfOk result (λ c. app_of c ≡ definition) }
+/// An option that takes a number, by its long name.
+fn number<'a>(alloc: Global, name: &'a str, about: &'a str) -> Arg<'a>
+    ensures rule { rule_of result ≡ number_rule name.now }
+    ensures local { result.global ≡ false }
+{
+    Arg::new(alloc, name)
+        .long(name)
+        .value_name("N")
+        .value_parser(ValueParser::Unsigned(0, u64::MAX))
+        .help(about)
+}
+
+/// An option that takes no value, by its long name.
+fn flag<'a>(alloc: Global, name: &'a str, about: &'a str) -> Arg<'a>
+    ensures rule { rule_of result ≡ flag_rule name.now }
+    ensures local { result.global ≡ false }
+{
+    Arg::new(alloc, name)
+        .long(name)
+        .action(ArgAction::SetTrue)
+        .help(about)
+}
+
+/// An option that takes a text, by its long name.
+fn text<'a>(alloc: Global, name: &'a str, value: &'a str, about: &'a str) -> Arg<'a>
+    ensures rule { rule_of result ≡ text_rule name.now }
+    ensures local { result.global ≡ false }
+{
+    Arg::new(alloc, name)
+        .long(name)
+        .value_name(value)
+        .help(about)
+}
+
+/// The subcommand `why`.
+fn why<'a>(alloc: Global) -> Result<Command<'a>, AllocError>
+    ensures app { IfOk result (λ c. app_of c ≡ why_command) }
+    ensures local { IfOk result (λ c. (out-Command c).has_globals ≡ false) }
+{
+    let about = "Runs a set-up and prints why its calls are refused";
+    let command = with_file(alloc, "why", about)?;
+    let call = number(alloc, "call", "Tell of call N alone");
+    let whole = command.arg(call)?;
+    Ok(whole)
+}
+
+/// The subcommand `audit`.
+fn audit<'a>(alloc: Global) -> Result<Command<'a>, AllocError>
+    ensures app { IfOk result (λ c. app_of c ≡ audit_command) }
+    ensures local { IfOk result (λ c. (out-Command c).has_globals ≡ false) }
+{
+    let about =
+        "Runs a set-up and prints who reaches what, who can send to whom, and what a revoke would destroy";
+    let command = with_file(alloc, "audit", about)?;
+    let after = number(alloc, "after", "Make the first N calls alone");
+    let with_after = command.arg(after)?;
+    let slot = number(
+        alloc,
+        "slot",
+        "Tell what a revoke of the slot at N would change",
+    );
+    let with_slot = with_after.arg(slot)?;
+    let ever = flag(
+        alloc,
+        "ever",
+        "Tell what the threads can never get, whatever they call",
+    );
+    let with_ever = with_slot.arg(ever)?;
+    let without = text(
+        alloc,
+        "without",
+        "WHO",
+        "With --ever: these threads, with commas between them, make no more calls",
+    );
+    let whole = with_ever.arg(without)?;
+    Ok(whole)
+}
+
+/// The subcommand `explore`.
+fn explore<'a>(alloc: Global) -> Result<Command<'a>, AllocError>
+    ensures app { IfOk result (λ c. app_of c ≡ explore_command) }
+    ensures local { IfOk result (λ c. (out-Command c).has_globals ≡ false) }
+{
+    let about =
+        "Runs the clients of a set-up in every order of their calls and prints what can happen";
+    let command = with_file(alloc, "explore", about)?;
+    let first = number(
+        alloc,
+        "first",
+        "Make the first N calls before the clients begin",
+    );
+    let with_first = command.arg(first)?;
+    let states = number(alloc, "states", "Keep at most N states");
+    let with_states = with_first.arg(states)?;
+    let witness = text(
+        alloc,
+        "witness",
+        "WHICH",
+        "Write the set-up of one order: I.J of answer J of call I, or stuck.J",
+    );
+    let whole = with_states.arg(witness)?;
+    Ok(whole)
+}
+
+/// The command with the subcommands that have no options.
+fn plain<'a>(alloc: Global) -> Result<Command<'a>, AllocError>
+    ensures { IfOk result (λ c. app_of c ≡ plain_command) }
 {
     let check = and_with_file(
         alloc,
@@ -121,10 +239,62 @@ fn command<'a>(alloc: Global) -> Result<Command<'a>, AllocError>
     Ok(migrate)
 }
 
+/// The command as clap reads it.
+fn command<'a>(alloc: Global) -> Result<Command<'a>, AllocError>
+    ensures { IfOk result (λ c. app_of c ≡ definition) }
+{
+    let with_why = plain(alloc)?.subcommand(why(alloc)?)?;
+    let with_audit = with_why.subcommand(audit(alloc)?)?;
+    let whole = with_audit.subcommand(explore(alloc)?)?;
+    Ok(whole)
+}
+
+/// The number that an option gives.
+fn number_given(matches: &ArgMatches, name: &str) -> Option<u64>
+    ensures { Says (first_of name.now (rows_of (found_of matches.now))) result }
+{
+    let text = matches.get_str(name)?;
+    u64::from_str_radix(text, DECIMAL).ok()
+}
+
+/// The text that an option gives.
+fn text_given<'a>(matches: &ArgMatches<'a>, name: &str) -> Option<&'a str>
+    ensures { option_map (λ s. s.now) result ≡ first_of name.now (rows_of (found_of matches.now)) }
+{
+    matches.get_str(name)
+}
+
+/// Whether an option that takes no value is there.
+fn flag_given(matches: &ArgMatches, name: &str) -> bool
+    ensures { result ≡ is_set (first_of name.now (rows_of (found_of matches.now))) }
+{
+    match text_given(matches, name) {
+        Some(text) => text == "true",
+        None => false,
+    }
+}
+
+/// What the options of a subcommand give.
+fn options_in<'a>(matches: &ArgMatches<'a>) -> Options<'a>
+    ensures { HasOptions (rows_of (found_of matches.now)) result }
+{
+    Options {
+        call: number_given(matches, "call"),
+        after: number_given(matches, "after"),
+        slot: number_given(matches, "slot"),
+        ever: flag_given(matches, "ever"),
+        without: text_given(matches, "without"),
+        first: number_given(matches, "first"),
+        states: number_given(matches, "states"),
+        witness: text_given(matches, "witness"),
+    }
+}
+
 /// What the matches ask for.
 fn line_in<'a>(matches: &ArgMatches<'a>) -> Line<'a>
     requires { IsSome (job_of (subcommand_rows_of matches.now)) }
     ensures job { job_of (subcommand_rows_of matches.now) ≡ Some result.job }
+    ensures options { HasOptions (own_rows (subcommand_rows_of matches.now)) result.options }
     ensures file { file_of (rows_of (found_of matches.now)) (subcommand_rows_of matches.now)
         ≡ option_map (λ s. s.now) result.file }
 {
@@ -132,15 +302,39 @@ fn line_in<'a>(matches: &ArgMatches<'a>) -> Line<'a>
     match matches.subcommand() {
         None => Line {
             job: Job::Check,
+            options: Options {
+                call: None,
+                after: None,
+                slot: None,
+                ever: false,
+                without: None,
+                first: None,
+                states: None,
+                witness: None,
+            },
             file: above,
         },
         Some((name, inner)) => {
             let Some(job) = Job::named(name) else {
                 unreachable!();
             };
+            let options = options_in(inner);
             let file = inner.get_str("FILE").or(above);
-            Line { job, file }
+            Line { job, options, file }
         }
+    }
+}
+
+/// What is said of options that do not go together.
+fn conflict_of(options: &Options) -> Option<&'static str>
+    ensures { is_some result ≡ not (agrees options.now) }
+{
+    if options.ever && options.slot.is_some() {
+        Some(SLOT_WITH_EVER)
+    } else if !options.ever && options.without.is_some() {
+        Some(WITHOUT_ALONE)
+    } else {
+        None
     }
 }
 
@@ -179,10 +373,12 @@ pub fn refused_line_words(alloc: Global, words: &[&str]) -> Option<String> {
 /// Reads the words of a command line, of which the first is the program's name.
 ///
 /// # Errors
-/// `Help` where the words call for help, `Refused` where they are none that the command takes, and `Memory` where
-/// memory ran out.
+/// `Help` where the words call for help, `Refused` where they are none that the command takes, `Conflict` where it takes
+/// them and the options do not go together, and `Memory` where memory ran out.
 pub fn line<'a>(alloc: Global, words: &'a [&'a str]) -> Result<Line<'a>, LineFault>
     ensures job { IfOk result (λ l. job_asked (texts words.now) ≡ Some l.job) }
+    ensures options { IfOk result (λ l. HasOptions (own_rows (subcommand_of definition (texts words.now))) l.options) }
+    ensures agrees { IfOk result (λ l. agrees l.options ≡ true) }
     ensures file { IfOk result (λ l. file_asked (texts words.now) ≡ option_map (λ s. s.now) l.file) }
     ensures taken { OnOk result (fault_of definition (texts words.now) ≡ []) }
     ensures fault { IfErr result (Explains (texts words.now)) }
@@ -191,7 +387,13 @@ pub fn line<'a>(alloc: Global, words: &'a [&'a str]) -> Result<Line<'a>, LineFau
         return Err(LineFault::Memory);
     };
     match command.try_get_matches_from(words) {
-        Ok(matches) => Ok(line_in(&matches)),
+        Ok(matches) => {
+            let line = line_in(&matches);
+            match conflict_of(&line.options) {
+                None => Ok(line),
+                Some(text) => Err(LineFault::Conflict(text)),
+            }
+        }
         Err(error) => Err(fault_for(alloc, &error)),
     }
 }

@@ -11,5 +11,5 @@ pub use engine_core::{
     DeviceFault, Engine, INPUT_LIMIT, ReaderSource, RunFault, Sink, Source, Verdict, WriterSink,
     read_below, run_engine, status_of, write_all,
 };
-pub use migrating::migrate_run;
+pub use migrating::{migrate_run, table_text};
 pub use run::{refusal, text_of, verdict_on};

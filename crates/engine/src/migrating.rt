@@ -16,9 +16,13 @@ use toml::Table;
 /// How many levels of arrays and tables `toml` reads.
 const TOML_LEVELS: usize = 80;
 
-/// The text that `toml` prints of a table that a set-up is migrated to, and that it reads as that table.
+/// The text that `toml` prints of a table that is to be a set-up's, and that it reads as that table.
+///
+/// # Errors
+///
+/// Memory was refused, or the table is none of a set-up: it has a date, or too many levels to be read again.
 #[tactic(auto, using(crate::proofs::Texts::document_of_string))]
-fn table_text(alloc: Global, table: &Table) -> Result<Vec<u8>, AllocError>
+pub fn table_text(alloc: Global, table: &Table) -> Result<Vec<u8>, AllocError>
     ensures { IfOk result (λ text. document_of text.items ≡ Ok (table_view table.now)) }
 {
     // The tables of a set-up have four levels and no dates. So only memory can be lacking.

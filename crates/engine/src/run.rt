@@ -21,8 +21,8 @@ fn boot<P: Profile, S: MakeStore<P>, W: MakeWaiters<P>>(
     alloc: Global,
     plan: &BootPlan,
 ) -> Result<Kernel<P, S, W>, AllocError>
-    requires { IsPlan P.the plan.now }
-    ensures { IfOk result (λ kernel. kernel ≡ shown (boot_state P.the plan.now)) }
+    requires { IsPlan P.profile plan.now }
+    ensures { IfOk result (λ kernel. kernel ≡ shown (boot_state P.profile plan.now)) }
 {
     Kernel::boot(alloc, plan)
 }
@@ -34,9 +34,9 @@ fn run_calls<P: Profile, S: MakeStore<P>, W: MakeWaiters<P>>(
     alloc: Global,
     setup: &Setup,
 ) -> Result<(Kernel<P, S, W>, Vec<Reply>), AllocError>
-    requires { IsPlan P.the setup.now.plan }
-    ensures kernel { IfOk result (λ r. r.0 ≡ shown (end_of P.the setup.now)) }
-    ensures replies { IfOk result (λ r. r.1.items ≡ replies_to P.the setup.now) }
+    requires { IsPlan P.profile setup.now.plan }
+    ensures kernel { IfOk result (λ r. r.0 ≡ shown (end_of P.profile setup.now)) }
+    ensures replies { IfOk result (λ r. r.1.items ≡ replies_to P.profile setup.now) }
 {
     let mut kernel = boot::<P, S, W>(alloc, setup.plan())?;
     let calls = setup.calls();
@@ -52,8 +52,8 @@ fn run_setup<P: Profile, S: MakeStore<P> + DerivationStore<P>, W: MakeWaiters<P>
     alloc: Global,
     setup: &Setup,
 ) -> Result<(Vec<u8>, Verdict), AllocError>
-    requires { IsPlan P.the setup.now.plan }
-    ensures { IfOk result (λ made. (made.0.items, made.1) ≡ outcome_of P.the setup.now) }
+    requires { IsPlan P.profile setup.now.plan }
+    ensures { IfOk result (λ made. (made.0.items, made.1) ≡ outcome_of P.profile setup.now) }
 {
     let (kernel, replies) = run_calls::<P, S, W>(alloc, setup)?;
     let (text, count) = counted_report(alloc, setup, replies.as_slice(), &kernel)?;

@@ -38,8 +38,8 @@ fn explore_setup<P: Profile, S: MakeStore<P> + DerivationStore<P>, W: MakeWaiter
     options: ExploreOptions,
     setup: &Setup,
 ) -> Result<(Vec<u8>, Verdict), AllocError>
-    requires { IsPlan P.the setup.now.plan }
-    ensures { IfOk result (λ made. (made.0.items, made.1) ≡ explored_in P.the options.first options.states setup.now) }
+    requires { IsPlan P.profile setup.now.plan }
+    ensures { IfOk result (λ made. (made.0.items, made.1) ≡ explored_in P.profile options.first options.states setup.now) }
 {
     let told = explored_report::<P, S, W>(alloc, setup, options.first, options.states)?;
     Ok((told.text, verdict_on(told.is_well)))

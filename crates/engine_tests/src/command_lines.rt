@@ -11,6 +11,9 @@ fn name_of(job: Job) -> &'static str {
         Job::Trace => "trace",
         Job::Threads => "threads",
         Job::Migrate => "migrate",
+        Job::Why => "why",
+        Job::Audit => "audit",
+        Job::Explore => "explore",
     }
 }
 
@@ -18,6 +21,14 @@ fn name_of(job: Job) -> &'static str {
 fn is_taken(alloc: Global, words: &[&str], job: &str, file: Option<&str>) -> bool {
     match line(alloc, words) {
         Ok(taken) => name_of(taken.job) == job && taken.file == file,
+        Err(_) => false,
+    }
+}
+
+/// Whether the words ask for reasons, of the call with this number or of all.
+fn asks_why(alloc: Global, words: &[&str], wanted: Option<u64>) -> bool {
+    match line(alloc, words) {
+        Ok(taken) => name_of(taken.job) == "why" && taken.options.call == wanted,
         Err(_) => false,
     }
 }
@@ -44,6 +55,17 @@ fn is_refused(alloc: Global, words: &[&str]) -> Result<bool, AllocError> {
     Ok(is_refusal && fault.status() == 4 && text.as_str() == "command line refused")
 }
 
+/// Whether the words are taken and their options do not go together, with status 4, the text of a refusal and a text that
+/// names an option.
+fn is_conflict(alloc: Global, words: &[&str], named: &str) -> Result<bool, AllocError> {
+    let Err(fault) = line(alloc, words) else {
+        return Ok(false);
+    };
+    let text = format!(in alloc; "{fault}")?;
+    let is_named = matches!(&fault, LineFault::Conflict(which) if which.contains(named));
+    Ok(is_named && fault.status() == 4 && text.as_str() == "command line refused")
+}
+
 /// Whether a fault of a run has this text, and status 3.
 fn says(alloc: Global, fault: RunFault, said: &str) -> Result<bool, AllocError> {
     let text = format!(in alloc; "{fault}")?;
@@ -52,7 +74,7 @@ fn says(alloc: Global, fault: RunFault, said: &str) -> Result<bool, AllocError> 
 
 #[test]
 fn lines_are_taken(rt: HostRuntime) {
-    let forms: [(&[&str], &str, Option<&str>); 14] = [
+    let forms: [(&[&str], &str, Option<&str>); 20] = [
         (&["sel4sim"], "check", None),
         (&["sel4sim", "check"], "check", None),
         (
@@ -87,6 +109,28 @@ fn lines_are_taken(rt: HostRuntime) {
             Some("rows.toml"),
         ),
         (&["sel4sim", "trace", "-"], "trace", Some("-")),
+        (
+            &["sel4sim", "why", "rows.toml", "--call", "2"],
+            "why",
+            Some("rows.toml"),
+        ),
+        (&["sel4sim", "audit", "-"], "audit", Some("-")),
+        (
+            &["sel4sim", "audit", "--ever", "rows.toml"],
+            "audit",
+            Some("rows.toml"),
+        ),
+        (
+            &["sel4sim", "rows.toml", "audit", "--after", "1"],
+            "audit",
+            Some("rows.toml"),
+        ),
+        (&["sel4sim", "explore"], "explore", None),
+        (
+            &["sel4sim", "explore", "--first", "1", "rows.toml"],
+            "explore",
+            Some("rows.toml"),
+        ),
     ];
     for (words, job, file) in forms {
         assert!(rt; is_taken(rt.alloc(), words, job, file), "{words:?}");
@@ -94,8 +138,157 @@ fn lines_are_taken(rt: HostRuntime) {
 }
 
 #[test]
+fn numbers_are_read(rt: HostRuntime) {
+    let forms: [(&[&str], Option<u64>); 5] = [
+        (&["sel4sim", "why"], None),
+        (&["sel4sim", "why", "--call", "3", "rows.toml"], Some(3)),
+        (&["sel4sim", "why", "rows.toml", "--call=0"], Some(0)),
+        (&["sel4sim", "why", "--call", "007"], Some(7)),
+        (
+            &["sel4sim", "why", "--call", "18446744073709551615"],
+            Some(u64::MAX),
+        ),
+    ];
+    for (words, call) in forms {
+        assert!(rt; asks_why(rt.alloc(), words, call), "{words:?}");
+    }
+}
+
+#[test]
+fn numbers_of_an_audit_are_read(rt: HostRuntime) {
+    let forms: [(&[&str], Option<u64>, Option<u64>); 4] = [
+        (&["sel4sim", "audit"], None, None),
+        (
+            &["sel4sim", "audit", "--after", "3", "rows.toml"],
+            Some(3),
+            None,
+        ),
+        (
+            &["sel4sim", "audit", "rows.toml", "--slot=160"],
+            None,
+            Some(160),
+        ),
+        (
+            &["sel4sim", "audit", "--slot", "160", "--after", "0"],
+            Some(0),
+            Some(160),
+        ),
+    ];
+    for (words, after, slot) in forms {
+        let is_read = match line(rt.alloc(), words) {
+            Ok(taken) => {
+                name_of(taken.job) == "audit"
+                    && taken.options.after == after
+                    && taken.options.slot == slot
+            }
+            Err(_) => false,
+        };
+        assert!(rt; is_read, "{words:?}");
+    }
+}
+
+#[test]
+fn parts_are_asked_for(rt: HostRuntime) {
+    let forms: [(&[&str], bool, Option<&str>); 6] = [
+        (&["sel4sim", "audit"], false, None),
+        (&["sel4sim", "audit", "--ever"], true, None),
+        (
+            &["sel4sim", "audit", "--ever", "--without", "loader"],
+            true,
+            Some("loader"),
+        ),
+        (
+            &["sel4sim", "audit", "--without=@a,2048", "--ever"],
+            true,
+            Some("@a,2048"),
+        ),
+        (
+            &["sel4sim", "audit", "--without", "", "--ever"],
+            true,
+            Some(""),
+        ),
+        (&["sel4sim", "audit", "--ever", "--after", "3"], true, None),
+    ];
+    for (words, ever, without) in forms {
+        let is_read = match line(rt.alloc(), words) {
+            Ok(taken) => taken.options.ever == ever && taken.options.without == without,
+            Err(_) => false,
+        };
+        assert!(rt; is_read, "{words:?}");
+    }
+}
+
+#[test]
+fn numbers_of_an_exploration_are_read(rt: HostRuntime) {
+    let forms: [(&[&str], Option<u64>, Option<u64>); 4] = [
+        (&["sel4sim", "explore"], None, None),
+        (&["sel4sim", "explore", "--first", "3"], Some(3), None),
+        (&["sel4sim", "explore", "--states=5"], None, Some(5)),
+        (
+            &["sel4sim", "explore", "--states", "0", "--first", "0"],
+            Some(0),
+            Some(0),
+        ),
+    ];
+    for (words, first, states) in forms {
+        let is_read = match line(rt.alloc(), words) {
+            Ok(taken) => {
+                name_of(taken.job) == "explore"
+                    && taken.options.first == first
+                    && taken.options.states == states
+            }
+            Err(_) => false,
+        };
+        assert!(rt; is_read, "{words:?}");
+    }
+}
+
+#[test]
+fn witnesses_are_asked_for(rt: HostRuntime) {
+    let forms: [(&[&str], Option<&str>); 3] = [
+        (&["sel4sim", "explore"], None),
+        (
+            &["sel4sim", "explore", "--witness", "stuck.1"],
+            Some("stuck.1"),
+        ),
+        (
+            &["sel4sim", "explore", "--first=1", "--witness=2.3"],
+            Some("2.3"),
+        ),
+    ];
+    for (words, witness) in forms {
+        let is_read = match line(rt.alloc(), words) {
+            Ok(taken) => taken.options.witness == witness,
+            Err(_) => false,
+        };
+        assert!(rt; is_read, "{words:?}");
+    }
+}
+
+#[test]
+fn options_that_do_not_go_together_are_refused(rt: HostRuntime) -> Result<(), Fail> {
+    let forms: [(&[&str], &str); 5] = [
+        (&["sel4sim", "audit", "--ever", "--slot", "160"], "--slot"),
+        (
+            &["sel4sim", "audit", "--slot", "160", "--ever", "rows.toml"],
+            "--ever",
+        ),
+        (&["sel4sim", "audit", "--without", "loader"], "--without"),
+        (
+            &["sel4sim", "audit", "--without", "loader", "--slot", "160"],
+            "--ever",
+        ),
+        (&["sel4sim", "audit", "--without", ""], "--without"),
+    ];
+    for (words, named) in forms {
+        assert!(rt; is_conflict(rt.alloc(), words, named)?, "{words:?}");
+    }
+    Ok(())
+}
+
+#[test]
 fn help_has_its_text(rt: HostRuntime) {
-    let forms: [&[&str]; 7] = [
+    let forms: [&[&str]; 11] = [
         &["sel4sim", "--help"],
         &["sel4sim", "--version"],
         &["sel4sim", "-V"],
@@ -103,6 +296,10 @@ fn help_has_its_text(rt: HostRuntime) {
         &["sel4sim", "check", "--help"],
         &["sel4sim", "trace", "--help"],
         &["sel4sim", "migrate", "--help"],
+        &["sel4sim", "why", "--help"],
+        &["sel4sim", "audit", "--help"],
+        &["sel4sim", "audit", "--without", "loader", "--help"],
+        &["sel4sim", "explore", "--help"],
     ];
     for words in forms {
         assert!(rt; is_help(rt.alloc(), words), "{words:?}");
@@ -111,7 +308,7 @@ fn help_has_its_text(rt: HostRuntime) {
 
 #[test]
 fn other_words_are_refused(rt: HostRuntime) -> Result<(), Fail> {
-    let forms: [&[&str]; 7] = [
+    let forms: [&[&str]; 24] = [
         &["sel4sim", "chek", "rows.toml"],
         &["sel4sim", "migrate", "rows.toml", "more.toml"],
         &["sel4sim", "rows.toml", "chek"],
@@ -119,6 +316,23 @@ fn other_words_are_refused(rt: HostRuntime) -> Result<(), Fail> {
         &["sel4sim", "check", "--version"],
         &["sel4sim", "-x"],
         &["sel4sim", "check", "--file=rows.toml"],
+        &["sel4sim", "why", "--call"],
+        &["sel4sim", "why", "--call", "x"],
+        &["sel4sim", "why", "--call", ""],
+        &["sel4sim", "why", "--call", "-1"],
+        &["sel4sim", "why", "--call", "18446744073709551616"],
+        &["sel4sim", "why", "--call", "1", "--call", "2"],
+        &["sel4sim", "check", "--call", "1"],
+        &["sel4sim", "audit", "--after", "x"],
+        &["sel4sim", "audit", "--slot"],
+        &["sel4sim", "audit", "--ever=1"],
+        &["sel4sim", "audit", "--ever", "--ever"],
+        &["sel4sim", "audit", "--ever", "--without"],
+        &["sel4sim", "audit", "--first", "1"],
+        &["sel4sim", "explore", "--first", "-1"],
+        &["sel4sim", "explore", "--states", ""],
+        &["sel4sim", "explore", "--after", "1"],
+        &["sel4sim", "check", "--ever"],
     ];
     for words in forms {
         assert!(rt; is_refused(rt.alloc(), words)?, "{words:?}");

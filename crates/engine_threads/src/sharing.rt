@@ -123,12 +123,12 @@ pub fn shared_run<
     requires name { blank.name ≡ N.name }
     requires parts { blank.parts ≡ N.parts }
     requires clients { blank.parts ≡ setup.now.clients }
-    requires plan { IsPlan P.the setup.now.plan }
-    requires profile { N.profile ≡ P.the }
-    requires start { N.start ≡ boot P.the setup.now.plan }
-    requires opening { N.opening ≡ shown (boot P.the setup.now.plan) }
+    requires plan { IsPlan P.profile setup.now.plan }
+    requires profile { N.profile ≡ P.profile }
+    requires start { N.start ≡ boot P.profile setup.now.plan }
+    requires opening { N.opening ≡ shown (boot P.profile setup.now.plan) }
     requires limit { N.limit ≡ setup.now.limit }
-    ensures run { IfOk result (λ b. IsSharedRun G.ends P.the setup.now b.history.items) }
+    ensures run { IfOk result (λ b. IsSharedRun G.ends P.profile setup.now b.history.items) }
     ensures fault { IfErr result IsOwnFault }
 {
     let Ok(kernel) = Kernel::<P, S, W>::boot(alloc, setup.plan()) else {

@@ -56,12 +56,12 @@ fn report_on<
     requires name { blank.name ≡ N.name }
     requires parts { blank.parts ≡ N.parts }
     requires clients { blank.parts ≡ setup.now.clients }
-    requires plan { IsPlan P.the setup.now.plan }
-    requires profile { N.profile ≡ P.the }
-    requires start { N.start ≡ boot P.the setup.now.plan }
-    requires opening { N.opening ≡ shown (boot P.the setup.now.plan) }
+    requires plan { IsPlan P.profile setup.now.plan }
+    requires profile { N.profile ≡ P.profile }
+    requires start { N.start ≡ boot P.profile setup.now.plan }
+    requires opening { N.opening ≡ shown (boot P.profile setup.now.plan) }
     requires limit { N.limit ≡ setup.now.limit }
-    ensures made { IfOk result (λ made. IsOutcomeIn G.ends P.the setup.now made.0.items made.1) }
+    ensures made { IfOk result (λ made. IsOutcomeIn G.ends P.profile setup.now made.0.items made.1) }
     ensures fault { IfErr result IsOwnFault }
 {
     let book = shared_run::<N, P, S, W, R, G>(rt, alloc, blank, setup, gate)?;
@@ -79,8 +79,8 @@ fn report_by_links<P: Profile + Send + Sync, R: Threads + Wait + Sync, G: Gate +
     setup: &Setup,
     gate: &G,
 ) -> Result<(Vec<u8>, Verdict), RunFault>
-    requires { IsPlan P.the setup.now.plan }
-    ensures made { IfOk result (λ made. IsOutcomeIn G.ends P.the setup.now made.0.items made.1) }
+    requires { IsPlan P.profile setup.now.plan }
+    ensures made { IfOk result (λ made. IsOutcomeIn G.ends P.profile setup.now made.0.items made.1) }
     ensures fault { IfErr result IsOwnFault }
 {
     let blank = Blank::new(u64::from(setup.clients()));

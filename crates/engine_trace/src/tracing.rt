@@ -22,8 +22,8 @@ fn trace_setup<P: Profile, S: MakeStore<P> + DerivationStore<P>, W: MakeWaiters<
     names: &[Name],
     setup: &Setup,
 ) -> Result<(Vec<u8>, Verdict), AllocError>
-    requires { IsPlan P.the setup.now.plan }
-    ensures { IfOk result (λ made. (made.0.items, made.1) ≡ traced_in P.the (names_view names.now) setup.now) }
+    requires { IsPlan P.profile setup.now.plan }
+    ensures { IfOk result (λ made. (made.0.items, made.1) ≡ traced_in P.profile (names_view names.now) setup.now) }
 {
     let (text, count) = trace::<P, S, W>(alloc, names, setup)?;
     Ok((text, verdict_on(count)))

@@ -23,8 +23,8 @@ fn explain_setup<P: Profile, S: MakeStore<P> + DerivationStore<P>, W: MakeWaiter
     setup: &Setup,
     call: Option<u64>,
 ) -> Result<(Vec<u8>, Verdict), AllocError>
-    requires { IsPlan P.the setup.now.plan }
-    ensures { IfOk result (λ made. (made.0.items, made.1) ≡ explained_in P.the (table_view table.now) call setup.now) }
+    requires { IsPlan P.profile setup.now.plan }
+    ensures { IfOk result (λ made. (made.0.items, made.1) ≡ explained_in P.profile (table_view table.now) call setup.now) }
 {
     let (text, count) = why::<P, S, W>(alloc, table, setup, call)?;
     Ok((text, verdict_on(count)))

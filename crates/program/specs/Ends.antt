@@ -1,10 +1,11 @@
 -- What the program does with the words of its command line, its exit status, and what it says of a fault.
-use Rattle.std.specs.Prelude.{◌≡◌, ℕ, List, [], codes, Option, Some, None, Result, Ok, Err, false, if◌then◌else◌, IfErr, OnOk, OnErr}
+use Rattle.std.specs.Prelude.{◌≡◌, ℕ, List, [], codes, Option, Some, None, Result, Ok, Err, true, false, if◌then◌else◌, IfErr, OnOk, OnErr}
 use Rattle.std.specs.Str.{bytes_eq}
-use Rattle.clap.specs.Words.{Text, takes, fault_of, IsAmong}
+use Rattle.clap.specs.Words.{Text, subcommand_of, takes, fault_of, IsAmong}
 use Rattle.clap.specs.declared.error.kind.ErrorKind.TheVariants.{DisplayHelp}
-use Rattle.command_line.specs.CommandLine.{command, file_asked, job_asked, HasOtherFault}
+use Rattle.command_line.specs.CommandLine.{agrees, command, file_asked, job_asked, own_rows, HasConflict, HasOptions, HasOtherFault}
 use Rattle.command_line.specs.declared.arguments.Job.{Job}
+use Rattle.command_line.specs.declared.arguments.Options.{Options}
 use Rattle.engine_core.specs.Devices.{Took, TookFront}
 use Rattle.engine_core.specs.Runs.{IsRun}
 use Rattle.engine_core.specs.Statuses.{run_status, run_fault_text}
@@ -18,7 +19,7 @@ use Rattle.program.specs.Jobs.{meaning}
 use Rattle.program.specs.declared.ended.Used.{Used}
 use Rattle.program.specs.declared.ended.Used.TheVariants.{Standard, File, Unopened}
 use Rattle.program.specs.declared.ended.Ended.{Ended}
-use Rattle.program.specs.declared.ended.Ended.TheVariants.{Did, Helped, Refused, NoMemory}
+use Rattle.program.specs.declared.ended.Ended.TheVariants.{Did, Helped, Refused, Conflict, NoMemory}
 
 -- the name of the file that is to be read, where the words name one; a hyphen stands for standard input
 abbrev pub named_input : Option Text → Option Text
@@ -29,14 +30,14 @@ named_input (Some name) = if bytes_eq name (codes "-") then None else Some name
 -- opened, a failed read, and nothing is written
 abbrev pub IsDone : {S F E K : Type 0} → (S → Type 0) → (Text → F → Type 0) → (Text → E → Type 0)
     → SourceGhosts S → SourceGhosts F → SinkGhosts K
-    → Job → Option Text → Used S F E → Result Verdict RunFault → K → K → Type 0
-IsDone is_standard is_file is_fault from_standard from_file to job name (Standard source) answer old new =
+    → Job → Options → Option Text → Used S F E → Result Verdict RunFault → K → K → Type 0
+IsDone is_standard is_file is_fault from_standard from_file to job options name (Standard source) answer old new =
     (name ≡ None) × (unread : _) × is_standard unread
-    × IsRun (meaning job) from_standard to unread source old new answer
-IsDone is_standard is_file is_fault from_standard from_file to job name (File source) answer old new =
+    × IsRun (meaning job options) from_standard to unread source old new answer
+IsDone is_standard is_file is_fault from_standard from_file to job options name (File source) answer old new =
     (named : Text) × (name ≡ Some named) × (unread : _) × is_file named unread
-    × IsRun (meaning job) from_file to unread source old new answer
-IsDone is_standard is_file is_fault from_standard from_file to job name (Unopened fault) answer old new =
+    × IsRun (meaning job options) from_file to unread source old new answer
+IsDone is_standard is_file is_fault from_standard from_file to job options name (Unopened fault) answer old new =
     (named : Text) × (name ≡ Some named) × is_fault named fault × (answer ≡ Err Reading) × (new ≡ old)
 
 -- a text was written, or a front of it where a write failed
@@ -46,19 +47,23 @@ IsWritten to result old new = (text : List ℕ)
     × IfErr result (λ fault. fault ≡ Writing)
     × OnErr result (TookFront to.taken to.written old new text)
 
--- Did: clap takes the words, and their job was done with the input that they name. Helped: their fault can be a call for
--- help. Refused: they have another fault, and nothing is written. NoMemory: nothing is written.
+-- Did: clap takes the words, their options go together, and their job was done with the input that they name. Helped: their
+-- fault can be a call for help. Refused: they have another fault, and nothing is written. Conflict: clap takes them, their
+-- options do not go together, and nothing is written. NoMemory: nothing is written.
 abbrev pub IsEnd : {S F E K : Type 0} → (S → Type 0) → (Text → F → Type 0) → (Text → E → Type 0)
     → SourceGhosts S → SourceGhosts F → SinkGhosts K → List Text → Ended S F E → K → K → Type 0
 IsEnd is_standard is_file is_fault from_standard from_file to words (Did done) old new =
     (fault_of command words ≡ [])
     × (job_asked words ≡ Some done.line.job)
+    × HasOptions (own_rows (subcommand_of command words)) done.line.options
+    × (agrees done.line.options ≡ true)
     × IsDone is_standard is_file is_fault from_standard from_file to
-    done.line.job (named_input (file_asked words)) done.input done.answer old new
+    done.line.job done.line.options (named_input (file_asked words)) done.input done.answer old new
 IsEnd is_standard is_file is_fault from_standard from_file to words (Helped answer) old new =
     (takes command words ≡ false) × IsAmong DisplayHelp (fault_of command words) × IsWritten to answer old new
 IsEnd is_standard is_file is_fault from_standard from_file to words Refused old new =
     (takes command words ≡ false) × HasOtherFault (fault_of command words) × (new ≡ old)
+IsEnd is_standard is_file is_fault from_standard from_file to words (Conflict text) old new = HasConflict words × (new ≡ old)
 IsEnd is_standard is_file is_fault from_standard from_file to words NoMemory old new = new ≡ old
 
 -- the exit status
@@ -67,6 +72,7 @@ end_status (Did done) = run_status done.answer
 end_status (Helped (Ok done)) = 0
 end_status (Helped (Err fault)) = 3
 end_status Refused = 4
+end_status (Conflict text) = 4
 end_status NoMemory = 3
 
 -- what is said of a fault of a run, and of options that name what the set-up does not have
@@ -81,4 +87,5 @@ end_text (Did done) = answer_text done.answer
 end_text (Helped (Ok done)) = None
 end_text (Helped (Err fault)) = Some (run_fault_text fault)
 end_text Refused = Some (codes "command line refused")
+end_text (Conflict text) = Some (codes "command line refused")
 end_text NoMemory = Some (codes "out of memory")

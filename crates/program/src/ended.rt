@@ -38,6 +38,8 @@ pub enum Ended<'a, S, F, E> {
     Helped(Result<(), RunFault>),
     /// The line is none that the program takes.
     Refused,
+    /// Options of the line do not go together; the text says which.
+    Conflict(&'static str),
     /// Memory ran out while the line was read.
     NoMemory,
 }
@@ -45,7 +47,7 @@ pub enum Ended<'a, S, F, E> {
 impl<S, F, E> Ended<'_, S, F, E> {
     ghost use Rattle.program.specs.Ends.{end_status, end_text};
 
-    /// The exit status: that of the job, 0 after help, 4 after a refusal, 3 where a write failed or memory ran out. The
+    /// The exit status: that of the job, 0 after help, 4 after a refusal or a conflict, 3 where a write failed or memory ran out. The
     /// job's is 4 too where the options name what the set-up does not have.
     pub fn status(&self) -> u8
         ensures { result ≡ end_status self.now }
@@ -55,6 +57,7 @@ impl<S, F, E> Ended<'_, S, F, E> {
             Ended::Helped(Ok(())) => 0,
             Ended::Helped(Err(_)) => 3,
             Ended::Refused => 4,
+            Ended::Conflict(_) => 4,
             Ended::NoMemory => 3,
         }
     }
@@ -80,6 +83,7 @@ impl<S, F, E> Ended<'_, S, F, E> {
             Ended::Helped(Ok(())) => None,
             Ended::Helped(Err(fault)) => Some(fault.text()),
             Ended::Refused => Some(REFUSED),
+            Ended::Conflict(_) => Some(REFUSED),
             Ended::NoMemory => Some("out of memory"),
         }
     }

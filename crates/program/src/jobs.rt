@@ -1,20 +1,125 @@
 //! The jobs, each by its engine.
-ghost use Rattle.std.specs.Prelude.{◌≡◌, ℕ, List, false, IsOk};
+ghost use Rattle.std.specs.Prelude.{◌≡◌, ◌≢◌, ℕ, List, false, map, option_map, IfOk, IsOk};
 ghost use Rattle.engine_core.specs.Devices.{Gave};
 ghost use Rattle.engine_core.specs.Runs.{IsRun};
+ghost use Rattle.engine_ever.specs.Ever.{IsEverOfBytes};
 ghost use Rattle.setup_format.specs.Setups.{setup_of_bytes};
-ghost use Rattle.program.specs.Jobs.{meaning};
+ghost use Rattle.program.specs.Jobs.{IsAudit, IsExploration, meaning, words_in as words_in_definition};
+ghost use Rattle.program.specs.WitnessWords.{IsNamedWitness};
 
-use command_line::Job;
+use crate::witness::witness_named;
+use command_line::{Job, Options};
 use engine::{check, migrate_run};
+use engine_audit::audit_run;
 use engine_core::{RunFault, Sink, Source, Verdict};
+use engine_ever::ever_run;
+use engine_explore::{ExploreOptions, explore_run, witness_run};
 use engine_threads::threads_run_open;
 use engine_trace::trace_run;
-use std::alloc::Global;
+use engine_why::why_run;
+use std::alloc::{AllocError, Global};
 use std::sync::Wait;
 use std::thread::Threads;
 
-/// Reads the source to its end, and writes to the sink what the job makes of it. The job `Threads` waits until the
+/// How many states are kept at the most, where no number is given.
+const MOST_STATES: u64 = 100_000;
+
+/// The words of a text between its commas.
+fn words_between_commas<'a>(alloc: Global, text: &'a str) -> Result<Vec<&'a str>, AllocError>
+    ensures { IfOk result (λ v. map (λ w. w.now) v.items ≡ words_in_definition (Some text.now)) }
+{
+    text.split(',').collect(alloc)
+}
+
+/// The same; none, where there is no text.
+fn words_in<'a>(alloc: Global, text: Option<&'a str>) -> Result<Vec<&'a str>, AllocError>
+    ensures { IfOk result (λ v. map (λ w. w.now) v.items ≡ words_in_definition (option_map (λ s. s.now) text.entry)) }
+{
+    match text {
+        None => Ok(Vec::new(alloc)),
+        Some(text) => words_between_commas(alloc, text),
+    }
+}
+
+/// Tells what threads can never get, where those of `without` make no more calls.
+fn tell_ever<S: Source, K: Sink>(
+    alloc: Global,
+    after: Option<u64>,
+    without: Option<&str>,
+    source: &mut S,
+    sink: &mut K,
+) -> Result<Verdict, RunFault>
+    requires source { S.failed source.old ≡ false }
+    requires sink { K.failed sink.old ≡ false }
+    ensures run { IsRun (IsEverOfBytes after (words_in_definition (option_map (λ s. s.now) without.entry)))
+        S.Source K.Sink source.old source.new sink.old sink.new result }
+    ensures never_thread { result ≢ Err RunFault.Thread }
+{
+    match words_in(alloc, without) {
+        Ok(words) => ever_run(alloc, after, words.as_slice(), source, sink),
+        Err(_) => Err(RunFault::Memory),
+    }
+}
+
+/// Audits, by the options.
+fn audit<S: Source, K: Sink>(
+    alloc: Global,
+    options: Options<'_>,
+    source: &mut S,
+    sink: &mut K,
+) -> Result<Verdict, RunFault>
+    requires source { S.failed source.old ≡ false }
+    requires sink { K.failed sink.old ≡ false }
+    ensures run { IsRun (IsAudit options.entry) S.Source K.Sink source.old source.new sink.old sink.new result }
+    ensures never_thread { result ≢ Err RunFault.Thread }
+{
+    if options.ever {
+        tell_ever(alloc, options.after, options.without, source, sink)
+    } else {
+        audit_run(alloc, options.after, options.slot, source, sink)
+    }
+}
+
+/// Explores, and writes the set-up of the order that a text names.
+fn write_witness<S: Source, K: Sink>(
+    alloc: Global,
+    asked: ExploreOptions,
+    which: &str,
+    source: &mut S,
+    sink: &mut K,
+) -> Result<Verdict, RunFault>
+    requires source { S.failed source.old ≡ false }
+    requires sink { K.failed sink.old ≡ false }
+    ensures run { IsRun (IsNamedWitness which.now asked.first asked.states) S.Source K.Sink source.old source.new sink.old sink.new result }
+    ensures never_thread { result ≢ Err RunFault.Thread }
+{
+    let witness = witness_named(which);
+    witness_run(alloc, asked, witness, source, sink)
+}
+
+/// Explores, by the options.
+fn explore<S: Source, K: Sink>(
+    alloc: Global,
+    options: Options<'_>,
+    source: &mut S,
+    sink: &mut K,
+) -> Result<Verdict, RunFault>
+    requires source { S.failed source.old ≡ false }
+    requires sink { K.failed sink.old ≡ false }
+    ensures run { IsRun (IsExploration options.entry) S.Source K.Sink source.old source.new sink.old sink.new result }
+    ensures never_thread { result ≢ Err RunFault.Thread }
+{
+    let asked = ExploreOptions {
+        first: options.first.unwrap_or(0) as usize,
+        states: options.states.unwrap_or(MOST_STATES),
+    };
+    match options.witness {
+        None => explore_run(alloc, asked, source, sink),
+        Some(which) => write_witness(alloc, asked, which, source, sink),
+    }
+}
+
+/// Reads the source to its end, and writes to the sink what the job makes of it by the options. The job `Threads` waits until the
 /// set-up's clients have ended.
 ///
 /// # Errors
@@ -25,12 +130,13 @@ pub fn run_job<R: Threads + Wait + Sync, S: Source, K: Sink>(
     rt: &R,
     alloc: Global,
     job: Job,
+    options: Options<'_>,
     source: &mut S,
     sink: &mut K,
 ) -> Result<Verdict, RunFault>
     requires source { S.failed source.old ≡ false }
     requires sink { K.failed sink.old ≡ false }
-    ensures run { IsRun (meaning job) S.Source K.Sink source.old source.new sink.old sink.new result }
+    ensures run { IsRun (meaning job options.entry) S.Source K.Sink source.old source.new sink.old sink.new result }
     ensures thread { result ≡ Err RunFault.Thread → job ≡ Job.Threads }
     ensures accepted { result ≡ Err RunFault.Thread → (input : List ℕ) × Gave S.left S.given source.old source.new input × IsOk (setup_of_bytes input) }
 {
@@ -39,5 +145,8 @@ pub fn run_job<R: Threads + Wait + Sync, S: Source, K: Sink>(
         Job::Trace => trace_run(alloc, source, sink),
         Job::Threads => threads_run_open(rt, alloc, source, sink),
         Job::Migrate => migrate_run(alloc, source, sink),
+        Job::Why => why_run(alloc, options.call, source, sink),
+        Job::Audit => audit(alloc, options, source, sink),
+        Job::Explore => explore(alloc, options, source, sink),
     }
 }

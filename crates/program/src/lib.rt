@@ -1,6 +1,7 @@
 //! What the program does with the words of its command line, with the inputs that they name and with standard output.
 #![tactic(auto)]
 
+mod absent;
 mod ended;
 mod front;
 mod host;
@@ -9,6 +10,7 @@ mod jobs;
 mod lines;
 mod messages;
 mod unexpected;
+mod witness;
 mod words;
 
 pub use ended::{Done, Ended, Used};

@@ -23,10 +23,10 @@ fn run_standard<'a, R: Threads + Wait + Sync, I: Inputs, K: Sink>(
     requires sink { K.failed sink.old ≡ false }
     ensures line { result.line ≡ line.entry }
     ensures done { IsDone (I.is_standard inputs.now) (I.is_file inputs.now) (I.is_fault inputs.now)
-        I.Standard.Source I.File.Source K.Sink line.entry.job None result.input result.answer sink.old sink.new }
+        I.Standard.Source I.File.Source K.Sink line.entry.job line.entry.options None result.input result.answer sink.old sink.new }
 {
     let mut source = inputs.standard();
-    let answer = run_job(rt, alloc, line.job, &mut source, sink);
+    let answer = run_job(rt, alloc, line.job, line.options, &mut source, sink);
     Done {
         line,
         input: Used::Standard(source),
@@ -46,12 +46,12 @@ fn run_file<'a, R: Threads + Wait + Sync, I: Inputs, K: Sink>(
     requires sink { K.failed sink.old ≡ false }
     ensures line { result.line ≡ line.entry }
     ensures done { IsDone (I.is_standard inputs.now) (I.is_file inputs.now) (I.is_fault inputs.now)
-        I.Standard.Source I.File.Source K.Sink line.entry.job (Some name.now) result.input result.answer sink.old sink.new }
+        I.Standard.Source I.File.Source K.Sink line.entry.job line.entry.options (Some name.now) result.input result.answer sink.old sink.new }
 {
     match inputs.open(name) {
         Ok(file) => {
             let mut source = file;
-            let answer = run_job(rt, alloc, line.job, &mut source, sink);
+            let answer = run_job(rt, alloc, line.job, line.options, &mut source, sink);
             Done {
                 line,
                 input: Used::File(source),
@@ -78,7 +78,7 @@ fn run_line<'a, R: Threads + Wait + Sync, I: Inputs, K: Sink>(
     ensures line { result.line ≡ line.entry }
     ensures done { IsDone (I.is_standard inputs.now) (I.is_file inputs.now) (I.is_fault inputs.now)
         I.Standard.Source I.File.Source K.Sink
-        line.entry.job (named_input (option_map (λ s. s.now) line.entry.file)) result.input result.answer sink.old sink.new }
+        line.entry.job line.entry.options (named_input (option_map (λ s. s.now) line.entry.file)) result.input result.answer sink.old sink.new }
 {
     match line.file {
         None => run_standard(rt, alloc, inputs, line, sink),
@@ -109,6 +109,7 @@ pub fn run_words<'a, R: Threads + Wait + Sync, I: Inputs, K: Sink>(
         Ok(line) => Ended::Did(run_line(rt, alloc, inputs, line, sink)),
         Err(LineFault::Help(text)) => Ended::Helped(write_all(sink, text.as_bytes())),
         Err(LineFault::Refused) => Ended::Refused,
+        Err(LineFault::Conflict(text)) => Ended::Conflict(text),
         Err(LineFault::Memory) => Ended::NoMemory,
     }
 }

@@ -1,9 +1,10 @@
 //! What is said on standard error. Where that fails too, nothing more is said.
+use crate::absent::absence;
 use crate::ended::{Done, Ended, Used};
 use crate::front::FrontWriter;
 use crate::unexpected::unexpected_refusals;
 use crate::words::{is_lone_word, near_command};
-use command_line::{Job, refused_line_words};
+use command_line::{Job, Line, refused_line_words};
 use engine_core::{INPUT_LIMIT, KeptReader, KeptWriter, ReaderSource, RunFault, Verdict};
 use setup_messages::{Formats, refusal_words, unmet_warnings};
 use std::fmt::Display;
@@ -120,31 +121,51 @@ fn note_on_command<R: Eprint + AllocGlobal>(rt: &R, word: &str) {
 fn formats_of(job: Job) -> Formats {
     match job {
         Job::Migrate => Formats::First,
-        Job::Check | Job::Trace | Job::Threads => Formats::All,
+        Job::Check | Job::Trace | Job::Threads | Job::Why | Job::Audit | Job::Explore => {
+            Formats::All
+        }
     }
 }
 
-/// Says why a set-up is refused, or which of its expectations no reply can meet where it was checked or traced.
-fn note_on_verdict<R: Eprint + AllocGlobal>(rt: &R, job: Job, verdict: Verdict, bytes: &[u8]) {
-    match (job, verdict) {
-        (Job::Check | Job::Trace, Verdict::NotMet) => {
+/// Says why a set-up is refused, which of its expectations no reply can meet where it was checked, traced or explained,
+/// or what the options name and it does not have.
+fn note_on_verdict<R: Eprint + AllocGlobal>(
+    rt: &R,
+    line: Line<'_>,
+    verdict: Verdict,
+    bytes: &[u8],
+) {
+    match (line.job, verdict) {
+        (Job::Check | Job::Trace | Job::Why, Verdict::NotMet) => {
             if let Ok(warnings) = unmet_warnings(rt.alloc(), bytes) {
                 note(rt, warnings.as_str());
             }
         }
         (_, Verdict::Refused) => {
-            if let Ok(words) = refusal_words(rt.alloc(), bytes, formats_of(job)) {
+            if let Ok(words) = refusal_words(rt.alloc(), bytes, formats_of(line.job)) {
                 note(rt, words.as_str());
+            }
+        }
+        (_, Verdict::Absent) => {
+            if let Ok(Some(text)) = absence(rt.alloc(), line, bytes) {
+                note(rt, text.as_str());
             }
         }
         _ => {}
     }
 }
 
-/// Says which calls of a set-up that was checked were refused where nothing was expected.
-fn note_on_refusals<R: Eprint + AllocGlobal>(rt: &R, report: &[u8]) {
-    if let Ok(refusals) = unexpected_refusals(rt.alloc(), report) {
-        note(rt, refusals.as_str());
+/// Says which calls of a set-up that was checked were refused where nothing was expected, and what tells why.
+fn note_on_refusals<R: Eprint + AllocGlobal>(rt: &R, file: Option<&str>, report: &[u8]) {
+    let Ok(refusals) = unexpected_refusals(rt.alloc(), report) else {
+        return;
+    };
+    if refusals.as_str().is_empty() {
+        return;
+    }
+    match file {
+        Some(name) => complain(rt, format_args!("{refusals}; sel4sim why {name} tells why")),
+        None => complain(rt, format_args!("{refusals}; sel4sim why tells why")),
     }
 }
 
@@ -158,10 +179,10 @@ fn tell_of_line<R: Eprint + AllocGlobal, S, F, W>(
     match done.answer {
         Ok(verdict) => {
             if let Some(bytes) = bytes_of(&done.input) {
-                note_on_verdict(rt, done.line.job, verdict, bytes);
+                note_on_verdict(rt, done.line, verdict, bytes);
             }
             if matches!(done.line.job, Job::Check) {
-                note_on_refusals(rt, writer.front());
+                note_on_refusals(rt, done.line.file, writer.front());
             }
         }
         Err(RunFault::Reading) => {
@@ -199,6 +220,7 @@ pub fn tell<R: Eprint + AllocGlobal, S, F, W>(
                 note_on_files(rt, words);
             }
         }
+        Ended::Conflict(text) => complain(rt, *text),
         Ended::Helped(Ok(())) | Ended::NoMemory => {}
     }
 }

@@ -3,7 +3,9 @@ use std::alloc::{AllocError, Global};
 use strsim::osa_distance;
 
 /// The commands.
-const COMMANDS: [&str; 4] = ["check", "trace", "threads", "migrate"];
+const COMMANDS: [&str; 7] = [
+    "check", "trace", "threads", "migrate", "why", "audit", "explore",
+];
 
 /// The most edits that lead from a command to a word that looks like it, and how many bytes a word has for each of them.
 const MOST_EDITS: usize = 2;

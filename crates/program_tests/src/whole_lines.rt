@@ -10,6 +10,9 @@ use std::thread::Threads;
 const STORED: &[u8] =
     b"format = 1\nmemory_bits = 16\nroot_radix = 4\nthreads = 2\nendpoints = 1\n[[call]]\nthread = 2048\nop = \"send\"\ncap = 4\n[[call]]\nthread = 4096\nop = \"recv\"\ncap = 4\nexpect = \"delivered 6144 from 2048\"\n";
 
+/// What is said first of a line that is refused.
+const REFUSED: &str = "command line refused";
+
 /// Standard input, and one file.
 #[derive(Clone, Copy)]
 struct TwoInputs<'a> {
@@ -95,7 +98,7 @@ fn fault(status: u8, text: &str) -> Wanted<'_> {
 #[test]
 fn lines_end_as_they_ask(rt: HostRuntime) {
     let refusal = "set-up refused 200 at text\n";
-    let forms: [(&[&str], Wanted<'_>); 12] = [
+    let forms: [(&[&str], Wanted<'_>); 14] = [
         (&["sel4sim"], done(0, "1 2048 send: waiting\n")),
         (
             &["sel4sim", "trace"],
@@ -115,8 +118,149 @@ fn lines_end_as_they_ask(rt: HostRuntime) {
             done(0, "  + endpoint 6144 sending 2048\n"),
         ),
         (&["sel4sim", "chek"], fault(3, "reading failed")),
-        (&["sel4sim", "-x"], fault(4, "command line refused")),
+        (&["sel4sim", "-x"], fault(4, REFUSED)),
         (&["sel4sim", "--help"], done(0, "Usage: sel4sim")),
+        (&["sel4sim", "explore", "text.toml"], done(2, refusal)),
+        (
+            &["sel4sim", "audit", "--ever", "text.toml"],
+            done(2, refusal),
+        ),
+    ];
+    for (words, wanted) in forms {
+        assert!(rt; ends(&rt, words, wanted), "{words:?}");
+    }
+}
+
+#[test]
+fn reasons_and_audits_are_told(rt: HostRuntime) {
+    let forms: [(&[&str], Wanted<'_>); 12] = [
+        (
+            &["sel4sim", "why"],
+            done(0, "refused 0 of 2\nexpected 1 of 1\n"),
+        ),
+        (
+            &["sel4sim", "why", "--call", "2"],
+            done(0, "2 4096 recv: delivered 6144"),
+        ),
+        (&["sel4sim", "why", "--call", "3"], fault(4, REFUSED)),
+        (&["sel4sim", "why", "--call", "0"], fault(4, REFUSED)),
+        (
+            &["sel4sim", "why", "--call", "3", "text.toml"],
+            done(2, "set-up refused"),
+        ),
+        (
+            &["sel4sim", "audit"],
+            done(0, "audit 1 wide memory_bits 16 calls 2 after 2\n"),
+        ),
+        (
+            &["sel4sim", "audit", "--after", "0"],
+            done(0, "audit 1 wide memory_bits 16 calls 2 after 0\n"),
+        ),
+        (
+            &["sel4sim", "audit", "--after", "1"],
+            done(0, "thread 2048 sending 6144 badge 0"),
+        ),
+        (&["sel4sim", "audit", "--after", "3"], fault(4, REFUSED)),
+        (&["sel4sim", "audit", "--slot", "33"], fault(4, REFUSED)),
+        (
+            &["sel4sim", "audit", "--slot", "33", "text.toml"],
+            done(2, "set-up refused"),
+        ),
+        (
+            &["sel4sim", "audit", "--ever", "--slot", "33"],
+            fault(4, REFUSED),
+        ),
+    ];
+    for (words, wanted) in forms {
+        assert!(rt; ends(&rt, words, wanted), "{words:?}");
+    }
+}
+
+#[test]
+fn parts_are_told(rt: HostRuntime) {
+    let forms: [(&[&str], Wanted<'_>); 9] = [
+        (
+            &["sel4sim", "audit", "--ever"],
+            done(0, "ever 1 wide memory_bits 16 calls 2 after 2\npart 1\n"),
+        ),
+        (
+            &["sel4sim", "audit", "--ever", "--after", "1"],
+            done(0, "waiting 2048 -> 6144 badge 0\n"),
+        ),
+        (
+            &["sel4sim", "audit", "--ever", "--without", "4096,2048"],
+            done(0, "after 2\nwithout 2048\nwithout 4096\n"),
+        ),
+        (
+            &["sel4sim", "audit", "--ever", "--without", "2049"],
+            done(0, "after 2\nwithout 2049 none\n"),
+        ),
+        (
+            &["sel4sim", "audit", "--ever", "--without", "nobody"],
+            fault(4, REFUSED),
+        ),
+        (
+            &["sel4sim", "audit", "--ever", "--without", "2048,"],
+            fault(4, REFUSED),
+        ),
+        (
+            &["sel4sim", "audit", "--ever", "--without", ""],
+            fault(4, REFUSED),
+        ),
+        (
+            &["sel4sim", "audit", "--ever", "--after", "3"],
+            fault(4, REFUSED),
+        ),
+        (
+            &["sel4sim", "audit", "--without", "2048"],
+            fault(4, REFUSED),
+        ),
+    ];
+    for (words, wanted) in forms {
+        assert!(rt; ends(&rt, words, wanted), "{words:?}");
+    }
+}
+
+#[test]
+fn orders_are_told(rt: HostRuntime) {
+    let forms: [(&[&str], Wanted<'_>); 10] = [
+        (
+            &["sel4sim", "explore"],
+            done(0, "explore 1 wide clients 1 calls 2\n"),
+        ),
+        (
+            &["sel4sim", "explore", "--witness", "2.1"],
+            done(0, "format = 2\n"),
+        ),
+        (
+            &["sel4sim", "explore", "--witness", "2.2"],
+            fault(4, REFUSED),
+        ),
+        (
+            &["sel4sim", "explore", "--witness", "stuck.1"],
+            fault(4, REFUSED),
+        ),
+        (&["sel4sim", "explore", "--witness", "2"], fault(4, REFUSED)),
+        (
+            &["sel4sim", "explore", "--witness", "2.1", "text.toml"],
+            done(2, "set-up refused 200 at text\n"),
+        ),
+        (
+            &["sel4sim", "explore"],
+            done(0, "orders 1 stuck 0\nexpected 1 of 1\n"),
+        ),
+        (
+            &["sel4sim", "explore", "--first", "1"],
+            done(0, "orders 1 stuck 0\nexpected 1 of 1\n"),
+        ),
+        (
+            &["sel4sim", "explore", "--states", "0"],
+            done(1, "states 0 limit calls "),
+        ),
+        (
+            &["sel4sim", "explore", "none.toml"],
+            fault(3, "reading failed"),
+        ),
     ];
     for (words, wanted) in forms {
         assert!(rt; ends(&rt, words, wanted), "{words:?}");

@@ -97,8 +97,8 @@ fn add_ended<P: Profile, S: CapStore<P> + Drop, W: Waiters<P> + Drop>(
     left: &[Derivation],
     new: &Kernel<P, S, W>,
 ) -> Result<(), AllocError>
-    requires { map (derivation_view P.the) left.now ≡ derivations_of new.now.derivations }
-    ensures { OnOk result (caps.new.items ≡ caps.old.items ++ spec.where_ended derivation.now.cap (map (derivation_view P.the) left.now)) }
+    requires { map (derivation_view P.profile) left.now ≡ derivations_of new.now.derivations }
+    ensures { OnOk result (caps.new.items ≡ caps.old.items ++ spec.where_ended derivation.now.cap (map (derivation_view P.profile) left.now)) }
 {
     let cap = derivation.cap;
     if names_same(new.cap_at(derivation.slot.address::<P>()), cap) {
@@ -123,8 +123,8 @@ pub fn ended_caps<P: Profile, S: CapStore<P> + Drop, W: Waiters<P> + Drop>(
     left: &[Derivation],
     new: &Kernel<P, S, W>,
 ) -> Result<Vec<Cap>, AllocError>
-    requires { map (derivation_view P.the) left.now ≡ derivations_of new.now.derivations }
-    ensures { IfOk result (λ caps. caps.items ≡ spec.ended (map (derivation_view P.the) old.now) (map (derivation_view P.the) left.now)) }
+    requires { map (derivation_view P.profile) left.now ≡ derivations_of new.now.derivations }
+    ensures { IfOk result (λ caps. caps.items ≡ spec.ended (map (derivation_view P.profile) old.now) (map (derivation_view P.profile) left.now)) }
 {
     let mut caps = Vec::new(alloc);
     for derivation in old {

@@ -30,7 +30,7 @@ pub fn revoked<P: Profile, S: MakeStore<P>, W: MakeWaiters<P>>(
     slot: u64,
 ) -> Result<Kernel<P, S, W>, AllocError>
     requires { is_full slot kernel.now.derivations ≡ true }
-    ensures { IfOk result (λ new. (A : State) → IsReached P.the A → kernel.now ≡ shown A → new ≡ spec.revoked P.the A slot) }
+    ensures { IfOk result (λ new. (A : State) → IsReached P.profile A → kernel.now ≡ shown A → new ≡ spec.revoked P.profile A slot) }
 {
     let mut copy = kernel.copy(alloc)?;
     copy.revoke_slot(slot);
@@ -52,7 +52,7 @@ fn count_cleared<P: Profile, S: CapStore<P> + Drop, W: Waiters<P> + Drop>(
     old: &[Derivation],
     new: &Kernel<P, S, W>,
 ) -> usize
-    ensures { result ≡ spec.cleared_count (map (derivation_view P.the) old.now) new.now }
+    ensures { result ≡ spec.cleared_count (map (derivation_view P.profile) old.now) new.now }
 {
     old.iter()
         .filter(|derivation| is_cleared(derivation.slot.address::<P>(), new))
@@ -74,7 +74,7 @@ pub fn add_revoke<P: Profile, S: DerivationStore<P> + Drop, W: Waiters<P> + Drop
     old: &Kernel<P, S, W>,
     new: &Kernel<P, S, W>,
 ) -> Result<(), AllocError>
-    requires { map (derivation_view P.the) rows.now ≡ slot_rows old.now }
+    requires { map (derivation_view P.profile) rows.now ≡ slot_rows old.now }
     ensures { OnOk result (string_bytes out.new ≡ string_bytes out.old
         ++ spec.revoke_lines (names_view names.now) old.now new.now slot) }
 {
@@ -98,9 +98,9 @@ fn add_revoke_at<P: Profile, S: MakeStore<P> + DerivationStore<P>, W: MakeWaiter
     slot: u64,
     kernel: &Kernel<P, S, W>,
 ) -> Result<(), AllocError>
-    requires { map (derivation_view P.the) rows.now ≡ slot_rows kernel.now }
-    ensures { OnOk result ((A : State) → IsReached P.the A → kernel.now ≡ shown A → string_bytes out.new ≡ string_bytes out.old
-        ++ spec.revoke_lines_at P.the (names_view names.now) A slot) }
+    requires { map (derivation_view P.profile) rows.now ≡ slot_rows kernel.now }
+    ensures { OnOk result ((A : State) → IsReached P.profile A → kernel.now ≡ shown A → string_bytes out.new ≡ string_bytes out.old
+        ++ spec.revoke_lines_at P.profile (names_view names.now) A slot) }
 {
     if !kernel.has_children(slot) {
         return Ok(());
@@ -122,9 +122,9 @@ pub fn add_revokes<P: Profile, S: MakeStore<P> + DerivationStore<P>, W: MakeWait
     rows: &[Derivation],
     kernel: &Kernel<P, S, W>,
 ) -> Result<(), AllocError>
-    requires { map (derivation_view P.the) rows.now ≡ slot_rows kernel.now }
-    ensures { OnOk result ((A : State) → IsReached P.the A → kernel.now ≡ shown A → string_bytes out.new ≡ string_bytes out.old
-        ++ flat_map (λ d. spec.revoke_lines_of P.the (names_view names.now) A (derivation_view P.the d)) rows.now) }
+    requires { map (derivation_view P.profile) rows.now ≡ slot_rows kernel.now }
+    ensures { OnOk result ((A : State) → IsReached P.profile A → kernel.now ≡ shown A → string_bytes out.new ≡ string_bytes out.old
+        ++ flat_map (λ d. spec.revoke_lines_of P.profile (names_view names.now) A (derivation_view P.profile d)) rows.now) }
 {
     for row in rows {
         add_revoke_at::<P, S, W>(alloc, out, names, rows, row.slot.address::<P>(), kernel)?;

@@ -32,10 +32,10 @@ fn kernel_after<P: Profile, S: MakeStore<P>, W: MakeWaiters<P>>(
     setup: &Setup,
     count: usize,
 ) -> Result<Kernel<P, S, W>, AllocError>
-    requires plan { IsPlan P.the setup.now.plan }
+    requires plan { IsPlan P.profile setup.now.plan }
     requires count { count ≤ length setup.now.calls }
-    ensures shows { IfOk result (λ kernel. kernel ≡ shown (spec.state_behind P.the setup.now count)) }
-    ensures within { IfOk result (λ kernel. (memory : ℕ) × IsInMemory P.the memory kernel) }
+    ensures shows { IfOk result (λ kernel. kernel ≡ shown (spec.state_behind P.profile setup.now count)) }
+    ensures within { IfOk result (λ kernel. (memory : ℕ) × IsInMemory P.profile memory kernel) }
 {
     let mut kernel = Kernel::<P, S, W>::boot(alloc, setup.plan())?;
     let mut replies = Vec::with_capacity(alloc, count)?;
@@ -64,8 +64,8 @@ fn slot_answer<P: Profile, S: MakeStore<P> + DerivationStore<P>, W: MakeWaiters<
     slot: u64,
     kernel: &Kernel<P, S, W>,
 ) -> Result<Option<Vec<u8>>, AllocError>
-    ensures { IfOk result (λ text. (A : State) → IsReached P.the A → kernel.now ≡ shown A
-        → option_map (λ v. v.items) text ≡ spec.slot_answer P.the (names_view names.now) setup.now made slot A) }
+    ensures { IfOk result (λ text. (A : State) → IsReached P.profile A → kernel.now ≡ shown A
+        → option_map (λ v. v.items) text ≡ spec.slot_answer P.profile (names_view names.now) setup.now made slot A) }
 {
     if is_cleared::<P, S, W>(slot, kernel) {
         return Ok(None);
@@ -82,9 +82,9 @@ fn whole_answer<P: Profile, S: MakeStore<P> + DerivationStore<P>, W: MakeWaiters
     made: usize,
     kernel: &Kernel<P, S, W>,
 ) -> Result<Option<Vec<u8>>, AllocError>
-    requires { (memory : ℕ) × IsInMemory P.the memory kernel.now }
-    ensures { IfOk result (λ text. (A : State) → IsReached P.the A → kernel.now ≡ shown A
-        → spec.IsWholeAnswer P.the (names_view names.now) setup.now made A (option_map (λ v. v.items) text)) }
+    requires { (memory : ℕ) × IsInMemory P.profile memory kernel.now }
+    ensures { IfOk result (λ text. (A : State) → IsReached P.profile A → kernel.now ≡ shown A
+        → spec.IsWholeAnswer P.profile (names_view names.now) setup.now made A (option_map (λ v. v.items) text)) }
 {
     let text = whole_audit::<P, S, W>(alloc, names, setup, made, kernel)?;
     Ok(Some(text))
@@ -99,9 +99,9 @@ fn answer<P: Profile, S: MakeStore<P> + DerivationStore<P>, W: MakeWaiters<P>>(
     slot: Option<u64>,
     kernel: &Kernel<P, S, W>,
 ) -> Result<Option<Vec<u8>>, AllocError>
-    requires { (memory : ℕ) × IsInMemory P.the memory kernel.now }
-    ensures { IfOk result (λ text. (A : State) → IsReached P.the A → kernel.now ≡ shown A
-        → spec.IsAuditOf P.the (names_view names.now) setup.now made slot A (option_map (λ v. v.items) text)) }
+    requires { (memory : ℕ) × IsInMemory P.profile memory kernel.now }
+    ensures { IfOk result (λ text. (A : State) → IsReached P.profile A → kernel.now ≡ shown A
+        → spec.IsAuditOf P.profile (names_view names.now) setup.now made slot A (option_map (λ v. v.items) text)) }
 {
     match slot {
         None => whole_answer::<P, S, W>(alloc, names, setup, made, kernel),
@@ -122,8 +122,8 @@ pub fn audit<P: Profile, S: MakeStore<P> + DerivationStore<P>, W: MakeWaiters<P>
     after: Option<u64>,
     slot: Option<u64>,
 ) -> Result<Option<Vec<u8>>, AllocError>
-    requires { IsPlan P.the setup.now.plan }
-    ensures { IfOk result (λ text. spec.IsAudit P.the (names_view names.now) setup.now after slot (option_map (λ v. v.items) text)) }
+    requires { IsPlan P.profile setup.now.plan }
+    ensures { IfOk result (λ text. spec.IsAudit P.profile (names_view names.now) setup.now after slot (option_map (λ v. v.items) text)) }
 {
     let Some(made) = calls_made(setup, after) else {
         return Ok(None);

@@ -35,9 +35,9 @@ pub fn whole_audit<P: Profile, S: MakeStore<P> + DerivationStore<P>, W: MakeWait
     made: usize,
     kernel: &Kernel<P, S, W>,
 ) -> Result<Vec<u8>, AllocError>
-    requires { (memory : ℕ) × IsInMemory P.the memory kernel.now }
-    ensures { IfOk result (λ text. (A : State) → IsReached P.the A → kernel.now ≡ shown A
-        → spec.IsWholeAudit P.the (names_view names.now) setup.now made A text.items) }
+    requires { (memory : ℕ) × IsInMemory P.profile memory kernel.now }
+    ensures { IfOk result (λ text. (A : State) → IsReached P.profile A → kernel.now ≡ shown A
+        → spec.IsWholeAudit P.profile (names_view names.now) setup.now made A text.items) }
 {
     let rows = state_rows::<P, S, W>(alloc, kernel)?;
     let filled = kernel_slots::<P, S, W>(alloc, kernel)?;
@@ -67,8 +67,8 @@ pub fn audit_of_slot<P: Profile, S: MakeStore<P> + DerivationStore<P>, W: MakeWa
     kernel: &Kernel<P, S, W>,
 ) -> Result<Vec<u8>, AllocError>
     requires { is_full slot kernel.now.derivations ≡ true }
-    ensures { IfOk result (λ text. (A : State) → IsReached P.the A → kernel.now ≡ shown A
-        → text.items ≡ spec.slot_audit P.the (names_view names.now) setup.now made slot A) }
+    ensures { IfOk result (λ text. (A : State) → IsReached P.profile A → kernel.now ≡ shown A
+        → text.items ≡ spec.slot_audit P.profile (names_view names.now) setup.now made slot A) }
 {
     let rows = state_rows::<P, S, W>(alloc, kernel)?;
     let new = revoked::<P, S, W>(alloc, kernel, slot)?;

@@ -34,10 +34,10 @@ fn slots_of_thread<P: Profile>(
     filled: &[FullSlot],
     thread: u64,
 ) -> Result<ThreadSlots, AllocError>
-    requires lawful { AreLawful P.the filled.now }
+    requires lawful { AreLawful P.profile filled.now }
     requires rising { AreRising filled.now }
     ensures thread { IfOk result (λ t. t.thread ≡ thread) }
-    ensures slots { IfOk result (λ t. (f : Forest Entry) → AreFullSlots f filled.now → spec.AreSlotsOf P.the f t) }
+    ensures slots { IfOk result (λ t. (f : Forest Entry) → AreFullSlots f filled.now → spec.AreSlotsOf P.profile f t) }
 {
     let reached = reached_slots::<P>(alloc, filled, thread)?;
     let held = held_slots::<P>(alloc, filled, reached.as_slice())?;
@@ -58,10 +58,10 @@ pub fn thread_slots<P: Profile>(
     filled: &[FullSlot],
     threads: &BTreeSet<u64>,
 ) -> Result<Vec<ThreadSlots>, AllocError>
-    requires lawful { AreLawful P.the filled.now }
+    requires lawful { AreLawful P.profile filled.now }
     requires rising { AreRising filled.now }
     ensures threads { IfOk result (λ list. map (λ t. t.thread) list.items ≡ threads.now.keys) }
-    ensures slots { IfOk result (λ list. (f : Forest Entry) → AreFullSlots f filled.now → All (spec.AreSlotsOf P.the f) list.items) }
+    ensures slots { IfOk result (λ list. (f : Forest Entry) → AreFullSlots f filled.now → All (spec.AreSlotsOf P.profile f) list.items) }
 {
     let mut list = Vec::new(alloc);
     for thread in threads {

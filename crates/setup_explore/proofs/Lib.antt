@@ -1,3 +1,4 @@
 pub mod Places
 pub mod Explored
 pub mod Lines
+pub mod Entries

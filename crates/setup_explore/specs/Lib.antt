@@ -3,3 +3,4 @@ pub mod Numbers
 pub mod Text
 pub mod Views
 pub mod Report
+pub mod Witnesses

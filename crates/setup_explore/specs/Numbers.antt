@@ -28,3 +28,8 @@ abbrev pub order_text : List (List ℕ) → List ℕ → List ℕ → List ℕ
 order_text numbers made [] = []
 order_text numbers made (client ∷ order) =
     codes " " ++ (decimal (number_in numbers client (count_by (λ c. c == client) made)) ++ order_text numbers (made ++ client ∷ []) order)
+
+-- the numbers of an order's calls behind others
+abbrev pub order_numbers : List (List ℕ) → List ℕ → List ℕ → List ℕ
+order_numbers numbers made [] = []
+order_numbers numbers made (client ∷ order) = number_in numbers client (count_by (λ c. c == client) made) ∷ order_numbers numbers (made ++ client ∷ []) order

@@ -79,7 +79,7 @@ pub struct Judged {
 }
 
 /// Whether an answer is one of the call with this number.
-fn is_of(numbers: &[Vec<usize>], number: usize, answer: &FoundAnswer) -> bool
+pub fn is_of(numbers: &[Vec<usize>], number: usize, answer: &FoundAnswer) -> bool
     ensures { result ≡ spec.is_of (numbers_in numbers.now) number (answer_of answer.now) }
 {
     number_at(numbers, answer.client, answer.place) == number

@@ -1,16 +1,21 @@
 //! The report on every order of the calls that the clients of a set-up make: for each call what it comes to, each way to end
-//! stuck, and how many states and orders there are.
+//! stuck, and how many states and orders there are. And set-ups that make the calls of one of these orders.
 #![tactic(auto)]
 
 mod answers;
 mod calls;
 mod clients;
 mod ends;
+mod making;
 mod marks;
 mod numbers;
 mod run;
+mod tables;
+mod witness;
 
 pub use answers::AnswerText;
 pub use clients::{calls_of_clients, first_clients};
+pub use making::make_witness;
 pub use numbers::numbers_of_clients;
 pub use run::{ExploredText, explored_report};
+pub use witness::Witness;

@@ -1,6 +1,6 @@
 //! The numbers of a set-up's calls, from 1 on, by the clients that make them.
 ghost use Rattle.std.specs.Prelude.{◌≡◌, ◌++◌, ◌==◌, List, ℕ, IfOk, OnOk, [], count_by, string_bytes};
-ghost use Rattle.setup_explore.specs.Numbers.{client_numbers, numbers_of, numbers_in, number_in, order_text};
+ghost use Rattle.setup_explore.specs.Numbers.{client_numbers, numbers_of, numbers_in, number_in, order_numbers as numbers_of_order, order_text};
 
 use setup_format::Setup;
 use std::alloc::{AllocError, Global};
@@ -71,4 +71,24 @@ pub fn add_order(
         rest = later;
     }
     Ok(())
+}
+
+/// The numbers of an order's calls.
+pub fn order_numbers(
+    alloc: Global,
+    numbers: &[Vec<usize>],
+    order: &[usize],
+) -> Result<Vec<usize>, AllocError>
+    ensures { IfOk result (λ own. own.items ≡ numbers_of_order (numbers_in numbers.now) [] order.now) }
+{
+    let mut own = Vec::new(alloc);
+    let mut made = Vec::new(alloc);
+    let mut rest = order;
+    while let Some((client, later)) = rest.split_first() {
+        let place = times_in(made.as_slice(), *client);
+        own.push(number_at(numbers, *client, place))?;
+        made.push(*client)?;
+        rest = later;
+    }
+    Ok(own)
 }

@@ -120,6 +120,31 @@ fn explored_text(
     })
 }
 
+/// Explores every order of the calls that the clients of a set-up make, from its boot on, behind the first calls of the set-up.
+pub fn explore_setup<P: Profile, S: MakeStore<P> + DerivationStore<P>, W: MakeWaiters<P>>(
+    alloc: Global,
+    setup: &Setup,
+    first: usize,
+    limit: u64,
+) -> Result<Explored, AllocError>
+    requires { IsPlan P.profile setup.now.plan }
+    ensures { IfOk result (λ e. explored_view e ≡ spec.exploration P.profile setup.now first limit) }
+{
+    let kernel = Kernel::<P, S, W>::boot(alloc, setup.plan())?;
+    let calls = calls_of_clients(alloc, setup)?;
+    let begin = first_clients(alloc, setup, first)?;
+    let count = setup.calls().len() + 1;
+    let explored = explore(
+        alloc,
+        calls.as_slice(),
+        &kernel,
+        begin.as_slice(),
+        limit,
+        count,
+    )?;
+    Ok(explored)
+}
+
 /// Explores every order of the calls that the clients of a set-up make, from its boot on, and reports on it. The first calls
 /// of the set-up, as many as `first` says, are made before the clients begin. Where the states are more than the limit, the
 /// report is on the orders of as many calls as it allows.
@@ -134,21 +159,11 @@ pub fn explored_report<P: Profile, S: MakeStore<P> + DerivationStore<P>, W: Make
     first: usize,
     limit: u64,
 ) -> Result<ExploredText, AllocError>
-    requires { IsPlan P.the setup.now.plan }
-    ensures { IfOk result (λ r. (r.text.items, r.is_well) ≡ spec.explored_report P.the setup.now first limit) }
+    requires { IsPlan P.profile setup.now.plan }
+    ensures { IfOk result (λ r. (r.text.items, r.is_well) ≡ spec.explored_report P.profile setup.now first limit) }
 {
-    let kernel = Kernel::<P, S, W>::boot(alloc, setup.plan())?;
-    let calls = calls_of_clients(alloc, setup)?;
     let begin = first_clients(alloc, setup, first)?;
-    let count = setup.calls().len() + 1;
-    let explored = explore(
-        alloc,
-        calls.as_slice(),
-        &kernel,
-        begin.as_slice(),
-        limit,
-        count,
-    )?;
+    let explored = explore_setup::<P, S, W>(alloc, setup, first, limit)?;
     let told = explored_text(alloc, setup, &explored, begin.len(), limit)?;
     Ok(told)
 }

@@ -37,8 +37,8 @@ pub fn untyped_keys() -> &'static [&'static str]
 
 #[tactic(auto, unfolding(crate::specs::Setups::untyped_at))]
 fn untyped_at<P: Profile>(table: &Table, n: usize) -> Result<(u64, u32), SetupFault>
-    ensures region { Gives (λ r. r) result (spec.untyped_at P.the n (table_view table.now)) }
-    ensures sized { IfOk result (IsUntypedSize P.the) }
+    ensures region { Gives (λ r. r) result (spec.untyped_at P.profile n (table_view table.now)) }
+    ensures sized { IfOk result (IsUntypedSize P.profile) }
 {
     let keys = Keys::<P>::new(table, Place::Untyped(n), &[]);
     keys.known_only(untyped_keys())?;
@@ -48,9 +48,9 @@ fn untyped_at<P: Profile>(table: &Table, n: usize) -> Result<(u64, u32), SetupFa
 }
 
 fn untypeds_of<P: Profile>(alloc: Global, tables: &[&Table]) -> Result<Vec<(u64, u32)>, SetupFault>
-    ensures regions { Gives (λ v. v.items) result (each (spec.untyped_at P.the) 1 (map (λ t. table_view t.now) tables.now)) }
+    ensures regions { Gives (λ v. v.items) result (each (spec.untyped_at P.profile) 1 (map (λ t. table_view t.now) tables.now)) }
     ensures length { IfOk result (λ v. length v.items ≡ length tables.now) }
-    ensures sized { IfOk result (λ v. All (IsUntypedSize P.the) v.items) }
+    ensures sized { IfOk result (λ v. All (IsUntypedSize P.profile) v.items) }
 {
     let mut regions = Vec::new(alloc);
     for (i, table) in tables.iter().enumerate() {
@@ -69,7 +69,7 @@ fn call_at<P: Profile>(
     table: &Table,
 ) -> Result<(Call, Caller), SetupFault>
     requires { 1 ≤ clients }
-    ensures call { Gives (λ r. call_view r.0 r.1) result (spec.call_at P.the (names_view names.now) clients n (table_view table.now)) }
+    ensures call { Gives (λ r. call_view r.0 r.1) result (spec.call_at P.profile (names_view names.now) clients n (table_view table.now)) }
     ensures client { IfOk result (λ r. r.1.client < clients) }
 {
     let keys = Keys::<P>::new(table, Place::Call(n), names);
@@ -89,7 +89,7 @@ fn calls_of<P: Profile>(
     tables: &[&Table],
 ) -> Result<SetupCalls, SetupFault>
     requires { 1 ≤ clients }
-    ensures calls { Gives (λ v. v) result (each (spec.call_at P.the (names_view names.now) clients) 1 (map (λ t. table_view t.now) tables.now)) }
+    ensures calls { Gives (λ v. v) result (each (spec.call_at P.profile (names_view names.now) clients) 1 (map (λ t. table_view t.now) tables.now)) }
     ensures length { IfOk result (λ v. length v ≡ length tables.now) }
     ensures clients { IfOk result (λ v. All (λ c. c.client < clients) v) }
 {
@@ -116,9 +116,9 @@ fn sizes_at<P: Profile>(keys: &Keys<'_, P>) -> Result<Sizes, SetupFault>
 
 /// The plan of a boot, or its first defect.
 fn plan_of<P: Profile>(sizes: Sizes, untypeds: Vec<(u64, u32)>) -> Result<BootPlan, SetupFault>
-    requires { IsWithinLimits P.the (spec.planned_with sizes untypeds.items) }
-    ensures plan { Gives (λ plan. plan) result (spec.laid_out P.the (spec.planned_with sizes untypeds.items)) }
-    ensures sound { IfOk result (IsPlan P.the) }
+    requires { IsWithinLimits P.profile (spec.planned_with sizes untypeds.items) }
+    ensures plan { Gives (λ plan. plan) result (spec.laid_out P.profile (spec.planned_with sizes untypeds.items)) }
+    ensures sound { IfOk result (IsPlan P.profile) }
 {
     BootPlan::new::<P>(
         sizes.memory_bits,
@@ -162,7 +162,7 @@ fn setup_with<P: Profile>(
     requires limit { limit ≤ MAX_HISTORY_LIMIT }
     requires untyped { length untyped.now ≤ MAX_BOOT_UNTYPEDS }
     requires call { length call.now ≤ MAX_CALLS }
-    ensures setup { Gives (λ s. s) result (spec.setup_with P.the (names_view names.now) sizes clients limit (map (λ t. table_view t.now) untyped.now) (map (λ t. table_view t.now) call.now)) }
+    ensures setup { Gives (λ s. s) result (spec.setup_with P.profile (names_view names.now) sizes clients limit (map (λ t. table_view t.now) untyped.now) (map (λ t. table_view t.now) call.now)) }
     ensures plan { IfOk result (λ s. IsPlan s.profile s.plan) }
     ensures bounds { IfOk result IsWithinBounds }
 {
@@ -176,7 +176,7 @@ fn setup_with<P: Profile>(
 /// What a table is read as whose format, keys and profile are known.
 #[tactic(auto, unfolding(crate::specs::Setups::setup_at))]
 fn setup_at<P: Profile>(alloc: Global, table: &Table) -> Result<Setup, SetupFault>
-    ensures setup { Gives (λ s. s) result (spec.setup_at P.the (table_view table.now)) }
+    ensures setup { Gives (λ s. s) result (spec.setup_at P.profile (table_view table.now)) }
     ensures plan { IfOk result (λ s. IsPlan s.profile s.plan) }
     ensures bounds { IfOk result IsWithinBounds }
 {

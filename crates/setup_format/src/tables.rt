@@ -66,7 +66,7 @@ impl<'t, P: Profile> Keys<'t, P> {
 
     /// What a kind reads at a key that has to be there.
     pub fn required<K: Kind + Copy>(&self, key: &'static str, kind: K) -> Result<K::Out, SetupFault>
-        ensures read { Gives (λ x. x) result (spec.required self.now.place (table_view self.now.table.now) key.now (K.means kind P.the (names_view self.now.names.now))) }
+        ensures read { Gives (λ x. x) result (spec.required self.now.place (table_view self.now.table.now) key.now (K.means kind P.profile (names_view self.now.names.now))) }
         ensures holds { IfOk result (K.holds kind) }
     {
         match self.find(key) {
@@ -82,7 +82,7 @@ impl<'t, P: Profile> Keys<'t, P> {
         default: K::Out,
         kind: K,
     ) -> Result<K::Out, SetupFault>
-        ensures read { Gives (λ x. x) result (spec.optional self.now.place (table_view self.now.table.now) key.now default (K.means kind P.the (names_view self.now.names.now))) }
+        ensures read { Gives (λ x. x) result (spec.optional self.now.place (table_view self.now.table.now) key.now default (K.means kind P.profile (names_view self.now.names.now))) }
         ensures holds { IfOk result (λ x. (x ≡ default) ⊎ K.holds kind x) }
     {
         match self.find(key) {
@@ -142,7 +142,7 @@ impl<'t, P: Profile> Keys<'t, P> {
 
     /// Names; none where the key is not there.
     pub fn names(&self, alloc: Global, key: &'static str) -> Result<Vec<Name>, SetupFault>
-        ensures { Gives (λ v. names_view v.items) result (spec.optional self.now.place (table_view self.now.table.now) key.now [] (kind.names P.the)) }
+        ensures { Gives (λ v. names_view v.items) result (spec.optional self.now.place (table_view self.now.table.now) key.now [] (kind.names P.profile)) }
     {
         match self.find(key) {
             None => Ok(Vec::new(alloc)),
@@ -160,7 +160,7 @@ impl<'t, P: Profile> Keys<'t, P> {
         key: &'static str,
         table: &Table,
     ) -> Result<Vec<Name>, SetupFault>
-        ensures { Gives (λ v. names_view v.items) result (spec.at_key self.now.place key.now (kind.names_in P.the (entries_of (table_view table.now)))) }
+        ensures { Gives (λ v. names_view v.items) result (spec.at_key self.now.place key.now (kind.names_in P.profile (entries_of (table_view table.now)))) }
     {
         let mut names = Vec::new(alloc);
         for (text, value) in table.iter() {

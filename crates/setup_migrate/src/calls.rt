@@ -12,16 +12,16 @@ use toml::{Table, Value};
 
 /// The number of the boot thread at an address.
 fn thread_at<P: Profile>(plan: &BootPlan, address: u64) -> Option<u32>
-    requires { IsPlan P.the plan.now }
-    ensures { result ≡ spec.thread_at P.the plan.now address }
+    requires { IsPlan P.profile plan.now }
+    ensures { result ≡ spec.thread_at P.profile plan.now address }
 {
     (0..plan.threads()).find(|i| plan.tcb_place::<P>(*i) == address)
 }
 
 /// The number of the boot thread whose address a value stands for.
 fn boot_thread<P: Profile>(plan: &BootPlan, thread: &Value) -> Option<u32>
-    requires { IsPlan P.the plan.now }
-    ensures { result ≡ spec.boot_thread P.the plan.now (view thread.now) }
+    requires { IsPlan P.profile plan.now }
+    ensures { result ≡ spec.boot_thread P.profile plan.now (view thread.now) }
 {
     let address = Word.read::<P>(&[], thread).ok()?;
     thread_at::<P>(plan, address)
@@ -33,9 +33,9 @@ fn name_thread<P: Profile>(
     plan: &BootPlan,
     call: &mut Table,
 ) -> Result<(), AllocError>
-    requires { IsPlan P.the plan.now }
+    requires { IsPlan P.profile plan.now }
     ensures { IfOk result (λ _. table_view call.new
-        ≡ spec.with_changed (codes "thread") (spec.named_thread P.the plan.now) (table_view call.old)) }
+        ≡ spec.with_changed (codes "thread") (spec.named_thread P.profile plan.now) (table_view call.old)) }
 {
     if let Some(thread) = call.get_mut("thread") {
         if let Some(i) = boot_thread::<P>(plan, thread) {
@@ -47,8 +47,8 @@ fn name_thread<P: Profile>(
 
 /// Replaces the thread of a call by its name, in the value that holds the call.
 fn name_call<P: Profile>(alloc: Global, plan: &BootPlan, call: &mut Value) -> Result<(), AllocError>
-    requires { IsPlan P.the plan.now }
-    ensures { IfOk result (λ _. view call.new ≡ spec.named_call P.the plan.now (view call.old)) }
+    requires { IsPlan P.profile plan.now }
+    ensures { IfOk result (λ _. view call.new ≡ spec.named_call P.profile plan.now (view call.old)) }
 {
     if let Some(call) = call.as_table_mut() {
         name_thread::<P>(alloc, plan, call)?;
@@ -62,9 +62,9 @@ fn name_each_call<P: Profile>(
     plan: &BootPlan,
     calls: &mut [Value],
 ) -> Result<(), AllocError>
-    requires { IsPlan P.the plan.now }
+    requires { IsPlan P.profile plan.now }
     ensures { IfOk result (λ _. items_view calls.new
-        ≡ spec.each_item (spec.named_call P.the plan.now) (items_view calls.old)) }
+        ≡ spec.each_item (spec.named_call P.profile plan.now) (items_view calls.old)) }
 {
     for i in 0..calls.len() {
         name_call::<P>(alloc, plan, &mut calls[i])?;
@@ -78,8 +78,8 @@ fn name_calls<P: Profile>(
     plan: &BootPlan,
     calls: &mut Value,
 ) -> Result<(), AllocError>
-    requires { IsPlan P.the plan.now }
-    ensures { IfOk result (λ _. view calls.new ≡ spec.named_calls P.the plan.now (view calls.old)) }
+    requires { IsPlan P.profile plan.now }
+    ensures { IfOk result (λ _. view calls.new ≡ spec.named_calls P.profile plan.now (view calls.old)) }
 {
     if let Value::Array(calls) = calls {
         name_each_call::<P>(alloc, plan, calls)?;
@@ -93,9 +93,9 @@ pub fn name_threads<P: Profile>(
     plan: &BootPlan,
     table: &mut Table,
 ) -> Result<(), AllocError>
-    requires { IsPlan P.the plan.now }
+    requires { IsPlan P.profile plan.now }
     ensures { IfOk result (λ _. table_view table.new
-        ≡ spec.with_changed (codes "call") (spec.named_calls P.the plan.now) (table_view table.old)) }
+        ≡ spec.with_changed (codes "call") (spec.named_calls P.profile plan.now) (table_view table.old)) }
 {
     if let Some(calls) = table.get_mut("call") {
         name_calls::<P>(alloc, plan, calls)?;

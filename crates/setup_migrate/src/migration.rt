@@ -18,8 +18,8 @@ use toml::{Table, Value};
 
 /// Rewrites the table of a set-up of format 1 with this plan in format 2.
 fn rewrite<P: Profile>(alloc: Global, plan: &BootPlan, table: &mut Table) -> Result<(), AllocError>
-    requires { IsPlan P.the plan.now }
-    ensures { IfOk result (λ _. table_view table.new ≡ spec.migrated P.the plan.now (table_view table.old)) }
+    requires { IsPlan P.profile plan.now }
+    ensures { IfOk result (λ _. table_view table.new ≡ spec.migrated P.profile plan.now (table_view table.old)) }
 {
     put(
         table,

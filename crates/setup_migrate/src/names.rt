@@ -39,7 +39,7 @@ fn add_names(
 
 /// The bytes of a thread control block.
 fn tcb_size<P: Profile>() -> u64
-    ensures { result ≡ tcb_size P.the }
+    ensures { result ≡ tcb_size P.profile }
 {
     1 << P::TCB_BITS
 }
@@ -47,8 +47,8 @@ fn tcb_size<P: Profile>() -> u64
 /// A table of names: one for the slot of each untyped region, endpoint and thread of a boot, and one for each thread's
 /// address.
 pub fn boot_names<P: Profile>(alloc: Global, plan: &BootPlan) -> Result<Table, AllocError>
-    requires { IsPlan P.the plan.now }
-    ensures { IfOk result (λ names. table_view names ≡ spec.with_words (spec.boot_names P.the plan.now) no_members) }
+    requires { IsPlan P.profile plan.now }
+    ensures { IfOk result (λ names. table_view names ≡ spec.with_words (spec.boot_names P.profile plan.now) no_members) }
 {
     let threads = plan.threads();
     let endpoints = plan.endpoints();

@@ -44,7 +44,7 @@ pub fn report<P: Profile, S: DerivationStore<P> + Drop, W: Waiters<P> + Drop>(
     kernel: &Kernel<P, S, W>,
 ) -> Result<Vec<u8>, AllocError>
     requires replies { length replies.now ≡ length setup.now.calls }
-    ensures { IfOk result (λ v. v.items ≡ report_of P.the setup.now.calls replies.now kernel.now) }
+    ensures { IfOk result (λ v. v.items ≡ report_of P.profile setup.now.calls replies.now kernel.now) }
 {
     let (text, _) = counted_report(alloc, setup, replies, kernel)?;
     Ok(text)
@@ -63,7 +63,7 @@ pub fn counted_report<P: Profile, S: DerivationStore<P> + Drop, W: Waiters<P> + 
     kernel: &Kernel<P, S, W>,
 ) -> Result<(Vec<u8>, ExpectationCount), AllocError>
     requires replies { length replies.now ≡ length setup.now.calls }
-    ensures report { IfOk result (λ r. r.0.items ≡ report_of P.the setup.now.calls replies.now kernel.now) }
+    ensures report { IfOk result (λ r. r.0.items ≡ report_of P.profile setup.now.calls replies.now kernel.now) }
     ensures met { IfOk result (λ r. r.1.met ≡ met_count setup.now.calls replies.now) }
     ensures expected { IfOk result (λ r. r.1.expected ≡ expectation_count setup.now.calls replies.now) }
 {

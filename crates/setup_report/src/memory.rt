@@ -57,7 +57,7 @@ fn add_slot<P: Profile, S: CapStore<P> + Drop, W: Waiters<P> + Drop>(
     kernel: &Kernel<P, S, W>,
 ) -> Result<(), AllocError>
     ensures { OnOk result (string_bytes out.new ≡ string_bytes out.old
-        ++ spec.slot_line kernel.now (derivation_view P.the derivation.now)) }
+        ++ spec.slot_line kernel.now (derivation_view P.profile derivation.now)) }
 {
     let address = derivation.slot.address::<P>();
     let line = SlotLine {
@@ -75,7 +75,7 @@ fn add_slots<P: Profile, S: CapStore<P> + Drop, W: Waiters<P> + Drop>(
     kernel: &Kernel<P, S, W>,
 ) -> Result<(), AllocError>
     ensures { OnOk result (string_bytes out.new ≡ string_bytes out.old
-        ++ flat_map (λ d. spec.slot_line kernel.now (derivation_view P.the d)) slots.now) }
+        ++ flat_map (λ d. spec.slot_line kernel.now (derivation_view P.profile d)) slots.now) }
 {
     for slot in slots {
         add_slot::<P, S, W>(out, slot, kernel)?;
@@ -178,7 +178,7 @@ pub fn add_state<P: Profile, S: DerivationStore<P> + Drop, W: Waiters<P> + Drop>
     out: &mut String,
     kernel: &Kernel<P, S, W>,
 ) -> Result<(), AllocError>
-    ensures { OnOk result (string_bytes out.new ≡ string_bytes out.old ++ spec.state_lines P.the kernel.now) }
+    ensures { OnOk result (string_bytes out.new ≡ string_bytes out.old ++ spec.state_lines P.profile kernel.now) }
 {
     let rows = state_rows::<P, S, W>(alloc, kernel)?;
     add_threads::<P, S, W>(out, &rows.threads, kernel)?;

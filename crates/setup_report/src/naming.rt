@@ -34,14 +34,14 @@ fn is_below_power(word: u64, bits: u32) -> bool
 }
 
 fn is_slot_of<P: Profile>(base: u64, radix: u32, slot: u64) -> bool
-    ensures { result ≡ spec.is_slot_of P.the base radix slot }
+    ensures { result ≡ spec.is_slot_of P.profile base radix slot }
 {
     slot >= base && is_below_power((slot - base) >> P::SLOT_BITS, radix)
 }
 
 /// The base of the object that the capability in a slot, at its address in bytes, names, where that is asked for.
 pub fn base_named<P: Profile>(naming: NamedObject, slot: u64, cap: Cap) -> Option<u64>
-    ensures { result ≡ spec.base_named P.the naming slot cap }
+    ensures { result ≡ spec.base_named P.profile naming slot cap }
 {
     match (naming, cap) {
         (NamedObject::Thread, Cap::Tcb { base }) => Some(base),
@@ -70,7 +70,7 @@ pub fn named<P: Profile>(
     naming: NamedObject,
     list: &[Derivation],
 ) -> Result<BTreeSet<u64>, AllocError>
-    ensures { IfOk result (λ s. s.keys ≡ spec.rising (spec.named P.the naming (map (derivation_view P.the) list.now))) }
+    ensures { IfOk result (λ s. s.keys ≡ spec.rising (spec.named P.profile naming (map (derivation_view P.profile) list.now))) }
 {
     let mut bases = BTreeSet::new(alloc);
     for derivation in list {
@@ -100,7 +100,7 @@ fn only_in(
 /// The CNodes that slots of their own name and no other slots, by rising address.
 pub fn selfheld<P: Profile>(alloc: Global, list: &[Derivation]) -> Result<Vec<u64>, AllocError>
     ensures { IfOk result (λ v. v.items
-        ≡ spec.rising (spec.holding_themselves P.the (map (derivation_view P.the) list.now))) }
+        ≡ spec.rising (spec.holding_themselves P.profile (map (derivation_view P.profile) list.now))) }
 {
     let own = named::<P>(alloc, NamedObject::OwnNode, list)?;
     let others = named::<P>(alloc, NamedObject::OtherNode, list)?;

@@ -29,8 +29,8 @@ pub struct StateRows {
 
 /// Puts full slots in the order of their addresses.
 fn sort_by_address<P: Profile>(slots: &mut [Derivation])
-    requires apart { IsDistinct (λ (a b : ℕ). a == b) (map (slot_address P.the) slots.old) }
-    ensures { map (derivation_view P.the) slots.new ≡ spec.by_address (map (derivation_view P.the) slots.old) }
+    requires apart { IsDistinct (λ (a b : ℕ). a == b) (map (slot_address P.profile) slots.old) }
+    ensures { map (derivation_view P.profile) slots.new ≡ spec.by_address (map (derivation_view P.profile) slots.old) }
 {
     slots.sort_unstable_by_key(|derivation| derivation.slot.address::<P>());
 }
@@ -44,10 +44,10 @@ pub fn state_rows<P: Profile, S: DerivationStore<P> + Drop, W: Waiters<P> + Drop
     alloc: Global,
     kernel: &Kernel<P, S, W>,
 ) -> Result<StateRows, AllocError>
-    ensures threads { IfOk result (λ r. r.threads.keys ≡ spec.threads P.the kernel.now) }
-    ensures endpoints { IfOk result (λ r. r.endpoints.keys ≡ spec.endpoints P.the kernel.now) }
-    ensures slots { IfOk result (λ r. map (derivation_view P.the) r.slots.items ≡ spec.slot_rows kernel.now) }
-    ensures selfheld { IfOk result (λ r. r.selfheld.items ≡ spec.selfheld P.the kernel.now) }
+    ensures threads { IfOk result (λ r. r.threads.keys ≡ spec.threads P.profile kernel.now) }
+    ensures endpoints { IfOk result (λ r. r.endpoints.keys ≡ spec.endpoints P.profile kernel.now) }
+    ensures slots { IfOk result (λ r. map (derivation_view P.profile) r.slots.items ≡ spec.slot_rows kernel.now) }
+    ensures selfheld { IfOk result (λ r. r.selfheld.items ≡ spec.selfheld P.profile kernel.now) }
 {
     let mut slots = kernel.derivations(alloc)?;
     let threads = named::<P>(alloc, NamedObject::Thread, slots.as_slice())?;

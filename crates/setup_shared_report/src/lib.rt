@@ -64,7 +64,7 @@ pub fn shared_report<N: Naming, P: Profile, S: DerivationStore<P> + Drop, W: Wai
     setup: &Setup,
     book: &Book<N, P, S, W>,
 ) -> Result<Vec<u8>, AllocError>
-    ensures { IfOk result (λ v. v.items ≡ shared_report_of P.the (length setup.now.calls) book.now.history.items book.now.kernel) }
+    ensures { IfOk result (λ v. v.items ≡ shared_report_of P.profile (length setup.now.calls) book.now.history.items book.now.kernel) }
 {
     let mut out = String::new(alloc);
     add_entries(&mut out, book.history.as_slice())?;

@@ -15,7 +15,7 @@ fn view_of<P: Profile, S: DerivationStore<P> + Drop, W: Waiters<P> + Drop>(
     alloc: Global,
     kernel: &Kernel<P, S, W>,
 ) -> Result<View, AllocError>
-    ensures { IfOk result (IsViewOf P.the kernel.now) }
+    ensures { IfOk result (IsViewOf P.profile kernel.now) }
 {
     let memory = memory_of::<P, S, W>(alloc, kernel)?;
     let messages = messages_of::<P, S, W>(alloc, &memory, kernel)?;
@@ -35,7 +35,7 @@ pub fn add_changes_between<P: Profile, S: DerivationStore<P> + Drop, W: Waiters<
     new: &Kernel<P, S, W>,
 ) -> Result<(), AllocError>
     ensures { OnOk result (string_bytes out.new ≡ string_bytes out.old
-        ++ changes (state_lines P.the old.now) (state_lines P.the new.now)) }
+        ++ changes (state_lines P.profile old.now) (state_lines P.profile new.now)) }
 {
     let told = view_of::<P, S, W>(alloc, old)?;
     let _ = retell::<P, S, W>(alloc, out, &told, new)?;

@@ -38,14 +38,14 @@ fn make_call<P: Profile, S: DerivationStore<P> + Drop, W: Waiters<P> + Drop>(
     view: View,
 ) -> Result<(View, Reply), AllocError>
     requires within { i < length setup.now.calls }
-    requires reached { (A : State) × IsReached P.the A × (kernel.old ≡ shown A) }
-    requires view { IsViewOf P.the kernel.old view }
-    ensures steps { IfOk result (λ r. (A : State) (call : CallView) → IsReached P.the A → kernel.old ≡ shown A
-        → slice_get setup.now.calls i ≡ Some call → StepsTo P.the A call.call r.1 kernel.new) }
+    requires reached { (A : State) × IsReached P.profile A × (kernel.old ≡ shown A) }
+    requires view { IsViewOf P.profile kernel.old view }
+    ensures steps { IfOk result (λ r. (A : State) (call : CallView) → IsReached P.profile A → kernel.old ≡ shown A
+        → slice_get setup.now.calls i ≡ Some call → StepsTo P.profile A call.call r.1 kernel.new) }
     ensures text { IfOk result (λ r. (call : CallView) → slice_get setup.now.calls i ≡ Some call
         → string_bytes out.new ≡ string_bytes out.old
-        ++ call_lines (i + 1) call r.1 (state_lines P.the kernel.old) (state_lines P.the kernel.new)) }
-    ensures view { IfOk result (λ r. IsViewOf P.the kernel.new r.0) }
+        ++ call_lines (i + 1) call r.1 (state_lines P.profile kernel.old) (state_lines P.profile kernel.new)) }
+    ensures view { IfOk result (λ r. IsViewOf P.profile kernel.new r.0) }
 {
     let call = setup.calls()[i];
     let reply = kernel.step(call);
@@ -63,12 +63,12 @@ pub fn add_calls<P: Profile, S: DerivationStore<P> + Drop, W: Waiters<P> + Drop>
     kernel: &mut Kernel<P, S, W>,
     view: View,
 ) -> Result<Vec<Reply>, AllocError>
-    requires reached { (A : State) × IsReached P.the A × (kernel.old ≡ shown A) }
-    requires view { IsViewOf P.the kernel.old view }
-    ensures replies { IfOk result (λ replies. (A : State) → IsReached P.the A → kernel.old ≡ shown A
-        → replies.items ≡ replies_of P.the A (map (λ c. c.call) setup.now.calls)) }
-    ensures text { IfOk result (λ replies. (A : State) → IsReached P.the A → kernel.old ≡ shown A
-        → string_bytes out.new ≡ string_bytes out.old ++ calls_lines P.the 1 A setup.now.calls) }
+    requires reached { (A : State) × IsReached P.profile A × (kernel.old ≡ shown A) }
+    requires view { IsViewOf P.profile kernel.old view }
+    ensures replies { IfOk result (λ replies. (A : State) → IsReached P.profile A → kernel.old ≡ shown A
+        → replies.items ≡ replies_of P.profile A (map (λ c. c.call) setup.now.calls)) }
+    ensures text { IfOk result (λ replies. (A : State) → IsReached P.profile A → kernel.old ≡ shown A
+        → string_bytes out.new ≡ string_bytes out.old ++ calls_lines P.profile 1 A setup.now.calls) }
 {
     let mut told = view;
     let mut replies = Vec::with_capacity(alloc, setup.calls().len())?;

@@ -51,11 +51,11 @@ pub fn trace<P: Profile, S: MakeStore<P> + DerivationStore<P>, W: MakeWaiters<P>
     names: &[Name],
     setup: &Setup,
 ) -> Result<(Vec<u8>, ExpectationCount), AllocError>
-    requires { IsPlan P.the setup.now.plan }
-    ensures text { IfOk result (λ r. r.0.items ≡ spec.trace_of P.the (names_view names.now) setup.now) }
-    ensures met { IfOk result (λ r. r.1.met ≡ met_count setup.now.calls (spec.replies_to P.the setup.now)) }
+    requires { IsPlan P.profile setup.now.plan }
+    ensures text { IfOk result (λ r. r.0.items ≡ spec.trace_of P.profile (names_view names.now) setup.now) }
+    ensures met { IfOk result (λ r. r.1.met ≡ met_count setup.now.calls (spec.replies_to P.profile setup.now)) }
     ensures expected { IfOk result (λ r. r.1.expected
-        ≡ expectation_count setup.now.calls (spec.replies_to P.the setup.now)) }
+        ≡ expectation_count setup.now.calls (spec.replies_to P.profile setup.now)) }
 {
     let mut kernel = Kernel::<P, S, W>::boot(alloc, setup.plan())?;
     let mut out = String::new(alloc);

@@ -12,7 +12,7 @@ use std::alloc::{AllocError, Global};
 
 /// The line of a full slot.
 fn slot_line<P: Profile>(alloc: Global, derivation: &Derivation) -> Result<StateLine, AllocError>
-    ensures { IfOk result (λ l. line_view l ≡ derivation_line P.the derivation.now) }
+    ensures { IfOk result (λ l. line_view l ≡ derivation_line P.profile derivation.now) }
 {
     let parent = match derivation.parent {
         Some(parent) => Some(parent.address::<P>()),
@@ -37,7 +37,7 @@ fn add_slot<P: Profile>(
     derivation: &Derivation,
 ) -> Result<(), AllocError>
     ensures { OnOk result (map line_view lines.new.items
-        ≡ map line_view lines.old.items ++ derivation_line P.the derivation.now ∷ []) }
+        ≡ map line_view lines.old.items ++ derivation_line P.profile derivation.now ∷ []) }
 {
     let line = slot_line::<P>(alloc, derivation)?;
     lines.push(line)?;
@@ -53,7 +53,7 @@ pub fn slot_lines<P: Profile>(
     alloc: Global,
     slots: &[Derivation],
 ) -> Result<Vec<StateLine>, AllocError>
-    ensures { IfOk result (λ v. map line_view v.items ≡ map (derivation_line P.the) slots.now) }
+    ensures { IfOk result (λ v. map line_view v.items ≡ map (derivation_line P.profile) slots.now) }
 {
     let mut lines = Vec::new(alloc);
     for derivation in slots {

@@ -44,7 +44,7 @@ pub fn memory_of<P: Profile, S: DerivationStore<P> + Drop, W: Waiters<P> + Drop>
     alloc: Global,
     kernel: &Kernel<P, S, W>,
 ) -> Result<Memory, AllocError>
-    ensures { IfOk result (ShowsMemory P.the kernel.now) }
+    ensures { IfOk result (ShowsMemory P.profile kernel.now) }
 {
     let rows = state_rows::<P, S, W>(alloc, kernel)?;
     let slots = slot_lines::<P>(alloc, rows.slots.as_slice())?;
@@ -68,7 +68,7 @@ pub fn messages_of<P: Profile, S: DerivationStore<P> + Drop, W: Waiters<P> + Dro
     memory: &Memory,
     kernel: &Kernel<P, S, W>,
 ) -> Result<Messages, AllocError>
-    ensures { IfOk result (λ m. ShowsMemory P.the kernel.now memory.now → ShowsMessages P.the kernel.now m) }
+    ensures { IfOk result (λ m. ShowsMemory P.profile kernel.now memory.now → ShowsMessages P.profile kernel.now m) }
 {
     Ok(Messages {
         threads: thread_lines::<P, S, W>(alloc, &memory.threads, kernel)?,
@@ -125,8 +125,8 @@ pub fn retell<P: Profile, S: DerivationStore<P> + Drop, W: Waiters<P> + Drop>(
     requires memory { HasRisingMemory old.now.memory }
     requires messages { HasRisingMessages old.now.messages }
     ensures text { OnOk result (string_bytes out.new ≡ string_bytes out.old
-        ++ changes (view_lines old.now) (state_lines P.the kernel.now)) }
-    ensures view { IfOk result (IsViewOf P.the kernel.now) }
+        ++ changes (view_lines old.now) (state_lines P.profile kernel.now)) }
+    ensures view { IfOk result (IsViewOf P.profile kernel.now) }
 {
     let memory = memory_of::<P, S, W>(alloc, kernel)?;
     let messages = messages_of::<P, S, W>(alloc, &memory, kernel)?;
@@ -143,10 +143,10 @@ fn retell_messages<P: Profile, S: DerivationStore<P> + Drop, W: Waiters<P> + Dro
     old: View,
     kernel: &Kernel<P, S, W>,
 ) -> Result<View, AllocError>
-    requires { (v : Shown) × IsViewOf P.the v old × (kernel.now.derivations ≡ v.derivations) }
+    requires { (v : Shown) × IsViewOf P.profile v old × (kernel.now.derivations ≡ v.derivations) }
     ensures text { OnOk result (string_bytes out.new ≡ string_bytes out.old
-        ++ changes (view_lines old) (state_lines P.the kernel.now)) }
-    ensures view { IfOk result (IsViewOf P.the kernel.now) }
+        ++ changes (view_lines old) (state_lines P.profile kernel.now)) }
+    ensures view { IfOk result (IsViewOf P.profile kernel.now) }
 {
     let View { memory, messages } = old;
     let new = messages_of::<P, S, W>(alloc, &memory, kernel)?;
@@ -166,10 +166,10 @@ pub fn after_call<P: Profile, S: DerivationStore<P> + Drop, W: Waiters<P> + Drop
     kernel: &Kernel<P, S, W>,
     reply: Reply,
 ) -> Result<View, AllocError>
-    requires { (v : Shown) × IsViewOf P.the v old × Follows reply v kernel.now }
+    requires { (v : Shown) × IsViewOf P.profile v old × Follows reply v kernel.now }
     ensures text { OnOk result (string_bytes out.new ≡ string_bytes out.old
-        ++ changes (view_lines old) (state_lines P.the kernel.now)) }
-    ensures view { IfOk result (IsViewOf P.the kernel.now) }
+        ++ changes (view_lines old) (state_lines P.profile kernel.now)) }
+    ensures view { IfOk result (IsViewOf P.profile kernel.now) }
 {
     match reply {
         Reply::Done => retell::<P, S, W>(alloc, out, &old, kernel),

@@ -39,7 +39,7 @@ pub trait Kind {
     ///
     /// `OtherType` or `OtherValue` where the kind does not accept it.
     fn read<P: Profile>(&self, names: &[Name], value: &Value) -> Result<Self::Out, Wrong>
-        ensures means { result ≡ means self.now P.the (names_view names.now) (view value.now) }
+        ensures means { result ≡ means self.now P.profile (names_view names.now) (view value.now) }
         ensures holds { IfOk result (holds self.now) };
 }
 
@@ -130,7 +130,7 @@ fn natural(names: &[Name], value: &Value) -> Result<u64, Wrong>
 }
 
 fn is_word<P: Profile>(number: u64) -> bool
-    ensures { result ≡ nat_lt number (2 ^ word_bits P.the) }
+    ensures { result ≡ nat_lt number (2 ^ word_bits P.profile) }
 {
     number <= u64::MAX >> (u64::BITS - P::WORD_BITS)
 }
@@ -248,7 +248,7 @@ pub fn table_in(value: &Value) -> Result<&Table, Wrong>
 
 /// The word that an entry of a table of names gives to its name. It takes no name itself.
 pub fn named_word<P: Profile>(name: &str, value: &Value) -> Result<u64, Wrong>
-    ensures { seen (λ n. (name.now, n)) result ≡ kind.entry P.the (name.now, view value.now) }
+    ensures { seen (λ n. (name.now, n)) result ≡ kind.entry P.profile (name.now, view value.now) }
 {
     if !is_name(name.as_bytes()) {
         return Err(Wrong::OtherValue);

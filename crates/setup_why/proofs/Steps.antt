@@ -9,7 +9,7 @@ use Rattle.abstract_kernel.specs.State.{State, shown}
 use Rattle.abstract_kernel.specs.Step.{step, replies_of, state_after}
 use Rattle.abstract_kernel.specs.Reached.{IsReached}
 use Rattle.setup_format.specs.Views.{CallView}
-use Rattle.setup_why.specs.Names.{call_table}
+use Rattle.setup_why.specs.Tables.{call_table}
 use Rattle.setup_why.specs.Why.{call_lines, calls_lines, explained}
 
 pub booted : (p : ProfileName) (plan : Plan) → IsPlan p plan → IsReached p (boot p plan)

@@ -13,10 +13,10 @@ use Rattle.abstract_kernel.specs.Step.{step, replies_of}
 use Rattle.setup_format.specs.Views.{SetupView, CallView}
 use Rattle.setup_report.specs.Report.{terminated, call_text, met_count, expectation_count}
 use Rattle.reasons.specs.Calls.{reason_of}
-use Rattle.setup_why.specs.Names.{call_table}
-use Rattle.setup_why.specs.Text.{told}
-use Rattle.setup_why.specs.Asked.{AskedView}
-use Rattle.setup_why.specs.Reasons.{reason_lines}
+use Rattle.reason_words.specs.Text.{told}
+use Rattle.reason_words.specs.Asked.{AskedView}
+use Rattle.reason_words.specs.Reasons.{reason_lines}
+use Rattle.setup_why.specs.Tables.{call_table}
 
 -- the lines of the reason for which a call is refused, in what is shown before it; None where it is not refused
 abbrev pub explained : ProfileName → Shown → AskedView → Option (List ℕ)

@@ -6,15 +6,15 @@ ghost use Rattle.abstract_kernel.specs.State.{State, shown};
 ghost use Rattle.abstract_kernel.specs.Step.{replies_of};
 ghost use Rattle.setup_format.specs.Views.{CallView};
 ghost use Rattle.setup_report.specs.Report.{call_text};
-ghost use Rattle.setup_why.specs.Names.{call_table as call_table_of};
+ghost use Rattle.setup_why.specs.Tables.{call_table as call_table_of};
 ghost use Rattle.setup_why.specs.Why as spec;
 
-use crate::asked::Asked;
 use crate::explaining::explain;
-use crate::names::call_table;
+use crate::tables::call_table;
 use cap_core::Profile;
 use ipc_core::Waiters;
 use kernel_core::{Call, Kernel, Reply};
+use reason_words::Asked;
 use setup_format::Setup;
 use setup_report::add_call;
 use slot_core::DerivationStore;
@@ -78,11 +78,11 @@ fn make_call<P: Profile, S: DerivationStore<P> + Drop, W: Waiters<P> + Drop>(
     kernel: &mut Kernel<P, S, W>,
 ) -> Result<Reply, AllocError>
     requires within { i < length setup.now.calls }
-    ensures steps { IfOk result (λ reply. (A : State) (call : CallView) → IsReached P.the A → kernel.old ≡ shown A
-        → slice_get setup.now.calls i ≡ Some call → StepsTo P.the A call.call reply kernel.new) }
+    ensures steps { IfOk result (λ reply. (A : State) (call : CallView) → IsReached P.profile A → kernel.old ≡ shown A
+        → slice_get setup.now.calls i ≡ Some call → StepsTo P.profile A call.call reply kernel.new) }
     ensures text { IfOk result (λ reply. (call : CallView) → slice_get setup.now.calls i ≡ Some call
         → string_bytes out.new ≡ string_bytes out.old ++ spec.call_lines chosen (i + 1) call reply
-        (spec.explained P.the kernel.old (record { call = call.call; table = call_table_of (table_view table.now) i }))) }
+        (spec.explained P.profile kernel.old (record { call = call.call; table = call_table_of (table_view table.now) i }))) }
 {
     let call = setup.calls()[i];
     let asked = Asked {
@@ -105,11 +105,11 @@ pub fn add_calls<P: Profile, S: DerivationStore<P> + Drop, W: Waiters<P> + Drop>
     chosen: Option<u64>,
     kernel: &mut Kernel<P, S, W>,
 ) -> Result<Vec<Reply>, AllocError>
-    ensures replies { IfOk result (λ replies. (A : State) → IsReached P.the A → kernel.old ≡ shown A
-        → replies.items ≡ replies_of P.the A (map (λ c. c.call) setup.now.calls)) }
-    ensures text { IfOk result (λ replies. (A : State) → IsReached P.the A → kernel.old ≡ shown A
+    ensures replies { IfOk result (λ replies. (A : State) → IsReached P.profile A → kernel.old ≡ shown A
+        → replies.items ≡ replies_of P.profile A (map (λ c. c.call) setup.now.calls)) }
+    ensures text { IfOk result (λ replies. (A : State) → IsReached P.profile A → kernel.old ≡ shown A
         → string_bytes out.new ≡ string_bytes out.old
-        ++ spec.calls_lines P.the (table_view table.now) chosen 0 A setup.now.calls) }
+        ++ spec.calls_lines P.profile (table_view table.now) chosen 0 A setup.now.calls) }
 {
     let mut replies = Vec::with_capacity(alloc, setup.calls().len())?;
     for i in 0..setup.calls().len() {

@@ -1,16 +1,14 @@
 //! The lines of a reason.
 ghost use Rattle.std.specs.Prelude.{◌≡◌, ◌++◌, IfOk, OnOk, option_map, string_bytes};
-ghost use Rattle.setup_why.specs.Asked.{asked_view};
-ghost use Rattle.setup_why.specs.Reasons.{reason_lines};
+ghost use Rattle.reason_words.specs.Asked.{asked_view};
+ghost use Rattle.reason_words.specs.Reasons.{reason_lines};
 ghost use Rattle.setup_why.specs.Why.{explained};
 
-use crate::asked::Asked;
-use crate::capabilities::add_capability;
-use crate::lookups::{add_no_depth, add_not_found};
-use crate::threads::{add_no_thread, add_not_ready};
+use crate::threads::add_no_thread;
 use cap_core::Profile;
 use ipc_core::Waiters;
 use kernel_core::{Kernel, Reason};
+use reason_words::{Asked, add_capability, add_no_depth, add_not_found, add_not_ready};
 use slot_core::DerivationStore;
 use std::alloc::{AllocError, Global};
 
@@ -23,7 +21,7 @@ fn add_reason<P: Profile, S: DerivationStore<P> + Drop, W: Waiters<P> + Drop>(
     reason: Reason,
 ) -> Result<(), AllocError>
     ensures { OnOk result (string_bytes out.new ≡ string_bytes out.old
-        ++ reason_lines P.the kernel.now (asked_view asked.entry) reason) }
+        ++ reason_lines P.profile kernel.now (asked_view asked.entry) reason) }
 {
     match reason {
         Reason::NoThread => add_no_thread::<P, S, W>(alloc, out, kernel, asked),
@@ -48,7 +46,7 @@ pub fn explain<P: Profile, S: DerivationStore<P> + Drop, W: Waiters<P> + Drop>(
     kernel: &Kernel<P, S, W>,
     asked: Asked<'_>,
 ) -> Result<Option<String>, AllocError>
-    ensures { IfOk result (λ lines. option_map string_bytes lines ≡ explained P.the kernel.now (asked_view asked.entry)) }
+    ensures { IfOk result (λ lines. option_map string_bytes lines ≡ explained P.profile kernel.now (asked_view asked.entry)) }
 {
     match kernel.reason(asked.call) {
         None => Ok(None),

@@ -66,11 +66,11 @@ pub fn why<P: Profile, S: MakeStore<P> + DerivationStore<P>, W: MakeWaiters<P>>(
     setup: &Setup,
     chosen: Option<u64>,
 ) -> Result<(Vec<u8>, ExpectationCount), AllocError>
-    requires { IsPlan P.the setup.now.plan }
-    ensures text { IfOk result (λ r. r.0.items ≡ spec.why_of P.the (table_view table.now) chosen setup.now) }
-    ensures met { IfOk result (λ r. r.1.met ≡ met_count setup.now.calls (spec.replies_to P.the setup.now)) }
+    requires { IsPlan P.profile setup.now.plan }
+    ensures text { IfOk result (λ r. r.0.items ≡ spec.why_of P.profile (table_view table.now) chosen setup.now) }
+    ensures met { IfOk result (λ r. r.1.met ≡ met_count setup.now.calls (spec.replies_to P.profile setup.now)) }
     ensures expected { IfOk result (λ r. r.1.expected
-        ≡ expectation_count setup.now.calls (spec.replies_to P.the setup.now)) }
+        ≡ expectation_count setup.now.calls (spec.replies_to P.profile setup.now)) }
 {
     let mut kernel = Kernel::<P, S, W>::boot(alloc, setup.plan())?;
     let mut out = String::new(alloc);

@@ -38,7 +38,7 @@ fn add_slot<P: Profile, S: CapStore<P> + Drop, W: Waiters<P> + Drop>(
     kernel: &Kernel<P, S, W>,
 ) -> Result<(), AllocError>
     ensures { OnOk result (words.new.items ≡ words.old.items
-        ++ spec.slot_words kernel.now (derivation_view P.the derivation.now)) }
+        ++ spec.slot_words kernel.now (derivation_view P.profile derivation.now)) }
 {
     let parent = match derivation.parent {
         Some(parent) => Some(parent.address::<P>()),
@@ -59,7 +59,7 @@ fn add_slots<P: Profile, S: CapStore<P> + Drop, W: Waiters<P> + Drop>(
     kernel: &Kernel<P, S, W>,
 ) -> Result<(), AllocError>
     ensures { OnOk result (words.new.items ≡ words.old.items
-        ++ spec.listed (spec.slot_words kernel.now) (map (derivation_view P.the) list.now)) }
+        ++ spec.listed (spec.slot_words kernel.now) (map (derivation_view P.profile) list.now)) }
 {
     let mut rest = list;
     while let Some((derivation, later)) = rest.split_first() {

@@ -4,11 +4,14 @@ use std::fmt;
 use std::fs::{self, Files};
 use std::io::ErrorKind;
 
-/// A set-up, the report that is wanted, and the exit status that is.
+/// A set-up, the texts that are wanted, and the exit status that is.
 #[derive(Drop)]
 pub struct Case {
     pub setup: Vec<u8>,
-    pub report: Vec<u8>,
+    /// Its report, where that is wanted.
+    pub report: Option<Vec<u8>>,
+    /// Why its calls are refused, where that is wanted.
+    pub why: Option<Vec<u8>>,
     pub status: u8,
 }
 
@@ -20,8 +23,9 @@ pub enum Difference<'a> {
         given: u8,
         wanted: u8,
     },
-    /// The first line of the report that differs, counted from 1, without its end.
+    /// The first line of a text that differs, counted from 1, without its end.
     Line {
+        text: &'static str,
         number: usize,
         given: &'a [u8],
         wanted: &'a [u8],
@@ -45,15 +49,27 @@ fn status_at<R: Files + AllocGlobal>(rt: &R, path: &str) -> anyhow::Result<u8> {
     }
 }
 
-/// A file of a set-up, by its ending.
+/// The bytes of a file, or `None` where there is no such file.
+fn read_where_there<R: Files + AllocGlobal>(rt: &R, path: &str) -> anyhow::Result<Option<Vec<u8>>> {
+    match fs::read(rt, path) {
+        Ok(bytes) => Ok(Some(bytes)),
+        Err(error) => if error.kind() == ErrorKind::NotFound {
+            Ok(None)
+        } else {
+            Err(error.into())
+        },
+    }
+}
+
+/// A file of a set-up, by its ending, where there is one.
 fn read_file<R: Files + AllocGlobal>(
     rt: &R,
     topic: &str,
     name: &str,
     ending: &str,
-) -> anyhow::Result<Vec<u8>> {
+) -> anyhow::Result<Option<Vec<u8>>> {
     let path = format!(in rt.alloc(); "{topic}/{name}.{ending}")?;
-    Ok(fs::read(rt, path.as_str())?)
+    read_where_there(rt, path.as_str())
 }
 
 /// The exit status that is wanted of a set-up.
@@ -63,7 +79,11 @@ fn wanted_status<R: Files + AllocGlobal>(rt: &R, topic: &str, name: &str) -> any
 }
 
 /// The first line in which two texts differ.
-fn first_difference<'a>(given: &'a [u8], wanted: &'a [u8]) -> Option<Difference<'a>> {
+fn first_difference<'a>(
+    text: &'static str,
+    given: &'a [u8],
+    wanted: &'a [u8],
+) -> Option<Difference<'a>> {
     let mut given = given.split(|b| *b == b'\n');
     let mut wanted = wanted.split(|b| *b == b'\n');
     for number in 1..usize::MAX {
@@ -75,6 +95,7 @@ fn first_difference<'a>(given: &'a [u8], wanted: &'a [u8]) -> Option<Difference<
         let wanted_line = lines.1.unwrap_or(b"");
         if line != wanted_line || lines.0.is_some() != lines.1.is_some() {
             return Some(Difference::Line {
+                text,
                 number,
                 given: line,
                 wanted: wanted_line,
@@ -88,19 +109,41 @@ impl Case {
     /// The case of this name in the folder of its topic.
     pub fn read<R: Files + AllocGlobal>(rt: &R, topic: &str, name: &str) -> anyhow::Result<Case> {
         let status = wanted_status(rt, topic, name)?;
-        let setup = read_file(rt, topic, name, "toml")?;
+        let path = format!(in rt.alloc(); "{topic}/{name}.toml")?;
+        let setup = fs::read(rt, path.as_str())?;
         let report = read_file(rt, topic, name, "report")?;
+        let why = read_file(rt, topic, name, "why")?;
         Ok(Case {
             setup,
             report,
+            why,
             status,
         })
     }
 
-    /// What differs from what is wanted in a text that was written, or in the verdict.
+    /// What differs from what is wanted in a report that was written, or in the verdict.
     pub fn difference<'a>(&'a self, text: &'a [u8], verdict: Verdict) -> Option<Difference<'a>> {
+        self.difference_of("report", text, verdict, self.report.as_ref()?.as_slice())
+    }
+
+    /// What differs from what is wanted in what was written of why calls are refused, or in the verdict.
+    pub fn difference_of_why<'a>(
+        &'a self,
+        text: &'a [u8],
+        verdict: Verdict,
+    ) -> Option<Difference<'a>> {
+        self.difference_of("reasons", text, verdict, self.why.as_ref()?.as_slice())
+    }
+
+    fn difference_of<'a>(
+        &'a self,
+        name: &'static str,
+        text: &'a [u8],
+        verdict: Verdict,
+        wanted: &'a [u8],
+    ) -> Option<Difference<'a>> {
         let given = status_of(&Ok(verdict));
-        match first_difference(text, self.report.as_slice()) {
+        match first_difference(name, text, wanted) {
             None if given != self.status => Some(Difference::Status {
                 given,
                 wanted: self.status,
@@ -120,6 +163,7 @@ impl fmt::Display for Difference<'_> {
         match *self {
             Difference::Status { given, wanted } => write!(f, "status {given}, and not {wanted}"),
             Difference::Line {
+                text,
                 number,
                 given,
                 wanted,
@@ -127,7 +171,7 @@ impl fmt::Display for Difference<'_> {
                 let (line, wanted) = (line_text(given), line_text(wanted));
                 write!(
                     f,
-                    "line {number} of the report is `{line}`, and not `{wanted}`"
+                    "line {number} of the {text} is `{line}`, and not `{wanted}`"
                 )
             }
         }

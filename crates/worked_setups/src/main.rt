@@ -1,19 +1,22 @@
 //! Runs each worked set-up of the folder it stands in, over each pair of a capability store and a store of waiting threads,
 //! and compares the whole report and the exit status with those beside the set-up.
 //!
-//! Each folder here is a topic. In it `NAME.toml` is a set-up and `NAME.report` its report, byte for byte; the exit status that
-//! is wanted stands in `NAME.status`, and is 0 where there is no such file. `NAME.trace` is a set-up's trace, which `make rows`
-//! compares. A set-up of the first format that is accepted is run twice: as it is, and as what it is migrated to, which has
-//! to have the same report and status. For each topic one line says how many set-ups it has, and how many of them were
+//! Each folder here is a topic. In it `NAME.toml` is a set-up, and `NAME.report` its report or `NAME.why` why its calls are
+//! refused, byte for byte; the exit status that is wanted stands in `NAME.status`, and is 0 where there is no such file.
+//! `NAME.trace` is a set-up's trace, which `make rows` compares. A set-up with a report that is of the first format and
+//! accepted is run twice: as it is, and as what it is migrated to, which has to have the same report and status. Why calls are
+//! refused is told over the linked forms alone. For each topic one line says how many set-ups it has, and how many of them were
 //! migrated, and one line for each pair over which one fails what differs.
 //!
-//! At the end one set-up is compared with `planted.report`, which is not its report, and with a status that is not its own:
-//! one line says for each pair what differs. The exit status is 1 where a set-up failed, or nothing differed there.
+//! At the end one set-up is compared with `planted.report`, which is not its report, and with a status that is not its own,
+//! and another with `planted.why`, which does not say why its calls are refused: one line says for each pair what differs. The
+//! exit status is 1 where a set-up failed, or nothing differed there.
 #![tactic(auto)]
 
 use case::{Case, Difference};
 use migrated::migrated;
 use pairs::{PAIRS, Pair};
+use why::why_of;
 use std::fs::{self, DirEntry, Files};
 use std::io;
 use std::process::ExitCode;
@@ -21,6 +24,7 @@ use std::process::ExitCode;
 mod case;
 mod migrated;
 mod pairs;
+mod why;
 
 /// What comes of no set-up.
 const NOTHING: Tally = Tally {
@@ -118,6 +122,20 @@ fn differs<R: Print + AllocGlobal>(
     Ok(say_difference(rt, subject, case.difference(text.as_slice(), verdict))?)
 }
 
+/// Tells why the calls of a case are refused, where that is wanted, and answers how often something differs.
+fn differing_in_why<R: Print + AllocGlobal>(
+    rt: &R,
+    topic: &str,
+    name: &str,
+    case: &Case,
+) -> anyhow::Result<u64> {
+    let (text, verdict) = why_of(rt.alloc(), case.setup.as_slice())?;
+    let pair = Pair::Linked;
+    let subject = Subject { topic, name, pair };
+    let difference = case.difference_of_why(text.as_slice(), verdict);
+    Ok(u64::from(say_difference(rt, subject, difference)?))
+}
+
 /// Runs a case over each pair, and answers over how many something differs.
 fn differing<R: Print + AllocGlobal>(
     rt: &R,
@@ -174,6 +192,12 @@ fn run_set_up<R: Files + Print + AllocGlobal>(
     name: &str,
 ) -> anyhow::Result<Tally> {
     let case = Case::read(rt, topic, name)?;
+    if case.report.is_none() {
+        return Ok(Tally {
+            differing: differing_in_why(rt, topic, name, &case)?,
+            migrated: 0,
+        });
+    }
     let as_it_is = Tally {
         differing: differing(rt, topic, name, &case)?,
         migrated: 0,
@@ -228,8 +252,16 @@ fn run_planted<R: Files + Print + AllocGlobal>(rt: &R) -> anyhow::Result<u64> {
     let mut case = Case::read(rt, topic, name)?;
     case.status = 1;
     let by_status = differing(rt, topic, name, &case)?;
-    case.report = fs::read(rt, "planted.report")?;
+    case.report = Some(fs::read(rt, "planted.report")?);
     Ok(by_status.saturating_add(differing(rt, topic, name, &case)?))
+}
+
+/// Compares why the call of a set-up is refused with another reason, and answers how often something differs.
+fn run_planted_why<R: Files + Print + AllocGlobal>(rt: &R) -> anyhow::Result<u64> {
+    let (topic, name) = ("why_threads", "thread_of_many");
+    let mut case = Case::read(rt, topic, name)?;
+    case.why = Some(fs::read(rt, "planted.why")?);
+    differing_in_why(rt, topic, name, &case)
 }
 
 /// Runs each topic, and what is planted: whether nothing failed, and all that is planted was found.
@@ -237,7 +269,8 @@ fn run<R: Files + Print + AllocGlobal + Clone + Drop>(rt: &R) -> anyhow::Result<
     let topics = names_in(rt, ".", Wanted::Topics)?;
     let failed = run_topics(rt, topics.as_slice())?;
     let found = run_planted(rt)?;
-    Ok(failed == 0 && found == 2 * PAIRS.len() as u64)
+    let found_in_why = run_planted_why(rt)?;
+    Ok(failed == 0 && found == 2 * PAIRS.len() as u64 && found_in_why == 1)
 }
 
 fn main(rt: HostRuntime) -> anyhow::Result<ExitCode> {

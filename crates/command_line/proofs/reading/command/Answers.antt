@@ -1,12 +1,11 @@
 -- The command that is built is the definition's.
-use Rattle.std.proofs.Common.{◌∙◌, ap, codes}
-use Rattle.command_line.specs.CommandLine.{and_subcommand, command, with_file}
+use Rattle.std.proofs.Common.{◌∙◌, ap₂}
+use Rattle.command_line.specs.CommandLine.{and_subcommand, command}
 use Rattle.command_line.proofs.reading.command.Goals as goal
 
 pub returns : goal.returns
 unfolding command
 returns c =
-    let check = c.in_ok-check.ensures ∙ ap (and_subcommand (with_file (codes "check"))) c.in_ok-bare.ensures in
-    let trace = c.in_ok-trace.ensures ∙ ap (and_subcommand (with_file (codes "trace"))) check in
-    let threads = c.in_ok-threads.ensures ∙ ap (and_subcommand (with_file (codes "threads"))) trace in
-    c.in_ok-migrate.ensures ∙ ap (and_subcommand (with_file (codes "migrate"))) threads
+    let with_why = c.in_ok-with_why.ensures.shape c.in_ok-why.ensures.local ∙ ap₂ and_subcommand c.in_ok-why.ensures.app c.in_ok-plain.ensures in
+    let with_audit = c.in_ok-with_audit.ensures.shape c.in_ok-audit.ensures.local ∙ ap₂ and_subcommand c.in_ok-audit.ensures.app with_why in
+    c.in_ok-whole.ensures.shape c.in_ok-explore.ensures.local ∙ ap₂ and_subcommand c.in_ok-explore.ensures.app with_audit

@@ -1,9 +1,10 @@
--- The file is clap's value of FILE, of the subcommand first.
-use Rattle.std.proofs.Common.{◌≡◌, ◌∙◌, ap, ap₂, sym, codes, Option, Some, None, option_map, refl}
+-- The file is clap's value of FILE, of the subcommand first; the options are the subcommand's.
+use Rattle.std.proofs.Common.{◌≡◌, ◌∙◌, ap, ap₂, sym, codes, false, Option, Some, None, option_map, refl, subst}
 use Rattle.std.specs.Option.{option_or}
 use Rattle.clap.proofs.WalkLemmas.{first_value-rows}
 use Rattle.clap.specs.Words.{first_of, found_of, rows_of}
-use Rattle.command_line.specs.CommandLine.{file_of}
+use Rattle.command_line.specs.CommandLine.{HasOptions, file_of, own_rows}
+use Rattle.command_line.specs.declared.arguments.Options.{Options}
 use Rattle.command_line.proofs.CommandLines.{subcommand_is, no_subcommand_is}
 use Rattle.command_line.proofs.reading.line_in.Goals as goal
 
@@ -29,3 +30,14 @@ returns-in-Some-named-clause-file c =
     c.get_str.ensures ∙ first_value-rows inner file in
     let chosen = ap (option_map (λ s. s.now)) c.or-file.ensures ∙ seen_of_or (λ s. s.now) c.get_str.result c.get_str-above.result in
     ap (file_of (rows_of (found_of m))) met ∙ sym (chosen ∙ ap₂ option_or own above)
+
+pub returns-in-None-clause-options : goal.returns-in-None-clause-options
+returns-in-None-clause-options c =
+    let none : Options = record { call = None; after = None; slot = None; ever = false; without = None; first = None; states = None; witness = None } in
+    subst (λ s. HasOptions (own_rows s) none) (sym (no_subcommand_is c.args.matches.now c.in-None.ensures.name))
+    (record { call = refl; after = refl; slot = refl; ever = refl; without = refl; first = refl; states = refl; witness = refl })
+
+pub returns-in-Some-named-clause-options : goal.returns-in-Some-named-clause-options
+returns-in-Some-named-clause-options c =
+    let met = subcommand_is c.args.matches.now c.in-Some.name.now (rows_of (found_of c.in-Some.inner.now)) c.in-Some.ensures.name c.in-Some.ensures.rows in
+    subst (λ s. HasOptions (own_rows s) c.options_in-options.result) (sym met) c.options_in-options.ensures

@@ -13,10 +13,10 @@ returns-clause-kernel g c =
     let setup = c.args.setup.now in
     let plan : c.plan.result.now ≡ setup.plan = c.plan.ensures.plan in
     let calls : c.calls-calls.result.now ≡ calls_of setup = c.calls-calls.ensures in
-    let shows : c.in_ok-kernel.kernel ≡ shown (boot g.P.Profile.the setup.plan) =
-    c.in_ok-kernel.ensures ∙ ap (λ q. shown (boot g.P.Profile.the q)) plan in
-    c.run.ensures.stands (boot g.P.Profile.the setup.plan) (boot_reached g.P.Profile.the setup.plan c.requires) shows
-    ∙ ap (λ l. shown (state_after g.P.Profile.the (boot g.P.Profile.the setup.plan) l)) calls
+    let shows : c.in_ok-kernel.kernel ≡ shown (boot g.P.Profile.profile setup.plan) =
+    c.in_ok-kernel.ensures ∙ ap (λ q. shown (boot g.P.Profile.profile q)) plan in
+    c.run.ensures.stands (boot g.P.Profile.profile setup.plan) (boot_reached g.P.Profile.profile setup.plan c.requires) shows
+    ∙ ap (λ l. shown (state_after g.P.Profile.profile (boot g.P.Profile.profile setup.plan) l)) calls
 
 pub returns-clause-replies : goal.returns-clause-replies
 unfolding replies_to
@@ -24,9 +24,9 @@ returns-clause-replies g c =
     let setup = c.args.setup.now in
     let plan : c.plan.result.now ≡ setup.plan = c.plan.ensures.plan in
     let calls : c.calls-calls.result.now ≡ calls_of setup = c.calls-calls.ensures in
-    let shows : c.in_ok-kernel.kernel ≡ shown (boot g.P.Profile.the setup.plan) =
-    c.in_ok-kernel.ensures ∙ ap (λ q. shown (boot g.P.Profile.the q)) plan in
+    let shows : c.in_ok-kernel.kernel ≡ shown (boot g.P.Profile.profile setup.plan) =
+    c.in_ok-kernel.ensures ∙ ap (λ q. shown (boot g.P.Profile.profile q)) plan in
     let none : c.in_ok-replies.replies.items ≡ [] = c.in_ok-replies.ensures.items in
-    c.run.ensures.replies (boot g.P.Profile.the setup.plan) (boot_reached g.P.Profile.the setup.plan c.requires) shows
-    ∙ ap (λ l. l ++ replies_of g.P.Profile.the (boot g.P.Profile.the setup.plan) c.calls-calls.result.now) none
-    ∙ ap (λ l. replies_of g.P.Profile.the (boot g.P.Profile.the setup.plan) l) calls
+    c.run.ensures.replies (boot g.P.Profile.profile setup.plan) (boot_reached g.P.Profile.profile setup.plan c.requires) shows
+    ∙ ap (λ l. l ++ replies_of g.P.Profile.profile (boot g.P.Profile.profile setup.plan) c.calls-calls.result.now) none
+    ∙ ap (λ l. replies_of g.P.Profile.profile (boot g.P.Profile.profile setup.plan) l) calls

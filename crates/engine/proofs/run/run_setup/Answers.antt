@@ -10,7 +10,7 @@ returns g c =
     let setup = c.args.setup.now in
     let replies = c.as_slice.ensures.value ∙ c.in_ok-kernel.ensures.replies in
     let made = c.in_ok-text.ensures in
-    let text = made.report ∙ ap₂ (λ r k. report_of g.P.Profile.the setup.calls r k) replies c.in_ok-kernel.ensures.kernel in
+    let text = made.report ∙ ap₂ (λ r k. report_of g.P.Profile.profile setup.calls r k) replies c.in_ok-kernel.ensures.kernel in
     let met = made.met ∙ ap (λ r. met_count setup.calls r) replies in
     let expected = made.expected ∙ ap (λ r. expectation_count setup.calls r) replies in
     ap₂ (λ t v. (t, v)) text (c.verdict_on.ensures ∙ ap₂ verdict_on met expected)

@@ -10,8 +10,8 @@ use Rattle.engine_threads.proofs.sharing.shared_run.Goals as goal
 pub start-requires-clause-begins : goal.start-requires-clause-begins
 start-requires-clause-begins g c =
     let plan = c.args.setup.now.plan in
-    let r : IsReached g.P.Profile.the (boot g.P.Profile.the plan) = boot_reached g.P.Profile.the plan c.requires.plan in
-    ∣ record { reached = subst (λ (s : State). IsReached g.P.Profile.the s) (sym c.requires.start) r; shows = c.requires.opening ∙ ap shown (sym c.requires.start) } ∣₁
+    let r : IsReached g.P.Profile.profile (boot g.P.Profile.profile plan) = boot_reached g.P.Profile.profile plan c.requires.plan in
+    ∣ record { reached = subst (λ (s : State). IsReached g.P.Profile.profile s) (sym c.requires.start) r; shows = c.requires.opening ∙ ap shown (sym c.requires.start) } ∣₁
 
 pub returns-in-Ok-drive-clause-run : goal.returns-in-Ok-drive-clause-run
 returns-in-Ok-drive-clause-run g c =
@@ -29,7 +29,7 @@ returns-in-Ok-drive-clause-run g c =
     let bound : book.history.len ≤ book.limit = book.short in
     let limited : book.limit ≡ limit = book.limited in
     let short : length book.history.items ≤ limit = omega arith in
-    run_settled g.G.Gate.ends g.P.Profile.the setup g.N.Naming.opening limit (λ (d : Driven _ _). d.client) (λ (d : Driven _ _). d.made) (λ (d : Driven _ _). d.stopped) olds lists all book.history.items
+    run_settled g.G.Gate.ends g.P.Profile.profile setup g.N.Naming.opening limit (λ (d : Driven _ _). d.client) (λ (d : Driven _ _). d.made) (λ (d : Driven _ _). d.stopped) olds lists all book.history.items
     c.requires.plan c.requires.opening c.requires.limit c.clients.ensures.bounds n a b
     c.in-Ok-start.ensures.each
     (λ i l at. c.in-Ok-calls_of_clients.ensures.each i l (ap (λ ls. slice_get ls i) (sym c.as_slice.ensures.value) ∙ at))

@@ -7,7 +7,7 @@ use Rattle.engine_threads.proofs.threads.report_on.Goals as goal
 
 pub returns-clause-made : goal.returns-clause-made
 returns-clause-made g c =
-    let p = g.P.Profile.the in
+    let p = g.P.Profile.profile in
     let setup = c.args.setup.now in
     let b = c.in_ok-book.book in
     let calls = ap length c.calls.ensures ∙ length-map setup.calls (λ (v : CallView). v.call) in

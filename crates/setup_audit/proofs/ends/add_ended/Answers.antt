@@ -8,7 +8,7 @@ use Rattle.setup_audit.proofs.ends.add_ended.Goals as goal
 
 pub returns-then-names_same : goal.returns-then-names_same
 returns-then-names_same g c =
-    let p = g.P.Profile.the in
+    let p = g.P.Profile.profile in
     let cap = c.args.derivation.now.cap in
     let new = map (derivation_view p) c.args.left.now in
     let same : names_same c.cap_at.result cap ≡ true = sym c.names_same.ensures ∙ c.if-names_same.true in
@@ -18,13 +18,13 @@ returns-then-names_same g c =
 
 pub returns-then-is_named : goal.returns-then-is_named
 returns-then-is_named g c =
-    let p = g.P.Profile.the in
+    let p = g.P.Profile.profile in
     let cap = c.args.derivation.now.cap in
     stays cap (map (derivation_view p) c.args.left.now) c.args.caps.now.items (named_seen p cap c.args.left.now ∙ (sym c.is_named.ensures ∙ c.if-is_named.true))
 
 pub returns : goal.returns
 returns g c =
-    let p = g.P.Profile.the in
+    let p = g.P.Profile.profile in
     let cap = c.args.derivation.now.cap in
     c.in_ok-push.ensures.items
     ∙ ap (λ l. c.args.caps.now.items ++ l) (ends cap (map (derivation_view p) c.args.left.now) (named_seen p cap c.args.left.now ∙ (sym c.is_named.ensures ∙ c.if-is_named.false)))

@@ -6,7 +6,7 @@ use Rattle.setup_audit.proofs.ends.ended_caps.Goals as goal
 
 pub loop-derivation-preserved : goal.loop-derivation-preserved
 loop-derivation-preserved g c =
-    let p = g.P.Profile.the in
+    let p = g.P.Profile.profile in
     let new = map (derivation_view p) c.args.left.now in
     c.in_ok-add_ended.ensures
     ∙ ((λ k. c.loop-derivation.invariant k ++ where_ended (c.derivation-item.is k).cap new)

@@ -15,7 +15,7 @@ revoked-requires g c = child_full c.args.slot c.args.kernel.now.derivations (sym
 
 pub returns-then-not-has_children : goal.returns-then-not-has_children
 returns-then-not-has_children g c = λ A reached shows.
-    let p = g.P.Profile.the in
+    let p = g.P.Profile.profile in
     let names = names_view c.args.names.now in
     let slot = c.args.slot in
     let none : has_child slot A.derivations ≡ false = same_child c.args.kernel.now A slot shows ∙ (sym c.has_children.ensures ∙ c.if-not-has_children.true) in
@@ -25,7 +25,7 @@ returns-then-not-has_children g c = λ A reached shows.
 
 pub returns : goal.returns
 returns g c = λ A reached shows.
-    let p = g.P.Profile.the in
+    let p = g.P.Profile.profile in
     let names = names_view c.args.names.now in
     let slot = c.args.slot in
     let one : has_child slot A.derivations ≡ true = same_child c.args.kernel.now A slot shows ∙ (sym c.has_children.ensures ∙ c.if-not-has_children.false) in

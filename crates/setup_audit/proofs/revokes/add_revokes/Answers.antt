@@ -8,7 +8,7 @@ use Rattle.setup_audit.proofs.revokes.add_revokes.Goals as goal
 
 pub loop-row-preserved : goal.loop-row-preserved
 loop-row-preserved g c = λ A reached shows.
-    let p = g.P.Profile.the in
+    let p = g.P.Profile.profile in
     let names = names_view c.args.names.now in
     c.in_ok-add_revoke_at.ensures A reached shows
     ∙ ((λ k. c.loop-row.invariant A reached shows k ++ (ap (revoke_lines_at p names A) c.address.ensures ∙ ap (λ (d : Derivation). revoke_lines_of p names A (derivation_view p d)) c.row-item.is) k)

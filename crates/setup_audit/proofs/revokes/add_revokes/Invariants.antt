@@ -10,6 +10,6 @@ use Rattle.setup_audit.proofs.revokes.add_revokes.Given as goal
 
 abbrev pub invariant-loop-row : goal.invariant-loop-row
 invariant-loop-row g l =
-    let p = g.P.Profile.the in
+    let p = g.P.Profile.profile in
     (A : State) → IsReached p A → l.kernel ≡ shown A →
     string_bytes l.out ≡ string_bytes l.initial.out ++ flat_map (λ (d : Derivation). revoke_lines_of p (names_view l.names) A (derivation_view p d)) (take l.row-index l.rows)

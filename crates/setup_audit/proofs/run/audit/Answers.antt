@@ -13,7 +13,7 @@ reached_behind p setup made lawful =
 
 pub returns : goal.returns
 returns g c =
-    let p = g.P.Profile.the in
+    let p = g.P.Profile.profile in
     let setup = c.args.setup.now in
     let made = c.in-Some.made in
     let text = option_map (λ v. v.items) c.in_ok-text.text in

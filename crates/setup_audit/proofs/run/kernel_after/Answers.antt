@@ -7,7 +7,7 @@ use Rattle.setup_audit.proofs.run.kernel_after.Goals as goal
 
 pub returns : goal.returns
 returns g c =
-    let p = g.P.Profile.the in
+    let p = g.P.Profile.profile in
     let plan = c.args.setup.now.plan in
     record {
       shows = c.run.ensures.stands (boot p plan) (booted p plan c.requires.plan) (c.in_ok-kernel.ensures.shows ∙ ap (λ q. shown (boot p q)) c.plan.ensures.plan)

@@ -15,7 +15,7 @@ same_null v A slot shows = sym (ap (λ (f : Forest Entry). is_null (cap_at f slo
 
 pub returns-then-is_cleared : goal.returns-then-is_cleared
 returns-then-is_cleared g c = λ A reached shows.
-    let p = g.P.Profile.the in
+    let p = g.P.Profile.profile in
     let slot = c.args.slot in
     let null : is_null (cap_at A.derivations slot) ≡ true = same_null c.args.kernel.now A slot shows ∙ (sym c.is_cleared.ensures ∙ c.if-is_cleared.true) in
     sym (ap (λ (b : Bool). cond b None (Some (slot_audit p (names_view c.args.names.now) c.args.setup.now c.args.made slot A))) null)
@@ -25,7 +25,7 @@ audit_of_slot-requires g c = full_at c.args.kernel.now.derivations c.args.slot (
 
 pub returns : goal.returns
 returns g c = λ A reached shows.
-    let p = g.P.Profile.the in
+    let p = g.P.Profile.profile in
     let slot = c.args.slot in
     let full : is_null (cap_at A.derivations slot) ≡ false = same_null c.args.kernel.now A slot shows ∙ (sym c.is_cleared.ensures ∙ c.if-is_cleared.false) in
     ap Some (c.in_ok-text.ensures A reached shows)

@@ -19,7 +19,7 @@ use Rattle.setup_audit.proofs.state.whole_audit.Goals as goal
 
 pub returns : goal.returns
 returns g c = λ A reached shows.
-    let p = g.P.Profile.the in
+    let p = g.P.Profile.profile in
     let names = names_view c.args.names.now in
     let setup = c.args.setup.now in
     let made = c.args.made in

@@ -4,7 +4,7 @@ use Rattle.reach_core.specs.Lists.{AreReached}
 
 pub returns-clause-slots : goal.returns-clause-slots
 returns-clause-slots g c = λ f full.
-    let p = g.P.Profile.the in
+    let p = g.P.Profile.profile in
     let reached = c.in_ok-reached.ensures f full in
     record {
       reached = reached;

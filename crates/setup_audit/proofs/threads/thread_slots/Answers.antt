@@ -8,7 +8,7 @@ use Rattle.setup_audit.proofs.threads.thread_slots.Goals as goal
 
 pub loop-thread-preserved : goal.loop-thread-preserved
 loop-thread-preserved g c =
-    let p = g.P.Profile.the in
+    let p = g.P.Profile.profile in
     let slots = c.in_ok-slots.slots in
     record {
       threads = ap (map (λ (t : ThreadSlots). t.thread)) c.in_ok-push.ensures.items

@@ -10,5 +10,5 @@ use Rattle.setup_audit.proofs.threads.thread_slots.Given as goal
 abbrev pub invariant-loop-thread : goal.invariant-loop-thread
 invariant-loop-thread g l = record {
   threads : map (λ (t : ThreadSlots). t.thread) l.list.items ≡ map deref l.yielded;
-  slots : (f : Forest Entry) → AreFullSlots f l.filled → All (AreSlotsOf g.P.Profile.the f) l.list.items;
+  slots : (f : Forest Entry) → AreFullSlots f l.filled → All (AreSlotsOf g.P.Profile.profile f) l.list.items;
 }

@@ -14,7 +14,7 @@ use Rattle.setup_format.proofs.read.calls_of.Goals as goal
 
 pub returns-in_err-row-clause-calls : goal.returns-in_err-row-clause-calls
 returns-in_err-row-clause-calls g c =
-    let read = call_at g.P.Profile.the (names_view c.args.names.now) c.args.clients in
+    let read = call_at g.P.Profile.profile (names_view c.args.names.now) c.args.clients in
     let p = err_from_is_err_and c.from_residual.result c.from_residual.ensures.1 in
     let e = c.in_err-row.field-0.0 in
     let here : Fails e (read (1 + c.loop-i.i) (table_view c.index-tables-i.result.now)) = c.in_err-row.ensures.call in
@@ -23,7 +23,7 @@ returns-in_err-row-clause-calls g c =
 
 pub loop-i-preserved : goal.loop-i-preserved
 loop-i-preserved g c =
-    let read = call_at g.P.Profile.the (names_view c.args.names.now) c.args.clients in
+    let read = call_at g.P.Profile.profile (names_view c.args.names.now) c.args.clients in
     let view = call_view c.in_ok-row.row.0 c.in_ok-row.row.1 in
     let e : c.push.new.self ≡ c.loop-i.calls ++ view ∷ [] = c.in_ok-push.ensures in
     record {
@@ -36,6 +36,6 @@ loop-i-preserved g c =
 
 pub returns-clause-calls : goal.returns-clause-calls
 returns-clause-calls g c =
-    let read = call_at g.P.Profile.the (names_view c.args.names.now) c.args.clients in
+    let read = call_at g.P.Profile.profile (names_view c.args.names.now) c.args.clients in
     is_done (λ t. table_view t.now) read c.loop-i.calls 1 c.loop-i.i c.args.tables.now
     (each read 1 (map (λ t. table_view t.now) c.args.tables.now)) (drop_all c.loop-i.i c.args.tables.now (omega arith)) c.loop-i.invariant.so_far

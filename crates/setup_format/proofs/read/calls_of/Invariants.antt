@@ -11,6 +11,6 @@ abbrev pub invariant-loop-i : goal.invariant-loop-i
 invariant-loop-i g l = record {
   count : length l.calls ≡ l.i;
   clients : All (λ (c : CallView). c.client < l.clients) l.calls;
-  so_far : with_front l.calls (each (call_at g.P.Profile.the (names_view l.names) l.clients) (1 + l.i) (map (λ t. table_view t.now) (drop l.i l.tables)))
-      ≡ each (call_at g.P.Profile.the (names_view l.names) l.clients) 1 (map (λ t. table_view t.now) l.tables);
+  so_far : with_front l.calls (each (call_at g.P.Profile.profile (names_view l.names) l.clients) (1 + l.i) (map (λ t. table_view t.now) (drop l.i l.tables)))
+      ≡ each (call_at g.P.Profile.profile (names_view l.names) l.clients) 1 (map (λ t. table_view t.now) l.tables);
 }

@@ -9,7 +9,7 @@ use Rattle.setup_format.proofs.read.untypeds_of.Given as goal
 abbrev pub invariant-loop-i : goal.invariant-loop-i
 invariant-loop-i g l = record {
   count : length l.regions.items ≡ l.i;
-  sized : All (IsUntypedSize g.P.Profile.the) l.regions.items;
-  so_far : with_front l.regions.items (each (untyped_at g.P.Profile.the) (1 + l.i) (map (λ t. table_view t.now) (drop l.i l.tables)))
-      ≡ each (untyped_at g.P.Profile.the) 1 (map (λ t. table_view t.now) l.tables);
+  sized : All (IsUntypedSize g.P.Profile.profile) l.regions.items;
+  so_far : with_front l.regions.items (each (untyped_at g.P.Profile.profile) (1 + l.i) (map (λ t. table_view t.now) (drop l.i l.tables)))
+      ≡ each (untyped_at g.P.Profile.profile) 1 (map (λ t. table_view t.now) l.tables);
 }

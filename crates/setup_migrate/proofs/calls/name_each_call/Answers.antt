@@ -6,7 +6,7 @@ use Rattle.setup_migrate.proofs.calls.name_each_call.Goals as goal
 
 pub loop-i-preserved : goal.loop-i-preserved
 loop-i-preserved g c =
-    let named = named_call g.P.Profile.the c.args.plan.now in
+    let named = named_call g.P.Profile.profile c.args.plan.now in
     let calls = c.loop-i.calls in
     let i = c.loop-i.i in
     let call = c.name_call.new.call in
@@ -19,4 +19,4 @@ loop-i-preserved g c =
 
 pub returns : goal.returns
 returns g c =
-    changed_all (named_call g.P.Profile.the c.args.plan.now) c.loop-i.calls c.args.calls.now c.loop-i.i (omega arith) c.loop-i.invariant.count c.loop-i.invariant.so_far
+    changed_all (named_call g.P.Profile.profile c.args.plan.now) c.loop-i.calls c.args.calls.now c.loop-i.i (omega arith) c.loop-i.invariant.count c.loop-i.invariant.so_far

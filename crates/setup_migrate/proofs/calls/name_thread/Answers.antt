@@ -9,7 +9,7 @@ use Rattle.setup_migrate.proofs.calls.name_thread.Goals as goal
 
 pub returns-in_ok-format : goal.returns-in_ok-format
 returns-in_ok-format g c =
-    let p = g.P.Profile.the in
+    let p = g.P.Profile.profile in
     let plan = c.args.plan.now in
     let thread = c.in-Some.thread.now in
     let text = c.in_ok-format.field-0 in
@@ -19,7 +19,7 @@ returns-in_ok-format g c =
 
 pub returns-in_default-boot_thread : goal.returns-in_default-boot_thread
 returns-in_default-boot_thread g c =
-    let p = g.P.Profile.the in
+    let p = g.P.Profile.profile in
     let plan = c.args.plan.now in
     let thread = c.in-Some.thread.now in
     ap members_view (c.get_mut.follows.holds thread).0
@@ -27,4 +27,4 @@ returns-in_default-boot_thread g c =
 
 pub returns-in_default : goal.returns-in_default
 returns-in_default g c =
-    ap (λ m. members_view m.entries) (c.get_mut.follows.holds-at-none) ∙ view_unchanged (codes "thread") (named_thread g.P.Profile.the c.args.plan.now) c.args.call.now.entries (sym c.in_default.ensures.value)
+    ap (λ m. members_view m.entries) (c.get_mut.follows.holds-at-none) ∙ view_unchanged (codes "thread") (named_thread g.P.Profile.profile c.args.plan.now) c.args.call.now.entries (sym c.in_default.ensures.value)

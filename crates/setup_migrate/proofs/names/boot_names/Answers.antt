@@ -8,7 +8,7 @@ use Rattle.setup_migrate.proofs.names.boot_names.Goals as goal
 
 pub returns : goal.returns
 returns g c =
-    let p = g.P.Profile.the in
+    let p = g.P.Profile.profile in
     let plan = c.args.plan.now in
     let untyped = λ (k : ℕ). 2 + plan.threads + plan.endpoints + k in
     let endpoint = λ (j : ℕ). 2 + plan.threads + j in

@@ -6,4 +6,4 @@ use Rattle.setup_report.specs.Report.{slot_line}
 use Rattle.setup_report.proofs.memory.add_slots.Given as goal
 
 abbrev pub invariant-loop-slot : goal.invariant-loop-slot
-invariant-loop-slot g l = string_bytes l.out ≡ string_bytes l.initial.out ++ flat_map (λ (d : Derivation). slot_line l.kernel (derivation_view g.P.Profile.the d)) (take l.slot-index l.slots)
+invariant-loop-slot g l = string_bytes l.out ≡ string_bytes l.initial.out ++ flat_map (λ (d : Derivation). slot_line l.kernel (derivation_view g.P.Profile.profile d)) (take l.slot-index l.slots)

@@ -7,7 +7,7 @@ use Rattle.setup_report.proofs.memory.add_state.Goals as goal
 
 pub returns : goal.returns
 returns g c =
-    let p = g.P.Profile.the in
+    let p = g.P.Profile.profile in
     let v = c.args.kernel.now in
     let rows = c.in_ok-rows.ensures in
     four_parts (string_bytes c.args.out.now) (string_bytes c.add_threads.new.out) (string_bytes c.add_endpoints.new.out) (string_bytes c.add_slots.new.out) (string_bytes c.add_selfheld.new.out) _ _ _ _

@@ -9,7 +9,7 @@ use Rattle.setup_report.proofs.naming.named.Goals as goal
 
 pub loop-derivation-preserved : goal.loop-derivation-preserved
 loop-derivation-preserved g c =
-    let p = g.P.Profile.the in
+    let p = g.P.Profile.profile in
     let list = c.args.list.now in
     let i = c.loop-derivation.derivation-index in
     let d = c.derivation-item.result in

@@ -7,7 +7,7 @@ use Rattle.setup_report.proofs.naming.selfheld.Goals as goal
 
 pub returns : goal.returns
 returns g c =
-    let p = g.P.Profile.the in
+    let p = g.P.Profile.profile in
     let list = map (derivation_view p) c.args.list.now in
     where_ok (λ v. v.items ≡ difference nat_cmp c.in_ok-own.own c.in_ok-others.others) (λ v. v.items ≡ rising (holding_themselves p list))
     (λ v is. is ∙ rising_selfheld p list c.in_ok-own.own c.in_ok-others.others c.in_ok-own.ensures c.in_ok-others.ensures)

@@ -6,7 +6,7 @@ use Rattle.setup_report.proofs.state.sort_by_address.Goals as goal
 
 pub returns : goal.returns
 returns g c =
-    let p = g.P.Profile.the in
+    let p = g.P.Profile.profile in
     slots_sorted p c.args.slots.now _ c.sort_unstable_by_key.ensures.permutation
     (IsNonDecreasingBy-from_sort_by_key (slot_address p) _ c.sort_unstable_by_key.ensures.sorted (λ a r q k. search rules))
     c.requires.apart

@@ -11,7 +11,7 @@ use Rattle.setup_trace.proofs.calls.add_calls.Goals as goal
 
 pub loop-i-init : goal.loop-i-init
 loop-i-init g c =
-    let p = g.P.Profile.the in
+    let p = g.P.Profile.profile in
     record {
       view = c.requires.view;
       stands = λ A reached same. same ∙ ap shown (sym (start_of_run p A));
@@ -21,14 +21,14 @@ loop-i-init g c =
 
 pub make_call-requires-clause-reached : goal.make_call-requires-clause-reached
 make_call-requires-clause-reached g c =
-    let p = g.P.Profile.the in
+    let p = g.P.Profile.profile in
     let A = c.requires.reached.0 in
     let made = map (λ (k : CallView). k.call) (take c.loop-i.i c.args.setup.now.calls) in
     (state_after p A made, reached_after p A made c.requires.reached.1, c.loop-i.invariant.stands A c.requires.reached.1 c.requires.reached.2)
 
 pub loop-i-preserved : goal.loop-i-preserved
 loop-i-preserved g c =
-    let p = g.P.Profile.the in
+    let p = g.P.Profile.profile in
     let calls = c.args.setup.now.calls in
     let i = c.loop-i.i in
     let many : length c.calls-i-end.result.now ≡ length calls = ap length c.calls-i-end.ensures ∙ length-map calls (λ (k : CallView). k.call) in
@@ -62,7 +62,7 @@ loop-i-preserved g c =
 
 pub returns-clause-replies : goal.returns-clause-replies
 returns-clause-replies g c = λ A reached same.
-    let p = g.P.Profile.the in
+    let p = g.P.Profile.profile in
     let calls = c.args.setup.now.calls in
     let many : length c.calls-i-end.result.now ≡ length calls = ap length c.calls-i-end.ensures ∙ length-map calls (λ (k : CallView). k.call) in
     c.loop-i.invariant.replies A reached same
@@ -70,7 +70,7 @@ returns-clause-replies g c = λ A reached same.
 
 pub returns-clause-text : goal.returns-clause-text
 returns-clause-text g c = λ A reached same.
-    let p = g.P.Profile.the in
+    let p = g.P.Profile.profile in
     let calls = c.args.setup.now.calls in
     let many : length c.calls-i-end.result.now ≡ length calls = ap length c.calls-i-end.ensures ∙ length-map calls (λ (k : CallView). k.call) in
     let made = map (λ (k : CallView). k.call) (take c.loop-i.i calls) in

@@ -9,7 +9,7 @@ use Rattle.setup_trace.proofs.calls.add_calls.Given as goal
 
 abbrev pub invariant-loop-i : goal.invariant-loop-i
 invariant-loop-i g l =
-    let p = g.P.Profile.the in
+    let p = g.P.Profile.profile in
     record {
       view : IsViewOf p l.kernel l.told;
       stands : (A : State) → IsReached p A → l.initial.kernel ≡ shown A → l.kernel ≡ shown (state_after p A (map (λ (c : CallView). c.call) (take l.i l.setup.calls)));

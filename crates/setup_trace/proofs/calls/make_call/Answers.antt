@@ -11,19 +11,19 @@ pub after_call-requires : goal.after_call-requires
 after_call-requires g c = (
   c.args.kernel.now,
   c.requires.view,
-  follows g.P.Profile.the c.requires.reached.0 _ c.step-reply.result c.args.kernel.now c.step-reply.new.self c.requires.reached.2
+  follows g.P.Profile.profile c.requires.reached.0 _ c.step-reply.result c.args.kernel.now c.step-reply.new.self c.requires.reached.2
       (c.step-reply.ensures.stands c.requires.reached.0 c.requires.reached.1 c.requires.reached.2),
 )
 
 pub returns-clause-steps : goal.returns-clause-steps
 returns-clause-steps g c = λ A call reached same there.
-    subst (λ k. StepsTo g.P.Profile.the A k c.step-reply.result c.step-reply.new.self)
+    subst (λ k. StepsTo g.P.Profile.profile A k c.step-reply.result c.step-reply.new.self)
     (call_is c.args.setup.now.calls c.calls.result.now c.args.i _ call c.calls.ensures there)
     (c.step-reply.ensures.stands A reached same)
 
 pub returns-clause-text : goal.returns-clause-text
 returns-clause-text g c = λ call there.
-    let p = g.P.Profile.the in
+    let p = g.P.Profile.profile in
     let made = call_is c.args.setup.now.calls c.calls.result.now c.args.i _ call c.calls.ensures there in
     let expected = expected_is c.args.setup.now.calls c.args.i (option_copied c.expect.result) call c.expect.ensures there in
     let told = state_lines p c.step-reply.new.self in

@@ -19,12 +19,12 @@ retell-requires-clause-messages g c = (nothing_rises c.nothing.result c.nothing.
 
 pub add_calls-requires-clause-reached : goal.add_calls-requires-clause-reached
 add_calls-requires-clause-reached g c =
-    let p = g.P.Profile.the in
+    let p = g.P.Profile.profile in
     (boot p c.args.setup.now.plan, booted p c.args.setup.now.plan c.requires, c.in_ok-kernel.ensures.shows ∙ ap (λ plan. shown (boot p plan)) c.plan.ensures.plan)
 
 pub expectations-requires : goal.expectations-requires
 expectations-requires g c =
-    let p = g.P.Profile.the in
+    let p = g.P.Profile.profile in
     let plan = c.args.setup.now.plan in
     let stands = c.in_ok-kernel.ensures.shows ∙ ap (λ plan. shown (boot p plan)) c.plan.ensures.plan in
     let replies : c.as_slice.result.now ≡ replies_to p c.args.setup.now =
@@ -36,7 +36,7 @@ expectations-requires g c =
 pub returns-clause-text : goal.returns-clause-text
 unfolding trace_of
 returns-clause-text g c =
-    let p = g.P.Profile.the in
+    let p = g.P.Profile.profile in
     let plan = c.args.setup.now.plan in
     let stands = c.in_ok-kernel.ensures.shows ∙ ap (λ plan. shown (boot p plan)) c.plan.ensures.plan in
     let replies : c.as_slice.result.now ≡ replies_to p c.args.setup.now =
@@ -59,7 +59,7 @@ returns-clause-text g c =
 
 pub returns-clause-met : goal.returns-clause-met
 returns-clause-met g c =
-    let p = g.P.Profile.the in
+    let p = g.P.Profile.profile in
     let plan = c.args.setup.now.plan in
     let stands = c.in_ok-kernel.ensures.shows ∙ ap (λ plan. shown (boot p plan)) c.plan.ensures.plan in
     let replies : c.as_slice.result.now ≡ replies_to p c.args.setup.now =
@@ -68,7 +68,7 @@ returns-clause-met g c =
 
 pub returns-clause-expected : goal.returns-clause-expected
 returns-clause-expected g c =
-    let p = g.P.Profile.the in
+    let p = g.P.Profile.profile in
     let plan = c.args.setup.now.plan in
     let stands = c.in_ok-kernel.ensures.shows ∙ ap (λ plan. shown (boot p plan)) c.plan.ensures.plan in
     let replies : c.as_slice.result.now ≡ replies_to p c.args.setup.now =

@@ -6,10 +6,10 @@ use Rattle.setup_trace.proofs.Views.{memory_rises, messages_rise, view_told, not
 use Rattle.setup_trace.proofs.state.after_call.Goals as goal
 
 pub retell-requires-clause-memory : goal.retell-requires-clause-memory
-retell-requires-clause-memory g c = memory_rises g.P.Profile.the c.requires.0 c.args.old.memory c.requires.1.memory
+retell-requires-clause-memory g c = memory_rises g.P.Profile.profile c.requires.0 c.args.old.memory c.requires.1.memory
 
 pub retell-requires-clause-messages : goal.retell-requires-clause-messages
-retell-requires-clause-messages g c = messages_rise g.P.Profile.the c.requires.0 c.args.old.messages c.requires.1.messages
+retell-requires-clause-messages g c = messages_rise g.P.Profile.profile c.requires.0 c.args.old.messages c.requires.1.messages
 
 pub retell_messages-requires : goal.retell_messages-requires
 retell_messages-requires g c =
@@ -24,7 +24,7 @@ retell_messages-requires g c =
 
 pub returns-in-Dropped-clause-text : goal.returns-in-Dropped-clause-text
 returns-in-Dropped-clause-text g c =
-    let p = g.P.Profile.the in
+    let p = g.P.Profile.profile in
     let follows = λ (r : Reply). Follows r c.requires.0 c.args.kernel.now in
     let same : c.args.kernel.now ≡ c.requires.0 = elim c.in-Dropped.is [
       | inl is ↦ subst follows is c.requires.2

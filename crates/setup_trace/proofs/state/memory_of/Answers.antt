@@ -8,7 +8,7 @@ use Rattle.setup_trace.proofs.state.memory_of.Goals as goal
 
 pub returns : goal.returns
 returns g c =
-    let p = g.P.Profile.the in
+    let p = g.P.Profile.profile in
     let rows = c.in_ok-rows.ensures in
     record {
       threads = rows.threads;

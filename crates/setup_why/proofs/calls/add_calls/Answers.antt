@@ -6,14 +6,14 @@ use Rattle.abstract_kernel.specs.State.{shown}
 use Rattle.abstract_kernel.specs.Step.{step, replies_of, state_after}
 use Rattle.abstract_kernel.proofs.Reached.Runs.{state_after-nil, state_after-snoc, replies_of-nil, replies_of-snoc, reached_after}
 use Rattle.setup_format.specs.Views.{CallView}
-use Rattle.setup_why.specs.Names.{call_table}
+use Rattle.setup_why.specs.Tables.{call_table}
 use Rattle.setup_why.specs.Why.{call_lines, calls_lines, explained}
 use Rattle.setup_why.proofs.Steps.{call_next, take_next, there_is, none_left, written}
 use Rattle.setup_why.proofs.calls.add_calls.Goals as goal
 
 pub loop-i-init : goal.loop-i-init
 loop-i-init g c =
-    let p = g.P.Profile.the in
+    let p = g.P.Profile.profile in
     record {
       stands = λ A reached same. same ∙ ap shown (sym (state_after-nil p A));
       replies = λ A reached same. c.in_ok-replies.ensures.items ∙ sym (replies_of-nil p A);
@@ -22,7 +22,7 @@ loop-i-init g c =
 
 pub loop-i-preserved : goal.loop-i-preserved
 loop-i-preserved g c =
-    let p = g.P.Profile.the in
+    let p = g.P.Profile.profile in
     let calls = c.args.setup.now.calls in
     let table = table_view c.args.table.now in
     let chosen = c.args.chosen in
@@ -57,7 +57,7 @@ loop-i-preserved g c =
 
 pub returns-clause-replies : goal.returns-clause-replies
 returns-clause-replies g c = λ A reached same.
-    let p = g.P.Profile.the in
+    let p = g.P.Profile.profile in
     let calls = c.args.setup.now.calls in
     let many : length c.calls-i-end.result.now ≡ length calls = ap length c.calls-i-end.ensures ∙ length-map calls (λ (k : CallView). k.call) in
     c.loop-i.invariant.replies A reached same
@@ -65,7 +65,7 @@ returns-clause-replies g c = λ A reached same.
 
 pub returns-clause-text : goal.returns-clause-text
 returns-clause-text g c = λ A reached same.
-    let p = g.P.Profile.the in
+    let p = g.P.Profile.profile in
     let calls = c.args.setup.now.calls in
     let many : length c.calls-i-end.result.now ≡ length calls = ap length c.calls-i-end.ensures ∙ length-map calls (λ (k : CallView). k.call) in
     let made = map (λ (k : CallView). k.call) (take c.loop-i.i calls) in

@@ -7,13 +7,13 @@ use Rattle.setup_why.proofs.calls.make_call.Goals as goal
 
 pub returns-clause-steps : goal.returns-clause-steps
 returns-clause-steps g c = λ A call reached same there.
-    subst (λ k. StepsTo g.P.Profile.the A k c.step-reply.result c.step-reply.new.self)
+    subst (λ k. StepsTo g.P.Profile.profile A k c.step-reply.result c.step-reply.new.self)
     (call_is c.args.setup.now.calls c.calls.result.now c.args.i _ call c.calls.ensures there)
     (c.step-reply.ensures.stands A reached same)
 
 pub returns-clause-text : goal.returns-clause-text
 returns-clause-text g c = λ call there.
-    let p = g.P.Profile.the in
+    let p = g.P.Profile.profile in
     let made = call_is c.args.setup.now.calls c.calls.result.now c.args.i _ call c.calls.ensures there in
     let expected = expected_is c.args.setup.now.calls c.args.i (option_copied c.expect-expected.result) call c.expect-expected.ensures there in
     c.in_ok-add_call_lines.ensures

@@ -12,7 +12,7 @@ use Rattle.setup_why.proofs.run.why.Goals as goal
 
 pub expectations-requires : goal.expectations-requires
 expectations-requires g c =
-    let p = g.P.Profile.the in
+    let p = g.P.Profile.profile in
     let plan = c.args.setup.now.plan in
     let stands = c.in_ok-kernel.ensures.shows ∙ ap (λ plan. shown (boot p plan)) c.plan.ensures.plan in
     let replies : c.as_slice.result.now ≡ replies_to p c.args.setup.now =
@@ -23,7 +23,7 @@ expectations-requires g c =
 
 pub returns-clause-met : goal.returns-clause-met
 returns-clause-met g c =
-    let p = g.P.Profile.the in
+    let p = g.P.Profile.profile in
     let plan = c.args.setup.now.plan in
     let stands = c.in_ok-kernel.ensures.shows ∙ ap (λ plan. shown (boot p plan)) c.plan.ensures.plan in
     let replies : c.as_slice.result.now ≡ replies_to p c.args.setup.now =
@@ -32,7 +32,7 @@ returns-clause-met g c =
 
 pub returns-clause-expected : goal.returns-clause-expected
 returns-clause-expected g c =
-    let p = g.P.Profile.the in
+    let p = g.P.Profile.profile in
     let plan = c.args.setup.now.plan in
     let stands = c.in_ok-kernel.ensures.shows ∙ ap (λ plan. shown (boot p plan)) c.plan.ensures.plan in
     let replies : c.as_slice.result.now ≡ replies_to p c.args.setup.now =
@@ -42,7 +42,7 @@ returns-clause-expected g c =
 pub returns-clause-text : goal.returns-clause-text
 unfolding why_of
 returns-clause-text g c =
-    let p = g.P.Profile.the in
+    let p = g.P.Profile.profile in
     let plan = c.args.setup.now.plan in
     let calls = c.args.setup.now.calls in
     let stands = c.in_ok-kernel.ensures.shows ∙ ap (λ plan. shown (boot p plan)) c.plan.ensures.plan in

@@ -5,7 +5,7 @@ use Rattle.shown_words.proofs.slots.add_slots.Given as goal
 
 abbrev pub invariant-loop-derivation : goal.invariant-loop-derivation
 invariant-loop-derivation g l =
-    l.words.items ++ listed (slot_words l.kernel) (map (derivation_view g.P.Profile.the) l.rest) ≡ l.fn.words.items ++ listed (slot_words l.kernel) (map (derivation_view g.P.Profile.the) l.list)
+    l.words.items ++ listed (slot_words l.kernel) (map (derivation_view g.P.Profile.profile) l.rest) ≡ l.fn.words.items ++ listed (slot_words l.kernel) (map (derivation_view g.P.Profile.profile) l.list)
 
 abbrev pub decreases-loop-derivation : goal.decreases-loop-derivation
 decreases-loop-derivation g l = length l.rest

@@ -14,7 +14,7 @@ loop-text-init g c = rw (c.new-names.ensures.items, c.into_iter-text-iterator.en
 
 pub returns-in_err-word : goal.returns-in_err-word
 returns-in_err-word g c =
-    let p = g.P.Profile.the in
+    let p = g.P.Profile.profile in
     let e : Entry = (c.in-Some.text.now, c.in-Some.value.now) in
     let left = c.next.new.self in
     let front = names_view c.loop-text.names.items in
@@ -28,7 +28,7 @@ returns-in_err-word g c =
 
 pub loop-text-preserved : goal.loop-text-preserved
 loop-text-preserved g c =
-    let p = g.P.Profile.the in
+    let p = g.P.Profile.profile in
     let e : Entry = (c.in-Some.text.now, c.in-Some.value.now) in
     let left = c.next.new.self in
     let front = names_view c.loop-text.names.items in
@@ -45,7 +45,7 @@ loop-text-preserved g c =
 
 pub returns : goal.returns
 returns g c =
-    let p = g.P.Profile.the in
+    let p = g.P.Profile.profile in
     let front = names_view c.loop-text.names.items in
     let es = c.args.table.now.entries in
     let before : so_far p front [] ≡ so_far p [] es = ap (so_far p front) (sym c.in-None.ensures.steps.0) ∙ c.loop-text.invariant in

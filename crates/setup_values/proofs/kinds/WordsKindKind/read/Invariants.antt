@@ -10,6 +10,6 @@ abbrev pub invariant-loop-i : goal.invariant-loop-i
 invariant-loop-i g l = record {
   size : length l.words ≡ MAX_MESSAGE_WORDS;
   rest : drop l.i l.words ≡ replicate (MAX_MESSAGE_WORDS - l.i) 0;
-  so_far : with_front (take l.i l.words) (each (λ _. word g.P.Profile.the (names_view l.names)) (0 + l.i) (map view (drop l.i l.elements)))
-      ≡ each (λ _. word g.P.Profile.the (names_view l.names)) 0 (map view l.elements);
+  so_far : with_front (take l.i l.words) (each (λ _. word g.P.Profile.profile (names_view l.names)) (0 + l.i) (map view (drop l.i l.elements)))
+      ≡ each (λ _. word g.P.Profile.profile (names_view l.names)) 0 (map view l.elements);
 }

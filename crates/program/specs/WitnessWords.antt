@@ -1,0 +1,32 @@
+-- What the text of `--witness` names.
+use Rattle.std.specs.Prelude.{◌≡◌, ◌==◌, ℕ, codes, Bool, true, false, List, Option, Some, unwrap_or}
+use Rattle.std.specs.List.{before_first, after_first}
+use Rattle.std.specs.Str.{bytes_eq}
+use Rattle.command_line.specs.CommandLine.{Says}
+use Rattle.engine_core.specs.declared.fault.Verdict.{Verdict}
+use Rattle.engine_explore.specs.Witnessed.{IsWitness, witness_of_bytes}
+use Rattle.setup_explore.specs.declared.witness.Witness.{Witness}
+use Rattle.setup_explore.specs.declared.witness.Witness.TheVariants.{Answer, Stuck}
+
+-- the texts before and behind the first dot (46); without a dot, the whole text and none
+abbrev pub before_dot : List ℕ → List ℕ
+before_dot text = before_first (λ c. c == 46) text
+
+abbrev pub behind_dot : List ℕ → List ℕ
+behind_dot text = after_first (λ c. c == 46) text
+
+-- the number that a text says, or 0, the number of none, where it says none
+abbrev pub Numbers : List ℕ → ℕ → Type 0
+Numbers text n = (said : Option ℕ) × Says (Some text) said × (n ≡ unwrap_or said 0)
+
+-- `I.J` names the answer J of call I, and `stuck.J` the J-th way to end stuck; any other text names what the report does not tell, since
+-- it counts calls, answers and ways from 1 on
+abbrev pub Names : List ℕ → Witness → Type 0
+Names which (Answer call place) =
+    (bytes_eq (before_dot which) (codes "stuck") ≡ false) × Numbers (before_dot which) call × Numbers (behind_dot which) place
+Names which (Stuck place) = (bytes_eq (before_dot which) (codes "stuck") ≡ true) × Numbers (behind_dot which) place
+
+-- the set-up with the calls of the order that the text names
+abbrev pub IsNamedWitness : List ℕ → ℕ → ℕ → List ℕ → List ℕ → Verdict → Type 0
+IsNamedWitness which first states input text verdict =
+    (witness : Witness) × Names which witness × IsWitness (witness_of_bytes first states witness input) text verdict

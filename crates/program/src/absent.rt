@@ -1,0 +1,104 @@
+//! What the options of a command line name and a set-up does not have.
+use command_line::{Job, Line, Options};
+use setup_format::{NamedSetup, read_named_setup};
+use std::alloc::{AllocError, Global};
+
+/// From this number on no digits are an address.
+const TOO_LARGE: u64 = 10_000_000_000_000_000_000;
+
+/// Whether a word is an address in decimal digits.
+fn is_address(word: &str) -> bool {
+    let is_decimal = word.as_bytes().iter().all(u8::is_ascii_digit);
+    is_decimal && word.parse::<u64>().is_ok_and(|number| number < TOO_LARGE)
+}
+
+/// Whether a word is an address or a name of the set-up, which can have a `@` before it.
+fn is_known(named: &NamedSetup, word: &str) -> bool {
+    let text = word.strip_prefix("@").unwrap_or(word);
+    let is_name = named.names.iter().any(|name| name.text.as_str() == text);
+    is_name || is_address(word)
+}
+
+/// Of the words of `--without` the first that means no thread.
+fn absent_thread(
+    alloc: Global,
+    named: &NamedSetup,
+    without: &str,
+) -> Result<Option<String>, AllocError> {
+    for word in without.split(',') {
+        if word.is_empty() {
+            return Ok(Some(format!(in alloc; "--without: a word between its commas is empty")?));
+        }
+        if !is_known(named, word) {
+            return Ok(Some(format!(in alloc;
+                "--without {word}: no address, and no name of the set-up"
+            )?));
+        }
+    }
+    Ok(None)
+}
+
+/// What is absent of an audit, where the calls are there.
+fn absent_in_audit(
+    alloc: Global,
+    named: &NamedSetup,
+    options: Options<'_>,
+    calls: u64,
+) -> Result<Option<String>, AllocError> {
+    if let Some(without) = options.without {
+        return absent_thread(alloc, named, without);
+    }
+    match options.slot {
+        None => Ok(None),
+        Some(slot) => {
+            let made = options.after.unwrap_or(calls);
+            let text = format!(in alloc;
+                "--slot {slot}: no full slot is there after {made} calls"
+            )?;
+            Ok(Some(text))
+        }
+    }
+}
+
+/// The order that is absent of an exploration.
+fn absent_order(alloc: Global, options: Options<'_>) -> Result<Option<String>, AllocError> {
+    match options.witness {
+        None => Ok(None),
+        Some(which) => {
+            let text = format!(in alloc; "--witness {which}: explore tells no such order")?;
+            Ok(Some(text))
+        }
+    }
+}
+
+/// Which word or number of a line's options the set-up does not have.
+fn absent_in(
+    alloc: Global,
+    line: Line<'_>,
+    named: &NamedSetup,
+) -> Result<Option<String>, AllocError> {
+    let calls = named.setup.calls().len() as u64;
+    match (line.job, line.options.call, line.options.after) {
+        (Job::Why, Some(n), _) => Ok(Some(format!(in alloc;
+            "--call {n}: the set-up has {calls} calls"
+        )?)),
+        (Job::Audit, _, Some(n)) if n > calls => Ok(Some(format!(in alloc;
+            "--after {n}: the set-up has {calls} calls"
+        )?)),
+        (Job::Audit, _, _) => absent_in_audit(alloc, named, line.options, calls),
+        (Job::Explore, _, _) => absent_order(alloc, line.options),
+        _ => Ok(None),
+    }
+}
+
+/// Says which word or number of a line's options the set-up does not have, which the bytes are; nothing where they are
+/// none.
+///
+/// # Errors
+/// Where memory was refused.
+pub fn absence(alloc: Global, line: Line<'_>, bytes: &[u8]) -> Result<Option<String>, AllocError> {
+    match read_named_setup(alloc, bytes) {
+        Ok(named) => absent_in(alloc, line, &named),
+        Err(_) => Ok(None),
+    }
+}

@@ -1,0 +1,10 @@
+-- What is said of a refused call: Names has the names by which values are spelt, Words the words of a call, Asked a call as it is
+-- spelt, Text the parts of a line, Facts, Lookups and Retypes the lines of some reasons, Reasons those of each.
+pub mod Names
+pub mod Words
+pub mod Asked
+pub mod Text
+pub mod Facts
+pub mod Lookups
+pub mod Retypes
+pub mod Reasons

@@ -1,0 +1,17 @@
+//! The reasons for which calls are refused, in words: by the names that spell a call, which check failed and what was found there.
+#![tactic(auto)]
+
+mod asked;
+mod capabilities;
+mod facts;
+mod lookups;
+mod names;
+mod retypes;
+mod text;
+mod threads;
+mod words;
+
+pub use asked::Asked;
+pub use capabilities::add_capability;
+pub use lookups::{add_no_depth, add_not_found};
+pub use threads::{add_address, add_live, add_not_ready};

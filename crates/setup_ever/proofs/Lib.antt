@@ -1,0 +1,5 @@
+mod Counted
+pub mod Named
+pub mod Pushed
+pub mod Digits
+pub mod Right

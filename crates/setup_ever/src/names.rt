@@ -1,0 +1,61 @@
+//! The names of threads.
+ghost use Rattle.std.specs.Prelude.{◌≡◌, ◌==◌, Some, count_by, find, option_copied, string_bytes};
+ghost use Rattle.setup_values.specs.Names.{names_view};
+ghost use Rattle.setup_ever.specs.Text as spec;
+
+use setup_values::Name;
+use std::fmt;
+
+/// A thread, by its address, with the name of the set-up that stands for it, where there is one.
+#[derive(Clone, Copy)]
+pub struct ThreadName<'a> {
+    pub address: u64,
+    pub name: Option<&'a str>,
+}
+
+impl fmt::Display for ThreadName<'_> {
+    ghost output = { λ t. Some (spec.named_text t.address (option_copied t.name)) };
+
+    fn fmt<W: fmt::Write>(&self, f: &mut fmt::Formatter<W>) -> fmt::Result {
+        let address = self.address;
+        match self.name {
+            None => write!(f, "{address}"),
+            Some(name) => write!(f, "{address} @{name}"),
+        }
+    }
+}
+
+fn count_named(names: &[Name], value: u64) -> usize
+    ensures { result ≡ count_by (λ n. n.word == value) names.now }
+{
+    names.iter().filter(|name| name.word == value).count()
+}
+
+fn first_named(names: &[Name], value: u64) -> Option<&Name>
+    ensures { option_copied result ≡ find (λ n. n.word == value) names.now }
+{
+    names.iter().find(|name| name.word == value)
+}
+
+/// The name of a value: where exactly one name of the set-up has it.
+#[tactic(auto, using(crate::proofs::Named::not_one))]
+fn name_of(names: &[Name], value: u64) -> Option<&str>
+    ensures { option_copied result ≡ spec.name_of (names_view names.entry.now) value }
+{
+    if count_named(names, value) != 1 {
+        return None;
+    }
+    match first_named(names, value) {
+        None => None,
+        Some(name) => Some(name.text.as_str()),
+    }
+}
+
+/// The thread at an address, with its name.
+pub fn thread_name(names: &[Name], address: u64) -> ThreadName<'_>
+    ensures address { result.address ≡ address }
+    ensures name { option_copied result.name ≡ spec.name_of (names_view names.entry.now) address }
+{
+    let name = name_of(names, address);
+    ThreadName { address, name }
+}

@@ -1,0 +1,50 @@
+//! Numbers in their order.
+ghost use Rattle.std.specs.Prelude.{◌≡◌, IfOk};
+ghost use Rattle.setup_report.specs.State.{is_in as is_in_list, rising as rising_of};
+
+use std::alloc::{AllocError, Global};
+use std::collections::BTreeSet;
+
+fn set_of(alloc: Global, numbers: &[u64]) -> Result<BTreeSet<u64>, AllocError>
+    ensures { IfOk result (λ set. set.keys ≡ rising_of numbers.now) }
+{
+    let mut set = BTreeSet::new(alloc);
+    for number in numbers {
+        set.insert(*number)?;
+    }
+    Ok(set)
+}
+
+/// The numbers of a set, in rising order.
+///
+/// # Errors
+///
+/// Memory was refused.
+pub fn listed(alloc: Global, set: &BTreeSet<u64>) -> Result<Vec<u64>, AllocError>
+    ensures { IfOk result (λ v. v.items ≡ set.now.keys) }
+{
+    let mut list = Vec::new(alloc);
+    for number in set {
+        list.push(*number)?;
+    }
+    Ok(list)
+}
+
+/// Each of some numbers once, in rising order.
+///
+/// # Errors
+///
+/// Memory was refused.
+pub fn rising(alloc: Global, numbers: &[u64]) -> Result<Vec<u64>, AllocError>
+    ensures { IfOk result (λ v. v.items ≡ rising_of numbers.now) }
+{
+    let set = set_of(alloc, numbers)?;
+    listed(alloc, &set)
+}
+
+/// Whether a number is one of some.
+pub fn is_in(list: &[u64], number: u64) -> bool
+    ensures { result ≡ is_in_list number list.now }
+{
+    list.iter().any(|other| number == *other)
+}

@@ -1,0 +1,281 @@
+//! Ways from one part to another, by an endpoint that the one may send to, and the other receive on.
+ghost use Rattle.std.specs.Prelude.{◌≡◌, ◌++◌, IfOk, OnOk, filter, map, string_bytes};
+ghost use Rattle.std.specs.List.{flat_map, list_any};
+ghost use Rattle.cap_core.specs.Rights.{write_bit, read_bit};
+ghost use Rattle.setup_ever.specs.Text as spec;
+
+use crate::parts::BadgeText;
+use crate::sets::rising;
+use bitflags::Flags;
+use cap_core::{Profile, Rights};
+use confinement::{PartMemory, PartUse, owns_endpoint};
+use std::alloc::{AllocError, Global};
+use std::fmt::Write;
+
+/// A way: a part may send to an endpoint, with this badge, or with any where it is 0; another may receive there.
+#[derive(Clone, Copy)]
+pub struct Way {
+    pub from: u64,
+    pub endpoint: u64,
+    pub badge: u64,
+    pub to: u64,
+}
+
+/// The numbers of parts.
+///
+/// # Errors
+///
+/// Memory was refused.
+pub fn parts_of(alloc: Global, memory: &[PartMemory]) -> Result<Vec<u64>, AllocError>
+    ensures { IfOk result (λ v. v.items ≡ spec.parts_of memory.now) }
+{
+    let parts: Vec<u64> = memory.iter().map(|m| m.part).collect(alloc)?;
+    rising(alloc, parts.as_slice())
+}
+
+fn endpoints_used(alloc: Global, uses: &[PartUse]) -> Result<Vec<u64>, AllocError>
+    ensures { IfOk result (λ v. v.items ≡ spec.endpoints_used uses.now) }
+{
+    let endpoints: Vec<u64> = uses.iter().map(|u| u.endpoint).collect(alloc)?;
+    rising(alloc, endpoints.as_slice())
+}
+
+fn may_send(allowed: &PartUse, part: u64, endpoint: u64) -> bool
+    ensures { result ≡ spec.is_use write_bit part endpoint allowed.now }
+{
+    allowed.part == part && allowed.endpoint == endpoint && allowed.rights.contains(Rights::WRITE)
+}
+
+fn may_hear(allowed: &PartUse, part: u64, endpoint: u64) -> bool
+    ensures { result ≡ spec.is_use read_bit part endpoint allowed.now }
+{
+    allowed.part == part && allowed.endpoint == endpoint && allowed.rights.contains(Rights::READ)
+}
+
+fn has_use_for_any(uses: &[PartUse], part: u64, endpoint: u64) -> bool
+    ensures { result ≡ list_any (spec.sends_with_any part endpoint) uses.now }
+{
+    uses.iter()
+        .any(|u| may_send(u, part, endpoint) && u.badge.0 == 0)
+}
+
+fn has_use_to_receive(uses: &[PartUse], part: u64, endpoint: u64) -> bool
+    ensures { result ≡ list_any (spec.is_use read_bit part endpoint) uses.now }
+{
+    uses.iter().any(|u| may_hear(u, part, endpoint))
+}
+
+fn may_receive<P: Profile>(
+    memory: &[PartMemory],
+    uses: &[PartUse],
+    endpoint: u64,
+    part: u64,
+) -> bool
+    ensures { result ≡ spec.may_receive P.profile memory.now uses.now endpoint part }
+{
+    owns_endpoint::<P>(memory, part, endpoint) || has_use_to_receive(uses, part, endpoint)
+}
+
+fn own_badges(
+    alloc: Global,
+    uses: &[PartUse],
+    part: u64,
+    endpoint: u64,
+) -> Result<Vec<u64>, AllocError>
+    ensures { IfOk result (λ v. v.items ≡ map (λ u. u.badge.0) (filter (spec.is_use write_bit part endpoint) uses.now)) }
+{
+    uses.iter()
+        .filter(|u| may_send(u, part, endpoint))
+        .map(|u| u.badge.0)
+        .collect(alloc)
+}
+
+fn may_send_any<P: Profile>(
+    memory: &[PartMemory],
+    uses: &[PartUse],
+    part: u64,
+    endpoint: u64,
+) -> bool
+    ensures { result ≡ spec.may_send_any P.profile memory.now uses.now part endpoint }
+{
+    owns_endpoint::<P>(memory, part, endpoint) || has_use_for_any(uses, part, endpoint)
+}
+
+/// The badges with which a part may send to an endpoint, 0 alone where it may be any.
+fn badges<P: Profile>(
+    alloc: Global,
+    memory: &[PartMemory],
+    uses: &[PartUse],
+    part: u64,
+    endpoint: u64,
+) -> Result<Vec<u64>, AllocError>
+    ensures { IfOk result (λ v. v.items ≡ spec.badges P.profile memory.now uses.now part endpoint) }
+{
+    if may_send_any::<P>(memory, uses, part, endpoint) {
+        let mut any = Vec::new(alloc);
+        any.push(0)?;
+        return Ok(any);
+    }
+    let own = own_badges(alloc, uses, part, endpoint)?;
+    rising(alloc, own.as_slice())
+}
+
+/// The other parts that may receive on an endpoint.
+fn receivers<P: Profile>(
+    alloc: Global,
+    memory: &[PartMemory],
+    uses: &[PartUse],
+    parts: &[u64],
+    from: u64,
+    endpoint: u64,
+) -> Result<Vec<u64>, AllocError>
+    requires { parts.now ≡ spec.parts_of memory.now }
+    ensures { IfOk result (λ v. v.items ≡ spec.receivers P.profile memory.now uses.now from endpoint) }
+{
+    parts
+        .iter()
+        .filter(|part| **part != from && may_receive::<P>(memory, uses, endpoint, **part))
+        .copied()
+        .collect(alloc)
+}
+
+fn add_ways_to(
+    ways: &mut Vec<Way>,
+    receivers: &[u64],
+    from: u64,
+    endpoint: u64,
+    badge: u64,
+) -> Result<(), AllocError>
+    ensures { OnOk result (ways.new.items ≡ ways.old.items ++ map (spec.way from endpoint badge) receivers.now) }
+{
+    for to in receivers {
+        ways.push(Way {
+            from,
+            endpoint,
+            badge,
+            to: *to,
+        })?;
+    }
+    Ok(())
+}
+
+fn add_ways_with(
+    ways: &mut Vec<Way>,
+    badges: &[u64],
+    receivers: &[u64],
+    from: u64,
+    endpoint: u64,
+) -> Result<(), AllocError>
+    ensures { OnOk result (ways.new.items ≡ ways.old.items
+        ++ flat_map (λ badge. map (spec.way from endpoint badge) receivers.now) badges.now) }
+{
+    for badge in badges {
+        add_ways_to(ways, receivers, from, endpoint, *badge)?;
+    }
+    Ok(())
+}
+
+fn add_ways_on<P: Profile>(
+    alloc: Global,
+    ways: &mut Vec<Way>,
+    memory: &[PartMemory],
+    uses: &[PartUse],
+    parts: &[u64],
+    from: u64,
+    endpoint: u64,
+) -> Result<(), AllocError>
+    requires { parts.now ≡ spec.parts_of memory.now }
+    ensures { OnOk result (ways.new.items ≡ ways.old.items ++ spec.ways_on P.profile memory.now uses.now from endpoint) }
+{
+    let badges = badges::<P>(alloc, memory, uses, from, endpoint)?;
+    let receivers = receivers::<P>(alloc, memory, uses, parts, from, endpoint)?;
+    add_ways_with(
+        ways,
+        badges.as_slice(),
+        receivers.as_slice(),
+        from,
+        endpoint,
+    )
+}
+
+fn add_ways_from<P: Profile>(
+    alloc: Global,
+    ways: &mut Vec<Way>,
+    memory: &[PartMemory],
+    uses: &[PartUse],
+    parts: &[u64],
+    endpoints: &[u64],
+    from: u64,
+) -> Result<(), AllocError>
+    requires parts { parts.now ≡ spec.parts_of memory.now }
+    requires endpoints { endpoints.now ≡ spec.endpoints_used uses.now }
+    ensures { OnOk result (ways.new.items ≡ ways.old.items ++ spec.ways_from P.profile memory.now uses.now from) }
+{
+    for endpoint in endpoints {
+        add_ways_on::<P>(alloc, ways, memory, uses, parts, from, *endpoint)?;
+    }
+    Ok(())
+}
+
+/// Adds the ways between parts, by the part that sends, then the endpoint, the badge, and the part that receives.
+fn add_ways_between<P: Profile>(
+    alloc: Global,
+    ways: &mut Vec<Way>,
+    memory: &[PartMemory],
+    uses: &[PartUse],
+    parts: &[u64],
+    endpoints: &[u64],
+) -> Result<(), AllocError>
+    requires parts { parts.now ≡ spec.parts_of memory.now }
+    requires endpoints { endpoints.now ≡ spec.endpoints_used uses.now }
+    ensures { OnOk result (ways.new.items ≡ ways.old.items ++ spec.ways P.profile memory.now uses.now) }
+{
+    for from in parts {
+        add_ways_from::<P>(alloc, ways, memory, uses, parts, endpoints, *from)?;
+    }
+    Ok(())
+}
+
+/// The ways between parts.
+///
+/// # Errors
+///
+/// Memory was refused.
+pub fn ways<P: Profile>(
+    alloc: Global,
+    memory: &[PartMemory],
+    uses: &[PartUse],
+    parts: &[u64],
+) -> Result<Vec<Way>, AllocError>
+    requires { parts.now ≡ spec.parts_of memory.now }
+    ensures { IfOk result (λ v. v.items ≡ spec.ways P.profile memory.now uses.now) }
+{
+    let mut ways = Vec::new(alloc);
+    let endpoints = endpoints_used(alloc, uses)?;
+    add_ways_between::<P>(alloc, &mut ways, memory, uses, parts, endpoints.as_slice())?;
+    Ok(ways)
+}
+
+fn add_way(out: &mut String, way: &Way) -> Result<(), AllocError>
+    ensures { OnOk result (string_bytes out.new ≡ string_bytes out.old ++ spec.way_line way.now) }
+{
+    let from = way.from;
+    let endpoint = way.endpoint;
+    let badge = BadgeText(way.badge);
+    let to = way.to;
+    writeln!(out, "way {from} -> {endpoint} badge {badge} -> {to}")
+}
+
+/// Adds a line for each way.
+///
+/// # Errors
+///
+/// Memory was refused.
+pub fn add_ways(out: &mut String, ways: &[Way]) -> Result<(), AllocError>
+    ensures { OnOk result (string_bytes out.new ≡ string_bytes out.old ++ flat_map spec.way_line ways.now) }
+{
+    for way in ways {
+        add_way(out, way)?;
+    }
+    Ok(())
+}
