@@ -1,16 +1,18 @@
-# make try: FILE=my.toml, a set-up before any proof, by the program compiled without its proofs; DO=check, trace,
-# threads or migrate; without FILE the stored set-up. It compiles the first time, and where a source has changed;
+# make try: FILE=my.toml, a set-up before any proof, by the program compiled without its proofs; DO=why, or another
+# command, also with options, as DO='audit --ever'; check without DO; without FILE the stored set-up. It compiles the
+# first time, and where a source has changed;
 # make run: the proved program on the stored set-up; its crates are proved in the order of crates.txt, as many side
 # by side as make -j N says, or as there are processors, and as memory allows; after an interrupt it goes on;
 # make dist: dist/sel4sim-COMMIT-x86_64-linux.tar.gz: the program, proved as by make run, with examples, pages, man page
 # and completions; make dist-test tries what goes into it, on the program that is built, also where there is no toolchain;
 # make install: the program that make run built, and the same files, below PREFIX (/usr/local) and DESTDIR;
 # make test: the gate;
-# make rows: the built program: each worked set-up, as it is, migrated and traced, and by the schema for editors; what
-# --help names beside the completions and the man page; what it says of wrong command lines, files and set-ups, an
-# address used again a thousand times, each request for memory refused in turn, by each subcommand and by calls of the
-# libraries, inputs and outputs that fail, texts that are broken, deep or long, three clients and four in whatever order
-# they come, and what the documents print; it says first what it needs and does not find;
+# make rows: the built program: each worked set-up, as it is, migrated and traced, why its calls are refused, and by
+# the schema for editors; each worked audit, layout and exploration; what --help names beside the completions and the
+# man page; what it says of wrong command lines, files and set-ups, an address used again a thousand times, each
+# request for memory refused in turn, by each subcommand and by calls of the libraries, inputs and outputs that fail,
+# texts that are broken, deep or long, three clients and four in whatever order they come, and what the documents
+# print; it says first what it needs and does not find;
 # make browser: site/sel4sim.html, the proved program as one page for any browser (docs/browser.md); make browser-test: tries
 # it in chromium and firefox, beside the native program (pictures=FOLDER: writes pictures of it there); they say first what
 # they need and do not find;
@@ -60,9 +62,13 @@ rows: rows-needs run
 	python3 rows/private_definitions.py crates docs/definitions.md
 	python3 rows/browser_page.py site/sel4sim.html
 	python3 rows/run.py $(program) $(setups)
-	python3 rows/schema.py $(program) $(setups) crates/traced_file/data page/test/setups rows
+	python3 rows/schema.py $(program) $(setups) crates/traced_file/data crates/worked_audits/data crates/worked_parts/data \
+		crates/worked_explorations/data page/test/setups rows
 	python3 rows/migrate.py $(program) $(setups)
 	python3 rows/traces.py $(program) $(setups)
+	python3 rows/why.py $(program) $(setups)
+	python3 rows/audits.py $(program) crates/worked_audits/data crates/worked_parts/data
+	python3 rows/explore.py $(program) crates/worked_explorations/data
 	python3 rows/messages.py $(program)
 	python3 rows/use_address_again.py $(program) 1000
 	cd crates/refused_memory && rt run

@@ -2,9 +2,9 @@
 """build.py [--check]: writes site/sel4sim.html, the proved program as a page of one file.
 
 The page has in it the program's WebAssembly module (module.py), the page of a trace (page/viewer.html), the editor
-CodeMirror as Debian packs it, the set-ups of crates/worked_setups/data, and the modules in source/, joined as the page of a
-trace is. It tells the last commit of what it is made of, and the toolchain's line; where these files are not as
-committed, it says so. The same commit gives the same bytes.
+CodeMirror as Debian packs it, the worked set-ups, and the modules in source/, joined as the page of a trace is. It
+tells the last commit of what it is made of, and the toolchain's line; where these files are not as committed, it says
+so. The same commit gives the same bytes.
 
 With --check nothing is written, and the status is 1 where the file is not what would be written.
 """
@@ -13,6 +13,7 @@ import gzip
 import json
 import os
 import pathlib
+import re
 import shutil
 import subprocess
 import sys
@@ -31,6 +32,9 @@ SCRIPTS = ("lib/codemirror.js", "mode/toml/toml.js")
 MADE_OF = ("crates", "crates.txt", "page/source", "page/join.py", "browser/source", "browser/c", "browser/build.py",
            "browser/module.py", "browser/retarget.py")
 FIRST_TOPIC, LAST_TOPICS = "examples", ("expectations", "refused")
+# Set-ups that are told of by another subcommand than check: their crate, and the tab that they are opened in.
+FOR_TABS = (("worked_explorations", "orders"), ("worked_audits", "audit"), ("worked_parts", "ever"))
+FIRST_CALLS = re.compile(r"^#.*--first (\d+)", re.M)
 
 
 def needs():
@@ -55,17 +59,46 @@ def commit():
     return output("git", "log", "-1", "--format=%H", "--", *MADE_OF) + (", with changes" if changed else "")
 
 
-def topics():
-    """Returns the set-ups by topic: examples first, and mistakes last. One that is no UTF-8 cannot be edited."""
-    found = {}
-    for path in sorted(SETUPS.glob("*/*.toml")):
+def readable(paths):
+    """Yields set-ups with their texts. One that is no UTF-8 cannot be edited."""
+    for path in sorted(paths):
         try:
-            text = path.read_text(encoding="utf-8")
+            yield path, path.read_text(encoding="utf-8")
         except UnicodeDecodeError:
             continue
+
+
+def options_of(path, text):
+    """The options with which a set-up is told of: those in a file NAME.args, or that the name of a file NAME.OPTIONS.ever or
+    its first comment has."""
+    words = path.with_suffix(".args")
+    lines = words.read_text().split() if words.exists() else []
+    options = {option.removeprefix("--"): value for option, value in zip(lines[::2], lines[1::2])}
+    for file in sorted(path.parent.glob(f"{path.stem}.*.ever"))[:1]:
+        for option, _, value in (part.partition("-") for part in file.name.split(".")[1:-1]):
+            options[option] = f"{options[option]},{value}" if option in options else value
+    if found := FIRST_CALLS.search(text):
+        options["first"] = found[1]
+    return options
+
+
+def for_tabs():
+    """Yields the set-ups that are opened in a tab of their own, as topics."""
+    for crate, tab in FOR_TABS:
+        found = readable((TOP / "crates" / crate / "data").glob("*.toml"))
+        setups = [{"name": path.stem, "text": text, "options": options_of(path, text)} for path, text in found]
+        if setups:
+            yield {"topic": f"for {tab}", "tab": tab, "setups": setups}
+
+
+def topics():
+    """Returns the set-ups by topic: examples first, those of a tab behind them, and mistakes last."""
+    found = {}
+    for path, text in readable(SETUPS.glob("*/*.toml")):
         found.setdefault(path.parent.name, []).append({"name": path.stem, "text": text})
     order = sorted(found, key=lambda it: (it != FIRST_TOPIC, it in LAST_TOPICS, it))
-    return [{"topic": it, "setups": found[it]} for it in order]
+    told = [{"topic": it, "setups": found[it]} for it in order]
+    return [*told[:1], *for_tabs(), *told[1:]]
 
 
 def data(module):

@@ -12,7 +12,7 @@ import subprocess
 import sys
 import tempfile
 
-SUBCOMMANDS = ["check", "trace", "threads"]
+SUBCOMMANDS = [["check"], ["trace"], ["threads"], ["migrate"], ["why"], ["audit"], ["audit", "--ever"], ["explore"]]
 
 SECONDS = 60
 NOBODY = 65534
@@ -68,24 +68,24 @@ def inputs_that_fail(runs, job, folder, stored):
     below, long = f"{secret}/setup.toml", "a" * 5000
     pathlib.Path(secret).write_bytes(stored)
     os.chmod(secret, 0)
-    runs.run("no such file", [job, missing], reading(missing, "No such file or directory (os error 2)"))
-    runs.run("a path below a file", [job, below], reading(below, "Not a directory (os error 20)"))
-    runs.run("a name of 5,000 bytes", [job, long], reading(long, "File name too long (os error 36)"))
-    runs.run("an empty name", [job, ""], reading("", "No such file or directory (os error 2)"))
-    runs.run("a folder", [job, folder_itself], reading(folder_itself, "Is a directory (os error 21)"))
-    runs.run("a folder as standard input", [job], reading(INPUT, "Is a directory (os error 21)"), stdin=os.open(folder, os.O_RDONLY))
+    runs.run("no such file", [*job, missing], reading(missing, "No such file or directory (os error 2)"))
+    runs.run("a path below a file", [*job, below], reading(below, "Not a directory (os error 20)"))
+    runs.run("a name of 5,000 bytes", [*job, long], reading(long, "File name too long (os error 36)"))
+    runs.run("an empty name", [*job, ""], reading("", "No such file or directory (os error 2)"))
+    runs.run("a folder", [*job, folder_itself], reading(folder_itself, "Is a directory (os error 21)"))
+    runs.run("a folder as standard input", job, reading(INPUT, "Is a directory (os error 21)"), stdin=os.open(folder, os.O_RDONLY))
     # Who may read everything starts the program as somebody else.
     other = {"user": NOBODY, "group": NOBODY, "extra_groups": []} if os.geteuid() == 0 else {}
-    runs.run("a file that may not be read", [job, secret], reading(secret, "Permission denied (os error 13)"), **other)
+    runs.run("a file that may not be read", [*job, secret], reading(secret, "Permission denied (os error 13)"), **other)
     closed = reading(INPUT, "Bad file descriptor (os error 9)")
-    runs.run("a closed standard input", [job], closed, stdin=None, preexec_fn=lambda: os.close(0))
-    runs.run("standard input that is open for writing alone", [job], closed, stdin=open(f"{folder}/out", "wb"))
+    runs.run("a closed standard input", job, closed, stdin=None, preexec_fn=lambda: os.close(0))
+    runs.run("standard input that is open for writing alone", job, closed, stdin=open(f"{folder}/out", "wb"))
     endless = reading(INPUT, TOO_LONG)
-    runs.run("a file without an end", [job, "/dev/zero"], reading("/dev/zero", TOO_LONG))
-    runs.run("standard input without an end", [job], endless, stdin=open("/dev/zero", "rb"))
-    runs.run_from("a pipe of zeros without an end", [job], ["cat", "/dev/zero"], endless)
-    runs.run_from("a pipe of lines without an end", [job], ["yes", "format = 1"], endless)
-    runs.run_from("a pipe of comments without an end", [job], ["yes", "# a line of a text that does not end"], endless)
+    runs.run("a file without an end", [*job, "/dev/zero"], reading("/dev/zero", TOO_LONG))
+    runs.run("standard input without an end", job, endless, stdin=open("/dev/zero", "rb"))
+    runs.run_from("a pipe of zeros without an end", job, ["cat", "/dev/zero"], endless)
+    runs.run_from("a pipe of lines without an end", job, ["yes", "format = 1"], endless)
+    runs.run_from("a pipe of comments without an end", job, ["yes", "# a line of a text that does not end"], endless)
 
 
 def outputs_that_fail(runs, words, setup):
@@ -106,8 +106,8 @@ def outputs_that_fail(runs, words, setup):
 def errors_that_are_not_told(runs, job, folder):
     """A fault whose line cannot be written keeps its status."""
     missing = f"{folder}/missing.toml"
-    runs.run("a full disk for errors", [job, missing], (3, b"", b""), stderr=open("/dev/full", "wb"))
-    runs.run("a closed standard error", [job, missing], (3, b"", b""), stderr=None, preexec_fn=lambda: os.close(2))
+    runs.run("a full disk for errors", [*job, missing], (3, b"", b""), stderr=open("/dev/full", "wb"))
+    runs.run("a closed standard error", [*job, missing], (3, b"", b""), stderr=None, preexec_fn=lambda: os.close(2))
 
 
 def main():
@@ -120,14 +120,14 @@ def main():
         os.chmod(runs.program, 0o755)
         for job in SUBCOMMANDS:
             inputs_that_fail(runs, job, folder, stored)
-            outputs_that_fail(runs, [job], setup)
-            outputs_that_fail(runs, [job, setup], setup)
-            outputs_that_fail(runs, [job, "/dev/null"], setup)
+            outputs_that_fail(runs, job, setup)
+            outputs_that_fail(runs, [*job, setup], setup)
+            outputs_that_fail(runs, [*job, "/dev/null"], setup)
             errors_that_are_not_told(runs, job, folder)
         outputs_that_fail(runs, ["--help"], setup)
-        runs.refuse("a line that is refused", ["cheque"])
+        runs.refuse("a line that is refused", ["--cheque"])
         runs.refuse("a word that is no text", [b"\xff"])
-    print(f"devices that fail, by {', '.join(SUBCOMMANDS)}: {runs.count} runs, {runs.wrong} wrong answers")
+    print(f"devices that fail, by {', '.join(map(' '.join, SUBCOMMANDS))}: {runs.count} runs, {runs.wrong} wrong answers")
     return 1 if runs.wrong or not runs.count else 0
 
 

@@ -1,7 +1,7 @@
 #!/usr/bin/env python3
 """fail_each_transfer.py PROGRAM SETUP: lets each read of standard input and each write of standard output fail in turn, counting up
-until a run meets none: by `check`, `trace` and `threads`, with all the bytes that a call asks for and with one byte at a time. A write
-fails, or takes no byte. The set-up has one client, so that `threads` has one answer.
+until a run meets none: by each subcommand that runs a set-up, with all the bytes that a call asks for and with one byte at a time. A
+write fails, or takes no byte. The set-up has one client, so that `threads` has one answer.
 
 A failed read has to give exit status 3, its line on standard error and nothing written; a failed write exit status 3, its line and a
 beginning of the report. The calls are counted, and one fails, by a small library that stands before the C library's (gcc builds
@@ -74,7 +74,7 @@ ssize_t write(int file, const void *bytes, size_t size)
 }
 """
 
-SUBCOMMANDS = ["check", "trace", "threads"]
+SUBCOMMANDS = [["check"], ["trace"], ["threads"], ["why"], ["audit"], ["audit", "--ever"], ["explore"]]
 MOST_BYTES = [0, 1]
 KINDS = ["read", "write", "no byte"]
 POOL = 4
@@ -116,7 +116,7 @@ def fail_each(library, room, words, text, most, kind):
                 calls += 1
                 if not is_right(kind, ample, answer):
                     wrong += 1
-                    print(f"{words[1]}, {kind} {number}: status {answer[0]}, {answer[1]!r}, {answer[2]!r}")
+                    print(f"{' '.join(words[1:])}, {kind} {number}: status {answer[0]}, {answer[1]!r}, {answer[2]!r}")
 
 
 def main():
@@ -129,10 +129,10 @@ def main():
         for job in SUBCOMMANDS:
             for most in MOST_BYTES:
                 for kind in KINDS:
-                    calls, wrong = fail_each(library, room, [program, job], text, most, kind)
+                    calls, wrong = fail_each(library, room, [program, *job], text, most, kind)
                     all_wrong += wrong + (calls == 0)
                     pieces = "one byte at a time" if most else "as asked for"
-                    print(f"{job}, {pieces}, {kind}: {calls} calls failed in turn, {wrong} wrong answers")
+                    print(f"{' '.join(job)}, {pieces}, {kind}: {calls} calls failed in turn, {wrong} wrong answers")
     return 1 if all_wrong else 0
 
 

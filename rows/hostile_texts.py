@@ -44,7 +44,13 @@ def named(output):
     more = b" and %d more" % (len(calls) - MOST_NAMED) if len(calls) > MOST_NAMED else b""
     were = b"call was" if len(calls) == 1 else b"calls were"
     numbers = b" ".join(calls[:MOST_NAMED])
-    return b"sel4sim: %d %s refused where nothing was expected: %s%s\n" % (len(calls), were, numbers, more)
+    return b"sel4sim: %d %s refused where nothing was expected: %s%s; sel4sim why" % (len(calls), were, numbers, more)
+
+
+def is_named(output, errors):
+    """Whether this is said, and behind it the command that tells why, with the file where one was named."""
+    wanted = named(output)
+    return re.fullmatch(re.escape(wanted) + (rb"( \S+)? tells why\n" if wanted else b""), errors) is not None
 
 
 def is_answer(status, output, errors):
@@ -54,7 +60,7 @@ def is_answer(status, output, errors):
     if status == 2:
         return REFUSAL.fullmatch(output) is not None and errors != b""
     last = LAST_LINE.fullmatch(output)
-    return last is not None and (status == 1 if last[1] != last[2] else status == 0 and errors == named(output))
+    return last is not None and (status == 1 if last[1] != last[2] else status == 0 and is_named(output, errors))
 
 
 def check(program, text):

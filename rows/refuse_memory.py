@@ -78,7 +78,7 @@ int posix_memalign(void **made, size_t alignment, size_t size)
 """
 
 
-SUBCOMMANDS = ["check", "trace", "threads", "migrate"]
+SUBCOMMANDS = [["check"], ["trace"], ["threads"], ["migrate"], ["why"], ["audit"], ["audit", "--ever"], ["explore"]]
 POOL = 4
 MEMORY = (3, b"", b"sel4sim: out of memory\n")
 THREAD = (3, b"", b"sel4sim: thread not started\n")
@@ -150,10 +150,10 @@ def runs_of(program, calls, setups):
     yield [calls], b""
     for job in SUBCOMMANDS:
         for setup in setups:
-            yield [program, job, setup], b""
-            yield [program, job], pathlib.Path(setup).read_bytes()
+            yield [program, *job, setup], b""
+            yield [program, *job], pathlib.Path(setup).read_bytes()
     yield [program, "--help"], b""
-    yield [program, "cheque"], b""
+    yield [program, "--cheque"], b""
 
 
 def main():

@@ -31,6 +31,7 @@ BEYOND = {
     "untyped_overlaps_root_cnode": LAYOUT,
     "untyped_unaligned": LAYOUT,
     "name_that_does_not_exist": NAMES,
+    "refused": NAMES,    # of crates/worked_audits
 }
 
 SLOTS = ["cap", "index", "depth", "src_root", "src_index", "src_depth"]

@@ -1,5 +1,6 @@
 // The page: a set-up in an editor, and what the program says of it in tabs. It brings the other modules together.
 import { Editor } from "./editor.mjs";
+import { Options } from "./options.mjs";
 import { Program, STOPPED } from "./program.mjs";
 import { TABS } from "./tabs.mjs";
 import { callsOf } from "./report.mjs";
@@ -9,6 +10,7 @@ import { keepState, keptState } from "./kept.mjs";
 import { lineOfFault, placesOf } from "./places.mjs";
 import { wordsOf } from "./answer.mjs";
 import { listenToFiles } from "../../page/source/files.mjs";
+import { reasonsByCall } from "./why.mjs";
 
 const byId = (id) => document.getElementById(id);
 const TITLE = "sel4sim";
@@ -22,6 +24,8 @@ const MILLISECONDS_BY_ITSELF = 1500;
 const CALLS_MARKED = 3000;
 /** A run that takes longer than this is told. */
 const MILLISECONDS_UNTOLD = 150;
+/** The reasons of refusals are found beside the report where that took no longer than this. */
+const MILLISECONDS_REASONED = 500;
 
 /** The addresses and the markup that the page makes itself: its policy lets no others pass. */
 const URLS = globalThis.trustedTypes?.createPolicy(TITLE, { createScriptURL: (url) => url, createHTML: (text) => text })
@@ -38,11 +42,11 @@ function saveFile(bytes, name) {
   setTimeout(() => URL.revokeObjectURL(address), 10_000);
 }
 
-/** The mark of a call in the margin. */
-function markOf({ number, reply, outcome }) {
+/** The mark of a call in the margin; its title has the reason of a refusal, where that is known. */
+function markOf({ number, reply, outcome }, reason = "") {
   const [look, shown] = outcome === "met" ? ["met", "✓"] : outcome ? ["missed", "✗"]
     : reply.startsWith("refused") ? ["refused", "!"] : ["done", "·"];
-  return { look, shown, words: `call ${number}: ${reply}${outcome ? ` (${outcome})` : ""}` };
+  return { look, shown, words: `call ${number}: ${reply}${outcome ? ` (${outcome})` : ""}${reason && `\n${reason}`}` };
 }
 
 class Page {
@@ -51,6 +55,7 @@ class Page {
     this.markup = (text) => URLS.createHTML(text);
     this.program = new Program(data.module, data.worker, URLS);
     this.editor = new Editor(byId("editor"), () => this.changed());
+    this.options = new Options(byId("options"), () => this.given());
     this.tab = TABS[0];
     this.timer = null;
     this.round = 0;
@@ -71,8 +76,9 @@ class Page {
   }
 
   /** Takes a set-up in place of the one in the editor, and runs it; done once its answer is shown. */
-  open(text, name) {
+  open(text, name, options = {}) {
     byId("name").value = name;
+    this.options.reset(options);
     document.title = `${this.title} · ${TITLE}`;
     this.editor.text = text;
     this.drawChosen();
@@ -86,20 +92,37 @@ class Page {
   }
 
   keep() {
-    const { name, read, tab } = this;
-    keepState({ text: this.editor.text, name, tab: tab.name, read });
+    const { name, read, tab, options } = this;
+    keepState({ text: this.editor.text, name, tab: tab.name, read, options: options.values });
   }
 
   /** What is typed is run by itself, where that is quick. */
   changed() {
     this.keep();
     clearTimeout(this.timer);
+    this.timer = null;
     const { length } = this.editor.text;
     if (length > LETTERS_BY_ITSELF || this.took > MILLISECONDS_BY_ITSELF) {
       this.tell("changed: run it again");
       return;
     }
     this.timer = setTimeout(() => this.run(), MILLISECONDS_STILL);
+  }
+
+  /** Whether what is in the editor has been run, or waits for its reader to run it. */
+  get isAtRest() {
+    return this.timer === null && byId("stop").disabled;
+  }
+
+  /** An option of the tab is given: the command line has it, and the run behind it is as for what is typed. */
+  given() {
+    this.drawChosen();
+    this.changed();
+  }
+
+  /** Gives an option of a tab, and shows it. */
+  give(tab, name, value) {
+    this.options.give(tab, name, value);
   }
 
   tell(state) {
@@ -109,6 +132,7 @@ class Page {
   /** Runs the program on the set-up: `check` for the report and the marks in the margin, and what the tab is for. */
   async run() {
     clearTimeout(this.timer);
+    this.timer = null;
     this.round += 1;
     const { round, tab } = this;
     const text = this.editor.text;
@@ -116,23 +140,33 @@ class Page {
     const late = setTimeout(() => this.tell("running…"), MILLISECONDS_UNTOLD);
     byId("stop").disabled = false;
     const isLast = () => round === this.round;
-    const report = await this.answerTo(TABS[0].words, bytes);
+    const report = await this.answerTo(TABS[0], bytes);
     const isEnough = report === STOPPED || tab.told || tab === TABS[0];
-    const answer = isEnough || !isLast() ? report : await this.answerTo(tab.words, bytes);
+    const answer = isEnough || !isLast() ? report : await this.answerTo(tab, bytes);
+    const reasons = isLast() && answer !== STOPPED ? await this.reasonsOf(report, bytes) : new Map();
     clearTimeout(late);
     if (!isLast()) return;
     byId("stop").disabled = true;
     this.tell(answer === STOPPED ? "stopped" : "");
     if (report === STOPPED) return;
-    this.mark(text, report);
+    this.mark(text, report, reasons);
     this.showReportAlso(tab, report);
     if (answer === STOPPED) return;
     this.took = report.milliseconds + answer.milliseconds;
     this.show(tab, answer);
   }
 
-  answerTo(words, bytes) {
-    return this.program.run([...words, this.name], this.name, bytes);
+  answerTo(tab, bytes) {
+    return this.program.run([...this.options.words(tab), this.name], this.name, bytes);
+  }
+
+  /** The reasons of the calls that a report tells as refused, by their numbers, where it was quick. */
+  async reasonsOf(report, bytes) {
+    const isWanted = report !== STOPPED && report.milliseconds <= MILLISECONDS_REASONED
+      && callsOf(decoded(report.output)).some(({ reply }) => reply.startsWith("refused"));
+    if (!isWanted) return new Map();
+    const { status, output } = await this.program.run(["why", this.name], this.name, bytes);
+    return status === 0 || status === 1 ? reasonsByCall(decoded(output)) : new Map();
   }
 
   stop() {
@@ -140,7 +174,7 @@ class Page {
   }
 
   /** Puts into the margin what each call was answered, or where the set-up is at fault. */
-  mark(text, { output, errors }) {
+  mark(text, { output, errors }, reasons) {
     this.editor.clear();
     const report = decoded(output);
     const line = lineOfFault(text, report, decoded(errors));
@@ -151,14 +185,14 @@ class Page {
     const marked = callsOf(report).filter(({ outcome }, at) => at < CALLS_MARKED || outcome.startsWith("not met"));
     const { call } = placesOf(text, marked.at(-1)?.number ?? 0);
     this.editor.markAll(marked.filter(({ number }) => call[number - 1])
-      .map((told) => ({ line: call[told.number - 1].line, ...markOf(told) })));
+      .map((told) => ({ line: call[told.number - 1].line, ...markOf(told, reasons.get(told.number)) })));
   }
 
   /** Shows an answer in its tab. */
   show(tab, answer) {
     this.shown = { tab, answer };
     const text = decoded(answer.output);
-    const words = tab.told ? { status: "not here", isGood: false, ended: "" } : wordsOf(answer, text);
+    const words = tab.told ? { status: "not here", isGood: false, ended: "" } : wordsOf(answer, text, tab.missed);
     byId("status").textContent = words.status;
     byId("status").className = words.isGood ? "tag met" : "tag missed";
     byId("ended").textContent = words.ended;
@@ -176,8 +210,8 @@ class Page {
     TABS[0].show(this, byId(`panel-${TABS[0].name}`), decoded(report.output));
   }
 
-  commandOf({ words }) {
-    return `sel4sim ${words.join(" ")} ${quoted(this.name)}`;
+  commandOf(tab) {
+    return ["sel4sim", ...[...this.options.words(tab), this.name].map(quoted)].join(" ");
   }
 
   drawTabs() {
@@ -199,7 +233,11 @@ class Page {
       byId(`tab-${name}`).tabIndex = isChosen ? 0 : -1;
       byId(`panel-${name}`).hidden = !isChosen;
     }
+    const [row, chosen] = [byId("tabs"), byId(`tab-${this.tab.name}`)];
+    const before = chosen.offsetLeft - row.offsetLeft;
+    row.scrollLeft = Math.min(before, Math.max(row.scrollLeft, before + chosen.offsetWidth - row.clientWidth));
     document.body.dataset.tab = this.tab.name;
+    this.options.draw(this.tab);
     byId("command-line").textContent = this.commandOf(this.tab);
   }
 
@@ -224,10 +262,13 @@ class Page {
     }
   }
 
-  /** Opens an example. */
+  /** Opens an example, in the tab that it is for. */
   openExample(topic, name) {
-    const found = this.data.topics.find((it) => it.topic === topic)?.setups.find((it) => it.name === name);
-    if (found) this.open(found.text, `${name}.toml`);
+    const { tab, setups = [] } = this.data.topics.find((it) => it.topic === topic) ?? {};
+    const found = setups.find((it) => it.name === name);
+    if (!found) return;
+    if (tab) this.tab = TABS.find((it) => it.name === tab);
+    this.open(found.text, `${name}.toml`, tab ? { [tab]: found.options } : {});
   }
 
   goToCall(number) {
@@ -271,12 +312,12 @@ class Page {
 
   /** Opens what the address has, or what was kept, or an example. */
   async begin() {
-    const { text, name, tab, read = "" } = keptState();
+    const { text, name, tab, read = "", options } = keptState();
     this.read = read;
     this.tab = TABS.find((it) => it.name === tab) ?? TABS[0];
     this.drawChosen();
     if (await this.openShared()) return;
-    if (typeof text === "string" && text !== "") this.open(text, name);
+    if (typeof text === "string" && text !== "") this.open(text, name, options);
     else this.openExample(...FIRST_EXAMPLE);
   }
 

@@ -5,14 +5,22 @@ const CALL = /^(\d+) (\d+ \w+): (.*?)( \[met\]| \[not met: .*\])?$/u;
 /** So many lines are drawn at first. */
 const LINES_SHOWN = 3000;
 
-/** The calls of a report: `{ number, words, reply, outcome }`, with an outcome of "met", "not met: .." or "". */
+/** The call that a line tells of, `{ number, words, reply, outcome }`, with an outcome of "met", "not met: .." or "", or null
+    where it tells of none. */
+export function callOf(line) {
+  const found = CALL.exec(line);
+  if (!found) return null;
+  const [, number, words, reply, outcome = ""] = found;
+  return { number: Number(number), words, reply, outcome: outcome.slice(2, -1) };
+}
+
+/** The calls of a report. */
 export function callsOf(report) {
   const calls = [];
   for (const line of report.split("\n")) {
-    const found = CALL.exec(line);
-    if (!found) break;
-    const [, number, words, reply, outcome = ""] = found;
-    calls.push({ number: Number(number), words, reply, outcome: outcome.slice(2, -1) });
+    const call = callOf(line);
+    if (!call) break;
+    calls.push(call);
   }
   return calls;
 }
@@ -23,7 +31,8 @@ function drawOutcome(outcome) {
     : element("span", { class: "tag missed" }, `✗ ${outcome}`);
 }
 
-function drawCall({ number, words, reply, outcome }, go) {
+/** A call as a row that leads to it; `go` is told its number. */
+export function drawCall({ number, words, reply, outcome }, go) {
   const look = reply.startsWith("refused") ? "line call refused" : "line call";
   const row = element("button", { type: "button", class: look, title: "To this call in the set-up" },
     element("span", { class: "number" }, String(number)), code(`${words}:`), " ",
@@ -32,7 +41,8 @@ function drawCall({ number, words, reply, outcome }, go) {
   return row;
 }
 
-const drawLine = (line) => element("div", { class: "line" }, line);
+/** A line as it is. */
+export const drawLine = (line) => element("div", { class: "line" }, line);
 
 /** The rows of a report. */
 function rowsOf(report, go) {
@@ -41,14 +51,18 @@ function rowsOf(report, go) {
   return lines.map((line, at) => () => (at < calls.length ? drawCall(calls[at], go) : drawLine(line)));
 }
 
-/** Draws a report into an element; `go` is told the number of a call that is chosen. A long one is drawn as far as a
-    reader gets at first, with a button for the rest. */
-export function drawReport(into, report, go) {
-  const rows = rowsOf(report, go);
+/** Draws rows into an element, each by a function. Many are drawn as far as a reader gets at first, with a button for the
+    rest. */
+export function drawRows(into, rows) {
   const rest = rows.slice(LINES_SHOWN);
   into.replaceChildren(...rows.slice(0, LINES_SHOWN).map((draw) => draw()));
   if (rest.length === 0) return;
   const more = element("button", { type: "button" }, `show ${rest.length} more lines`);
   more.addEventListener("click", () => more.replaceWith(...rest.map((draw) => draw())));
-  into.append(element("p", {}, more, " ", dim("or save the report as a file")));
+  into.append(element("p", {}, more, " ", dim("or save the output as a file")));
+}
+
+/** Draws a report into an element; `go` is told the number of a call that is chosen. */
+export function drawReport(into, report, go) {
+  drawRows(into, rowsOf(report, go));
 }

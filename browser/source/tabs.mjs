@@ -1,7 +1,11 @@
 // What the program can do, each in a tab. A new subcommand is one entry of TABS; where its text is to be shown in a way
 // of its own, `show` says how.
 import { dim, element } from "../../page/source/element.mjs";
+import { drawAudit } from "./audit.mjs";
+import { drawEver, threadsTold } from "./ever.mjs";
+import { drawOrders } from "./orders.mjs";
 import { drawReport } from "./report.mjs";
+import { drawWhy } from "./why.mjs";
 
 /** The text as it is. */
 function showText(page, panel, text) {
@@ -10,6 +14,24 @@ function showText(page, panel, text) {
 
 function showReport(page, panel, text) {
   drawReport(panel, text, (number) => page.goToCall(number));
+}
+
+function showReasons(page, panel, text) {
+  drawWhy(panel, text, (number) => page.goToCall(number));
+}
+
+function showAudit(page, panel, text) {
+  drawAudit(panel, text, (slot) => page.give(AUDIT, "slot", slot));
+}
+
+/** The parts of a layout; each thread that is told gets a box to tick. */
+function showEver(page, panel, text) {
+  page.options.offer(EVER, threadsTold(text));
+  drawEver(panel, text);
+}
+
+function showOrders(page, panel, text) {
+  drawOrders(panel, text, (number) => page.goToCall(number));
 }
 
 /** The page of a trace, in a frame of its own, which is told each trace anew and keeps its place. */
@@ -39,14 +61,36 @@ function showSetup(page, panel, text) {
     element("pre", { tabindex: "0", "aria-label": "The set-up in format 2" }, text));
 }
 
-/** A tab: its name, the program's words, what the tab is for, and how to show what the program writes. A tab without
-    `show` says why the program cannot do it in a browser. */
+const AFTER = { name: "after", about: "How many calls are made; all without it", least: "all calls" };
+
+const AUDIT = {
+  name: "audit", words: ["audit"], about: "Who reaches what, who can send to whom, and what each revoke would destroy",
+  options: [AFTER, { name: "slot", about: "The address of a slot: what a revoke of it would change", least: "none" }],
+  show: showAudit,
+};
+const EVER = {
+  name: "ever", words: ["audit", "--ever"], about: "What each thread can never get, whatever calls are made",
+  options: [AFTER, { name: "without", about: "Threads that are trusted to make no more calls", ticks: true }],
+  show: showEver,
+};
+
+/** A tab: its name, the program's words, what the tab is for, and how to show what the program writes. It may have options
+    of its command line (options.mjs), and say what status 1 means. A tab without `show` says why the program cannot do it
+    in a browser. */
 export const TABS = [
   { name: "report", words: ["check"], about: "What each call is answered, and the state at the end", show: showReport },
   { name: "steps", words: ["trace"], about: "What each call changes, step by step", show: showSteps },
+  { name: "why", words: ["why"], about: "Why calls are refused", show: showReasons,
+    options: [{ name: "call", about: "The number of a call: the reason of that call alone", least: "all refused" }] },
+  AUDIT,
+  EVER,
+  { name: "orders", words: ["explore"], about: "Every order of the clients' calls: what can happen, and what cannot",
+    missed: "an expectation is not met in some order, an order ends stuck, or not all orders were made",
+    options: [{ name: "first", about: "So many calls are made before the clients begin", least: "0" },
+      { name: "states", about: "The most states that are kept", least: "100000" }], show: showOrders },
   { name: "trace", words: ["trace"], about: "The steps as text", show: showText },
   { name: "migrate", words: ["migrate"], about: "A set-up of format 1 as one of format 2", show: showSetup },
   { name: "threads", words: ["threads"], about: "The clients of a set-up side by side",
     told: "A browser gives this program no threads, so clients that run side by side cannot be shown here. The program "
-      + "on a computer of your own runs them:" },
+      + "on a computer of your own runs them; every order that they can come in is in the tab orders:" },
 ];

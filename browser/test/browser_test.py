@@ -2,7 +2,7 @@
 """browser_test.py PROGRAM FOLDER [--short] [--pictures FOLDER]: tries site/sel4sim.html in chromium, and shortly in firefox.
 
 Each set-up in the folders of FOLDER is run by each subcommand in the page's own worker: standard output, standard error and
-status have to be those of PROGRAM, byte for byte. So are texts that are broken, deep and long (rows/hostile_texts.py). Then
+status have to be those of PROGRAM, byte for byte; so are the worked audits, parts and orders with their options, and texts that are broken, deep and long (rows/hostile_texts.py). Then
 the page is used as a reader uses it. Nothing may leave it: no request may reach the proxy. With --pictures, pictures of the
 page at several widths are written there; with --short, the broken and long texts are left out.
 """
@@ -26,7 +26,7 @@ import firefox  # noqa: E402
 import hostile_texts  # noqa: E402
 
 SITE = TOP / "site" / "sel4sim.html"
-SUBCOMMANDS = ("check", "trace", "migrate")
+SUBCOMMANDS = (["check"], ["trace"], ["migrate"], ["why"], ["audit"], ["audit", "--ever"], ["explore"])
 SEED = 7
 TEXTS = 400
 MOST_SECONDS = 5
@@ -61,7 +61,7 @@ def native(program, folder, words, name, text):
     """What the native program answers, in a folder that has the set-up by its name."""
     path = pathlib.Path(folder, name)
     path.write_bytes(text)
-    ran = subprocess.run([program, *words, name], cwd=folder, stdin=subprocess.DEVNULL, capture_output=True, timeout=120)
+    ran = subprocess.run([program, *words, name], cwd=folder, stdin=subprocess.DEVNULL, capture_output=True, timeout=300)
     path.unlink()
     return ran.returncode, ran.stdout, ran.stderr
 
@@ -89,7 +89,7 @@ class Tester:
         """Waits until what was typed has been run; what is typed is run after it stands still for a while."""
         until = time.time() + 30
         time.sleep(still)
-        while self.browser.value("document.getElementById('stop').disabled") is False:
+        while not self.browser.value("sel4sim.page.isAtRest"):
             if time.time() > until:
                 self.say("a run does not end")
                 return
@@ -136,9 +136,9 @@ def same_answers(test, setups):
     """Every worked set-up by every subcommand; of `threads`, what it says where no thread can be started."""
     count = 0
     for path in sorted(setups.glob("*/*.toml")):
-        text, words = path.read_bytes(), [[it] for it in SUBCOMMANDS]
-        given = test.run_bytes([*words, ["threads"]], path.name, text)
-        for it, answer in zip(words, given):
+        text = path.read_bytes()
+        given = test.run_bytes([*SUBCOMMANDS, ["threads"]], path.name, text)
+        for it, answer in zip(SUBCOMMANDS, given):
             test.compare(f"{path.parent.name}/{path.stem}", it, path.name, text, answer)
             count += 1
         status, output, errors = as_answer(given[-1])
@@ -148,11 +148,48 @@ def same_answers(test, setups):
             test.wanted((status, output) == (3, b"") and errors.startswith(b"sel4sim: "),
                         f"{path.stem}, threads: status {status}, {output[:100]}, {errors[:100]}")
         count += 1
-    for words in ([], ["--help"], ["help"], ["--version"], ["check", "--no-such"], ["chekc"], ["check", "another.toml"]):
+    for words in ([], ["--help"], ["help"], ["--version"], ["check", "--no-such"], ["chekc"], ["check", "another.toml"],
+                  ["audit", "--ever", "--slot", "1"], ["audit", "--without", "a"], ["explore", "--first", "9"]):
         given = test.run_bytes([words], "a set-up.toml", b"format = 2\n")
         test.compare("a command line", words, "a set-up.toml", b"format = 2\n", given[0])
         count += 1
     print(f"{count} answers compared with the native program's", flush=True)
+
+
+def words_asked(path):
+    """The command lines that the files beside a worked set-up ask for: by their names (`NAME.after-14.slot-320.audit`,
+    `NAME.states_60.explore`), by a file NAME.args, or by the set-up's first comment."""
+    name, text = path.stem, path.read_text()
+    first = re.search(r"(?m)^#.*(--first) (\d+)", text)
+    for file in sorted(path.parent.glob(f"{name}.*")):
+        options = {}
+        for option, value in (re.split("[-_]", part, maxsplit=1) for part in file.name.split(".")[1:-1]):
+            options[option] = f"{options[option]},{value}" if option in options else value
+        words = [word for option, value in options.items() for word in (f"--{option}", value)]
+        if file.suffix == ".audit":
+            yield ["audit", *words]
+        elif file.suffix == ".ever":
+            args = path.with_suffix(".args")
+            yield ["audit", "--ever", *(args.read_text().split() if args.exists() else words)]
+        elif file.suffix == ".explore":
+            yield ["explore", *(first.groups() if first else ()), *words]
+
+
+def same_with_options(test, _):
+    """The worked audits, parts and orders, each with its options; and the reason of each call of some set-ups alone."""
+    count = 0
+    for crate in ("worked_audits", "worked_parts", "worked_explorations"):
+        for path in sorted((TOP / "crates" / crate / "data").glob("*.toml")):
+            words, text = list(words_asked(path)), path.read_bytes()
+            for it, answer in zip(words, test.run_bytes(words, path.name, text)):
+                test.compare(f"{crate}/{path.stem}", it, path.name, text, answer)
+                count += 1
+    for path in sorted((TOP / "crates" / "worked_setups" / "data").glob("why_*/*.toml"))[::5]:
+        words, text = [["why", "--call", number] for number in ("0", "1", "2", "99", "x")], path.read_bytes()
+        for it, answer in zip(words, test.run_bytes(words, path.name, text)):
+            test.compare(path.stem, it, path.name, text, answer)
+            count += 1
+    print(f"{count} answers with options compared", flush=True)
 
 
 def hostile(test, setups, stored):
@@ -308,7 +345,8 @@ MARKS = """(() => {
 def marks(test, setups):
     """In each worked set-up each call has a mark in the margin; in one that is refused the line at fault has it."""
     for path in sorted(setups.glob("*/*.toml")):
-        topic, name, report = path.parent.name, path.stem, path.with_suffix(".report").read_text()
+        topic, name = path.parent.name, path.stem
+        report = native(test.program, test.folder, ["check"], path.name, path.read_bytes())[1].decode()
         if not test.browser.value(f"sel4sim.page.data.topics.some(({{ topic, setups }}) => topic === '{topic}'"
                                   f" && setups.some((it) => it.name === '{name}'))"):
             test.wanted(name == "byte_that_is_no_utf8", f"the menu lacks {topic}/{name}")
@@ -348,6 +386,7 @@ def tabs(test, _):
     test.settle()
     browser.value("document.getElementById('tab-report').focus()")
     names = browser.value("[...document.querySelectorAll('[role=tab]')].map((tab) => tab.textContent)")
+    test.wanted(len(names) <= 9, "there are more tabs than keys")
     for number, name in enumerate(names, 1):
         browser.press(str(number))
         test.settle()
@@ -360,7 +399,7 @@ def tabs(test, _):
     test.wanted("boot, 2 calls" == browser.value(f"{inside}.getElementById('position').textContent"), "the steps are not shown")
     browser.value(f"{inside}.getElementById('on').click()")
     test.wanted("call 1 of 2" == browser.value(f"{inside}.getElementById('position').textContent"), "the steps do not step")
-    browser.press("4")
+    browser.press(str(names.index("migrate") + 1))
     test.settle()
     test.wanted("format = 2" in test.text("panel-migrate"), "a set-up is not migrated")
     browser.value("document.querySelector('#panel-migrate button').click()")
@@ -370,6 +409,107 @@ def tabs(test, _):
     test.settle()
     browser.value("document.querySelector('button.line').click()")
     test.wanted(browser.value("document.activeElement.closest('.CodeMirror') !== null"), "a call does not lead to the editor")
+
+
+TRUSTED_LOADER = ("for ever", "two_clients")
+
+
+def pick(test, topic, name):
+    """Opens an example, whether there is one."""
+    there = test.browser.value(f"sel4sim.page.data.topics.some((it) => it.topic === {json.dumps(topic)}"
+                               f" && it.setups.some((one) => one.name === {json.dumps(name)}))")
+    test.wanted(there, f"the menu lacks {topic}/{name}")
+    if there:
+        test.browser.value(f"sel4sim.page.openExample({json.dumps(topic)}, {json.dumps(name)})")
+        test.settle()
+    return there
+
+
+def type_option(test, name, value):
+    """Types into the field of an option."""
+    test.browser.value(f"(() => {{ const field = document.getElementById('option-{name}'); field.value = {json.dumps(value)};"
+                       " field.dispatchEvent(new Event('input')); })()")
+    test.settle(0.6)
+
+
+def reasons(test, _):
+    """The tab why has the reason of each refused call, and so has the margin of the editor."""
+    if not pick(test, "why_lookups", "index_without_its_depth"):
+        return
+    titles = test.browser.value("[...document.querySelectorAll('.mark-met, .mark-refused')].map((it) => it.title).join('|')")
+    test.wanted("no CNode is there" in titles, f"the margin has no reason: {titles!r}")
+    test.browser.value("document.getElementById('tab-why').click()")
+    test.settle()
+    test.wanted(test.browser.value("document.querySelectorAll('#panel-why .reason li').length") > 0, "the tab why has no reason")
+    type_option(test, "call", "1")
+    test.wanted("not refused" in test.text("panel-why"), f"why of call 1 is {test.text('panel-why')!r}")
+    type_option(test, "call", "x")
+    test.wanted("status 4" in test.text("status"), f"why of call x ends with {test.text('status')}")
+    type_option(test, "call", "")
+
+
+def audits(test, _):
+    """The tab audit draws the channels, tells each thread, and leads to what one revoke would change and back."""
+    if not pick(test, "for audit", "engineers_system"):
+        return
+    browser = test.browser
+    type_option(test, "after", "14")
+    test.wanted(test.text("command-line") == "sel4sim audit --after 14 engineers_system.toml", test.text("command-line"))
+    test.wanted(browser.value("document.querySelectorAll('#panel-audit .wires rect').length") == 4, "other boxes than the threads")
+    test.wanted(browser.value("document.querySelectorAll('#panel-audit .wires circle').length") == 3, "other lines than the channels")
+    test.wanted("hold3, index 1, depth 3" in test.text("panel-audit"), "a slot that is held is not told")
+    browser.value("[...document.querySelectorAll('.revoke button')].find((it) => it.textContent === 'slot 320').click()")
+    test.settle(0.6)
+    test.wanted("--after 14 --slot 320" in test.text("command-line"), f"a slot gives {test.text('command-line')}")
+    test.wanted(browser.value("document.querySelectorAll('.change').length") == 18, "the changes of a revoke are not told")
+    browser.value("document.querySelector('#panel-audit button').click()")
+    test.settle(0.6)
+    test.wanted(browser.value("document.querySelectorAll('.revoke').length") == 8, "there is no way back from a revoke")
+
+
+def parts(test, _):
+    """The tab ever has a box to tick for each thread, and draws parts and ways."""
+    if not pick(test, *TRUSTED_LOADER):
+        return
+    browser = test.browser
+    boxes = "[...document.querySelectorAll('#options input[type=checkbox]')].map((it) => `${it.value} ${it.checked}`).join(', ')"
+    wanted = "loader true, client_a false, client_b false, client_c false"
+    test.wanted(browser.value(boxes) == wanted, f"the boxes to tick are {browser.value(boxes)}")
+    drawn = "document.querySelectorAll('#panel-ever .wires rect').length"
+    test.wanted(browser.value(drawn) == 3, f"{browser.value(drawn)} parts are drawn, and not 3")
+    browser.value("document.getElementById('option-without-client_c').click()")
+    test.settle(0.6)
+    test.wanted("--without loader,client_c" in test.text("command-line"), f"a second tick gives {test.text('command-line')}")
+    test.wanted(browser.value(drawn) == 2, f"{browser.value(drawn)} parts are drawn, and not 2")
+    browser.value("document.getElementById('option-without-loader').click()")
+    browser.value("document.getElementById('option-without-client_c').click()")
+    test.settle(0.6)
+    test.wanted(test.text("command-line") == "sel4sim audit --ever two_clients.toml", test.text("command-line"))
+    test.wanted(browser.value(drawn) == 1, "without a tick it is not all one part")
+
+
+def every_order(test, _):
+    """The tab orders tells each call with its answers; a number of an order leads to the call."""
+    if not pick(test, "for orders", "cancel_against_send"):
+        return
+    test.wanted("explore --first 1" in test.text("command-line"), f"the command is {test.text('command-line')}")
+    test.wanted(test.browser.value("document.querySelectorAll('#panel-orders .call').length") == 5, "other calls than five")
+    test.wanted("in some order" in test.text("ended"), f"status 1 is told as {test.text('ended')}")
+    test.browser.value("document.querySelector('#panel-orders .step').click()")
+    test.wanted(test.browser.value("document.activeElement.closest('.CodeMirror') !== null"), "an order does not lead to its calls")
+    type_option(test, "states", "3")
+    test.wanted("limit calls" in test.text("panel-orders"), "a limit is not told")
+
+
+def new_tabs(test, stored):
+    """The tabs with options, at two widths."""
+    for width in (1280, 390):
+        test.browser.call("Emulation.setDeviceMetricsOverride", width=width, height=844, deviceScaleFactor=1, mobile=width < 400)
+        for check in (reasons, audits, parts, every_order):
+            check(test, stored)
+            wide = test.browser.value("document.documentElement.scrollWidth")
+            test.wanted(wide <= width, f"{check.__name__}: a window of {width} is overrun: {wide}")
+    test.browser.call("Emulation.clearDeviceMetricsOverride")
 
 
 def reading(test, _):
@@ -431,6 +571,12 @@ def pictures(test, folder):
                 browser.value(f"document.getElementById('tab-{name}').click()")
                 test.settle()
                 picture(browser, folder / f"{name}_{width}_{theme}.png")
+            for name, topic, setup in (("why", "why_lookups", "index_without_its_depth"), ("audit", "for audit", "engineers_system"),
+                                       ("ever", *TRUSTED_LOADER), ("orders", "for orders", "two_locks")):
+                browser.value(f"sel4sim.page.openExample('{topic}', '{setup}')")
+                browser.value(f"document.getElementById('tab-{name}').click()")
+                test.settle()
+                picture(browser, folder / f"{name}_{width}_{theme}.png")
             browser.value("document.getElementById('tab-report').click()")
             for what, topic, setup in (("refused", "refused", "operation_that_does_not_exist"),
                                        ("missed", "expectations", "expectation_not_met")):
@@ -462,9 +608,9 @@ def in_firefox(program, folder, stored):
         test.settle()
         test.wanted("delivered 6144 from 2048" in test.text("panel-report"), f"firefox: {test.text('ended')}")
         for name, text in (("a.toml", stored), ("b.toml", b"format = 2\nx = 1\n")):
-            given = test.run_bytes([[it] for it in SUBCOMMANDS], name, text)
+            given = test.run_bytes(SUBCOMMANDS, name, text)
             for words, answer in zip(SUBCOMMANDS, given):
-                test.compare(f"firefox, {name}", [words], name, text, {key: it for key, it in answer.items() if it is not None})
+                test.compare(f"firefox, {name}", words, name, text, {key: it for key, it in answer.items() if it is not None})
         browser.value("document.getElementById('tab-steps').click()")
         test.settle()
         time.sleep(0.5)
@@ -497,7 +643,7 @@ def main():
             test.open()
         same_answers(test, setups)
         marks(test, setups)
-        for check in (typing, files, tabs, reading, trapped, nothing_leaves):
+        for check in (same_with_options, typing, files, tabs, new_tabs, reading, trapped, nothing_leaves):
             check(test, stored)
         if not is_short:
             hostile(test, setups, stored)

@@ -43,19 +43,25 @@ function readyAgain(old, now) {
     .map((line) => [line, now.get(keyOf(line))]).filter(([, line]) => line?.state === "ready");
 }
 
+/** Whether a line tells of a CNode that some slot leads to, or of a thread: without one no CNode is lost. */
+const leadsOn = ({ kind, capability }) => kind === "thread" || capability?.kind === "cnode";
+
 /** The CNodes that no thread leads to any more, each with those in a circle with it. */
-function newlyLost(before, after) {
+function newlyLost(step, before, after) {
+  if (!step.changes.some(({ sign, line }) => sign === "-" && leadsOn(line))) return new Map();
   const already = before.lostNodes();
   return new Map([...after.lostNodes()].filter(([base]) => !already.has(base)));
 }
 
+const NONE = new Map();
+
+/** No changes. */
+export const NOTHING = { old: NONE, now: NONE, emptied: NONE, filled: NONE, altered: NONE, ended: NONE, born: NONE,
+  lost: NONE, ready: [], moved: null };
+
 /** What a step changed. Boot makes all that there is, so nothing is marked as changed by it. */
 export function changesOf(step, before, after) {
-  if (step.number === 0) {
-    const none = new Map();
-    const slots = { emptied: none, filled: none, altered: none };
-    return { old: none, now: none, ...slots, ended: none, born: none, lost: none, ready: [], moved: null };
-  }
+  if (step.number === 0) return NOTHING;
   const { old, now } = linesOf(step);
   const slots = slotChanges(old, now);
   const pairs = [...slots.altered.values()];
@@ -63,10 +69,42 @@ export function changesOf(step, before, after) {
     old, now, ...slots,
     ended: objectsNotIn(after, [...slots.emptied.values(), ...pairs.map(([line]) => line)]),
     born: objectsNotIn(before, [...slots.filled.values(), ...pairs.map(([, line]) => line)]),
-    lost: newlyLost(before, after),
+    lost: newlyLost(step, before, after),
     ready: readyAgain(old, now),
     moved: movedBy(step, slots),
   };
+}
+
+/** The topmost slot that was emptied with a slot and that it was derived from, or itself; `tops` has those found. */
+function topOf(line, emptied, tops) {
+  const way = new Set();
+  let top = line;
+  while (!tops.has(top) && !way.has(top) && emptied.has(top.under)) {
+    way.add(top);
+    top = emptied.get(top.under);
+  }
+  top = tops.get(top) ?? top;
+  for (const below of way) tops.set(below, top);
+  return top;
+}
+
+// Of more emptied slots than these, those that were derived from others of them are counted.
+const MOST_TOLD = 8;
+
+/** Whether a step emptied so many slots that they are summed up. */
+export const isSummedUp = ({ emptied }) => emptied.size > MOST_TOLD;
+
+/** The slots that a step emptied as trees: each that was derived from no other one of them, by its line, with those that
+    were, at whatever depth. */
+export function emptiedTrees({ emptied }) {
+  const trees = new Map();
+  const tops = new Map();
+  for (const line of emptied.values()) {
+    const top = topOf(line, emptied, tops);
+    if (!trees.has(top)) trees.set(top, []);
+    if (top !== line) trees.get(top).push(line);
+  }
+  return trees;
 }
 
 /** Whether two lines of one slot say the same but for what the slot is derived from and whether it is original. */

@@ -24,13 +24,24 @@ export const sign = (shown, word) => element("i", { class: "sign", role: "img", 
 /** A heading with a remark behind it. */
 export const heading = (title, ...remark) => element("h2", {}, title, " ", element("small", {}, ...remark));
 
-/** Rows that are drawn only when they are asked for. */
-export function fold(count, what, draw) {
-  const summary = element("summary", {}, `${count} more ${what}`);
-  const folded = element("details", { class: "fold" }, summary);
-  folded.addEventListener("toggle", () => folded.append(element("div", { class: "unfolded" }, draw())), { once: true });
+/** Opens a fold, and draws its rows where they are not drawn. */
+export function unfold(folded) {
+  if (!folded.querySelector(":scope > .unfolded")) {
+    folded.append(element("div", { class: "unfolded" }, folded.drawRows()));
+  }
+  folded.open = true;
+}
+
+/** Rows that are drawn only when they are asked for, behind a text. */
+export function foldBehind(text, draw) {
+  const folded = element("details", { class: "fold" }, element("summary", {}, text));
+  folded.drawRows = draw;
+  folded.addEventListener("toggle", () => folded.open && unfold(folded));
   return folded;
 }
+
+/** Rows that come behind others, and are drawn only when they are asked for. */
+export const fold = (count, what, draw) => foldBehind(`${count} more ${what}`, draw);
 
 /** Puts an element at a part of a bar, from 0 to 1; the page's policy allows no styles in attributes. */
 export function place(made, left, width) {

@@ -1,9 +1,10 @@
-// The derivation forest as nested lists: below each slot stands what was derived from it. A trace does not tell the
-// order of siblings: they stand by rising address. Slots that a call emptied stay in their old place for that one step,
-// struck out.
-import { dim, element, fold, heading, sign } from "./element.mjs";
+// The derivation forest as nested lists: below each slot stands what was derived from it. Slots that a call emptied stay
+// in their old place for that one step, struck out; of many, each that was derived from none of the others is told, and
+// those that were derived from it are counted.
+import { dim, element, fold, foldBehind, heading, sign } from "./element.mjs";
 import { capabilityName, signOf, slotName } from "./names.mjs";
-import { markOf } from "./changes.mjs";
+import { emptiedTrees, isSummedUp, markOf } from "./changes.mjs";
+import { inOrder } from "./order.mjs";
 
 // Of more unchanged or changed siblings than these, the rest is folded behind the first few.
 const MOST_UNCHANGED = 10;
@@ -14,10 +15,7 @@ const FEW_CHANGED = 20;
 const LEAST_ABOVE = 40;
 
 /** The rows to draw: all full slots, and those that the call emptied. */
-function rowsOf(view) {
-  const rows = [...view.after.slots, ...view.changes.emptied.values()];
-  return rows.sort((one, other) => one.address - other.address);
-}
+const rowsOf = (view) => [...view.after.slots, ...view.changes.emptied.values()];
 
 /** The rows below each slot by its address, and those below none under null. */
 function childrenOf(rows) {
@@ -28,7 +26,7 @@ function childrenOf(rows) {
     if (!children.has(parent)) children.set(parent, []);
     children.get(parent).push(row);
   }
-  return children;
+  return new Map([...children].map(([parent, below]) => [parent, inOrder(below)]));
 }
 
 /** The addresses that are always shown: what changed or is named by the call, and all that it was derived from. */
@@ -60,37 +58,66 @@ function folded(rows, most, few) {
   return new Set(rows.length > most ? rows.slice(few) : []);
 }
 
-function drawList(view, rows, children, shown) {
-  const changedLeaf = (row) => shown.has(row.address) && !view.isNamed(row.address) && !children.has(row.address);
-  const unchanged = folded(rows.filter((row) => !shown.has(row.address)), MOST_UNCHANGED, FEW_UNCHANGED);
-  const changed = folded(rows.filter(changedLeaf), MOST_CHANGED, FEW_CHANGED);
-  const draw = (row) => {
-    const below = children.get(row.address);
-    const attributes = { "data-slot": row.address, "data-mark": markOf(view.changes, row) || undefined };
-    return element("li", attributes, drawNode(view, row), below ? drawList(view, below, children, shown) : null);
-  };
-  const more = (hidden, what) => (hidden.size === 0 ? null
-    : element("li", {}, fold(hidden.size, what, () => element("ul", {}, [...hidden].map(draw)))));
-  const told = rows.filter((row) => !unchanged.has(row) && !changed.has(row)).map(draw);
-  return element("ul", {}, told, more(unchanged, "(unchanged)"), more(changed, "(changed)"));
+/** The forest of a view: the rows below each slot, those that are always shown, and, where the call emptied many, how
+    many were derived from each that is told. */
+class Forest {
+  constructor(view) {
+    const rows = rowsOf(view);
+    Object.assign(this, { view, children: childrenOf(rows), shown: shownAddresses(view, rows), sums: new Map() });
+    if (isSummedUp(view.changes)) this.sums = emptiedTrees(view.changes);
+  }
+
+  isLeaf(row) {
+    return !this.children.has(row.address) || this.sums.has(row);
+  }
+
+  /** What stands below a row: a list, or, of slots that were emptied with it, how many. */
+  drawBelow(row) {
+    const below = this.children.get(row.address);
+    if (!below) return null;
+    const count = this.sums.get(row)?.length;
+    const list = () => this.drawList(below);
+    return count ? foldBehind(`and ${count} derived from it`, list) : list();
+  }
+
+  drawRow(row) {
+    const attributes = { "data-key": row.address, "data-slot": row.address,
+      "data-mark": markOf(this.view.changes, row) || undefined };
+    return element("li", attributes, drawNode(this.view, row), this.drawBelow(row));
+  }
+
+  drawList(rows) {
+    const { view, shown } = this;
+    const changedLeaf = (row) => shown.has(row.address) && !view.isNamed(row.address) && this.isLeaf(row);
+    const unchanged = folded(rows.filter((row) => !shown.has(row.address)), MOST_UNCHANGED, FEW_UNCHANGED);
+    const changed = folded(rows.filter(changedLeaf), MOST_CHANGED, FEW_CHANGED);
+    const draw = (row) => this.drawRow(row);
+    const more = (hidden, what) => (hidden.size === 0 ? null
+      : element("li", { "data-key": what }, fold(hidden.size, what, () => element("ul", {}, [...hidden].map(draw)))));
+    const told = rows.filter((row) => !unchanged.has(row) && !changed.has(row)).map(draw);
+    return element("ul", {}, told, more(unchanged, "(unchanged)"), more(changed, "(changed)"));
+  }
+
+  draw() {
+    const list = this.drawList(this.children.get(null) ?? []);
+    list.className = "forest";
+    return list;
+  }
 }
 
-/** The derivation forest of the state behind a step. */
+/** The derivation forest of the state of a view. */
 export function drawForest(view) {
-  const rows = rowsOf(view);
-  const children = childrenOf(rows);
-  const list = drawList(view, children.get(null) ?? [], children, shownAddresses(view, rows));
-  list.className = "forest";
-  const remark = `${view.after.slots.length} full slots; below each slot stands what was derived from it, in order of `
-    + "address";
+  const list = new Forest(view).draw();
+  const isTold = view.after.slots.every(({ after }) => after !== undefined);
+  const remark = `${view.after.slots.length} full slots; below each slot stands what was derived from it, in `
+    + `${isTold ? "the kernel's order" : "order of address"}`;
   const attributes = { class: "forest-scroll", tabindex: "0", role: "region", "aria-label": "Derivation forest, tree" };
   return [heading("Derivation forest", remark), element("div", attributes, list)];
 }
 
 /** Scrolls the forest so that what a step changed is in sight, or what it names where nothing changed: the first of it
-    and as much behind it as there is room for. `top` is how far it was scrolled before. */
-export function showChange(scroller, top) {
-  scroller.scrollTop = top;
+    and as much behind it as there is room for. */
+export function showChange(scroller) {
   const changed = [...scroller.querySelectorAll(".node:is(.filled, .emptied, .altered, .moved)")];
   const nodes = changed.length > 0 ? changed : [...scroller.querySelectorAll(".node.named")];
   if (nodes.length === 0) return;

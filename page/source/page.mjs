@@ -1,9 +1,8 @@
 // The page: it reads the trace that stands in it, and draws the state behind the step that one chooses.
 import { CallList, hasText, isMissed, nextStep } from "./calls.mjs";
-import { Places } from "./places.mjs";
 import { Player } from "./player.mjs";
-import { Run, firstMisfit } from "./state.mjs";
-import { changesOf } from "./changes.mjs";
+import { Views } from "./views.mjs";
+import { firstMisfit } from "./state.mjs";
 import { drawChanges, drawSentence } from "./summary.mjs";
 import { drawForest, showChange } from "./forest.mjs";
 import { drawMemory } from "./memory.mjs";
@@ -12,8 +11,8 @@ import { drawSpaces } from "./spaces.mjs";
 import { drawThreadsAndEndpoints } from "./threads.mjs";
 import { listenToFiles, listenToParent } from "./files.mjs";
 import { listenToKeys } from "./keys.mjs";
-import { namedSlots } from "./lookup.mjs";
 import { readTrace } from "./trace.mjs";
+import { redraw } from "./redraw.mjs";
 
 const byId = (id) => document.getElementById(id);
 const TITLE = "sel4sim run";
@@ -39,17 +38,14 @@ class Page {
   constructor() {
     this.calls = new CallList(byId("calls"), byId("list"), (number) => this.show(number));
     this.seer = null;
-    this.run = null;
+    this.views = null;
+    this.number = 0;
     this.trace = { steps: [] };
     this.player = new Player(byId("play"), this);
   }
 
   get last() {
     return this.trace.steps.length - 1;
-  }
-
-  get number() {
-    return this.run?.number ?? 0;
   }
 
   /** Reads a trace and shows one of its steps; a text that is none is refused with its fault. The name is that of the
@@ -59,7 +55,7 @@ class Page {
       const [trace, notice] = fitting(readTrace(text));
       if (trace.steps.length === 0) throw new Error(notice);
       this.trace = trace;
-      this.run = new Run(trace.steps);
+      this.views = new Views(trace);
       this.say(notice);
     } catch (error) {
       this.say(`This is not a trace of sel4sim. ${error.message}`);
@@ -87,29 +83,13 @@ class Page {
     byId("next-missed").hidden = missed === 0;
   }
 
-  /** What is known of a step: the states around it, what it names and what it changes. */
-  viewOf(number) {
-    const { run, trace } = this;
-    const { machine, steps } = trace;
-    run.go(number - 1);
-    const before = new Places(run.state, machine);
-    const named = number === 0 ? {} : namedSlots(run.state, machine, steps[number]);
-    const roles = ["invoked", "root", "source", "target"];
-    const held = Object.fromEntries(roles.map((role) => [role, run.state.slot.get(named[role])?.capability]));
-    run.go(number);
-    const after = new Places(run.state, machine);
-    const ring = new Set([named.invoked, named.source, named.target]);
-    return { trace, step: steps[number], state: run.state, before, after, named, held, lost: after.lostNodes(),
-      changes: changesOf(steps[number], before, after), isNamed: (address) => ring.has(address) };
-  }
-
   /** Shows the state behind a step; a number out of bounds means the nearest one. */
   show(wanted) {
-    if (!this.run) return;
+    if (!this.views) return;
     const number = Math.max(0, Math.min(this.last, Math.trunc(wanted) || 0));
-    const view = this.viewOf(number);
-    this.view = view;
-    byId("said").replaceChildren(...drawSentence(view).flat(Infinity));
+    const view = this.views.of(number);
+    Object.assign(this, { view, number });
+    this.put("said", drawSentence(view));
     this.put("changed", drawChanges(view));
     this.drawForest(view);
     this.put("memory", drawMemory(view));
@@ -123,14 +103,13 @@ class Page {
 
   /** The forest keeps its place from step to step, but for what is not in sight of that which changed. */
   drawForest(view) {
-    const scroller = () => document.querySelector("#forest .forest-scroll");
-    const top = scroller()?.scrollTop ?? 0;
     this.put("forest", drawForest(view));
-    showChange(scroller(), top);
+    showChange(document.querySelector("#forest .forest-scroll"));
   }
 
+  /** Draws a part of the page anew, where it differs. */
   put(id, children) {
-    byId(id).replaceChildren(...children.flat(Infinity).filter((child) => child !== null && child !== ""));
+    redraw(byId(id), children.flat(Infinity).filter((child) => child !== null && child !== ""));
   }
 
   drawSpaces() {

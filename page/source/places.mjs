@@ -1,23 +1,28 @@
 // Where the slots of a state stand: in which CNode, and how many of them hold a capability of one object.
 
-/** A state with its slots in order, its CNodes, and the full slots of each. */
+/** A state with its slots, its CNodes, and the full slots of each. What takes sorting is worked out when it is asked for,
+    from the lines that were there at first, since the state goes on. */
 export class Places {
   constructor(state, machine) {
     this.state = state;
     this.machine = machine;
-    this.slots = state.sorted("slot");
-    // Taken at once, since the state goes on.
-    const roots = state.sorted("thread").map(({ address }) => state.slot.get(address)?.capability);
+    this.lines = [...state.slot.values()];
+    const roots = [...state.thread.keys()].map((address) => state.slot.get(address)?.capability);
     this.roots = roots.filter((capability) => capability !== undefined);
     this.holders = new Map();
     const nodes = new Map();
-    for (const { capability } of this.slots) {
+    for (const { capability } of this.lines) {
       this.holders.set(capability.object, (this.holders.get(capability.object) ?? 0) + 1);
-      if (capability.kind === "cnode" && !nodes.has(capability.base)) nodes.set(capability.base, capability);
+      if (capability.kind === "cnode") nodes.set(capability.base, capability);
     }
     this.nodes = [...nodes.values()].sort((one, other) => one.base - other.base);
-    this.inside = new Map(this.nodes.map((node) => [node.base, []]));
-    for (const slot of this.slots) this.slotsIn(this.nodeAround(slot.address)?.base).push(slot);
+    Object.assign(this, { inOrder: null, inside: null, lost: null });
+  }
+
+  /** The full slots by rising address. */
+  get slots() {
+    this.inOrder ??= this.lines.sort((one, other) => one.address - other.address);
+    return this.inOrder;
   }
 
   /** Whether some slot holds a capability of an object, which is then live. */
@@ -27,6 +32,10 @@ export class Places {
 
   /** The full slots of the CNode at an address, by rising address. */
   slotsIn(base) {
+    if (this.inside === null) {
+      this.inside = new Map(this.nodes.map((node) => [node.base, []]));
+      for (const slot of this.slots) this.inside.get(this.nodeAround(slot.address)?.base)?.push(slot);
+    }
     return this.inside.get(base) ?? [];
   }
 
@@ -64,6 +73,11 @@ export class Places {
   /** The CNodes that no root slot of a thread leads to, each with those others in a circle with it: CNodes that hold
       one another. No thread can name a slot of them any more. */
   lostNodes() {
+    this.lost ??= this.findLostNodes();
+    return this.lost;
+  }
+
+  findLostNodes() {
     const reached = this.nodesFrom(this.roots);
     const lost = this.nodes.map(({ base }) => base).filter((base) => !reached.has(base));
     const below = new Map(lost.map((base) => [base, this.nodesFrom(this.capabilitiesIn(base))]));

@@ -84,7 +84,7 @@ class Cells {
 
 /** What is said of a CNode that no thread leads to. */
 function lossOf(view, { base, ended }) {
-  const circle = ended ? undefined : view.lost.get(base);
+  const circle = ended ? undefined : view.after.lostNodes().get(base);
   const own = view.state.selfheld.has(base) ? ["held only by its own slots"] : [];
   if (circle === undefined) return own;
   const others = circle.length > 0 ? [`held in a circle with ${circle.join(", ")}`] : [];

@@ -144,6 +144,11 @@ class Chromium:
             raise RuntimeError(answer["exceptionDetails"].get("exception", {}).get("description", expression))
         return answer["result"].get("value")
 
+    def until(self, holds):
+        """Waits until an expression holds in the page, or for ten seconds."""
+        self.value(f"(async () => {{ const end = performance.now() + 10_000; while (!({holds}) && performance.now() < end)"
+                   " await new Promise((done) => setTimeout(done, 10)); })()")
+
     def open(self, url):
         """Opens a page and waits until it is loaded."""
         self.call("Page.navigate", url="about:blank")

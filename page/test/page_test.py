@@ -80,10 +80,10 @@ class Stepper:
                           " range.dispatchEvent(new Event('input')); })()")
         elif way == "address":
             browser.value(f"location.hash = '#{number}'")
-            browser.value("new Promise((done) => setTimeout(done, 50))")
+            browser.until(f"document.getElementById('range').value === '{number}'")
         elif way == "click":
             browser.value(f"document.getElementById('calls').scrollTop = {44 * number}")
-            browser.value("new Promise((done) => setTimeout(done, 50))")
+            browser.until(f"document.getElementById('call-{number}') !== null")
             browser.value(f"document.getElementById('call-{number}').click()")
         else:
             browser.press(way)
@@ -105,7 +105,7 @@ class Stepper:
     def open(self, path):
         self.browser.open(path.as_uri())
         self.browser.value("document.getElementById('state-lines').open = true")
-        self.browser.value("new Promise((done) => setTimeout(done, 20))")
+        self.browser.until("document.getElementById('state-text').textContent !== ''")
 
     def run(self, path):
         self.open(path)

@@ -1,0 +1,122 @@
+// Who reaches what, who can send to whom, and what each revoke would destroy.
+import { code, dim, element, fold, heading } from "../../page/source/element.mjs";
+import { drawWires } from "./wires.mjs";
+
+const FORMS = {
+  name: /^name (\S+) (\d+)$/u,
+  thread: /^thread (\d+(?: @\S+)?) (.*)$/u,
+  reach: /^ {2}reach \d+ (\d+) slot (\d+) (.*)$/u,
+  hold: /^ {2}hold \d+ (\d+) index (\d+) depth (\d+) slot (\d+) (.*)$/u,
+  channel: /^channel (\d+(?: @\S+)?) (\d+) -> (\d+) badge (\d+) rights (\S+) -> (?:none|(\d+(?: @\S+)?) (\d+))$/u,
+  unwritten: /^channel none -> (\d+) -> (\d+(?: @\S+)?) (\d+)$/u,
+  revoke: /^revoke (\d+) (.*) clears (\d+)$/u,
+  ends: /^ {2}ends (.*)$/u,
+  change: /^ {2}([-+]) (.*)$/u,
+};
+/** So many revokes, and slots of a thread, are drawn at first. */
+const MOST_SHOWN = 100;
+
+/** The lines of a text of `audit`, each with its form. */
+function linesOf(text) {
+  return text.split("\n").slice(0, -1).map((line) => {
+    for (const [form, pattern] of Object.entries(FORMS)) {
+      const found = pattern.exec(line);
+      if (found) return { form, line, found: found.slice(1) };
+    }
+    return { form: "other", line, found: [] };
+  });
+}
+
+/** Lines with those that stand below each: of `outer` each with the next ones of `inner`. */
+function grouped(lines, outer, inner) {
+  const groups = [];
+  for (const it of lines) {
+    if (it.form === outer) groups.push({ ...it, below: [] });
+    else if (inner.includes(it.form) && groups.length > 0) groups.at(-1).below.push(it);
+  }
+  return groups;
+}
+
+const cell = (...children) => element("td", {}, ...children);
+
+function drawNamed({ form, found }) {
+  const [word, ...rest] = found;
+  const [slot, capability] = rest.slice(-2);
+  const words = form === "reach" ? word : `${word}, index ${rest[0]}, depth ${rest[1]}`;
+  return element("tr", {}, cell(dim(form)), cell(code(words)), cell(slot), cell(capability));
+}
+
+function drawTable(rows) {
+  const heads = ["", "by word", "slot", "capability"].map((it) => element("th", { scope: "col" }, it));
+  return element("div", { class: "drawing" }, element("table", { class: "named" },
+    element("thead", {}, element("tr", {}, heads)), element("tbody", {}, rows.map(drawNamed))));
+}
+
+/** Draws the first of some things by `draw`, which takes a list of them, and the rest when it is asked for. */
+function drawSome(things, what, draw) {
+  const rest = things.slice(MOST_SHOWN);
+  return [draw(things.slice(0, MOST_SHOWN)), rest.length > 0 ? fold(rest.length, what, () => draw(rest)) : null];
+}
+
+function drawThread({ found: [thread, state], below }) {
+  return element("section", { class: "thread" }, element("h3", {}, thread, " ", element("small", {}, state)),
+    below.length === 0 ? element("p", {}, dim("names nothing")) : drawSome(below, "slots", drawTable));
+}
+
+/** The channels as a drawing: the threads that send or receive, and the ways between them. */
+function drawChannels(threads, channels) {
+  const ways = channels.map(({ form, found }) => {
+    if (form === "unwritten") return { from: null, endpoint: found[0], by: "", to: found[1] };
+    const [from, word, endpoint, badge, rights, to = null] = found;
+    return { from, endpoint, by: `${endpoint} badge ${badge} ${rights} by ${word}`, to };
+  });
+  const ends = new Set(ways.flatMap(({ from, to }) => [from, to]));
+  const boxes = threads.map(({ found: [thread] }) => ({ id: thread, title: thread, lines: [] })).filter(({ id }) => ends.has(id));
+  const drawing = drawWires(boxes, ways, "Who can send to whom; the text below says the same");
+  return drawing ? element("div", { class: "drawing", tabindex: "0", role: "region", "aria-label": "Channels" }, drawing) : null;
+}
+
+function drawChange({ found: [sign, line] }) {
+  return element("div", { class: sign === "-" ? "change emptied-line" : "change filled-line" }, `${sign} ${line}`);
+}
+
+function drawRevoke({ found: [slot, capability, count], below }, choose) {
+  const row = element("button", { type: "button", class: "link", title: "What such a revoke changes, line by line" }, `slot ${slot}`);
+  row.addEventListener("click", () => choose(slot));
+  const ends = below.filter(({ form }) => form === "ends").map(({ found: [what] }) => element("li", {}, `ends ${what}`));
+  return element("div", { class: "revoke" }, row, ` ${capability} `, element("b", {}, `clears ${count}`),
+    ends.length > 0 ? element("ul", { class: "reason" }, ends) : null);
+}
+
+function drawOne(into, revoke, choose) {
+  const all = element("button", { type: "button" }, "all that the audit says");
+  all.addEventListener("click", () => choose(""));
+  into.replaceChildren(element("p", {}, all), heading("A revoke of one slot", "as if a thread made it now; + comes, - goes"),
+    drawRevoke(revoke, choose), element("div", { class: "changes" }, revoke.below.filter(({ form }) => form === "change").map(drawChange)));
+}
+
+function drawRevokes(revokes, choose) {
+  const draw = (some) => element("div", {}, some.map((it) => drawRevoke(it, choose)));
+  return drawSome(revokes, "revokes", draw).filter(Boolean);
+}
+
+/** Draws a text of `audit` into an element; `choose` is told the slot whose revoke is asked for, or "" for all. */
+export function drawAudit(into, text, choose) {
+  const lines = linesOf(text);
+  const revokes = grouped(lines, "revoke", ["ends", "change"]);
+  if (/^audit .* slot \d+$/mu.test(lines[0]?.line ?? "") && revokes.length === 1) {
+    drawOne(into, revokes[0], choose);
+    return;
+  }
+  const threads = grouped(lines, "thread", ["reach", "hold"]);
+  const channels = lines.filter(({ form }) => form === "channel" || form === "unwritten");
+  into.replaceChildren(
+    heading("Who can send to whom", "by a word; an endpoint, a badge that the receiver is told, and rights"),
+    ...[drawChannels(threads, channels)].filter(Boolean),
+    element("pre", { class: "told", tabindex: "0", "aria-label": "Channels as text" }, channels.map(({ line }) => line).join("\n") || "nobody"),
+    heading("What each thread can name", "reach: by a word of a call; hold: by an index and a depth from a CNode besides"),
+    ...threads.map(drawThread),
+    heading("What a revoke would do", "of each slot with children, whether or not a thread can name it"),
+    ...drawRevokes(revokes, choose),
+    element("p", {}, dim(lines[0]?.line ?? "")));
+}

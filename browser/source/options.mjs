@@ -1,0 +1,95 @@
+// The options of the tabs: a field for each, and the words of the command line that it makes. What is typed is given to
+// the program as it is: the program says what is wrong with it.
+import { element } from "../../page/source/element.mjs";
+
+/** A name that stands for itself on a command line, and for no number. */
+const PLAIN_NAME = /^[a-z_][\w-]*$/iu;
+const NAMED = /^(\d+)(?: @(\S+))?$/u;
+
+/** A thread as the program tells it, `4096` or `4096 @client`, as the word of a command line that means it. */
+export function threadWord(told) {
+  const [, address, name = ""] = NAMED.exec(told) ?? [null, told];
+  return PLAIN_NAME.test(name) ? name : address;
+}
+
+const ticked = (value) => (value ? value.split(",") : []);
+
+/** Draws a text field. */
+function drawText({ name, about, least, value, give }) {
+  const field = element("input", { type: "text", id: `option-${name}`, size: "8", inputmode: "numeric", spellcheck: "false",
+    autocomplete: "off", title: about, placeholder: least });
+  field.value = value;
+  field.addEventListener("input", () => give(field.value.trim()));
+  return element("label", { class: "field" }, `--${name}`, field);
+}
+
+/** Draws a box to tick for each thread. */
+function drawTicks({ name, about, value, threads, give }) {
+  const boxes = threads.map(({ word, told }) => {
+    const box = element("input", { type: "checkbox", id: `option-${name}-${word}`, value: word });
+    box.checked = ticked(value()).includes(word);
+    box.addEventListener("change", () => give([...ticked(value()).filter((it) => it !== word), ...(box.checked ? [word] : [])]
+      .join(",")));
+    return element("label", { class: "tick" }, box, told);
+  });
+  return element("fieldset", { title: about }, element("legend", {}, `--${name}`), boxes);
+}
+
+/** The options of the tabs, drawn for one tab at a time; `changed` is told when one is given. */
+export class Options {
+  constructor(parent, changed) {
+    Object.assign(this, { parent, changed, values: {}, threads: [], drawn: "" });
+  }
+
+  value(tab, name) {
+    return this.values[tab.name]?.[name] ?? "";
+  }
+
+  /** The words of the command line for a tab. */
+  words(tab) {
+    return [...tab.words, ...(tab.options ?? []).flatMap(({ name }) => {
+      const value = this.value(tab, name);
+      return value ? [`--${name}`, value] : [];
+    })];
+  }
+
+  /** Gives an option of a tab, or takes it back by an empty value. */
+  give(tab, name, value) {
+    this.values[tab.name] = { ...this.values[tab.name], [name]: value };
+    this.changed();
+  }
+
+  /** Takes all options back, or in their place those that were kept. */
+  reset(values = {}) {
+    Object.assign(this, { values: { ...values }, threads: [], drawn: "" });
+  }
+
+  /** Offers the threads of a run, as the program tells them, to a tab that has a box for each. */
+  offer(tab, told) {
+    this.threads = told;
+    this.draw(tab);
+  }
+
+  /** The threads that are offered, and those that were ticked and are there no more. */
+  threadsOf(value) {
+    const offered = this.threads.map((told) => ({ word: threadWord(told), told }));
+    const rest = ticked(value).filter((word) => !offered.some((it) => it.word === word));
+    return [...offered, ...rest.map((word) => ({ word, told: word }))];
+  }
+
+  /** Draws the options of a tab, where they are not drawn yet. */
+  draw(tab) {
+    const parts = (tab.options ?? []).map((option) => ({ ...option, threads: this.threadsOf(this.value(tab, option.name)) }));
+    const wanted = JSON.stringify([tab.name, parts]);
+    if (wanted === this.drawn) return;
+    this.drawn = wanted;
+    const focused = document.activeElement?.id;
+    this.parent.hidden = parts.length === 0;
+    this.parent.replaceChildren(...parts.map((part) => {
+      const give = (value) => this.give(tab, part.name, value);
+      return part.ticks ? drawTicks({ ...part, give, value: () => this.value(tab, part.name) })
+        : drawText({ ...part, give, value: this.value(tab, part.name) });
+    }));
+    if (focused?.startsWith("option-")) document.getElementById(focused)?.focus();
+  }
+}

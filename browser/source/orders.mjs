@@ -1,0 +1,55 @@
+// Every order of the clients' calls: for each call its answers, with the shortest order where one is not as expected, and
+// each way to end stuck.
+import { code, element } from "../../page/source/element.mjs";
+import { drawLine, drawRows } from "./report.mjs";
+
+const CALL = /^(\d+) (client \d+: \d+ \w+)(?: \[(.*)\])?$/u;
+const ANSWER = /^ {2}(\d+\.\d+) (.*?)(?: (\[not met\]) by ([\d ]+))?$/u;
+const STUCK = /^(stuck\.\d+) by ([\d ]*)$/u;
+
+/** The mark of a call: whether its expectation is met, in which orders. */
+function drawMark(mark) {
+  if (!mark) return null;
+  const isMet = mark === "met" || mark === "met so far";
+  return element("span", { class: isMet ? "tag met" : "tag missed" }, `${isMet ? "✓" : "✗"} ${mark}`);
+}
+
+function drawCall([, number, words, mark], go) {
+  const row = element("button", { type: "button", class: "line call", title: "To this call in the set-up" },
+    element("span", { class: "number" }, number), code(words), " ", drawMark(mark));
+  row.addEventListener("click", () => go(Number(number)));
+  return row;
+}
+
+/** An order of calls, each with a way to it. */
+function drawOrder(order, go) {
+  return order.split(" ").filter(Boolean).map((number) => {
+    const call = element("button", { type: "button", class: "link step", title: `To call ${number} in the set-up` }, number);
+    call.addEventListener("click", () => go(Number(number)));
+    return [" ", call];
+  });
+}
+
+function drawAnswer([, number, answer, missed, order], go) {
+  return element("div", { class: missed ? "line answer missed-answer" : "line answer" },
+    element("span", { class: "dim" }, number), " ", answer,
+    missed ? [" ", element("span", { class: "tag missed" }, "not met"), " by the calls", drawOrder(order, go)] : null);
+}
+
+function drawStuck([, name, order], go) {
+  return element("div", { class: "line stuck" }, element("span", { class: "tag missed" }, name), " after the calls",
+    drawOrder(order, go), "; then no client can go on:");
+}
+
+/** Draws a text of `explore` into an element; `go` is told the number of a call that is chosen. */
+export function drawOrders(into, text, go) {
+  const drawn = [[CALL, drawCall], [ANSWER, drawAnswer], [STUCK, drawStuck]];
+  const rows = text.split("\n").slice(0, -1).map((line) => () => {
+    for (const [form, draw] of drawn) {
+      const found = form.exec(line);
+      if (found) return draw(found, go);
+    }
+    return drawLine(line);
+  });
+  drawRows(into, rows);
+}

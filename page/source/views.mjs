@@ -1,0 +1,48 @@
+// What is known of a step: the states around it, what it names and what it changes.
+import { NOTHING, changesOf } from "./changes.mjs";
+import { Places } from "./places.mjs";
+import { Run } from "./state.mjs";
+import { namedSlots } from "./lookup.mjs";
+
+const ROLES = ["invoked", "root", "source", "target"];
+
+/** The views of a trace's steps. A view is of use until the next one is asked for: all have one state. */
+export class Views {
+  constructor(trace) {
+    this.trace = trace;
+    this.run = new Run(trace.steps);
+    this.latest = new Map();
+  }
+
+  /** Goes to the state behind a step: its places. Those of the steps looked at last are kept. */
+  placesBehind(number) {
+    this.run.go(number);
+    const places = this.latest.get(number) ?? new Places(this.run.state, this.trace.machine);
+    this.latest = new Map([...this.latest].slice(-1)).set(number, places);
+    return places;
+  }
+
+  /** What a step is given: the state before it and what it names there. */
+  before(number) {
+    const { trace, run } = this;
+    const step = trace.steps[number];
+    const before = this.placesBehind(number - 1);
+    const named = number === 0 ? {} : namedSlots(run.state, trace.machine, step);
+    const held = Object.fromEntries(ROLES.map((role) => [role, run.state.slot.get(named[role])?.capability]));
+    const ring = new Set([named.invoked, named.source, named.target]);
+    return { trace, step, before, named, held, isNamed: (address) => ring.has(address) };
+  }
+
+  /** A step with its effect. */
+  of(number) {
+    const given = this.before(number);
+    const after = this.placesBehind(number);
+    return { ...given, after, state: this.run.state, isAsked: false, changes: changesOf(given.step, given.before, after) };
+  }
+
+  /** A step that is asked for and not told: the state is the one before it. */
+  asked(number) {
+    const given = this.before(number);
+    return { ...given, after: given.before, state: this.run.state, isAsked: true, changes: NOTHING };
+  }
+}

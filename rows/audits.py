@@ -1,0 +1,64 @@
+#!/usr/bin/env python3
+"""audits.py PROGRAM FOLDER..: each audit that is wanted in the FOLDERs, by the program.
+
+NAME.toml is a set-up and NAME.audit its audit, byte for byte. Options stand in the file's name: NAME.after-14.slot-320.audit is
+what `audit --after 14 --slot 320` writes. NAME.ever is what `audit --ever` writes, with the options in NAME.args, one word a line.
+An empty file wants status 4, the line of a refusal 2, any other text 0.
+
+In the end the first audit of each folder is compared with the text of its second, and has to differ.
+"""
+import pathlib
+import subprocess
+import sys
+
+
+def options(file):
+    """The options that a file of what is wanted asks for."""
+    if file.suffix == ".ever":
+        return ["--ever", *file.with_suffix(".args").read_text().split()]
+    parts = [part.split("-") for part in file.stem.split(".")[1:]]
+    return [word for option, number in parts for word in (f"--{option}", number)]
+
+
+def status_with(text):
+    if not text:
+        return 4
+    return 2 if text.startswith(b"set-up refused ") else 0
+
+
+def faults(program, file, wanted):
+    setup = file.with_name(file.name.split(".")[0] + ".toml")
+    done = subprocess.run([program, "audit", *options(file), str(setup)], capture_output=True, timeout=60)
+    if done.stdout != wanted:
+        yield f"wanted\n{wanted.decode()}got\n{done.stdout.decode('utf-8', 'replace')}"
+    if done.returncode != status_with(wanted):
+        yield f"status {done.returncode}, wanted {status_with(wanted)}"
+
+
+def files_in(folder):
+    return sorted(file for file in folder.iterdir() if file.suffix in (".audit", ".ever"))
+
+
+def run_folder(program, folder):
+    """Runs the audits of a folder, and returns whether all are as wanted, and one is not where another one is wanted."""
+    files = files_in(folder)
+    failed = 0
+    for file in files:
+        wrong = list(faults(program, file, file.read_bytes()))
+        if wrong:
+            failed += 1
+            print(f"{file}: " + "\n    ".join(wrong))
+    print(f"{folder}: {len(files) - failed} audits as wanted, {failed} not")
+    differs = any(faults(program, files[0], files[1].read_bytes()))
+    if not differs:
+        print(f"{files[0]}: no fault where {files[1]} is wanted")
+    return differs and not failed
+
+
+def main():
+    program, folders = sys.argv[1], sys.argv[2:]
+    passed = [run_folder(program, pathlib.Path(folder)) for folder in folders]
+    return 0 if passed and all(passed) else 1
+
+
+sys.exit(main())
