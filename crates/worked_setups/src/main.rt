@@ -16,10 +16,10 @@
 use case::{Case, Difference};
 use migrated::migrated;
 use pairs::{PAIRS, Pair};
-use why::why_of;
 use std::fs::{self, DirEntry, Files};
 use std::io;
 use std::process::ExitCode;
+use why::why_of;
 
 mod case;
 mod migrated;
