@@ -3,7 +3,8 @@
 //! retyped, revoked and used again.
 //!
 //! After each call the reply is compared with that of a kernel over the linked forms, and so is all that the kernels
-//! show: threads, inboxes, waiting lists and slots. For each pair one line says that they agree, or at which call they
+//! show: threads, inboxes, waiting lists and slots. Each kernel has to have a reason to refuse the call exactly where the
+//! reply is a refusal, and its refusal has to be that one. For each pair one line says that they agree, or at which call they
 //! do not. A line for each profile says what the calls reached.
 //!
 //! At the end each kernel makes calls of its own first, so that the two differ in one thing: a line for each such thing

@@ -5,7 +5,7 @@ use crate::planted::Planted;
 use crate::shown::{are_slots_same, are_threads_same};
 use crate::tally::Tally;
 use anyhow::Result;
-use cap_core::Profile;
+use cap_core::{Profile, Refusal};
 use ipc_core::{LinkedWaiters, MakeWaiters};
 use kernel_core::{BootPlan, Call, Kernel, Reply};
 use slot_core::{LinkedStore, MakeStore};
@@ -54,15 +54,35 @@ impl<P: Profile, S: MakeStore<P>, W: MakeWaiters<P>> Both<P, S, W> {
         are_threads_same(&self.linked, &self.other) && are_slots_same(&self.linked, &self.other)
     }
 
-    /// The reply of both to a call, where they answer the same and show the same after it.
+    /// Whether each has a reason to refuse a call exactly where it answers by that refusal, as it stands before the call.
+    fn are_reasons_of(&self, call: &Call, refusal: Option<Refusal>) -> bool {
+        reason_of(&self.linked, call) == refusal && reason_of(&self.other, call) == refusal
+    }
+
+    /// The reply of both to a call, where they answer the same and show the same after it. A refused call changes nothing,
+    /// so that its reasons can be asked for after it too; of a call that is answered they are asked for before it.
     fn step(&mut self, call: Call) -> Option<Reply> {
+        let is_answered = self.are_reasons_of(&call, None);
         let reply = self.linked.step(call);
-        if self.other.step(call) == reply && self.are_same() {
+        let are_same = self.other.step(call) == reply && self.are_same();
+        let are_told = match reply {
+            Reply::Refused(refusal) => !is_answered && self.are_reasons_of(&call, Some(refusal)),
+            _ => is_answered,
+        };
+        if are_same && are_told {
             Some(reply)
         } else {
             None
         }
     }
+}
+
+/// The refusal of the reason that a kernel has to refuse a call, if it has one.
+fn reason_of<P: Profile, S: MakeStore<P>, W: MakeWaiters<P>>(
+    kernel: &Kernel<P, S, W>,
+    call: &Call,
+) -> Option<Refusal> {
+    kernel.reason(call).map(|reason| reason.refusal())
 }
 
 /// Makes calls on one kernel.
