@@ -1,5 +1,5 @@
 // Every order of the clients' calls: for each call its answers, with the shortest order where one is not as expected, and
-// each way to end stuck.
+// each way to end stuck. An order that is told can be opened as a set-up that makes its calls.
 import { code, element } from "../../page/source/element.mjs";
 import { drawLine, drawRows } from "./report.mjs";
 
@@ -14,7 +14,7 @@ function drawMark(mark) {
   return element("span", { class: isMet ? "tag met" : "tag missed" }, `${isMet ? "✓" : "✗"} ${mark}`);
 }
 
-function drawCall([, number, words, mark], go) {
+function drawCall([, number, words, mark], { go }) {
   const row = element("button", { type: "button", class: "line call", title: "To this call in the set-up" },
     element("span", { class: "number" }, number), code(words), " ", drawMark(mark));
   row.addEventListener("click", () => go(Number(number)));
@@ -30,24 +30,34 @@ function drawOrder(order, go) {
   });
 }
 
-function drawAnswer([, number, answer, missed, order], go) {
+/** A button that opens the order of a name as a set-up. */
+function drawOpener(name, open) {
+  const button = element("button", { type: "button", class: "opener", title: `A set-up that makes the calls of ${name} in this order` },
+    "open this order");
+  button.addEventListener("click", () => open(name));
+  return button;
+}
+
+function drawAnswer([, name, answer, missed, order], { go, open }) {
   return element("div", { class: missed ? "line answer missed-answer" : "line answer" },
-    element("span", { class: "dim" }, number), " ", answer,
-    missed ? [" ", element("span", { class: "tag missed" }, "not met"), " by the calls", drawOrder(order, go)] : null);
+    element("span", { class: "dim" }, name), " ", answer,
+    missed ? [" ", element("span", { class: "tag missed" }, "not met"), " by the calls", drawOrder(order, go), " ",
+      drawOpener(name, open)] : null);
 }
 
-function drawStuck([, name, order], go) {
+function drawStuck([, name, order], { go, open }) {
   return element("div", { class: "line stuck" }, element("span", { class: "tag missed" }, name), " after the calls",
-    drawOrder(order, go), "; then no client can go on:");
+    drawOrder(order, go), "; then no client can go on: ", drawOpener(name, open));
 }
 
-/** Draws a text of `explore` into an element; `go` is told the number of a call that is chosen. */
-export function drawOrders(into, text, go) {
+/** Draws a text of `explore` into an element; `go` is told the number of a call that is chosen, and `open` the name of an
+    order that is to be opened as a set-up. */
+export function drawOrders(into, text, told) {
   const drawn = [[CALL, drawCall], [ANSWER, drawAnswer], [STUCK, drawStuck]];
   const rows = text.split("\n").slice(0, -1).map((line) => () => {
     for (const [form, draw] of drawn) {
       const found = form.exec(line);
-      if (found) return draw(found, go);
+      if (found) return draw(found, told);
     }
     return drawLine(line);
   });

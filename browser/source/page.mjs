@@ -87,8 +87,8 @@ class Page {
     return this.run();
   }
 
-  say(notice) {
-    byId("notice").textContent = notice;
+  say(...notice) {
+    byId("notice").replaceChildren(...notice.filter(Boolean));
   }
 
   keep() {
@@ -267,8 +267,30 @@ class Page {
     const { tab, setups = [] } = this.data.topics.find((it) => it.topic === topic) ?? {};
     const found = setups.find((it) => it.name === name);
     if (!found) return;
-    if (tab) this.tab = TABS.find((it) => it.name === tab);
-    this.open(found.text, `${name}.toml`, tab ? { [tab]: found.options } : {});
+    this.openIn(TABS.find((it) => it.name === tab) ?? this.tab, found.text, `${name}.toml`, tab ? { [tab]: found.options } : {});
+  }
+
+  /** Opens the set-up that makes the calls of an order which the tab tells by a name. A button leads back. */
+  async openWitness(order) {
+    const { name, title, tab, options: { values } } = this;
+    const { text } = this.editor;
+    const words = [...this.options.words(tab), "--witness", order, name];
+    const answer = await this.program.run(words, name, new TextEncoder().encode(text));
+    if (answer === STOPPED) return;
+    if (answer.status !== 0) {
+      this.say(decoded(answer.errors) || `The order ${order} is not told as a set-up.`);
+      return;
+    }
+    const back = element("button", { type: "button", class: "link" }, `back to ${name}`);
+    back.addEventListener("click", () => this.openIn(tab, text, name, values));
+    this.openIn(TABS[0], decoded(answer.output), `${title}.${order}.toml`);
+    this.say(`This set-up makes the calls of ${name} in the order ${order}.`, " ", back);
+  }
+
+  /** Opens a set-up in a tab. */
+  openIn(tab, text, name, options = {}) {
+    this.tab = tab;
+    return this.open(text, name, options);
   }
 
   goToCall(number) {

@@ -31,7 +31,7 @@ function showEver(page, panel, text) {
 }
 
 function showOrders(page, panel, text) {
-  drawOrders(panel, text, (number) => page.goToCall(number));
+  drawOrders(panel, text, { go: (number) => page.goToCall(number), open: (name) => page.openWitness(name) });
 }
 
 /** The page of a trace, in a frame of its own, which is told each trace anew and keeps its place. */

@@ -497,8 +497,25 @@ def every_order(test, _):
     test.wanted("in some order" in test.text("ended"), f"status 1 is told as {test.text('ended')}")
     test.browser.value("document.querySelector('#panel-orders .step').click()")
     test.wanted(test.browser.value("document.activeElement.closest('.CodeMirror') !== null"), "an order does not lead to its calls")
+    opens_an_order(test)
     type_option(test, "states", "3")
     test.wanted("limit calls" in test.text("panel-orders"), "a limit is not told")
+
+
+def opens_an_order(test):
+    """An order is opened as the set-up that the native program writes for it, and a button leads back."""
+    browser, command, text = test.browser, test.text("command-line"), test.browser.value("sel4sim.page.editor.text")
+    words = ["explore", "--first", "1", "--witness", browser.value("document.querySelector('.missed-answer .dim').textContent")]
+    status, output, _ = native(test.program, test.folder, words, "cancel_against_send.toml", text.encode())
+    browser.value("document.querySelector('#panel-orders .opener').click()")
+    test.settle(0.6)
+    test.wanted(status == 0 and browser.value("sel4sim.page.editor.text") == output.decode(), "an order is opened as another set-up")
+    test.wanted("cancel_against_send." in test.text("command-line") and "not met" in test.text("panel-report"),
+                f"an order is opened with {test.text('command-line')}: {test.text('ended')}")
+    browser.value("document.querySelector('#notice button').click()")
+    test.settle(0.6)
+    test.wanted((browser.value("sel4sim.page.editor.text"), test.text("command-line")) == (text, command),
+                f"the way back leads to {test.text('command-line')}")
 
 
 def new_tabs(test, stored):
