@@ -1,5 +1,6 @@
 // Who reaches what, who can send to whom, and what each revoke would destroy.
-import { code, dim, element, fold, heading } from "../../page/source/element.mjs";
+import { dim, element, fold, heading } from "../../page/source/element.mjs";
+import { drawNamed } from "./named.mjs";
 import { drawWires } from "./wires.mjs";
 
 const FORMS = {
@@ -13,7 +14,7 @@ const FORMS = {
   ends: /^ {2}ends (.*)$/u,
   change: /^ {2}([-+]) (.*)$/u,
 };
-/** So many revokes, and slots of a thread, are drawn at first. */
+/** So many revokes are drawn at first. */
 const MOST_SHOWN = 100;
 
 /** The lines of a text of `audit`, each with its form. */
@@ -37,30 +38,10 @@ function grouped(lines, outer, inner) {
   return groups;
 }
 
-const cell = (...children) => element("td", {}, ...children);
-
-function drawNamed({ form, found }) {
-  const [word, ...rest] = found;
-  const [slot, capability] = rest.slice(-2);
-  const words = form === "reach" ? word : `${word}, index ${rest[0]}, depth ${rest[1]}`;
-  return element("tr", {}, cell(dim(form)), cell(code(words)), cell(slot), cell(capability));
-}
-
-function drawTable(rows) {
-  const heads = ["", "by word", "slot", "capability"].map((it) => element("th", { scope: "col" }, it));
-  return element("div", { class: "drawing" }, element("table", { class: "named" },
-    element("thead", {}, element("tr", {}, heads)), element("tbody", {}, rows.map(drawNamed))));
-}
-
 /** Draws the first of some things by `draw`, which takes a list of them, and the rest when it is asked for. */
 function drawSome(things, what, draw) {
   const rest = things.slice(MOST_SHOWN);
   return [draw(things.slice(0, MOST_SHOWN)), rest.length > 0 ? fold(rest.length, what, () => draw(rest)) : null];
-}
-
-function drawThread({ found: [thread, state], below }) {
-  return element("section", { class: "thread" }, element("h3", {}, thread, " ", element("small", {}, state)),
-    below.length === 0 ? element("p", {}, dim("names nothing")) : drawSome(below, "slots", drawTable));
 }
 
 /** The channels as a drawing: the threads that send or receive, and the ways between them. */
@@ -114,8 +95,8 @@ export function drawAudit(into, text, choose) {
     heading("Who can send to whom", "by a word; an endpoint, a badge that the receiver is told, and rights"),
     ...[drawChannels(threads, channels)].filter(Boolean),
     element("pre", { class: "told", tabindex: "0", "aria-label": "Channels as text" }, channels.map(({ line }) => line).join("\n") || "nobody"),
-    heading("What each thread can name", "reach: by a word of a call; hold: by an index and a depth from a CNode besides"),
-    ...threads.map(drawThread),
+    heading("What each thread can name", "by a word of a call; in dim letters, by a CNode's word with an index and a depth"),
+    ...drawNamed(threads),
     heading("What a revoke would do", "of each slot with children, whether or not a thread can name it"),
     ...drawRevokes(revokes, choose),
     element("p", {}, dim(lines[0]?.line ?? "")));

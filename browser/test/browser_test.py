@@ -457,7 +457,12 @@ def audits(test, _):
     test.wanted(test.text("command-line") == "sel4sim audit --after 14 engineers_system.toml", test.text("command-line"))
     test.wanted(browser.value("document.querySelectorAll('#panel-audit .wires rect').length") == 4, "other boxes than the threads")
     test.wanted(browser.value("document.querySelectorAll('#panel-audit .wires circle').length") == 3, "other lines than the channels")
-    test.wanted("hold3, index 1, depth 3" in test.text("panel-audit"), "a slot that is held is not told")
+    heads = "[...document.querySelectorAll('#panel-audit thead th')].map((it) => it.firstChild.firstChild?.textContent ?? it.textContent).join(', ')"
+    wanted = "slot, capability, 2048 @loader, 4096 @driver, 6144 @server, 8192 @client_a, 10240 @client_b"
+    test.wanted(browser.value(heads) == wanted, f"the columns are {browser.value(heads)}")
+    row = "[...document.querySelectorAll('#panel-audit tbody tr')].find((it) => it.firstChild.textContent === '33312').textContent"
+    wanted = "33312endpoint 12288 badge 10 rights w---3, index 1, depth 31"
+    test.wanted(browser.value(row) == wanted, f"a slot that one thread reaches and another holds is told as {browser.value(row)}")
     browser.value("[...document.querySelectorAll('.revoke button')].find((it) => it.textContent === 'slot 320').click()")
     test.settle(0.6)
     test.wanted("--after 14 --slot 320" in test.text("command-line"), f"a slot gives {test.text('command-line')}")
