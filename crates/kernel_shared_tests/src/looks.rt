@@ -145,12 +145,20 @@ fn comes_out<N: Naming, S: MakeStore<Wide>, W: MakeWaiters<Wide>, R: Wait>(
     step: Step,
 ) -> bool {
     match step {
-        Step::Calls(call, reply) => {
-            matches!(shared.call(rt, client, call), Ok(answer) if answer == reply)
-        }
-        Step::FindsFull(call) => { matches!(shared.call(rt, client, call), Err(SharedFault::Full)) }
+        Step::Calls(call, reply) => shared.call(rt, client, call).ok() == Some(reply),
+        Step::FindsFull(call) => finds_full(rt, shared, client, call),
         Step::Sees(query, answer) => client.look(query) == Some(answer),
     }
+}
+
+/// Whether a call finds the history full.
+fn finds_full<N: Naming, S: MakeStore<Wide>, W: MakeWaiters<Wide>, R: Wait>(
+    rt: &R,
+    shared: &Shared<N, S, W>,
+    client: &mut Caller<N, S, W>,
+    call: Call,
+) -> bool {
+    matches!(shared.call(rt, client, call), Err(SharedFault::Full))
 }
 
 /// How many steps come out as they should, up to the first that does not.

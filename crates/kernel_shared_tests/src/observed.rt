@@ -14,7 +14,7 @@ use std::alloc::{AllocError, Global};
 use std::sync::Wait;
 use std::sync::atomic::{AtomicBool, Ordering};
 use std::thread;
-use std::thread::Threads;
+use std::thread::{JoinHandle, Threads};
 
 type LinkedKernel = Kernel<Wide, LinkedStore<Wide>, LinkedWaiters<Wide>>;
 
@@ -127,18 +127,27 @@ fn drive_observed<N: Naming + Send + Sync, R: Threads + Wait + Sync>(
     let over = &is_over;
     let calls = lists.as_slice();
     thread::scope(thread::scope_env(), rt, |scope| {
-        let first = scope.spawn(move || observe(one, over)).ok()?;
+        let first = scope.spawn(move || observe(one, over));
         let second = scope.spawn(move || observe(other, over));
         let driven = driven(rt, alloc, shared, clients, calls, &Open);
         over.store(true, Ordering::SeqCst);
-        let first = first.join(rt);
-        let second = second.ok()?.join(rt);
-        let mut driven = driven?;
-        driven.clients.push(second.client).ok()?;
-        driven.clients.push(first.client).ok()?;
+        let (first, second) = (joined(rt, first.ok()), joined(rt, second.ok()));
+        let (Some(mut driven), Some(first), Some(second)) = (driven, first, second) else {
+            return None;
+        };
         let is_whole = driven.stopped == 0 && first.kept && second.kept;
-        is_whole.then_some(driven.clients)
+        let are_back = driven.clients.push(second.client).is_ok()
+            && driven.clients.push(first.client).is_ok();
+        (is_whole && are_back).then_some(driven.clients)
     })
+}
+
+/// An observer at its end, where its thread was started.
+fn joined<N: Naming, R: Threads>(
+    rt: &R,
+    thread: Option<JoinHandle<Observer<N>>>,
+) -> Option<Observer<N>> {
+    Some(thread?.join(rt))
 }
 
 /// Whether a book's calls, made again on a kernel that was just booted, are answered alike and lead to the same state.
