@@ -193,10 +193,10 @@ fn explore<'a>(alloc: Global) -> Result<Command<'a>, AllocError>
     let first = number(
         alloc,
         "first",
-        "Make the first N calls before the clients begin",
+        "Make the first N calls before the clients begin [default: 0]",
     );
     let with_first = command.arg(first)?;
-    let states = number(alloc, "states", "Keep at most N states");
+    let states = number(alloc, "states", "Keep at most N states [default: 100000]");
     let with_states = with_first.arg(states)?;
     let witness = text(
         alloc,

@@ -1,5 +1,5 @@
--- What the program does with the words of its command line, its exit status, and what it says of a fault.
-use Rattle.std.specs.Prelude.{◌≡◌, ℕ, List, [], codes, Option, Some, None, Result, Ok, Err, true, false, if◌then◌else◌, IfErr, OnOk, OnErr}
+-- What the program does with the words of its command line.
+use Rattle.std.specs.Prelude.{◌≡◌, ℕ, List, [], codes, Option, Some, None, Result, Err, true, false, if◌then◌else◌, IfErr, OnOk, OnErr}
 use Rattle.std.specs.Str.{bytes_eq}
 use Rattle.clap.specs.Words.{Text, subcommand_of, takes, fault_of, IsAmong}
 use Rattle.clap.specs.declared.error.kind.ErrorKind.TheVariants.{DisplayHelp}
@@ -8,18 +8,16 @@ use Rattle.command_line.specs.declared.arguments.Job.{Job}
 use Rattle.command_line.specs.declared.arguments.Options.{Options}
 use Rattle.engine_core.specs.Devices.{Took, TookFront}
 use Rattle.engine_core.specs.Runs.{IsRun}
-use Rattle.engine_core.specs.Statuses.{run_status, run_fault_text}
 use Rattle.engine_core.specs.declared.fault.Verdict.{Verdict}
-use Rattle.engine_core.specs.declared.fault.Verdict.TheVariants.{Absent}
 use Rattle.engine_core.specs.declared.fault.RunFault.{RunFault}
 use Rattle.engine_core.specs.declared.fault.RunFault.TheVariants.{Reading, Writing}
 use Rattle.engine_core.specs.declared.sink.Sink.{Ghosts as SinkGhosts}
 use Rattle.engine_core.specs.declared.source.Source.{Ghosts as SourceGhosts}
 use Rattle.program.specs.Jobs.{meaning}
-use Rattle.program.specs.declared.ended.Used.{Used}
-use Rattle.program.specs.declared.ended.Used.TheVariants.{Standard, File, Unopened}
-use Rattle.program.specs.declared.ended.Ended.{Ended}
-use Rattle.program.specs.declared.ended.Ended.TheVariants.{Did, Helped, Refused, Conflict, NoMemory}
+use Rattle.program_messages.specs.declared.ended.Used.{Used}
+use Rattle.program_messages.specs.declared.ended.Used.TheVariants.{Standard, File, Unopened}
+use Rattle.program_messages.specs.declared.ended.Ended.{Ended}
+use Rattle.program_messages.specs.declared.ended.Ended.TheVariants.{Did, Helped, Refused, Conflict, NoMemory}
 
 -- the name of the file that is to be read, where the words name one; a hyphen stands for standard input
 abbrev pub named_input : Option Text → Option Text
@@ -65,27 +63,3 @@ IsEnd is_standard is_file is_fault from_standard from_file to words Refused old 
     (takes command words ≡ false) × HasOtherFault (fault_of command words) × (new ≡ old)
 IsEnd is_standard is_file is_fault from_standard from_file to words (Conflict text) old new = HasConflict words × (new ≡ old)
 IsEnd is_standard is_file is_fault from_standard from_file to words NoMemory old new = new ≡ old
-
--- the exit status
-abbrev pub end_status : {S F E : Type 0} → Ended S F E → ℕ
-end_status (Did done) = run_status done.answer
-end_status (Helped (Ok done)) = 0
-end_status (Helped (Err fault)) = 3
-end_status Refused = 4
-end_status (Conflict text) = 4
-end_status NoMemory = 3
-
--- what is said of a fault of a run, and of options that name what the set-up does not have
-abbrev pub answer_text : Result Verdict RunFault → Option (List ℕ)
-answer_text (Ok Absent) = Some (codes "command line refused")
-answer_text (Ok verdict) = None
-answer_text (Err fault) = Some (run_fault_text fault)
-
--- what is said first on standard error
-abbrev pub end_text : {S F E : Type 0} → Ended S F E → Option (List ℕ)
-end_text (Did done) = answer_text done.answer
-end_text (Helped (Ok done)) = None
-end_text (Helped (Err fault)) = Some (run_fault_text fault)
-end_text Refused = Some (codes "command line refused")
-end_text (Conflict text) = Some (codes "command line refused")
-end_text NoMemory = Some (codes "out of memory")

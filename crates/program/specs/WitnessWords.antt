@@ -1,5 +1,5 @@
 -- What the text of `--witness` names.
-use Rattle.std.specs.Prelude.{◌≡◌, ◌==◌, ℕ, codes, Bool, true, false, List, Option, Some, unwrap_or}
+use Rattle.std.specs.Prelude.{◌≡◌, ◌==◌, ℕ, codes, true, false, List, Option, Some, unwrap_or}
 use Rattle.std.specs.List.{before_first, after_first}
 use Rattle.std.specs.Str.{bytes_eq}
 use Rattle.command_line.specs.CommandLine.{Says}

@@ -4,9 +4,9 @@ ghost use Rattle.std.specs.Prelude.{⊤};
 use crate::front::FrontWriter;
 use crate::inputs::Inputs;
 use crate::lines::run_words;
-use crate::messages::{complain, tell};
 use command_line::LineFault;
 use engine_core::{KeptReader, KeptWriter, ReaderSource, WriterSink};
+use program_messages::{Output, complain, tell};
 use std::env::{self, Env};
 use std::fs::{self, Files};
 use std::io::{self, Eprint, ErrorKind, Input};
@@ -68,7 +68,12 @@ fn run_texts<R: Files + Input + Print + Eprint + AllocGlobal + Threads + Wait + 
     let writer = FrontWriter::new(rt.alloc(), KeptWriter::new(io::writer(rt)));
     let mut sink = WriterSink::new(writer);
     let ended = run_words(rt, rt.alloc(), &HostInputs { rt }, words, &mut sink);
-    tell(rt, words, &ended, sink.writer());
+    let writer = sink.writer();
+    let output = Output {
+        front: writer.front(),
+        failure: writer.writer().failure(),
+    };
+    tell(rt, words, &ended, output);
     ended.status()
 }
 

@@ -1,20 +1,15 @@
 //! What the program does with the words of its command line, with the inputs that they name and with standard output.
 #![tactic(auto)]
 
-mod absent;
-mod ended;
 mod front;
 mod host;
 mod inputs;
 mod jobs;
 mod lines;
-mod messages;
-mod unexpected;
 mod witness;
-mod words;
 
-pub use ended::{Done, Ended, Used};
 pub use host::run;
 pub use inputs::Inputs;
 pub use jobs::run_job;
 pub use lines::run_words;
+pub use program_messages::{Done, Ended, Used};

@@ -3,11 +3,11 @@ ghost use Rattle.std.specs.Prelude.{◌≡◌, false, Some, None, option_map};
 ghost use Rattle.clap.specs.Walk.{texts};
 ghost use Rattle.program.specs.Ends.{IsDone, IsEnd, named_input};
 
-use crate::ended::{Done, Ended, Used};
 use crate::inputs::Inputs;
 use crate::jobs::run_job;
 use command_line::{Line, LineFault, line};
 use engine_core::{RunFault, Sink, write_all};
+use program_messages::{Done, Ended, Used};
 use std::alloc::Global;
 use std::sync::Wait;
 use std::thread::Threads;

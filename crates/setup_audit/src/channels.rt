@@ -1,18 +1,20 @@
 //! Who can send to whom.
-ghost use Rattle.std.specs.Prelude.{◌≡◌, ◌++◌, IfOk, OnOk, flat_map, string_bytes};
+ghost use Rattle.std.specs.Prelude.{◌≡◌, ◌++◌, IfOk, OnOk, filter, flat_map, string_bytes};
 ghost use Rattle.derivation.specs.Forest.{Forest};
 ghost use Rattle.derivation.specs.Entries.{Entry};
 ghost use Rattle.reach_core.specs.FullSlots.{AreFullSlots, AreRising};
-ghost use Rattle.reach_core.specs.Channels as reach;
+ghost use Rattle.reach_core.specs.Channels.{channels_to, is_sender, others};
 ghost use Rattle.setup_values.specs.Names.{names_view};
 ghost use Rattle.setup_audit.specs.Channels as spec;
+ghost use Rattle.setup_audit.specs.Private.ByEndpoint.{AreByEndpoint, sender_lines};
 
+use crate::by_endpoint::{by_endpoint, first_receivers, words_at};
 use crate::names::thread_name;
 use crate::text::SenderText;
 use crate::threads::ThreadSlots;
-use reach_core::{
-    Channel, EndpointWord, FullSlot, channels, endpoint_words, receivers_without_sender,
-};
+use bitflags::Flags;
+use cap_core::Rights;
+use reach_core::{Channel, EndpointWord, FullSlot, endpoint_words, receivers_without_sender};
 use setup_values::Name;
 use std::alloc::{AllocError, Global};
 use std::collections::BTreeSet;
@@ -57,12 +59,48 @@ fn add_channel(out: &mut String, names: &[Name], channel: &Channel) -> Result<()
     }
 }
 
-/// Adds a line for each channel.
-fn add_senders(out: &mut String, names: &[Name], list: &[Channel]) -> Result<(), AllocError>
-    ensures { OnOk result (string_bytes out.new ≡ string_bytes out.old ++ flat_map (spec.channel_line (names_view names.now)) list.now) }
+/// Adds a line for each channel of a sender to receivers of its endpoint. To its own thread there is none, and where there is
+/// no other there is one to nobody.
+fn add_sender(
+    out: &mut String,
+    names: &[Name],
+    sender: EndpointWord,
+    receivers: &[EndpointWord],
+) -> Result<(), AllocError>
+    ensures { OnOk result (string_bytes out.new ≡ string_bytes out.old
+        ++ flat_map (spec.channel_line (names_view names.now)) (channels_to sender (others sender.thread receivers.now))) }
 {
-    for channel in list {
-        add_channel(out, names, channel)?;
+    let mut alone = true;
+    for receiver in receivers {
+        if receiver.thread != sender.thread {
+            alone = false;
+            let receiver = Some(*receiver);
+            add_channel(out, names, &Channel { sender, receiver })?;
+        }
+    }
+    if alone {
+        let receiver = None;
+        add_channel(out, names, &Channel { sender, receiver })?;
+    }
+    Ok(())
+}
+
+/// Adds the channels of each word by which a thread may send. `receivers` are those of all endpoints.
+fn add_senders(
+    out: &mut String,
+    names: &[Name],
+    words: &[EndpointWord],
+    receivers: &[EndpointWord],
+) -> Result<(), AllocError>
+    requires { AreByEndpoint receivers.now }
+    ensures { OnOk result (string_bytes out.new ≡ string_bytes out.old
+        ++ flat_map (sender_lines (names_view names.now) receivers.now) (filter is_sender words.now)) }
+{
+    for word in words {
+        if word.rights.contains(Rights::WRITE) {
+            let own = words_at(receivers, word.endpoint);
+            add_sender(out, names, *word, own)?;
+        }
     }
     Ok(())
 }
@@ -86,7 +124,7 @@ fn add_receivers(out: &mut String, names: &[Name], list: &[EndpointWord]) -> Res
     Ok(())
 }
 
-/// Adds those of each of some endpoints.
+/// Adds those of each of some endpoints. `words` are those of all threads, by rising endpoint.
 fn add_unserved(
     alloc: Global,
     out: &mut String,
@@ -94,11 +132,13 @@ fn add_unserved(
     words: &[EndpointWord],
     endpoints: &BTreeSet<u64>,
 ) -> Result<(), AllocError>
+    requires { AreByEndpoint words.now }
     ensures { OnOk result (string_bytes out.new ≡ string_bytes out.old
         ++ flat_map (spec.unserved_lines (names_view names.now) words.now) endpoints.now.keys) }
 {
     for endpoint in endpoints {
-        let receivers = receivers_without_sender(alloc, words, *endpoint)?;
+        let own = words_at(words, *endpoint);
+        let receivers = receivers_without_sender(alloc, own, *endpoint)?;
         add_receivers(out, names, receivers.as_slice())?;
     }
     Ok(())
@@ -119,7 +159,8 @@ pub fn add_channels(
     ensures { OnOk result (string_bytes out.new ≡ string_bytes out.old
         ++ spec.channel_lines (names_view names.now) words.now endpoints.now.keys) }
 {
-    let list = channels(alloc, words)?;
-    add_senders(out, names, list.as_slice())?;
-    add_unserved(alloc, out, names, words, endpoints)
+    let receivers = first_receivers(alloc, words)?;
+    add_senders(out, names, words, receivers.as_slice())?;
+    let words = by_endpoint(alloc, words)?;
+    add_unserved(alloc, out, names, words.as_slice(), endpoints)
 }

@@ -1,6 +1,7 @@
 //! The audit of a set-up: what each thread can name, who can send to whom, and what each revoke would do.
 #![tactic(auto)]
 
+mod by_endpoint;
 mod channels;
 mod ends;
 mod head;
@@ -12,10 +13,7 @@ mod state;
 mod text;
 mod threads;
 
-pub use channels::channel_words;
 pub use ends::Asked;
 pub use laws::a_revoke_does_this;
-pub use revokes::revoked;
 pub use run::audit;
-pub use state::{audit_of_slot, whole_audit};
-pub use threads::{ThreadSlots, thread_slots};
+pub use threads::ThreadSlots;

@@ -1,5 +1,5 @@
 -- The text is cut at its first dot.
-use Rattle.std.proofs.Common.{◌≡◌, sym, Some, None, arith}
+use Rattle.std.proofs.Common.{sym, Some, None, arith}
 use Rattle.std.proofs.lemmas.Str.Pattern.{split_parts}
 use Rattle.program.proofs.Cuts.{before_first-Lacks, before_first-at, after_first-Lacks, after_first-at}
 use Rattle.program.proofs.witness.around_dot.Goals as goal

@@ -1,5 +1,5 @@
 -- The number is the one that the text says.
-use Rattle.std.proofs.Common.{◌∙◌, ℕ, List, Some, Result, Ok, Err, subst, sym}
+use Rattle.std.proofs.Common.{ℕ, List, Some, Result, Ok, Err, subst, sym}
 use Rattle.std.specs.Result.{result_ok}
 use Rattle.std.specs.Str.Parse.{ParsesUnsigned}
 use Rattle.command_line.specs.CommandLine.{Says}

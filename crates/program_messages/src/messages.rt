@@ -1,11 +1,10 @@
 //! What is said on standard error. Where that fails too, nothing more is said.
 use crate::absent::absence;
 use crate::ended::{Done, Ended, Used};
-use crate::front::FrontWriter;
 use crate::unexpected::unexpected_refusals;
-use crate::words::{is_lone_word, near_command};
+use crate::words::{is_command, may_be_command, near_command};
 use command_line::{Job, Line, refused_line_words};
-use engine_core::{INPUT_LIMIT, KeptReader, KeptWriter, ReaderSource, RunFault, Verdict};
+use engine_core::{INPUT_LIMIT, KeptReader, ReaderSource, RunFault, Verdict};
 use setup_messages::{Formats, refusal_words, unmet_warnings};
 use std::fmt::Display;
 use std::io::{self, Eprint};
@@ -28,6 +27,15 @@ type HostEnded<'a, S, F> = Ended<
     ReaderSource<KeptReader<F>>,
     io::Error,
 >;
+
+/// What is known of standard output after a run.
+#[derive(Clone, Copy)]
+pub struct Output<'a> {
+    /// The beginning of what it took.
+    pub front: &'a [u8],
+    /// Why a write failed, where one did.
+    pub failure: Option<&'a io::Error>,
+}
 
 /// Why a read failed, or why the file could not be opened.
 fn failure_of<S, F>(input: &HostUsed<S, F>) -> Option<&io::Error> {
@@ -102,18 +110,28 @@ fn note_on_files(rt: &impl Eprint, words: &[&str]) {
     }
 }
 
-/// Says that a word which names no file is no command either, and which command looks like it.
-fn note_on_command<R: Eprint + AllocGlobal>(rt: &R, word: &str) {
+/// Says that a word is no command, in these words, and which command looks like it.
+fn note_on_command<R: Eprint + AllocGlobal>(rt: &R, word: &str, is_none: &str) {
     match near_command(rt.alloc(), word) {
         Ok(Some(command)) => complain(
             rt,
-            format_args!("{word} is no command either; did you mean {command}?"),
+            format_args!("{word} {is_none}; did you mean {command}?"),
         ),
         Ok(None) => complain(
             rt,
-            format_args!("{word} is no command either; sel4sim --help names them"),
+            format_args!("{word} {is_none}; sel4sim --help names them"),
         ),
         Err(_) => {}
+    }
+}
+
+/// Says of words that are not taken where the first of them, which was taken for a file's name, is no command.
+fn note_on_first_word<R: Eprint + AllocGlobal>(rt: &R, words: &[&str]) {
+    match words.get(1) {
+        Some(word) if may_be_command(words, *word) && !is_command(*word) => {
+            note_on_command(rt, *word, "is no command");
+        }
+        _ => {}
     }
 }
 
@@ -170,11 +188,11 @@ fn note_on_refusals<R: Eprint + AllocGlobal>(rt: &R, file: Option<&str>, report:
 }
 
 /// Says what there is to say of a line that was done.
-fn tell_of_line<R: Eprint + AllocGlobal, S, F, W>(
+fn tell_of_line<R: Eprint + AllocGlobal, S, F>(
     rt: &R,
     words: &[&str],
     done: &HostDone<'_, S, F>,
-    writer: &FrontWriter<KeptWriter<W>>,
+    output: Output<'_>,
 ) {
     match done.answer {
         Ok(verdict) => {
@@ -182,41 +200,43 @@ fn tell_of_line<R: Eprint + AllocGlobal, S, F, W>(
                 note_on_verdict(rt, done.line, verdict, bytes);
             }
             if matches!(done.line.job, Job::Check) {
-                note_on_refusals(rt, done.line.file, writer.front());
+                note_on_refusals(rt, done.line.file, output.front);
             }
         }
         Err(RunFault::Reading) => {
             let name = match done.line.file {
+                Some("") => "''",
                 Some(name) if name != "-" => name,
                 _ => "standard input",
             };
             explain_reading(rt, name, failure_of(&done.input));
-            if is_lone_word(words, name) {
-                note_on_command(rt, name);
+            if may_be_command(words, name) {
+                note_on_command(rt, name, "is no command either");
             }
         }
-        Err(RunFault::Writing) => explain_writing(rt, writer.writer().failure()),
+        Err(RunFault::Writing) => explain_writing(rt, output.failure),
         Err(RunFault::Memory | RunFault::Thread) => {}
     }
 }
 
 /// Says what there is to say of an end: first the fault, if there is one, and then what helps to understand it; of words
 /// that are not taken, what clap says.
-pub fn tell<R: Eprint + AllocGlobal, S, F, W>(
+pub fn tell<R: Eprint + AllocGlobal, S, F>(
     rt: &R,
     words: &[&str],
     ended: &HostEnded<'_, S, F>,
-    writer: &FrontWriter<KeptWriter<W>>,
+    output: Output<'_>,
 ) {
     if let Some(text) = ended.fault_text() {
         complain(rt, text);
     }
     match ended {
-        Ended::Did(done) => tell_of_line(rt, words, done, writer),
-        Ended::Helped(Err(_)) => explain_writing(rt, writer.writer().failure()),
+        Ended::Did(done) => tell_of_line(rt, words, done, output),
+        Ended::Helped(Err(_)) => explain_writing(rt, output.failure),
         Ended::Refused => {
             if let Some(text) = refused_line_words(rt.alloc(), words) {
                 note_on_words(rt, text.as_str());
+                note_on_first_word(rt, words);
                 note_on_files(rt, words);
             }
         }

@@ -45,7 +45,7 @@ pub enum Ended<'a, S, F, E> {
 }
 
 impl<S, F, E> Ended<'_, S, F, E> {
-    ghost use Rattle.program.specs.Ends.{end_status, end_text};
+    ghost use Rattle.program_messages.specs.Statuses.{end_status, end_text};
 
     /// The exit status: that of the job, 0 after help, 4 after a refusal or a conflict, 3 where a write failed or memory ran out. The
     /// job's is 4 too where the options name what the set-up does not have.

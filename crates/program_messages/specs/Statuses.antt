@@ -1,0 +1,32 @@
+-- The program's exit status, and what it says first on standard error.
+use Rattle.std.specs.Prelude.{ℕ, List, codes, Option, Some, None, Result, Ok, Err}
+use Rattle.engine_core.specs.Statuses.{run_status, run_fault_text}
+use Rattle.engine_core.specs.declared.fault.Verdict.{Verdict}
+use Rattle.engine_core.specs.declared.fault.Verdict.TheVariants.{Absent}
+use Rattle.engine_core.specs.declared.fault.RunFault.{RunFault}
+use Rattle.program_messages.specs.declared.ended.Ended.{Ended}
+use Rattle.program_messages.specs.declared.ended.Ended.TheVariants.{Did, Helped, Refused, Conflict, NoMemory}
+
+-- the exit status
+abbrev pub end_status : {S F E : Type 0} → Ended S F E → ℕ
+end_status (Did done) = run_status done.answer
+end_status (Helped (Ok done)) = 0
+end_status (Helped (Err fault)) = 3
+end_status Refused = 4
+end_status (Conflict text) = 4
+end_status NoMemory = 3
+
+-- what is said of a fault of a run, and of options that name what the set-up does not have
+abbrev pub answer_text : Result Verdict RunFault → Option (List ℕ)
+answer_text (Ok Absent) = Some (codes "command line refused")
+answer_text (Ok verdict) = None
+answer_text (Err fault) = Some (run_fault_text fault)
+
+-- what is said first on standard error
+abbrev pub end_text : {S F E : Type 0} → Ended S F E → Option (List ℕ)
+end_text (Did done) = answer_text done.answer
+end_text (Helped (Ok done)) = None
+end_text (Helped (Err fault)) = Some (run_fault_text fault)
+end_text Refused = Some (codes "command line refused")
+end_text (Conflict text) = Some (codes "command line refused")
+end_text NoMemory = Some (codes "out of memory")
