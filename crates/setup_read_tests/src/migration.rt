@@ -1,5 +1,5 @@
 //! What set-ups of the first format are migrated to.
-use setup_read::migrate;
+use setup_migrate::migrate;
 use std::alloc::Global;
 use std::process::Abort;
 use std::test::Fail;

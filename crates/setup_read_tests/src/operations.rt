@@ -1,7 +1,7 @@
 //! What the operations are read as, by the keys that they have and by the defaults of those that they lack.
 use cap_core::{Message, Rights};
 use kernel_core::{Call, Op};
-use setup_read::read_setup;
+use setup_format::read_setup;
 use std::alloc::Global;
 use std::test::Fail;
 

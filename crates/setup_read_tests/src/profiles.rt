@@ -1,7 +1,7 @@
 //! The profile that a set-up names, and the bounds of what a narrow one may say.
 use cap_core::ProfileName;
 use kernel_core::Op;
-use setup_read::read_setup;
+use setup_format::read_setup;
 use std::alloc::Global;
 use std::process::Abort;
 use std::test::Fail;

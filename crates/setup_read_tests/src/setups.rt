@@ -1,5 +1,5 @@
 //! What whole set-ups are read as.
-use setup_read::{Setup, read_setup, read_table};
+use setup_format::{Setup, read_setup, read_table};
 use std::alloc::Global;
 use std::process::Abort;
 use std::test::Fail;
