@@ -4,27 +4,27 @@ import { isMissed, isRevoke } from "./calls.mjs";
 
 const FAR = 10;
 
-const STEPS = {
-  ArrowRight: (number) => number + 1, j: (number) => number + 1,
-  ArrowLeft: (number) => number - 1, k: (number) => number - 1,
-};
+const ON = ["ArrowRight", "j"];
+const STEPS = { ArrowLeft: (number) => number - 1, k: (number) => number - 1 };
 
 const STEPS_IN_LIST = {
-  ArrowDown: (number) => number + 1, ArrowUp: (number) => number - 1,
+  ArrowUp: (number) => number - 1,
   PageDown: (number) => number + FAR, PageUp: (number) => number - FAR,
   Home: () => 0, End: (_, last) => last,
 };
 
-/** What a key does, or null: `page` has `number`, `last`, `show`, `showNext` and `player`. */
+/** What a key does, or null: `page` has `number`, `last`, `player`, and what the keys call. */
 function actionOf(event, page, { list, main, find, keys }) {
   const { key, target } = event;
   const inList = target === list || target === document.body;
+  if (ON.includes(key) || inList && key === "ArrowDown") return () => page.goOn(page.number + 1);
   const step = STEPS[key] ?? (inList ? STEPS_IN_LIST[key] : undefined);
   if (step) return () => page.show(step(page.number, page.last));
   if (key === " ") return inList || target === main ? () => page.player.toggle() : null;
   const actions = {
     n: () => page.showNext(isMissed), r: () => page.showNext(isRevoke), "/": () => find.focus(),
-    "?": () => keys.showModal(),
+    "?": () => keys.showModal(), f: () => page.toggleForest(), h: () => page.toggleHiding(),
+    Escape: page.isForestAlone ? () => page.toggleForest() : null,
   };
   return actions[key] ?? null;
 }

@@ -25,14 +25,18 @@ export function kindMark(kind) {
   return element("span", { class: `mark ${kind}`, role: "img", "aria-label": word, title: word }, KIND_LETTERS[kind]);
 }
 
-/** The name that the set-up has for a word, behind a space, where the word led to a slot of the root CNode: names of
-    slots are names of its slots, and the same number read in another CNode means another slot. Of several names nothing
-    tells which one was meant. */
-export function nameOfWord(view, word, slot) {
+/** The name that the set-up has for a word, or none, where the word led to a slot of the root CNode: names of slots are
+    names of its slots, and the same number read in another CNode means another slot. Of several names nothing tells
+    which one was meant. */
+export function namesOfWord(view, word, slot) {
   const names = view.trace.names.get(String(word)) ?? [];
   const isInRoot = slot !== null && slot !== undefined && view.before.nodeAround(slot)?.base === 0;
-  return isInRoot && names.length === 1 ? [" ", element("span", { class: "dim name" }, names[0])] : null;
+  return isInRoot && names.length === 1 ? names : [];
 }
+
+/** The name of a word behind a space, where it has one. */
+export const nameOfWord = (view, word, slot) =>
+  namesOfWord(view, word, slot).map((name) => [" ", element("span", { class: "dim name" }, name)]);
 
 /** All names of a thread, behind a space. */
 export function namesOfThread(view, address) {

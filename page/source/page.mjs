@@ -13,6 +13,7 @@ import { listenToFiles, listenToParent } from "./files.mjs";
 import { listenToKeys } from "./keys.mjs";
 import { readTrace } from "./trace.mjs";
 import { redraw } from "./redraw.mjs";
+import { wordsOfSteps } from "./words.mjs";
 
 const byId = (id) => document.getElementById(id);
 const TITLE = "sel4sim run";
@@ -54,7 +55,7 @@ class Page {
     try {
       const [trace, notice] = fitting(readTrace(text));
       if (trace.steps.length === 0) throw new Error(notice);
-      this.trace = trace;
+      this.trace = { ...trace, told: wordsOfSteps(trace) };
       this.views = new Views(trace);
       this.say(notice);
     } catch (error) {
@@ -87,7 +88,54 @@ class Page {
   show(wanted) {
     if (!this.views) return;
     const number = Math.max(0, Math.min(this.last, Math.trunc(wanted) || 0));
-    const view = this.views.of(number);
+    this.draw(number, this.views.of(number));
+  }
+
+  /** Whether a step is asked for whose effect is not shown yet. */
+  get isAsked() {
+    return this.view?.isAsked ?? false;
+  }
+
+  /** Whether a step on shows the call alone first. */
+  get isHiding() {
+    return document.body.hasAttribute("data-hiding");
+  }
+
+  /** Goes on to a step: to the effect of the one that is asked for, or else to another one, first to its call alone
+      where effects are hidden. */
+  goOn(wanted) {
+    if (this.isAsked) this.show(this.number);
+    else if (this.isHiding && wanted > 0 && wanted <= this.last) this.draw(wanted, this.views.asked(wanted));
+    else this.show(wanted);
+  }
+
+  /** Hides the effects of calls until they are asked for, or shows them again. */
+  toggleHiding() {
+    if (!this.view) return;
+    document.body.toggleAttribute("data-hiding");
+    this.show(this.number);
+  }
+
+  /** Whether the forest is shown alone. */
+  get isForestAlone() {
+    return document.body.hasAttribute("data-forest");
+  }
+
+  /** Shows the forest alone, or the whole page again. */
+  toggleForest() {
+    if (!this.view) return;
+    document.body.toggleAttribute("data-forest");
+    this.draw(this.number, this.view);
+  }
+
+  /** Shows the list of calls and the other controls in a narrow window, or folds them away. */
+  toggleMore() {
+    byId("more").setAttribute("aria-expanded", String(document.body.toggleAttribute("data-more")));
+    this.draw(this.number, this.view);
+  }
+
+  /** Draws a view of a step. */
+  draw(number, view) {
     Object.assign(this, { view, number });
     this.put("said", drawSentence(view));
     this.put("changed", drawChanges(view));
@@ -98,7 +146,7 @@ class Page {
     this.drawSpaces();
     this.drawLines();
     this.drawPosition(number);
-    this.calls.show(this.trace, number);
+    this.calls.show(this.trace, number, this.isHiding ? number - Number(view.isAsked) : this.last);
   }
 
   /** The forest keeps its place from step to step, but for what is not in sight of that which changed. */
@@ -122,9 +170,10 @@ class Page {
 
   /** The step as the trace has it, and the state as lines, where these are opened. */
   drawLines() {
-    const { step, state } = this.view;
-    const changes = step.changes.map(({ sign, line }) => `  ${sign} ${line.text}`);
-    byId("step-text").textContent = [step.line, step.with, ...changes].filter(Boolean).join("\n");
+    const { step, state, isAsked } = this.view;
+    const changes = isAsked ? [] : step.changes.map(({ sign, line }) => `  ${sign} ${line.text}`);
+    const line = isAsked ? `${step.number} ${step.thread} ${step.operation}` : step.line;
+    byId("step-text").textContent = [line, step.with, ...changes].filter(Boolean).join("\n");
     byId("state-text").textContent = byId("state-lines").open ? state.texts().join("\n") : "";
   }
 
@@ -134,7 +183,7 @@ class Page {
     byId("range").value = number;
     byId("range").setAttribute("aria-valuetext", number === 0 ? "boot" : `call ${number}, ${step.operation}`);
     for (const id of ["first", "back"]) byId(id).disabled = number === 0;
-    for (const id of ["on", "last"]) byId(id).disabled = number === this.last;
+    for (const id of ["on", "last"]) byId(id).disabled = number === this.last && !this.isAsked;
     try {
       history.replaceState(null, "", `#${number}`);
     } catch {
@@ -145,12 +194,13 @@ class Page {
   /** Shows the next step that a test holds for, if there is one. */
   showNext(holds) {
     const number = nextStep(this.trace.steps, this.number, 1, holds);
-    if (number >= 0) this.show(number);
+    if (number >= 0) this.goOn(number);
   }
 
-  /** Shows the next step with a text in its lines, or says that there is none. */
+  /** Shows the next step with a text in its lines or in what the page writes of it, or says that there is none. */
   find(text, direction) {
-    const number = nextStep(this.trace.steps, this.number, direction, (step) => hasText(step, text));
+    const { steps, told } = this.trace;
+    const number = nextStep(steps, this.number, direction, (step) => hasText(step, told[step.number], text));
     byId("found").textContent = number < 0 ? "not found" : "";
     if (number >= 0) this.show(number);
   }
@@ -172,11 +222,12 @@ function listenToPointer() {
 function listenToControls(page) {
   byId("first").addEventListener("click", () => page.show(0));
   byId("back").addEventListener("click", () => page.show(page.number - 1));
-  byId("on").addEventListener("click", () => page.show(page.number + 1));
+  byId("on").addEventListener("click", () => page.goOn(page.number + 1));
   byId("last").addEventListener("click", () => page.show(page.last));
   byId("range").addEventListener("input", ({ target }) => page.show(Number(target.value)));
   byId("next-missed").addEventListener("click", () => page.showNext(isMissed));
   byId("play").addEventListener("click", () => page.player.toggle());
+  byId("more").addEventListener("click", () => page.toggleMore());
   byId("state-lines").addEventListener("toggle", () => page.drawLines());
   window.addEventListener("hashchange", () => page.show(Number(location.hash.slice(1))));
   // The signs stand on a print, and otherwise beside the keys.

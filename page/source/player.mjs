@@ -2,7 +2,7 @@
 
 const MILLISECONDS = 1500;
 
-/** Plays `page`, which has `number`, `last` and `show`, and tells by a button whether it does. */
+/** Plays `page`, which has `number`, `last`, `isAsked` and `goOn`, and tells by a button whether it does. */
 export class Player {
   constructor(button, page) {
     Object.assign(this, { button, page, timer: null });
@@ -14,7 +14,7 @@ export class Player {
   }
 
   start() {
-    if (this.page.number >= this.page.last) return;
+    if (this.page.number >= this.page.last && !this.page.isAsked) return;
     this.timer = setInterval(() => this.step(), MILLISECONDS);
     this.tell("❚❚", "Stop playing");
   }
@@ -26,8 +26,8 @@ export class Player {
   }
 
   step() {
-    this.page.show(this.page.number + 1);
-    if (this.page.number >= this.page.last) this.stop();
+    this.page.goOn(this.page.number + 1);
+    if (this.page.number >= this.page.last && !this.page.isAsked) this.stop();
   }
 
   tell(sign, name) {

@@ -119,9 +119,9 @@ const SENTENCES = {
   resume: ["resume", threadInvoked],
 };
 
-/** What the thread does, or, where it is refused, what it asks for. */
-function verbOf(verb, reply) {
-  if (reply.startsWith("refused")) return ` asks to ${verb} `;
+/** What the thread does, or, where it is refused or this is not told yet, what it asks for. */
+function verbOf(verb, reply, isAsked) {
+  if (isAsked || reply.startsWith("refused")) return ` asks to ${verb} `;
   return ` ${verb === "copy" ? "copies" : `${verb}s`} `;
 }
 
@@ -130,5 +130,6 @@ export function sentenceOf(view) {
   const { number, operation, thread, words, reply } = view.step;
   if (number === 0) return ["The state after boot, before the first call."];
   const [verb, write] = SENTENCES[operation];
-  return [code(String(number)), " · thread ", threadName(view, thread), verbOf(verb, reply), write(view, words), "."];
+  const does = verbOf(verb, reply, view.isAsked);
+  return [code(String(number)), " · thread ", threadName(view, thread), does, write(view, words), "."];
 }

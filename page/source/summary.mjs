@@ -1,8 +1,9 @@
 // What a call did: its sentence, its reply, and one line for each thing that changed.
 import { code, counted, dim, element } from "./element.mjs";
 import { capabilityName, kindMark, kindWord, messageName, signOf, slotName, threadName } from "./names.mjs";
-import { holdsTheSame } from "./changes.mjs";
+import { holdsTheSame, isSummedUp } from "./changes.mjs";
 import { meaningOf, sentenceOf } from "./sentence.mjs";
+import { sumsOf } from "./sums.mjs";
 
 // Of more changes of one kind than this, the first few are told and the others counted.
 const MOST_CHANGES = 24;
@@ -76,14 +77,22 @@ function alteredItems(view) {
   return many ? [each, item("altered", "altered", `${parents.length} slots are now derived from another slot`)] : each;
 }
 
+/** The slots that were emptied, one by one, or many of them as sums. */
+function emptiedItems(view) {
+  if (isSummedUp(view.changes)) {
+    const { all, rows, draw } = sumsOf(view);
+    return [all, items(rows, draw)];
+  }
+  return items(view.changes.emptied.values(), ({ address, capability }) =>
+    item("emptied", "emptied", slotName(view, address), " ", element("s", {}, capabilityName(view, capability))));
+}
+
 function slotItems(view) {
-  const { emptied, filled, moved } = view.changes;
-  const emptiedItem = ({ address, capability }) =>
-    item("emptied", "emptied", slotName(view, address), " ", element("s", {}, capabilityName(view, capability)));
+  const { filled, moved } = view.changes;
   const filledItem = ({ address, capability }) =>
     item("filled", "filled", slotName(view, address), " ", capabilityName(view, capability));
   if (moved) return [movedItem(view, moved), alteredItems(view)];
-  return [items(emptied.values(), emptiedItem), items(filled.values(), filledItem), alteredItems(view)];
+  return [emptiedItems(view), items(filled.values(), filledItem), alteredItems(view)];
 }
 
 /** An object that ended. With the last capability of an untyped region nothing ends. */
@@ -144,6 +153,7 @@ export function drawSentence(view) {
   const { step, changes } = view;
   const sentence = element("p", { id: "sentence" }, sentenceOf(view));
   if (step.number === 0) return [sentence];
+  if (view.isAsked) return [sentence, element("p", {}, dim("What does it change? The same key, or button, shows it."))];
   const look = step.reply.startsWith("refused") ? "reply refused" : "reply";
   const changed = step.changes.length === 0 ? "Nothing changed." : countedChanges(changes);
   return [sentence, element("p", {}, element("span", { class: look }, step.reply), " ", meaningOf(step.reply), " ",

@@ -4,6 +4,7 @@ import { test } from "node:test";
 import { TraceFault, readTrace } from "../source/trace.mjs";
 import { Run, firstMisfit } from "../source/state.mjs";
 import { namedSlots, slotOfWord } from "../source/lookup.mjs";
+import { wordsOfSteps } from "../source/words.mjs";
 
 const HEAD = "trace 1 narrow memory_bits 12 calls 1\nname server 1024\nname again 1024\n0 boot\n";
 const BOOT = `  + thread 1024 ready
@@ -53,6 +54,17 @@ test("words lead to slots", () => {
   assert.equal(slotOfWord(run.state, machine, 1024, "18446744069414584323"), 48, "the low 32 bits alone count");
   assert.equal(slotOfWord(run.state, machine, 1024, "16"), null, "the guard does not match");
   assert.deepEqual(namedSlots(run.state, machine, steps[1]), { invoked: 48, root: undefined });
+});
+
+test("what is written of a call has the places of its slots, the names of its threads and what its reply means", () => {
+  const call = "1 1024 resume: refused 100\n  with cap 4\n";
+  const other = "  + thread 3072 inactive\n  + slot 64 tcb 3072 original\n";
+  const text = `${HEAD.replace("0 boot", "name other 3072\nname fourth 4\n0 boot")}${BOOT}${other}${call}expected 0 of 0\n`;
+  const [, { gist, texts }] = wordsOfSteps(readTrace(text));
+  assert.equal(gist, "by 4");
+  for (const wanted of ["by 4", "root[4]", "server", "again", "other", "fourth", "no live thread at this address"]) {
+    assert.ok(texts.includes(wanted), `${wanted} is not in ${texts}`);
+  }
 });
 
 test("a trace that was altered does not fit", () => {

@@ -6,8 +6,9 @@ set-ups of its own and the planted faults, which need the program.
 Each page is stepped through forward and back (a long run for its first 60 calls) and by jumps; behind each step what it
 shows is compared with a replay of the trace that is made here. Nothing that a page does may leave it: its policy has to
 hold, and no request may reach the proxy. The same is done for the set-ups in the folder `setups`, and faults that are
-planted in the page have to be found by it. Then: the modules by themselves, the viewer, page.sh, texts and files that
-mean harm, the keys, what a screen reader is told, and the colours.
+planted in the page have to be found by it. With their effects hidden, the first calls are stepped through once more.
+Then: the modules by themselves, the viewer, page.sh, texts and files that mean harm, the keys, the find box, a phone's
+width, the forest alone, what a screen reader is told, and the colours; and faults that these have to find.
 """
 import pathlib
 import random
@@ -17,15 +18,17 @@ import sys
 import tempfile
 
 import chromium
+import modes
 import planted
 import special
 from replay import Replay
-from shown import READ, wrong_page
+from shown import READ, wrong_asked, wrong_page
 
 PAGE = pathlib.Path(__file__).resolve().parent.parent
 SETUPS = PAGE / "test" / "setups"
 SEED = 7
 MOST_STEPS = 60
+MOST_ASKED = 6
 JUMPS = 12
 
 
@@ -102,6 +105,18 @@ class Stepper:
             number = wanted
             self.compare(number, way)
 
+    def asked(self):
+        """Steps through the first calls with their effects hidden, each of which the same key shows."""
+        self.browser.press("Home")
+        self.browser.press("h")
+        for number in range(1, min(self.last, MOST_ASKED) + 1):
+            self.browser.press("ArrowRight")
+            for fault in wrong_asked(self.browser.value(READ), self.replay, number):
+                self.faults.append(f"step {number}, asked: {fault}")
+            self.browser.press("ArrowRight")
+            self.compare(number, "told")
+        self.browser.press("h")
+
     def open(self, path):
         self.browser.open(path.as_uri())
         self.browser.value("document.getElementById('state-lines').open = true")
@@ -112,6 +127,7 @@ class Stepper:
         self.forward()
         self.back()
         self.jumps()
+        self.asked()
         if self.browser.asked != [path.as_uri()] or self.browser.recorder.asked:
             self.faults.append(f"it asked for {self.browser.asked}, {self.browser.recorder.asked}")
         if self.browser.value("document.title") != f"{path.stem} · sel4sim run":
@@ -145,6 +161,7 @@ def faults_of_planted(browser, program, folder):
         stepper = Stepper(browser, trace_of(program, setup))
         stepper.open(make_page(program, setup, folder, page))
         stepper.forward()
+        stepper.asked()
         return stepper.faults
     return found
 
@@ -175,6 +192,8 @@ def main():
         (folder / "harm.trace").write_text(special.RUN)
         right &= step_through(browser, stand_in(folder), [folder / "harm.trace"], folder)
         right &= special.run(browser, PAGE, folder)
+        right &= special.run(browser, PAGE, folder, modes.CHECKS)
+        right &= planted.run_further(browser, PAGE, folder)
     finally:
         browser.close()
         shutil.rmtree(folder)

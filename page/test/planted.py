@@ -1,6 +1,10 @@
-"""Faults that are planted in the page's modules, one at a time: stepping through a set-up has to find each of them."""
+"""Faults that are planted in the page's modules, one at a time: stepping through a set-up, or a further check, has to
+find each of them."""
 import shutil
 import subprocess
+
+import modes
+import special
 
 # What is wrong, the set-up that shows it, the module, the text that stands there once, and what is planted.
 FAULTS = (
@@ -24,6 +28,25 @@ FAULTS = (
      'view.after.slots.some(isInside) ? "; what was made of it stays" : ""', '""'),
     ("the forest is not scrolled", "five_components", "forest.mjs",
      "scroller.scrollTop += isAbove", "scroller.scrollLeft += isAbove"),
+    ("the sum of a subtree leaves its top out", "revoke_of_many", "sums.mjs",
+     "return sum([top, ...below],", "return sum(below,"),
+    ("badges are not told apart in a sum", "revoke_of_many", "sums.mjs",
+     "`${line.capability.object}${badgeOf(line.capability)}`", "line.capability.object"),
+    ("the list of calls has the index without its CNode", "cnode_in_cnode", "words.mjs",
+     "? this.place(address) : word", "? word : word"),
+    ("a call shows its effect at once though effects are hidden", "five_components", "page.mjs",
+     "this.views.asked(wanted)", "this.views.of(wanted)"),
+)
+
+# The same for the further checks.
+FURTHER_FAULTS = (
+    ("the find box looks through the trace's lines alone", modes.found, "calls.mjs", ", ...told.texts]", "]"),
+    ("the bar scrolls away on a phone", modes.phone, "style.css",
+     "header { position: sticky;", "header { position: static;"),
+    ("the forest is not alone", modes.forest_alone, "style.css",
+     "body[data-forest] main > :not(#what, :has(#forest)) { display: none; }", ""),
+    ("replies stand in the list though effects are hidden", modes.hidden_effects, "page.mjs",
+     "this.isHiding ? number - Number(view.isAsked) : this.last", "this.last"),
 )
 
 
@@ -48,4 +71,16 @@ def run(faults_of, page, setups, folder):
             print(f"planted and not found: {fault[0]}")
             missed += 1
     print(f"{len(FAULTS)} planted faults, {missed} not found")
+    return missed == 0
+
+
+def run_further(browser, page, folder):
+    """Whether each planted fault is found by its check."""
+    missed = 0
+    for place, fault in enumerate(FURTHER_FAULTS, len(FAULTS)):
+        special.make_run(plant(page, folder, place, fault), folder)
+        if not list(fault[1](browser, page, folder)):
+            print(f"planted and not found: {fault[0]}")
+            missed += 1
+    print(f"{len(FURTHER_FAULTS)} planted faults for the further checks, {missed} not found")
     return missed == 0

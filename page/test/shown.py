@@ -1,6 +1,8 @@
 """What a page shows, read from its elements, and what is wrong with it beside the state that the replay has."""
 import re
 
+from collections import Counter
+
 from invoked import READ_TABLE, wrong_table
 from replay import KINDS, lost_nodes, slot_of_index, slot_of_word, slots_of
 
@@ -36,6 +38,9 @@ READ = r"""
     seer: Number(document.getElementById("seer")?.value ?? 0),
     wide: document.documentElement.scrollWidth > window.innerWidth,
     current: all(".call.current", (row) => [Number(row.dataset.number), row.textContent]),
+    gists: all(".call.current .title", (title) => title.title),
+    sums: all("#changed li[data-sum]", (row) => [Number(row.dataset.sum), row.textContent]),
+    marked: all(":is(#forest .node, #spaces .cell):is(.filled, .emptied, .altered, .moved)", (it) => it.textContent),
   };
 })()
 """
@@ -176,6 +181,51 @@ def wrong_names(shown, replay, number):
         yield f"the sentence has the names {shown}, and not {wanted}"
 
 
+def place_of(slots, address, profile):
+    """How a slot is called by the CNode that it lies in, and that CNode's address; or None."""
+    width = 5 if profile == "wide" else 4
+    for slot in slots.values():
+        if slot.kind == "cnode" and 0 <= address - slot.base < 1 << slot.number("radix") + width:
+            return f"{slot.base or 'root'}[{(address - slot.base) >> width}]", slot.base
+    return None
+
+
+def wrong_gist(shown, replay, number):
+    """The list has an index as the call has it, but where it led to a slot of another CNode than the root one: there it
+    has the slot's place."""
+    words = replay.words(number) if number else {}
+    if "index" not in words or "count" in words:
+        return
+    before = slots_of(replay.states[number - 1])
+    told = []
+    for word, slot in slots_named(replay, number):
+        place, base = place_of(before, slot, replay.profile) if slot is not None else (word, 0)
+        told.append(place if base else str(word))
+    wanted = " → ".join(reversed(told))
+    if [title.split(" ", 2)[2] for title in shown] != [wanted]:
+        yield f"the list has {shown}, and not {wanted!r}"
+
+
+def sums_of(gone, slots):
+    """How many slots each sum of a step counts that emptied many: by subtree, or of many by object and badge."""
+    def top(address):
+        return top(slots[address].under) if slots[address].under in gone else address
+
+    trees = Counter(map(top, gone))
+    if len(trees) <= 12:
+        return trees.values()
+    badges = Counter((slots[it].object, slots[it].kind == "endpoint" and slots[it].number("badge")) for it in gone)
+    return badges.values()
+
+
+def wrong_sums(shown, replay, number):
+    """Where a step emptied many slots, it is told how many of each subtree or badge."""
+    gone = marks_of(replay.steps[number])[1] if number else {}
+    wanted = sums_of(gone, slots_of(replay.states[number - 1])) if len(gone) > 8 else ()
+    if len(wanted) <= 24 and sorted(count for count, _ in shown) != sorted(wanted):
+        yield f"the sums of what was emptied are {shown}, and not {sorted(wanted)}"
+
+
 def wrong_losses(shown, replay, number):
     """CNodes that no thread leads to are marked, with those in a circle with them, and are told when they are lost; and
     where the last capability of an untyped region goes, it is told whether something that was made of it stays."""
@@ -233,5 +283,23 @@ def wrong_page(shown, replay, number):
     yield from wrong_table(shown["table"], replay, state)
     yield from wrong_names(shown["names"], replay, number)
     yield from wrong_losses(shown, replay, number)
+    yield from wrong_gist(shown["gists"], replay, number)
+    yield from wrong_sums(shown["sums"], replay, number)
     if not shown["inSight"]:
         yield "the forest is not scrolled to what changed"
+
+
+def wrong_asked(shown, replay, number):
+    """What is wrong with what a page shows of a call whose effect it hides: the state is the one before it."""
+    _, thread, operation, reply, _ = CALL.fullmatch(replay.steps[number].lines[0]).groups()
+    if shown["state"] != "\n".join(replay.states[number - 1].values()):
+        yield f"the state is\n{shown['state']}"
+    if shown["marked"] or shown["changed"]:
+        yield f"the effect is told: {shown['marked']} {shown['changed']}"
+    if f"{number} · thread {thread}" not in shown["sentence"] or "asks to" not in shown["sentence"]:
+        yield f"the call is told as {shown['sentence']!r}"
+    told = [shown["sentence"], shown["step"], *(row for _, row in shown["current"])]
+    if any(text.endswith(reply) or f"{reply} " in text or "refused" in text for text in told):
+        yield f"the reply {reply} is told: {told}"
+    if [row[0] for row in shown["current"]] != [number] or operation not in shown["current"][0][1]:
+        yield f"the list marks {shown['current']}"
