@@ -71,7 +71,7 @@ def inputs_that_fail(runs, job, folder, stored):
     runs.run("no such file", [*job, missing], reading(missing, "No such file or directory (os error 2)"))
     runs.run("a path below a file", [*job, below], reading(below, "Not a directory (os error 20)"))
     runs.run("a name of 5,000 bytes", [*job, long], reading(long, "File name too long (os error 36)"))
-    runs.run("an empty name", [*job, ""], reading("", "No such file or directory (os error 2)"))
+    runs.run("an empty name", [*job, ""], reading("''", "No such file or directory (os error 2)"))
     runs.run("a folder", [*job, folder_itself], reading(folder_itself, "Is a directory (os error 21)"))
     runs.run("a folder as standard input", job, reading(INPUT, "Is a directory (os error 21)"), stdin=os.open(folder, os.O_RDONLY))
     # Who may read everything starts the program as somebody else.
