@@ -68,7 +68,8 @@ fn add_state<P: Profile, S: CapStore<P> + Drop, W: Waiters<P> + Drop>(
     }
 }
 
-fn is_of_part(memory: &[PartMemory], part: u64, address: u64) -> bool
+/// Whether an address lies in the memory of a part.
+pub fn is_of_part(memory: &[PartMemory], part: u64, address: u64) -> bool
     ensures { result ≡ spec.is_part part (listed.part_at memory.now address) }
 {
     match part_at(memory, address) {
@@ -133,7 +134,8 @@ fn add_memory(out: &mut String, part: u64, memory: &[PartMemory]) -> Result<(), 
     Ok(())
 }
 
-fn add_use(out: &mut String, part: u64, allowed: &PartUse) -> Result<(), AllocError>
+/// Adds the line of a use, where it is of the part.
+pub fn add_use(out: &mut String, part: u64, allowed: &PartUse) -> Result<(), AllocError>
     ensures { OnOk result (string_bytes out.new ≡ string_bytes out.old ++ spec.use_line part allowed.now) }
 {
     let endpoint = allowed.endpoint;
