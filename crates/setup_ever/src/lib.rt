@@ -3,13 +3,11 @@
 
 mod head;
 mod names;
-mod never;
 mod parts;
 mod sets;
 mod text;
 mod threads;
 mod ways;
 
-pub use never::{Never, never_gets};
 pub use text::ever;
 pub use threads::{are_meant, trusted};

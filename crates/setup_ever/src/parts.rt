@@ -68,8 +68,7 @@ fn add_state<P: Profile, S: CapStore<P> + Drop, W: Waiters<P> + Drop>(
     }
 }
 
-/// Whether an address lies in the memory of a part.
-pub fn is_of_part(memory: &[PartMemory], part: u64, address: u64) -> bool
+fn is_of_part(memory: &[PartMemory], part: u64, address: u64) -> bool
     ensures { result ≡ spec.is_part part (listed.part_at memory.now address) }
 {
     match part_at(memory, address) {
@@ -134,8 +133,7 @@ fn add_memory(out: &mut String, part: u64, memory: &[PartMemory]) -> Result<(), 
     Ok(())
 }
 
-/// Adds the line of a use, where it is of the part.
-pub fn add_use(out: &mut String, part: u64, allowed: &PartUse) -> Result<(), AllocError>
+fn add_use(out: &mut String, part: u64, allowed: &PartUse) -> Result<(), AllocError>
     ensures { OnOk result (string_bytes out.new ≡ string_bytes out.old ++ spec.use_line part allowed.now) }
 {
     let endpoint = allowed.endpoint;

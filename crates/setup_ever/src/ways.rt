@@ -256,8 +256,7 @@ pub fn ways<P: Profile>(
     Ok(ways)
 }
 
-/// Adds the line of a way.
-pub fn add_way(out: &mut String, way: &Way) -> Result<(), AllocError>
+fn add_way(out: &mut String, way: &Way) -> Result<(), AllocError>
     ensures { OnOk result (string_bytes out.new ≡ string_bytes out.old ++ spec.way_line way.now) }
 {
     let from = way.from;
