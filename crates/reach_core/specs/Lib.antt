@@ -7,6 +7,7 @@ pub mod Lists
 pub mod Holding
 pub mod Endpoints
 pub mod Channels
+pub mod ByEndpoint
 pub mod Laws
 pub mod Listed
 pub mod OneCall

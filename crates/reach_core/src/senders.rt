@@ -1,9 +1,10 @@
 //! Who can send to whom.
-ghost use Rattle.std.specs.Prelude.{◌≡◌, ◌++◌, IfOk, OnOk, filter};
+ghost use Rattle.std.specs.Prelude.{◌≡◌, ◌++◌, IfOk, OnOk};
 ghost use Rattle.std.specs.List.{list_any};
-ghost use Rattle.reach_core.specs.Channels.{receivers as receivers_of, is_receiver, others, channels_to, channels as all_channels, sends_to, receivers_without_sender as unserved};
+ghost use Rattle.reach_core.specs.Channels.{others, channels_to, channels as all_channels, sends_to, receivers_without_sender as unserved};
 
 use crate::endpoints::EndpointWord;
+use crate::receivers::{first_receivers, words_at};
 use bitflags::Flags;
 use cap_core::Rights;
 use std::alloc::{AllocError, Global};
@@ -14,34 +15,6 @@ use std::alloc::{AllocError, Global};
 pub struct Channel {
     pub sender: EndpointWord,
     pub receiver: Option<EndpointWord>,
-}
-
-/// The words by which threads may receive from an endpoint.
-fn receiving(
-    alloc: Global,
-    words: &[EndpointWord],
-    endpoint: u64,
-) -> Result<Vec<EndpointWord>, AllocError>
-    ensures { IfOk result (λ list. list.items ≡ filter (is_receiver endpoint) words.now) }
-{
-    words
-        .iter()
-        .filter(|word| word.endpoint == endpoint && word.rights.contains(Rights::READ))
-        .copied()
-        .collect(alloc)
-}
-
-/// The first of these words of each thread.
-fn receivers(
-    alloc: Global,
-    words: &[EndpointWord],
-    endpoint: u64,
-) -> Result<Vec<EndpointWord>, AllocError>
-    ensures { IfOk result (λ list. list.items ≡ receivers_of words.now endpoint) }
-{
-    let mut list = receiving(alloc, words, endpoint)?;
-    list.dedup_by_key(|word| word.thread);
-    Ok(list)
 }
 
 /// Adds the channels of a sender to the receivers of its endpoint.
@@ -81,11 +54,12 @@ fn add_channels(
 pub fn channels(alloc: Global, words: &[EndpointWord]) -> Result<Vec<Channel>, AllocError>
     ensures { IfOk result (λ list. list.items ≡ all_channels words.now) }
 {
+    let receivers = first_receivers(alloc, words)?;
     let mut list = Vec::new(alloc);
     for word in words {
         if word.rights.contains(Rights::WRITE) {
-            let receivers = receivers(alloc, words, word.endpoint)?;
-            add_channels(&mut list, receivers.as_slice(), *word)?;
+            let own = words_at(receivers.as_slice(), word.endpoint);
+            add_channels(&mut list, own, *word)?;
         }
     }
     Ok(list)
@@ -115,8 +89,8 @@ pub fn receivers_without_sender(
 ) -> Result<Vec<EndpointWord>, AllocError>
     ensures { IfOk result (λ list. list.items ≡ unserved words.now endpoint) }
 {
-    let list = receivers(alloc, words, endpoint)?;
-    list.as_slice()
+    let list = first_receivers(alloc, words)?;
+    words_at(list.as_slice(), endpoint)
         .iter()
         .filter(|receiver| !has_sender(words, receiver))
         .copied()

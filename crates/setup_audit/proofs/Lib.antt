@@ -3,6 +3,5 @@ pub mod Counted
 pub mod Ended
 pub mod Joined
 pub mod Named
-pub mod Receivers
 pub mod Shows
 pub mod Told

@@ -6,4 +6,3 @@ pub mod Channels
 pub mod Ends
 pub mod Revokes
 pub mod Audit
-pub mod Private

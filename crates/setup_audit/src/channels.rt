@@ -1,20 +1,19 @@
 //! Who can send to whom.
-ghost use Rattle.std.specs.Prelude.{◌≡◌, ◌++◌, IfOk, OnOk, filter, flat_map, string_bytes};
+ghost use Rattle.std.specs.Prelude.{◌≡◌, ◌++◌, IfOk, OnOk, flat_map, string_bytes};
 ghost use Rattle.derivation.specs.Forest.{Forest};
 ghost use Rattle.derivation.specs.Entries.{Entry};
 ghost use Rattle.reach_core.specs.FullSlots.{AreFullSlots, AreRising};
-ghost use Rattle.reach_core.specs.Channels.{channels_to, is_sender, others};
+ghost use Rattle.reach_core.specs.ByEndpoint.{AreByEndpoint};
 ghost use Rattle.setup_values.specs.Names.{names_view};
 ghost use Rattle.setup_audit.specs.Channels as spec;
-ghost use Rattle.setup_audit.specs.Private.ByEndpoint.{AreByEndpoint, sender_lines};
 
-use crate::by_endpoint::{by_endpoint, first_receivers, words_at};
 use crate::names::thread_name;
 use crate::text::SenderText;
 use crate::threads::ThreadSlots;
-use bitflags::Flags;
-use cap_core::Rights;
-use reach_core::{Channel, EndpointWord, FullSlot, endpoint_words, receivers_without_sender};
+use reach_core::{
+    Channel, EndpointWord, FullSlot, by_endpoint, channels, endpoint_words,
+    receivers_without_sender, words_at,
+};
 use setup_values::Name;
 use std::alloc::{AllocError, Global};
 use std::collections::BTreeSet;
@@ -59,48 +58,12 @@ fn add_channel(out: &mut String, names: &[Name], channel: &Channel) -> Result<()
     }
 }
 
-/// Adds a line for each channel of a sender to receivers of its endpoint. To its own thread there is none, and where there is
-/// no other there is one to nobody.
-fn add_sender(
-    out: &mut String,
-    names: &[Name],
-    sender: EndpointWord,
-    receivers: &[EndpointWord],
-) -> Result<(), AllocError>
-    ensures { OnOk result (string_bytes out.new ≡ string_bytes out.old
-        ++ flat_map (spec.channel_line (names_view names.now)) (channels_to sender (others sender.thread receivers.now))) }
+/// Adds a line for each channel.
+fn add_senders(out: &mut String, names: &[Name], list: &[Channel]) -> Result<(), AllocError>
+    ensures { OnOk result (string_bytes out.new ≡ string_bytes out.old ++ flat_map (spec.channel_line (names_view names.now)) list.now) }
 {
-    let mut alone = true;
-    for receiver in receivers {
-        if receiver.thread != sender.thread {
-            alone = false;
-            let receiver = Some(*receiver);
-            add_channel(out, names, &Channel { sender, receiver })?;
-        }
-    }
-    if alone {
-        let receiver = None;
-        add_channel(out, names, &Channel { sender, receiver })?;
-    }
-    Ok(())
-}
-
-/// Adds the channels of each word by which a thread may send. `receivers` are those of all endpoints.
-fn add_senders(
-    out: &mut String,
-    names: &[Name],
-    words: &[EndpointWord],
-    receivers: &[EndpointWord],
-) -> Result<(), AllocError>
-    requires { AreByEndpoint receivers.now }
-    ensures { OnOk result (string_bytes out.new ≡ string_bytes out.old
-        ++ flat_map (sender_lines (names_view names.now) receivers.now) (filter is_sender words.now)) }
-{
-    for word in words {
-        if word.rights.contains(Rights::WRITE) {
-            let own = words_at(receivers, word.endpoint);
-            add_sender(out, names, *word, own)?;
-        }
+    for channel in list {
+        add_channel(out, names, channel)?;
     }
     Ok(())
 }
@@ -159,8 +122,8 @@ pub fn add_channels(
     ensures { OnOk result (string_bytes out.new ≡ string_bytes out.old
         ++ spec.channel_lines (names_view names.now) words.now endpoints.now.keys) }
 {
-    let receivers = first_receivers(alloc, words)?;
-    add_senders(out, names, words, receivers.as_slice())?;
+    let list = channels(alloc, words)?;
+    add_senders(out, names, list.as_slice())?;
     let words = by_endpoint(alloc, words)?;
     add_unserved(alloc, out, names, words.as_slice(), endpoints)
 }

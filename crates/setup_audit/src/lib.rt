@@ -1,7 +1,6 @@
 //! The audit of a set-up: what each thread can name, who can send to whom, and what each revoke would do.
 #![tactic(auto)]
 
-mod by_endpoint;
 mod channels;
 mod ends;
 mod head;

@@ -1,12 +1,12 @@
 //! Words that lead to endpoints' capabilities, by rising endpoint. So those of one endpoint are found by halving.
 ghost use Rattle.std.specs.Prelude.{◌≡◌, ℕ, IfOk, filter};
 ghost use Rattle.reach_core.specs.Channels.{receivers};
-ghost use Rattle.setup_audit.specs.Private.ByEndpoint.{AreByEndpoint, leads_to, may_receive, same_receiver};
+ghost use Rattle.reach_core.specs.ByEndpoint.{AreByEndpoint, leads_to, may_receive, same_receiver};
 ghost use Rattle.std.specs.List.{dedup};
 
+use crate::endpoints::EndpointWord;
 use bitflags::Flags;
 use cap_core::Rights;
-use reach_core::EndpointWord;
 use std::alloc::{AllocError, Global};
 
 /// The words by rising endpoint. Those of one endpoint stay in their order.

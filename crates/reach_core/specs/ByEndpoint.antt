@@ -1,13 +1,9 @@
--- Words that lead to endpoints' capabilities, by rising endpoint.
-use Rattle.std.specs.Prelude.{ℕ, Bool, ◌==◌, ◌&&◌, List, filter}
-use Rattle.std.specs.List.{flat_map}
+-- Words by rising endpoint.
+use Rattle.std.specs.Prelude.{ℕ, Bool, ◌==◌, ◌&&◌, List}
 use Rattle.std.specs.List.Sorted.{IsNonDecreasingBy}
 use Rattle.cap_core.specs.Rights.{read_bit}
 use Rattle.abstract_kernel.specs.Decode.{has_right}
 use Rattle.reach_core.specs.declared.endpoints.EndpointWord.{EndpointWord}
-use Rattle.reach_core.specs.Channels.{channels_to, others}
-use Rattle.setup_values.specs.Names.{Names}
-use Rattle.setup_audit.specs.Channels.{channel_line}
 
 -- a word that leads to a capability of an endpoint; one by which its thread may receive
 abbrev pub leads_to : ℕ → EndpointWord → Bool
@@ -23,8 +19,3 @@ same_receiver v w = (v.endpoint == w.endpoint) && (v.thread == w.thread)
 -- no endpoint comes behind a greater one
 abbrev pub AreByEndpoint : List EndpointWord → Type 0
 AreByEndpoint words = IsNonDecreasingBy (λ (v : EndpointWord). v.endpoint) words
-
--- the lines of the channels of a sender to those of some receivers that receive from its endpoint
-abbrev pub sender_lines : Names → List EndpointWord → EndpointWord → List ℕ
-sender_lines names receivers u =
-    flat_map (channel_line names) (channels_to u (others u.thread (filter (leads_to u.endpoint) receivers)))

@@ -1,16 +1,18 @@
 -- Words by rising endpoint: those of one endpoint, and the first of each thread.
 use Rattle.std.proofs.Common.{◌≡◌, ◌≢◌, ℕ, zero, suc, ◌+◌, ◌<◌, ◌≤◌, refl, sym, ap, ◌∙◌, arith, Bool, true, false, cond, not, ◌==◌, ◌&&◌, List, [], ◌∷◌, ◌++◌, length, take, drop, get_or, filter, nat_lt, nat_le}
-use Rattle.std.specs.List.{All, AllByRecursion, dedup, dedup_from}
+use Rattle.std.specs.List.{All, AllByRecursion, dedup, dedup_from, list_any}
 use Rattle.std.specs.List.Sorted.{IsPartitionPoint, IsStableByKey}
 use Rattle.std.specs.Cmp.{nat_cmp_is}
 use Rattle.std.specs.Ordering.{nat_cmp, is_lt}
 use Rattle.std.specs.declared.cmp.Ordering.TheVariants.{Less, Equal, Greater}
 use Rattle.std.proofs.lemmas.Bool.{eqb-true, eq-eqb, ne_eqb, ltb-true, ltb-false, leb-true, leb-false}
 use Rattle.std.proofs.lemmas.List.{append-nil, take-append-drop, length-take, length-drop, get_or-take, get_or-drop}
-use Rattle.std.proofs.lemmas.List.Elements.{filter-append}
+use Rattle.std.proofs.lemmas.List.Elements.{filter-append, filter_passes}
+use Rattle.std.proofs.lemmas.List.Filters.{All-dedup}
+use Rattle.std.proofs.lemmas.Map.Views.{any-filter_same}
 use Rattle.reach_core.specs.declared.endpoints.EndpointWord.{EndpointWord}
-use Rattle.reach_core.specs.Channels.{receivers}
-use Rattle.setup_audit.specs.Private.ByEndpoint.{AreByEndpoint, leads_to, may_receive, same_receiver}
+use Rattle.reach_core.specs.Channels.{is_receiver, is_sender, receivers, receivers_without_sender, sends_to}
+use Rattle.reach_core.specs.ByEndpoint.{AreByEndpoint, leads_to, may_receive, same_receiver}
 
 -- ---- a test that all elements pass, or none
 
@@ -240,3 +242,50 @@ between e xs i j in' low high =
     back k d lt =
         let long = length-drop j rest in
         ap (leads_to e) (get_or-drop j rest k d) ∙ more_at e (get_or rest (j + k) d).endpoint (high.1 (j + k) d (omega arith) (omega arith))
+
+-- ---- the receivers without a sender, by the words of their endpoint
+
+again : (a r : Bool) → ((a && r) && a) ≡ (a && r)
+again true true = refl
+again true false = refl
+again false true = refl
+again false false = refl
+
+receivers_of : (e : ℕ) (words : List EndpointWord) → receivers (filter (leads_to e) words) e ≡ receivers words e
+receivers_of e words =
+    ap (dedup (λ (v w : EndpointWord). v.thread == w.thread))
+    (filter_both (is_receiver e) (leads_to e) words
+    ∙ (λ i. filter (λ (v : EndpointWord). (again (v.endpoint == e) (may_receive v)) i) words))
+
+second_true : (a b : Bool) → (a && b) ≡ true → b ≡ true
+second_true true b h = h
+second_true false b h = cc h
+
+first_true : (a b : Bool) → (a && b) ≡ true → a ≡ true
+first_true true b h = refl
+first_true false b h = h
+
+-- who may send to a receiver sends to its endpoint
+sender_leads : (e : ℕ) (v u : EndpointWord) → v.endpoint ≡ e → sends_to v u ≡ true → leads_to e u ≡ true
+sender_leads e v u at h =
+    eq-eqb u.endpoint e
+    (eqb-true u.endpoint v.endpoint (first_true (u.endpoint == v.endpoint) (not (u.thread == v.thread)) (second_true (is_sender u) _ h)) ∙ at)
+
+filter_like : {X : Type 0} (p q : X → Bool) (xs : List X) → All (λ (x : X). p x ≡ q x) xs → filter p xs ≡ filter q xs
+filter_like p q [] h = refl
+filter_like p q (x ∷ xs) h =
+    (λ i. cond ((h 0 x (omega arith)) i) (x ∷ filter p xs) (filter p xs))
+    ∙ ap (λ (l : List _). cond (q x) (x ∷ l) l) (filter_like p q xs (λ k d lt. h (suc k) d (omega arith)))
+
+at_endpoint : (e : ℕ) (words : List EndpointWord) → All (λ (v : EndpointWord). v.endpoint ≡ e) (receivers words e)
+at_endpoint e words =
+    All-dedup (λ (v w : EndpointWord). v.thread == w.thread) (λ (v : EndpointWord). v.endpoint ≡ e) (filter (is_receiver e) words)
+    (λ k d lt. let v = get_or (filter (is_receiver e) words) k d in
+    eqb-true v.endpoint e (first_true (v.endpoint == e) (may_receive v) (filter_passes (is_receiver e) words k d lt)))
+
+pub unserved_of : (e : ℕ) (words : List EndpointWord) → receivers_without_sender (filter (leads_to e) words) e ≡ receivers_without_sender words e
+unserved_of e words =
+    ap (filter (λ (v : EndpointWord). not (list_any (sends_to v) (filter (leads_to e) words)))) (receivers_of e words)
+    ∙ filter_like (λ (v : EndpointWord). not (list_any (sends_to v) (filter (leads_to e) words))) (λ (v : EndpointWord). not (list_any (sends_to v) words)) (receivers words e)
+    (λ k d lt. let v = get_or (receivers words e) k d in
+    ap not (any-filter_same (sends_to v) (leads_to e) true (λ u h. sender_leads e v u (at_endpoint e words k d lt) h) words))

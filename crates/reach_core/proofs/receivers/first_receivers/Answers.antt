@@ -1,5 +1,5 @@
-use Rattle.setup_audit.proofs.Receivers.{first_by_endpoint, receivers_at}
-use Rattle.setup_audit.proofs.by_endpoint.first_receivers.Goals as goal
+use Rattle.reach_core.proofs.ByEndpoint.{first_by_endpoint, receivers_at}
+use Rattle.reach_core.proofs.receivers.first_receivers.Goals as goal
 
 pub returns-clause-order : goal.returns-clause-order
 returns-clause-order c = rw c.keep_first.ensures (first_by_endpoint _ c.in_ok-list.ensures.order)

@@ -1,8 +1,8 @@
 use Rattle.std.proofs.Common.{rules, ◌≡◌}
 use Rattle.std.proofs.lemmas.List.Sorted.{IsNonDecreasingBy-from_sort_by_key, answers_always}
 use Rattle.reach_core.specs.declared.endpoints.EndpointWord.{EndpointWord}
-use Rattle.setup_audit.proofs.Receivers.{same_at}
-use Rattle.setup_audit.proofs.by_endpoint.by_endpoint.Goals as goal
+use Rattle.reach_core.proofs.ByEndpoint.{same_at}
+use Rattle.reach_core.proofs.receivers.by_endpoint.Goals as goal
 
 pub returns-clause-order : goal.returns-clause-order
 returns-clause-order c =

@@ -2,8 +2,8 @@ use Rattle.std.proofs.Common.{rules, arith, ◌≡◌, ◌-◌, length, take, dr
 use Rattle.std.proofs.lemmas.List.{take_all, length-drop}
 use Rattle.std.proofs.lemmas.List.Sorted.{IsNonDecreasingBy-drop, IsNonDecreasingBy-take, IsPartitionedBy-leb, IsPartitionedBy-ltb, IsPartitionPoint-from_clause}
 use Rattle.reach_core.specs.declared.endpoints.EndpointWord.{EndpointWord}
-use Rattle.setup_audit.proofs.Receivers.{between}
-use Rattle.setup_audit.proofs.by_endpoint.words_at.Goals as goal
+use Rattle.reach_core.proofs.ByEndpoint.{between}
+use Rattle.reach_core.proofs.receivers.words_at.Goals as goal
 
 pub returns : goal.returns
 returns c =

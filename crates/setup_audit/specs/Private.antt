@@ -1,2 +1,0 @@
--- This serves the proofs of private functions, no public contract cites it.
-pub mod ByEndpoint
