@@ -23,7 +23,8 @@ BYTES = (0, 10, 34, 91, 123, 255)
 INPUT_LIMIT = 67_108_864
 REFUSAL = re.compile(rb"set-up refused (20[0-5]) at (text|(top|untyped \d+|call \d+) key [A-Za-z0-9_?-]+|layout [a-z]+|untyped \d+ [a-z]+)\n")
 TOO_LONG = re.compile(rb"sel4sim: reading failed\nsel4sim: .*: 67108864 bytes or more; a set-up has to be shorter\n")
-WORDS = re.compile(rb"(?:sel4sim: .*\n)*")
+# each of these lines may have four behind it that show a part of the text
+WORDS = re.compile(rb"(?:sel4sim: .*\n(?:(?: .*\n){4})?)*")
 UNEXPECTED = re.compile(rb"^(\d+) \d+ \w+: refused [0-9/]+$", re.M)
 MOST_NAMED = 12
 LAST_LINE = re.compile(rb"(?:.*\n)*expected (\d+) of (\d+)\n")

@@ -3,8 +3,10 @@
 
 The first line after a fault of the run or a refused command line is fixed; the others help to understand it.
 """
+import re
 import subprocess
 import sys
+import unicodedata
 
 SIZES = "memory_bits = 16\nroot_radix = 4\nthreads = 2\nendpoints = 1\n"
 FIRST = "format = 1\n" + SIZES
@@ -21,6 +23,9 @@ WORD = ("a number from 0 on, a text of 0x and 1 to 16 hexadecimal digits, or in 
 LABEL = ("a number from 0 on, or a text of 0x and 1 to 16 hexadecimal digits, below 2^52, or in a narrow set-up below "
          "2^20")
 FORMAT_1 = "1, since only a set-up of format 1 is migrated"
+# the most characters of a line that are shown, and how many of a longer one before the place
+MAX_SHOWN = 100
+SHOWN_BEFORE = 40
 KEYS = "format, profile, memory_bits, root_radix, threads, endpoints, clients, limit, untyped, call"
 
 
@@ -201,13 +206,77 @@ STREAMS = [
 ]
 
 
+# set-ups in which the table of a fault is written in one line, is one of several, or stands in another order, with the place of
+# each fault: its line, its column and how many characters are underlined
+PLACES = [
+    (FIRST + 'call = [{ thread = 2048, op = "sned", cap = 4 }]\n', [(6, 26, 2)]),
+    (FIRST + 'call = [\n    { thread = 2048, op = "recv", cap = 4 }, # sned\n    { thread = 2048, "op" = "sned", cap = 4 },\n]\n',
+     [(8, 22, 4)]),
+    (FIRST + 'call = [{ thread = 2048, op = "recv", cap = 4 }, { thread = 2048, op = "recv" }]\n', [(6, 50, 1)]),
+    (FIRST + '[[call]] # a "quoted" [comment]\nthread = 2048\nop = \'recv\'\ncap = 4\n\n[[call]]\nop = "recv"\ncap = 4\n', [(11, 1, 2)]),
+    (FIRST + '[[call]]\r\nthread = 2048\r\n\tcapp = 4 # \u00e9\u00e9\r\nop = "recv"\r\ncap = 4\r\n', [(8, 2, 4)]),
+    (FIRST + '[[call]]\nthread = 2048\nop = "send"\ncap = 4\nwords = [1,\n  2, "x"]\n', [(10, 1, 5)]),
+    (SECOND.replace("names = {", "names = { a_very_long_name = 1, another_very_long_name_that_fills_the_line = 2, B = 3,"), [(6, 1, 5)]),
+    ("format = 1\nthreads =\n", [(2, 10, 1)]),
+    ("format = 1\n\u00e9\u00e9 = 1\n", [(2, 1, 1)]),
+    # a region and three calls at fault, of which one has two unknown keys and one other
+    (FIRST.replace("root_radix = 4", "root_radix = 40") + "untyped = [{ base = 3, bits = 12, size = 1 }]\n"
+     + CALL + 'op = "recv"\n' + CALL + 'op = "send"\nlable = 1\nword = 2\nlabel = -1\n' + CALL.replace("cap = 4\n", 'op = "recv"\n'),
+     [(3, 1, 10), (6, 35, 4), (15, 1, 5), (16, 1, 4), (17, 1, 5), (18, 1, 2)]),
+    # an untyped region that overlaps an earlier one
+    (FIRST + untyped(16384, 12) + untyped(16384, 4), [(10, 1, 4)]),
+    # a line of more characters than are shown
+    (FIRST + "call = [" + '{ thread = 2048, op = "recv", cap = 4 }, ' * 9 + '{ thread = 2048, op = "sned", cap = 4 }]\n', [(6, 395, 2)]),
+    # more calls at fault than are told
+    (FIRST + ('[[call]]\nop = "recv"\ncap = 4\n') * 30, [(6 + 3 * n, 1, 2) for n in range(20)]),
+]
+
 def said(program, words, text, output=subprocess.PIPE):
     done = subprocess.run([program, *words], input=text.encode(), stdout=output, stderr=subprocess.PIPE, timeout=60)
     return done.returncode, done.stderr.decode()
 
 
 def fits(lines, wanted):
+    """Whether these are the lines that are wanted, but for those that show a part of the text."""
+    lines = [line for line in lines if not line.startswith(" ")]
     return len(lines) == len(wanted) and all(w is None or line == f"sel4sim: {w}" for line, w in zip(lines, wanted))
+
+
+def places_shown(text, lines):
+    """The places of the parts of a text that are shown; none where the lines that show one are not of its form."""
+    found = []
+    blocks = [line for line in lines if line.startswith(" ")]
+    for head, bar, shown, marks in zip(*[iter(blocks)] * 4):
+        told = re.fullmatch(r" +--> standard input:(\d+):(\d+)", head)
+        mark = re.fullmatch(r"( +\| )( *)(\^+)", marks)
+        if not told or not mark or bar != mark[1].rstrip():
+            return None
+        line, column = int(told[1]), int(told[2])
+        wanted = "".join(" " if unicodedata.category(c) == "Cc" else c for c in text.split("\n")[line - 1].removesuffix("\r"))
+        skipped = max(0, column - 1 - SHOWN_BEFORE) if len(wanted) > MAX_SHOWN else 0
+        seen = f" {line} | {wanted[skipped : skipped + MAX_SHOWN]}"
+        if shown != seen or len(mark[2]) != column - 1 - skipped or len(mark[1]) != len(f" {line} | "):
+            return None
+        found.append((line, column, len(mark[3])))
+    return found if len(blocks) % 4 == 0 else None
+
+
+def wrong_places(program):
+    """Where the faults of a set-up are shown. Each one of the set-ups above that is refused has a part of its text shown, where the
+    fault has a key there."""
+    for setup, wanted in PLACES:
+        status, error = said(program, ["check"], setup)
+        if status != 2 or places_shown(setup, error.splitlines()) != wanted:
+            yield f"{setup}status {status}, wanted {wanted}, said\n{error}"
+    for setup, status, wanted in SETUPS:
+        shown = places_shown(setup, said(program, ["check"], setup)[1].splitlines())
+        is_missing = any("the key is missing" in (words or "") and words.startswith("top") for words in wanted)
+        if shown is None or status == 2 and len(shown) != (0 if is_missing else 1) or status != 2 and shown:
+            yield f"{setup}shown {shown}"
+            continue
+        key = re.match(r"(?:top|untyped \d+|call \d+)(?:, key (\w+)|: there is no key \"(\w+)\")", wanted[0] or "") if shown else None
+        if key and (written := setup.split("\n")[shown[0][0] - 1][:shown[0][2]]) not in (key[1] or key[2], "[["):
+            yield f"{setup}shown {written}"
 
 
 def wrong_setups(program):
@@ -247,11 +316,12 @@ def wrong_streams(program):
 
 def main():
     program = sys.argv[1]
-    wrong = [*wrong_setups(program), *wrong_expectations(program), *wrong_lines(program), *wrong_streams(program)]
+    wrong = [*wrong_setups(program), *wrong_expectations(program), *wrong_places(program),
+             *wrong_lines(program), *wrong_streams(program)]
     for text in wrong:
         print(text)
     expectations = len(BEGINNINGS) + len(NO_BEGINNINGS) + len(REFUSALS) + len(NO_REFUSALS)
-    print(f"{len(SETUPS) + expectations + len(LINES) + len(STREAMS)} messages, {len(wrong)} wrong")
+    print(f"{len(SETUPS) + expectations + len(PLACES) + len(LINES) + len(STREAMS)} messages, {len(wrong)} wrong")
     return 1 if wrong else 0
 
 

@@ -12,7 +12,7 @@ export class Editor {
       // Tab leaves the editor, as it leaves every other part of the page.
       extraKeys: { Tab: false, "Shift-Tab": false, Esc: () => this.leave() },
     });
-    this.faulty = null;
+    this.faulty = [];
     this.mirror.on("changes", () => {
       this.clear();
       changed();
@@ -35,8 +35,8 @@ export class Editor {
   /** Takes all marks away. */
   clear() {
     this.mirror.clearGutter(MARGIN);
-    if (this.faulty) this.mirror.removeLineClass(this.faulty, "background", "faulty");
-    this.faulty = null;
+    this.faulty.forEach((line) => this.mirror.removeLineClass(line, "background", "faulty"));
+    this.faulty = [];
   }
 
   /** Puts marks into the margin. */
@@ -51,10 +51,10 @@ export class Editor {
     this.mirror.setGutterMarker(line, MARGIN, made);
   }
 
-  /** Marks a line as the one at fault. */
+  /** Marks a line as one at fault. */
   fault(line, words) {
     const at = Math.min(line, this.lines - 1);
-    this.faulty = this.mirror.addLineClass(at, "background", "faulty");
+    this.faulty.push(this.mirror.addLineClass(at, "background", "faulty"));
     this.mark({ line: at, look: "missed", shown: "✗", words });
   }
 

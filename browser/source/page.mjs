@@ -7,7 +7,7 @@ import { callsOf } from "./report.mjs";
 import { element } from "../../page/source/element.mjs";
 import { fragmentOf, readFragment } from "./share.mjs";
 import { keepState, keptState } from "./kept.mjs";
-import { lineOfFault, placesOf } from "./places.mjs";
+import { lineOfFault, placesOf, wordsTold } from "./places.mjs";
 import { wordsOf } from "./answer.mjs";
 import { listenToFiles } from "../../page/source/files.mjs";
 import { reasonsByCall } from "./why.mjs";
@@ -179,7 +179,9 @@ class Page {
     const report = decoded(output);
     const line = lineOfFault(text, report, decoded(errors));
     if (line >= 0) {
-      this.editor.fault(line, decoded(errors).replace(/^sel4sim: /gmu, "").trim() || report.trim());
+      const [first, ...others] = wordsTold(decoded(errors));
+      this.editor.fault(line, first?.words ?? report.trim());
+      others.filter((told) => told.line >= 0).forEach((told) => this.editor.fault(told.line, told.words));
       return;
     }
     const marked = callsOf(report).filter(({ outcome }, at) => at < CALLS_MARKED || outcome.startsWith("not met"));

@@ -82,7 +82,12 @@ const TOLD = /value of (\S+) is|key "([^"]+)"/;
 /** The key that gives room to what does not fit. */
 const ROOM = { slots: "root_radix", outside: "memory_bits" };
 
-/** The line at which a refused set-up has its fault, by what the program wrote, or -1 where nothing was refused. */
+/** What standard error says, line by line, each with the line of the set-up that it shows: from 0 on, and -1 for none. */
+export function wordsTold(errors) {
+  return [...errors.matchAll(/^sel4sim: (.*)(?:\n +--> .*:(\d+):\d+$)?/gmu)].map(([, words, line]) => ({ words, line: Number(line ?? 0) - 1 }));
+}
+
+/** The line at which a refused set-up has its first fault, by what the program wrote, or -1 where nothing was refused. */
 export function lineOfFault(text, output, errors) {
   const fault = FAULT.exec(output);
   if (!fault) return -1;

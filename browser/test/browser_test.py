@@ -338,7 +338,7 @@ MARKS = """(() => {
   const { mirror, faulty } = sel4sim.page.editor;
   let marks = 0;
   mirror.eachLine((line) => { if (line.gutterMarkers?.margin) marks += 1; });
-  return [marks, faulty ? faulty.text : null];
+  return [marks, faulty[0]?.text ?? null];
 })()"""
 
 
@@ -346,7 +346,7 @@ def marks(test, setups):
     """In each worked set-up each call has a mark in the margin; in one that is refused the line at fault has it."""
     for path in sorted(setups.glob("*/*.toml")):
         topic, name = path.parent.name, path.stem
-        report = native(test.program, test.folder, ["check"], path.name, path.read_bytes())[1].decode()
+        _, report, errors = (it if isinstance(it, int) else it.decode() for it in native(test.program, test.folder, ["check"], path.name, path.read_bytes()))
         if not test.browser.value(f"sel4sim.page.data.topics.some(({{ topic, setups }}) => topic === '{topic}'"
                                   f" && setups.some((it) => it.name === '{name}'))"):
             test.wanted(name == "byte_that_is_no_utf8", f"the menu lacks {topic}/{name}")
@@ -356,7 +356,8 @@ def marks(test, setups):
         count, line = test.browser.value(MARKS)
         calls = len(re.findall(r"(?m)^\d+ \d+ \w+: ", report))
         fault = re.match(r"set-up refused \d+ at (?:.* key (\S+)|.*)", report)
-        test.wanted(count == (1 if fault else calls), f"{topic}/{name}: {count} marks, and not {calls}")
+        wanted = max(1, len(set(re.findall(r"(?m)^ +--> .*:(\d+):\d+$", errors)))) if fault else calls
+        test.wanted(count == wanted, f"{topic}/{name}: {count} marks, and not {wanted}")
         test.wanted((line is not None) == bool(fault), f"{topic}/{name}: the line {line!r} is marked")
         if fault and fault[1] and re.search(rf"(?m)^\s*{re.escape(fault[1])}\s*=", path.read_text()):
             test.wanted(line.startswith(fault[1]), f"{topic}/{name}: the line {line!r} is marked, and not {fault[1]}")

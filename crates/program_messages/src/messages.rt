@@ -79,10 +79,15 @@ fn explain_writing(rt: &impl Eprint, failure: Option<&io::Error>) {
     }
 }
 
-/// Says something that helps to understand an answer, each line of a text in a line of its own.
+/// Says something that helps to understand an answer, each line of a text in a line of its own. Lines that show a part of
+/// the set-up's text begin with a space, and stand as they are.
 fn note(rt: &impl Eprint, text: &str) {
     for line in text.lines() {
-        complain(rt, line);
+        if line.starts_with(' ') {
+            let _ = eprintln!(rt; "{line}");
+        } else {
+            complain(rt, line);
+        }
     }
 }
 
@@ -135,6 +140,15 @@ fn note_on_first_word<R: Eprint + AllocGlobal>(rt: &R, words: &[&str]) {
     }
 }
 
+/// What an input is called: the file's name, or standard input.
+fn name_of(file: Option<&str>) -> &str {
+    match file {
+        Some("") => "''",
+        Some(name) if name != "-" => name,
+        _ => "standard input",
+    }
+}
+
 /// By which formats a job reads a set-up.
 fn formats_of(job: Job) -> Formats {
     match job {
@@ -160,7 +174,8 @@ fn note_on_verdict<R: Eprint + AllocGlobal>(
             }
         }
         (_, Verdict::Refused) => {
-            if let Ok(words) = refusal_words(rt.alloc(), bytes, formats_of(line.job)) {
+            let (formats, name) = (formats_of(line.job), name_of(line.file));
+            if let Ok(words) = refusal_words(rt.alloc(), bytes, formats, name) {
                 note(rt, words.as_str());
             }
         }
@@ -204,11 +219,7 @@ fn tell_of_line<R: Eprint + AllocGlobal, S, F>(
             }
         }
         Err(RunFault::Reading) => {
-            let name = match done.line.file {
-                Some("") => "''",
-                Some(name) if name != "-" => name,
-                _ => "standard input",
-            };
+            let name = name_of(done.line.file);
             explain_reading(rt, name, failure_of(&done.input));
             if may_be_command(words, name) {
                 note_on_command(rt, name, "is no command either");

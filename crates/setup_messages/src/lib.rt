@@ -5,6 +5,7 @@
 mod accepted;
 mod document;
 mod expectations;
+mod mending;
 mod message;
 mod near;
 mod refused;

@@ -1,19 +1,28 @@
 //! Why a set-up is refused, in words.
 use crate::accepted::Accepted;
 use crate::document::{Document, Formats};
+use crate::mending::{Mended, mend};
 use crate::message::{Listed, Quoted, Spot};
 use crate::near::Nearest;
 use crate::regions::layout_words;
 use crate::values::Rejected;
+use boot_plan::PlanDefect;
 use cap_core::Wide;
 use setup_format::limits::{FIRST_FORMAT, NEWEST_FORMAT};
 use setup_format::{
     Key, Place, SetupFault, Wrong, read_document, read_first_format, read_table, top_keys,
     untyped_keys,
 };
+use setup_positions::NamedText;
 use setup_values::kinds::{Kind, OpKind};
 use std::alloc::{AllocError, Global};
 use toml::{Table, Value};
+
+/// The most faults of a set-up that are told.
+const MAX_FAULTS: usize = 20;
+
+/// What is said where more are not.
+const NO_MORE: &str = "more faults are not looked for";
 
 /// The keys that a table has.
 fn keys_at(table: &Table, place: Place) -> &'static [&'static str] {
@@ -70,51 +79,143 @@ fn key_words(
     }
 }
 
-/// The words on a document.
-fn document_words(document: Document<'_>) -> Result<String, AllocError> {
-    let fault = match document.formats {
+/// A key as text.
+pub fn text_of(key: &Key) -> &str {
+    match key {
+        Key::Known(key) => *key,
+        Key::Found(key) => key.as_str(),
+    }
+}
+
+/// The words on a fault of a document.
+fn fault_words(document: Document<'_>, fault: &SetupFault) -> Result<String, AllocError> {
+    match fault {
+        SetupFault::At { wrong, place, key } => key_words(document, *wrong, *place, text_of(key)),
+        SetupFault::Layout(defect) => layout_words(document, *defect),
+        SetupFault::Memory => Err(AllocError),
+        // No fault of a document is one of its text.
+        SetupFault::Text => Ok(String::new(document.alloc)),
+    }
+}
+
+/// The table and the key at which the layout of a set-up fails.
+fn spot_of_layout(defect: PlanDefect) -> setup_positions::Spot<'static> {
+    let (place, key) = match defect {
+        PlanDefect::Outside => (Place::Top, "memory_bits"),
+        PlanDefect::Slots => (Place::Top, "root_radix"),
+        PlanDefect::Unaligned(place)
+        | PlanDefect::UntypedOutside(place)
+        | PlanDefect::Overlap(place) => (Place::Untyped(place.saturating_add(1)), "base"),
+    };
+    setup_positions::Spot { place, key }
+}
+
+/// The table and the key at which a fault of a document stands.
+fn spot_of(fault: &SetupFault) -> Option<setup_positions::Spot<'_>> {
+    match fault {
+        SetupFault::At { place, key, .. } => {
+            let (place, key) = (*place, text_of(key));
+            Some(setup_positions::Spot { place, key })
+        }
+        SetupFault::Layout(defect) => Some(spot_of_layout(*defect)),
+        SetupFault::Text | SetupFault::Memory => None,
+    }
+}
+
+/// Adds the words on a fault of a document, and the line of the text at which it stands, where that is found.
+fn add_fault(
+    words: &mut String,
+    document: Document<'_>,
+    source: NamedText<'_>,
+    fault: &SetupFault,
+) -> Result<(), AllocError> {
+    words.push_str(fault_words(document, fault)?.as_str())?;
+    words.push('\n')?;
+    let spot = spot_of(fault);
+    if let Some(excerpt) = spot.and_then(|spot| source.excerpt_at(document.alloc, spot)) {
+        let lines = format!(in document.alloc; "{excerpt}\n")?;
+        words.push_str(lines.as_str())?;
+    }
+    Ok(())
+}
+
+/// The first fault of a document that is read by these formats.
+fn first_fault(document: Document<'_>) -> Option<SetupFault> {
+    match document.formats {
         Formats::All => read_table(document.alloc, document.table).err(),
         Formats::First => read_first_format(document.alloc, document.table).err(),
-    };
-    match fault {
-        Some(SetupFault::At { wrong, place, key }) => match &key {
-            Key::Known(key) => key_words(document, wrong, place, key),
-            Key::Found(key) => key_words(document, wrong, place, key.as_str()),
-        },
-        Some(SetupFault::Layout(defect)) => layout_words(document, defect),
-        Some(SetupFault::Memory) => Err(AllocError),
-        // No fault of a document is one of its text.
-        Some(SetupFault::Text) | None => Ok(String::new(document.alloc)),
     }
+}
+
+/// The words on the faults of a document, the first of each call and region.
+fn document_words(
+    alloc: Global,
+    table: Table,
+    formats: Formats,
+    source: NamedText<'_>,
+) -> Result<String, AllocError> {
+    let (mut table, mut words) = (table, String::new(alloc));
+    let mut is_size_mended = false;
+    for _told in 0..MAX_FAULTS {
+        let document = Document {
+            alloc,
+            table: &table,
+            formats,
+        };
+        let Some(fault) = first_fault(document) else {
+            return Ok(words);
+        };
+        if !(is_size_mended && matches!(fault, SetupFault::Layout(_))) {
+            add_fault(&mut words, document, source, &fault)?;
+        }
+        match mend(alloc, &mut table, &fault)? {
+            Mended::Nothing => return Ok(words),
+            Mended::Fault => {}
+            Mended::Size => is_size_mended = true,
+        }
+    }
+    words.push_str(NO_MORE)?;
+    Ok(words)
 }
 
 /// The words on bytes that are no TOML document.
-fn text_words(alloc: Global, bytes: &[u8]) -> Result<String, AllocError> {
+fn text_words(alloc: Global, bytes: &[u8], name: &str) -> Result<String, AllocError> {
     let Ok(text) = str::from_utf8(bytes) else {
         return String::from_str(alloc, "the text is not UTF-8");
     };
-    match toml::table_from_str(alloc, text) {
-        Ok(_) => Ok(String::new(alloc)),
-        Err(error) => format!(in alloc; "{error}"),
+    let error = match toml::table_from_str(alloc, text) {
+        Ok(_) => return Ok(String::new(alloc)),
+        Err(error) => error,
+    };
+    match error.span() {
+        Some(span) => {
+            let excerpt = NamedText { name, text }.excerpt(span);
+            format!(in alloc; "{error}{excerpt}")
+        }
+        None => format!(in alloc; "{error}"),
     }
 }
 
-/// Says in words why a set-up is refused that is read by these formats, in one line, or two where its text is no TOML
-/// document; nothing where it is not refused.
+/// Says in words why a set-up is refused that is read by these formats: each fault with the line of the text at which it
+/// stands, or what is wrong with a text that is no TOML document; nothing where it is not refused. `name` is the file's.
+///
+/// The first fault is the one for which the set-up is refused. The others are those that are found once it is mended:
+/// at most one of each call, and `MAX_FAULTS` in all.
 ///
 /// # Errors
 /// Where memory was refused.
-pub fn refusal_words(alloc: Global, bytes: &[u8], formats: Formats) -> Result<String, AllocError> {
+pub fn refusal_words(
+    alloc: Global,
+    bytes: &[u8],
+    formats: Formats,
+    name: &str,
+) -> Result<String, AllocError> {
     match read_document(alloc, bytes) {
         Ok(table) => {
-            let table = &table;
-            document_words(Document {
-                alloc,
-                table,
-                formats,
-            })
+            let text = str::from_utf8(bytes).unwrap_or("");
+            document_words(alloc, table, formats, NamedText { name, text })
         }
         Err(SetupFault::Memory) => Err(AllocError),
-        Err(_) => text_words(alloc, bytes),
+        Err(_) => text_words(alloc, bytes, name),
     }
 }

@@ -1,0 +1,205 @@
+//! The search for a key of a set-up in its text.
+use crate::steps::{
+    Entry, after_bracket, after_comma, after_value, begins_with, entry_of, head_of, is_key,
+};
+use setup_format::Place;
+use std::alloc::Global;
+use std::ops::Range;
+use toml_parser::dotted_key;
+use toml_parser::text::{first, skip_blank};
+
+/// A key of a table of a set-up.
+#[derive(Clone, Copy)]
+pub struct Spot<'a> {
+    /// The table.
+    pub place: Place,
+    /// The key.
+    pub key: &'a str,
+}
+
+/// How far a search is, behind some lines of a document.
+#[derive(Clone, Copy)]
+struct Search<'t> {
+    /// How many tables of the array there were.
+    passed: usize,
+    /// Whether the lines that follow belong to the table.
+    is_inside: bool,
+    /// The text from the head of the table on.
+    table: Option<&'t str>,
+    /// The text from the key on.
+    key: Option<&'t str>,
+}
+
+/// The array of tables in which a table stands, and the table's number there, 1 the first; none of the top table.
+fn array_of(place: Place) -> Option<(&'static str, usize)> {
+    match place {
+        Place::Top => None,
+        Place::Untyped(n) => Some(("untyped", n)),
+        Place::Call(n) => Some(("call", n)),
+    }
+}
+
+/// The text from an element of an array on, 1 the first; the text begins with the array.
+fn element_at(alloc: Global, text: &str, n: usize) -> Option<&str> {
+    let mut rest = after_bracket(text)?;
+    for _passed in 1..n {
+        rest = after_comma(after_value(alloc, rest)?)?;
+    }
+    Some(rest)
+}
+
+/// The text from a key of an inline table on; the text begins with the table.
+fn key_within<'t>(alloc: Global, text: &'t str, name: &str) -> Option<&'t str> {
+    let mut rest = after_bracket(text)?;
+    for _passed in 0..text.len() {
+        let entry = entry_of(alloc, rest)?;
+        if begins_with(&entry.key, name) {
+            return Some(rest);
+        }
+        rest = after_comma(after_value(alloc, entry.value)?)?;
+    }
+    None
+}
+
+impl<'t> Search<'t> {
+    /// Behind no line.
+    fn new(text: &'t str, place: Place) -> Search<'t> {
+        let is_top = matches!(place, Place::Top);
+        Search {
+            passed: 0,
+            is_inside: is_top,
+            table: None,
+            key: None,
+        }
+    }
+
+    /// Behind the head of a table.
+    fn after_head(
+        self,
+        alloc: Global,
+        at: &'t str,
+        spot: Spot<'_>,
+    ) -> Option<(Search<'t>, &'t str)> {
+        let (key, is_element, rest) = head_of(alloc, at)?;
+        let Some((array, n)) = array_of(spot.place) else {
+            let found = if begins_with(&key, spot.key) {
+                Some(at)
+            } else {
+                None
+            };
+            return Some((
+                Search {
+                    is_inside: false,
+                    key: found,
+                    ..self
+                },
+                rest,
+            ));
+        };
+        if !(is_element && is_key(&key, array)) {
+            return Some((
+                Search {
+                    is_inside: false,
+                    ..self
+                },
+                rest,
+            ));
+        }
+        let passed = self.passed.checked_add(1)?;
+        let is_inside = passed == n;
+        let table = if is_inside { Some(at) } else { self.table };
+        Some((
+            Search {
+                passed,
+                is_inside,
+                table,
+                ..self
+            },
+            rest,
+        ))
+    }
+
+    /// Behind a key with its value.
+    fn after_entry(
+        self,
+        alloc: Global,
+        entry: &Entry<'t>,
+        spot: Spot<'_>,
+    ) -> Option<(Search<'t>, &'t str)> {
+        let rest = after_value(alloc, entry.value)?;
+        if self.is_inside && begins_with(&entry.key, spot.key) {
+            return Some((
+                Search {
+                    key: Some(entry.at),
+                    ..self
+                },
+                rest,
+            ));
+        }
+        let table = match array_of(spot.place) {
+            Some((array, n)) if is_key(&entry.key, array) => element_at(alloc, entry.value, n),
+            _ => None,
+        };
+        match table {
+            None => Some((self, rest)),
+            Some(table) => {
+                let key = key_within(alloc, table, spot.key).or(self.key);
+                Some((
+                    Search {
+                        table: Some(table),
+                        key,
+                        ..self
+                    },
+                    rest,
+                ))
+            }
+        }
+    }
+
+    /// Behind the head or the key at the front of a text.
+    fn step(self, alloc: Global, at: &'t str, spot: Spot<'_>) -> Option<(Search<'t>, &'t str)> {
+        if first(at) == b'[' {
+            return self.after_head(alloc, at, spot);
+        }
+        let entry = entry_of(alloc, at)?;
+        self.after_entry(alloc, &entry, spot)
+    }
+}
+
+/// The text from the key on; from the head of the table on, where the key is not there. None where neither was found.
+fn text_from<'t>(alloc: Global, text: &'t str, spot: Spot<'_>) -> Option<&'t str> {
+    let (mut search, mut rest) = (Search::new(text, spot.place), text);
+    for _passed in 0..text.len() {
+        let at = skip_blank(rest, true);
+        if at.is_empty() {
+            return search.table;
+        }
+        (search, rest) = search.step(alloc, at, spot)?;
+        if search.key.is_some() {
+            return search.key;
+        }
+    }
+    search.table
+}
+
+/// How many bytes of a text its first key has, its first bracket, or both brackets of a table of an array.
+fn length_at(alloc: Global, text: &str) -> usize {
+    match dotted_key(alloc, text) {
+        Ok((_, rest)) => {
+            let taken = text.len().saturating_sub(rest.len());
+            text.get(..taken)
+                .map(|key| key.trim_end().len())
+                .unwrap_or(1)
+        }
+        Err(_) if text.starts_with("[[") => 2,
+        Err(_) => 1,
+    }
+}
+
+/// Which bytes of a set-up's text are a key of a table: those of the key as it is written; where it is missing, those with
+/// which the table begins. None where the text is no TOML document, or memory was refused.
+pub fn span_at(alloc: Global, text: &str, spot: Spot<'_>) -> Option<Range<usize>> {
+    let at = text_from(alloc, text, spot)?;
+    let start = text.len().checked_sub(at.len())?;
+    Some(start..start.checked_add(length_at(alloc, at))?)
+}
