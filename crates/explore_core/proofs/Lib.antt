@@ -4,3 +4,4 @@ pub mod Told
 pub mod Tables
 pub mod Loops
 pub mod Explorations
+pub mod Places

@@ -135,10 +135,3 @@ pub fn longer_calls(alloc: Global, calls: &[Call], call: Call) -> Result<Vec<Cal
     longer.push(call)?;
     Ok(longer)
 }
-
-/// Whether two nodes are of the same state.
-pub fn same(a: &Node, b: &Node) -> bool
-    ensures { result ≡ pointwise nat_eq a.now.words.items b.now.words.items }
-{
-    a.words == b.words
-}

@@ -1,5 +1,7 @@
 -- Nodes in a table.
-use Rattle.std.specs.Prelude.{ℕ, ◌+◌, Bool, cond, List, [], ◌∷◌, nat_eq, Option, None, Some, slice_get, slice_set}
+use Rattle.std.specs.Prelude.{◌≡◌, ℕ, ◌+◌, Bool, cond, List, [], ◌∷◌, nat_eq, Option, None, Some, Vec, slice_get, slice_set, position}
+use Rattle.std.specs.Map.{lookup}
+use Rattle.std.specs.declared.alloc.Global.{Global}
 use Rattle.std.specs.Cmp.Lexicographic.{pointwise}
 use Rattle.explore_core.specs.declared.node.Node.{Node}
 use Rattle.explore_core.specs.Counts.{saturated}
@@ -24,3 +26,11 @@ heavier_in place more (Some n) nodes = slice_set nodes place (heavier more n)
 
 abbrev pub heavier_at : ℕ → ℕ → List Node → List Node
 heavier_at place more nodes = heavier_in place more (slice_get nodes place) nodes
+
+-- whether two lists of words are the same
+abbrev pub same_words : Vec ℕ Global → Vec ℕ Global → Bool
+same_words v w = pointwise nat_eq v.items w.items
+
+-- a table tells of each list of words the place of the first node that has them
+abbrev pub ArePlaces : List (Vec ℕ Global × ℕ) → List Node → Type 0
+ArePlaces places nodes = (words : Vec ℕ Global) → lookup (same_words words) places ≡ position (λ (n : Node). same_words words n.words) nodes

@@ -1,20 +1,24 @@
-use Rattle.std.proofs.Common.{◌≡◌, List, Some, None, ap, sym, ◌∙◌}
-use Rattle.std.specs.Prelude.{position}
-use Rattle.explore_core.specs.declared.node.Node.{Node}
-use Rattle.explore_core.specs.Private.Tables.{by_words, with_node}
-use Rattle.explore_core.proofs.Tables.{noted_at, noted_new}
+use Rattle.std.proofs.Common.{ap, sym, ◌∙◌}
+use Rattle.explore_core.specs.Private.Tables.{with_node}
+use Rattle.explore_core.proofs.Places.{known_noted, new_noted}
 use Rattle.explore_core.proofs.layer.Layer.note.Goals as goal
+
+pub invariant_of-self : goal.invariant_of-self
+invariant_of-self c =
+    (known_noted c.self.inside.places.entries c.self.inside.nodes.items c.add_weight.new.nodes.items c.args.node c.in-Some.place c.self.invariant (sym c.in-Some.is ∙ c.copied.ensures ∙ c.get.ensures.value) c.add_weight.ensures).1
+
+pub invariant_of-self-in-Continue-1 : goal.invariant_of-self-in-Continue-1
+invariant_of-self-in-Continue-1 c =
+    (new_noted c.self.inside.places.entries c.add.new.places.entries c.self.inside.nodes.items c.add.new.nodes.items c.args.node c.self.invariant (sym c.in-None.is ∙ c.copied.ensures ∙ c.get.ensures.value)
+    c.in_ok-add-in-None.ensures.nodes c.in_ok-add-in-None.ensures.places).1
 
 pub returns-in-Some : goal.returns-in-Some
 returns-in-Some c =
-    let nodes = c.self.inside.nodes.items in
-    let node = c.args.node in
-    let at : Some c.in-Some.place ≡ position (λ (m : Node). by_words m node) nodes = sym c.in-Some.is ∙ c.place_in.ensures.place ∙ ap (position (λ (m : Node). by_words m node)) c.as_slice.ensures.value in
-    c.add_weight.ensures ∙ noted_at nodes node c.in-Some.place at ∙ ap (λ (l : List Node). with_node l node) c.self.view_is
+    (known_noted c.self.inside.places.entries c.self.inside.nodes.items c.add_weight.new.nodes.items c.args.node c.in-Some.place c.self.invariant (sym c.in-Some.is ∙ c.copied.ensures ∙ c.get.ensures.value) c.add_weight.ensures).0
+    ∙ ap (λ l. with_node l c.args.node) c.self.view_is
 
-pub returns-in_ok-push-in-None : goal.returns-in_ok-push-in-None
-returns-in_ok-push-in-None c =
-    let nodes = c.self.inside.nodes.items in
-    let node = c.args.node in
-    let none : None ≡ position (λ (m : Node). by_words m node) nodes = sym c.in-None.is ∙ c.place_in.ensures.place ∙ ap (position (λ (m : Node). by_words m node)) c.as_slice.ensures.value in
-    c.in_ok-push-in-None.ensures.items ∙ noted_new nodes node none ∙ ap (λ (l : List Node). with_node l node) c.self.view_is
+pub returns-in_ok-add-in-None : goal.returns-in_ok-add-in-None
+returns-in_ok-add-in-None c =
+    (new_noted c.self.inside.places.entries c.add.new.places.entries c.self.inside.nodes.items c.add.new.nodes.items c.args.node c.self.invariant (sym c.in-None.is ∙ c.copied.ensures ∙ c.get.ensures.value)
+    c.in_ok-add-in-None.ensures.nodes c.in_ok-add-in-None.ensures.places).0
+    ∙ ap (λ l. with_node l c.args.node) c.self.view_is
