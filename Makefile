@@ -63,11 +63,12 @@ rows: rows-needs run
 	python3 rows/browser_page.py site/sel4sim.html
 	python3 rows/run.py $(program) $(setups)
 	python3 rows/schema.py $(program) $(setups) crates/traced_file/data crates/worked_audits/data crates/worked_parts/data \
+		crates/worked_trees/data \
 		crates/worked_explorations/data page/test/setups rows
 	python3 rows/migrate.py $(program) $(setups)
 	python3 rows/traces.py $(program) $(setups)
 	python3 rows/why.py $(program) $(setups)
-	python3 rows/audits.py $(program) crates/worked_audits/data crates/worked_parts/data
+	python3 rows/audits.py $(program) crates/worked_audits/data crates/worked_parts/data crates/worked_trees/data
 	python3 rows/explore.py $(program) crates/worked_explorations/data
 	python3 rows/orders_one_by_one.py $(program) 100
 	python3 rows/messages.py $(program)

@@ -33,7 +33,7 @@ MADE_OF = ("crates", "crates.txt", "page/source", "page/join.py", "browser/sourc
            "browser/module.py", "browser/retarget.py")
 FIRST_TOPIC, LAST_TOPICS = "examples", ("expectations", "refused")
 # Set-ups that are told of by another subcommand than check: their crate, and the tab that they are opened in.
-FOR_TABS = (("worked_explorations", "orders"), ("worked_audits", "audit"), ("worked_parts", "ever"))
+FOR_TABS = (("worked_explorations", "orders"), ("worked_audits", "audit"), ("worked_parts", "ever"), ("worked_trees", "tree"))
 FIRST_CALLS = re.compile(r"^#.*--first (\d+)", re.M)
 
 

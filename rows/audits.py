@@ -1,7 +1,7 @@
 #!/usr/bin/env python3
-"""audits.py PROGRAM FOLDER..: each audit that is wanted in the FOLDERs, by the program.
+"""audits.py PROGRAM FOLDER..: each audit and each derivation forest that is wanted in the FOLDERs, by the program.
 
-NAME.toml is a set-up and NAME.audit its audit, byte for byte. Options stand in the file's name: NAME.after-14.slot-320.audit is
+NAME.toml is a set-up and NAME.audit its audit, byte for byte; NAME.tree is what `tree` writes in the same way. Options stand in the file's name: NAME.after-14.slot-320.audit is
 what `audit --after 14 --slot 320` writes. NAME.ever is what `audit --ever` writes, with the options in NAME.args, one word a line.
 An empty file wants status 4, the line of a refusal 2, any other text 0.
 
@@ -12,12 +12,12 @@ import subprocess
 import sys
 
 
-def options(file):
-    """The options that a file of what is wanted asks for."""
+def command(file):
+    """The command, with its options, that a file of what is wanted asks for."""
     if file.suffix == ".ever":
-        return ["--ever", *file.with_suffix(".args").read_text().split()]
+        return ["audit", "--ever", *file.with_suffix(".args").read_text().split()]
     parts = [part.split("-") for part in file.stem.split(".")[1:]]
-    return [word for option, number in parts for word in (f"--{option}", number)]
+    return [file.suffix[1:], *(word for option, number in parts for word in (f"--{option}", number))]
 
 
 def status_with(text):
@@ -28,7 +28,7 @@ def status_with(text):
 
 def faults(program, file, wanted):
     setup = file.with_name(file.name.split(".")[0] + ".toml")
-    done = subprocess.run([program, "audit", *options(file), str(setup)], capture_output=True, timeout=60)
+    done = subprocess.run([program, *command(file), str(setup)], capture_output=True, timeout=60)
     if done.stdout != wanted:
         yield f"wanted\n{wanted.decode()}got\n{done.stdout.decode('utf-8', 'replace')}"
     if done.returncode != status_with(wanted):
@@ -36,7 +36,7 @@ def faults(program, file, wanted):
 
 
 def files_in(folder):
-    return sorted(file for file in folder.iterdir() if file.suffix in (".audit", ".ever"))
+    return sorted(file for file in folder.iterdir() if file.suffix in (".audit", ".ever", ".tree"))
 
 
 def run_folder(program, folder):
@@ -48,7 +48,7 @@ def run_folder(program, folder):
         if wrong:
             failed += 1
             print(f"{file}: " + "\n    ".join(wrong))
-    print(f"{folder}: {len(files) - failed} audits as wanted, {failed} not")
+    print(f"{folder}: {len(files) - failed} texts as wanted, {failed} not")
     differs = any(faults(program, files[0], files[1].read_bytes()))
     if not differs:
         print(f"{files[0]}: no fault where {files[1]} is wanted")

@@ -12,7 +12,7 @@ import subprocess
 import sys
 import tempfile
 
-SUBCOMMANDS = [["check"], ["trace"], ["threads"], ["migrate"], ["why"], ["audit"], ["audit", "--ever"], ["explore"]]
+SUBCOMMANDS = [["check"], ["trace"], ["threads"], ["migrate"], ["why"], ["audit"], ["audit", "--ever"], ["explore"], ["tree"]]
 
 SECONDS = 60
 NOBODY = 65534

@@ -36,8 +36,14 @@ NO_REFUSALS = "0 5 6 6/0 6/5 6/9 6/01 7 8/1 11 01 +1 99 102 1000".split()
 DELIVERED = "delivered 6144 from 2048 to 4096 badge 0 label 7 words"
 BEGINNINGS = ["done", "waiting", "dropped", "empty", "refused", "delivered", "delivered 6144 from 2048 to 4096",
               DELIVERED, DELIVERED + " 1 2 3 4"]
-NO_BEGINNINGS = ["done ", "don", "done 1", "waiting 2048", "delivered to 2048", "delivered x", "delivered 06144",
+NO_BEGINNINGS = ["done ", "Waiting", "refused seL4_FailedLookup", "refused NotEnoughMemory", "refused AlignmentError", "don", "done 1", "waiting 2048", "delivered to 2048", "delivered x", "delivered 06144",
                  DELIVERED + " -1", DELIVERED + " 1 2 3 4 5", "refused IllegalOperation", "refused 3 ", "refused "]
+
+
+# what is said to be meant in the place of such an expectation, where something is
+MEANT = {"done ": "done", "Waiting": "waiting", "refused seL4_FailedLookup": "refused 6/1, 6/2, 6/3 or 6/4",
+         "refused NotEnoughMemory": "refused 10", "don": "done", "done 1": "done", "delivered x": "delivered", "refused IllegalOperation": "refused 3",
+         "refused 3 ": "refused 3", "refused ": "refused", "refused 6": "refused 6/1, 6/2, 6/3 or 6/4"}
 
 
 def untyped(base, bits):
@@ -56,7 +62,7 @@ SETUPS = [
     (FIRST + CALL + 'op = "nbsend"\nexpect = "refused"\n', 1, []),
     (FIRST + CALL + 'op = "nbsend"\nexpect = "delivered 6144 from 2048"\n', 1, []),
     (FIRST + CALL + 'op = "nbsend"\nexpect = "refused IllegalOperation"\n', 1,
-     ['call 1: no reply begins with "refused IllegalOperation"']),
+     ['call 1: no reply begins with "refused IllegalOperation"; did you mean refused 3?']),
     (FIRST + CALL + 'op = "nbsend"\nexpect = "delivered to 2048"\n', 1, ['call 1: no reply begins with "delivered to 2048"']),
     (FIRST + CALL + 'op = "Send"\n', 2,
      [f'call 1, key op: the value is "Send"; it has to be one of {OPERATIONS}; did you mean send?']),
@@ -132,7 +138,8 @@ SETUPS = [
 LINES = [
     (["chek"], "sel4sim: reading failed", "sel4sim: chek is no command either; did you mean check?\n"),
     (["explor"], "sel4sim: reading failed", "sel4sim: explor is no command either; did you mean explore?\n"),
-    (["tree"], "sel4sim: reading failed", "sel4sim: tree is no command either; sel4sim --help names them\n"),
+    (["forest"], "sel4sim: reading failed", "sel4sim: forest is no command either; sel4sim --help names them\n"),
+    (["tre"], "sel4sim: reading failed", "sel4sim: tre is no command either; did you mean tree?\n"),
     (["chek.toml"], "sel4sim: reading failed", "sel4sim: chek.toml: No such file or directory (os error 2)\n"),
     (["check", "a", "b"], "sel4sim: command line refused", "unexpected argument 'b' found"),
     (["check", "a", "b"], "sel4sim: command line refused", "sel4sim: one file is read in a run; for more: "),
@@ -178,6 +185,9 @@ STREAMS = [
     (["why", "--call", "5"], FIRST, "/dev/null", 4, ["command line refused", "--call 5: the set-up has 0 calls"]),
     (["why", "--call", "5"], "format = 1\nthreads =\n", "/dev/null", 2, ["TOML parse error at line 2, column 10", None]),
     (["audit", "--after", "5"], FIRST, "/dev/null", 4, ["command line refused", "--after 5: the set-up has 0 calls"]),
+    (["tree", "--after", "5"], FIRST, "/dev/null", 4, ["command line refused", "--after 5: the set-up has 0 calls"]),
+    (["tree", "--after", "0"], FIRST, "/dev/null", 0, []),
+    (["tree"], "format = 1\nthreads =\n", "/dev/null", 2, ["TOML parse error at line 2, column 10", None]),
     (["audit", "--slot", "33", "--after", "0"], FIRST, "/dev/null", 4,
      ["command line refused", "--slot 33: no full slot is there after 0 calls"]),
     (["audit", "--slot", "33", "--ever"], FIRST, "/dev/null", 4,
@@ -292,7 +302,8 @@ def wrong_expectations(program):
     others = [*NO_BEGINNINGS, *(f"refused {refusal}" for refusal in NO_REFUSALS)]
     for expectation in [*begins, *others]:
         setup = FIRST + CALL + f'op = "recv"\nexpect = "{expectation}"\n'
-        wanted = [] if expectation in begins else [f'call 1: no reply begins with "{expectation}"']
+        meant = f"; did you mean {MEANT[expectation]}?" if expectation in MEANT else ""
+        wanted = [] if expectation in begins else [f'call 1: no reply begins with "{expectation}"{meant}']
         status, error = said(program, ["check"], setup)
         if status != (0 if expectation == "waiting" else 1) or not fits(error.splitlines(), wanted):
             yield f"{setup}status {status}, said\n{error}"

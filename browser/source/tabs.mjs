@@ -84,6 +84,7 @@ export const TABS = [
     options: [{ name: "call", about: "The number of a call: the reason of that call alone", least: "all refused" }] },
   AUDIT,
   EVER,
+  { name: "tree", words: ["tree"], about: "Each slot below the one that it is derived from", options: [AFTER], show: showText },
   { name: "orders", words: ["explore"], about: "Every order of the clients' calls: what can happen, and what cannot",
     missed: "an expectation is not met in some order, an order ends stuck, or not all orders were made",
     options: [{ name: "first", about: "So many calls are made before the clients begin", least: "0" },

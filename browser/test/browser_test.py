@@ -26,7 +26,7 @@ import firefox  # noqa: E402
 import hostile_texts  # noqa: E402
 
 SITE = TOP / "site" / "sel4sim.html"
-SUBCOMMANDS = (["check"], ["trace"], ["migrate"], ["why"], ["audit"], ["audit", "--ever"], ["explore"])
+SUBCOMMANDS = (["check"], ["trace"], ["migrate"], ["why"], ["audit"], ["audit", "--ever"], ["explore"], ["tree"])
 SEED = 7
 TEXTS = 400
 MOST_SECONDS = 5

@@ -16,7 +16,7 @@ _sel4sim() {
     esac
     case $command in
         '')
-            COMPREPLY=($(compgen -W 'check trace threads migrate why audit explore -V --version -h --help' -- "$word"))
+            COMPREPLY=($(compgen -W 'check trace threads migrate why audit explore tree -V --version -h --help' -- "$word"))
             [[ $word == -* ]] || mapfile -t -O "${#COMPREPLY[@]}" COMPREPLY < <(compgen -f -- "$word")
             ;;
         check)
@@ -45,6 +45,10 @@ _sel4sim() {
             ;;
         explore)
             COMPREPLY=($(compgen -W '--first --states --witness -h --help' -- "$word"))
+            [[ $word == -* ]] || mapfile -t -O "${#COMPREPLY[@]}" COMPREPLY < <(compgen -f -- "$word")
+            ;;
+        tree)
+            COMPREPLY=($(compgen -W '--after -h --help' -- "$word"))
             [[ $word == -* ]] || mapfile -t -O "${#COMPREPLY[@]}" COMPREPLY < <(compgen -f -- "$word")
             ;;
     esac

@@ -32,3 +32,7 @@ complete -c sel4sim -n '__fish_seen_subcommand_from explore' -l states -x -a '' 
 complete -c sel4sim -n '__fish_seen_subcommand_from explore' -l witness -x -a '' -d 'Write the set-up of one order: I.J of answer J of call I, or stuck.J'
 complete -c sel4sim -n '__fish_seen_subcommand_from explore' -s h -l help -d 'Print help'
 complete -c sel4sim -n '__fish_seen_subcommand_from explore' -F
+complete -c sel4sim -n '__fish_use_subcommand' -a tree -d 'Runs a set-up and prints each slot below the one that it is derived from'
+complete -c sel4sim -n '__fish_seen_subcommand_from tree' -l after -x -a '' -d 'Make the first N calls alone'
+complete -c sel4sim -n '__fish_seen_subcommand_from tree' -s h -l help -d 'Print help'
+complete -c sel4sim -n '__fish_seen_subcommand_from tree' -F

@@ -10,7 +10,7 @@ use Rattle.clap.specs.declared.builder.value_parser.ValueParser.TheVariants.{Uns
 use Rattle.clap.specs.declared.error.kind.ErrorKind.{ErrorKind}
 use Rattle.clap.specs.declared.error.kind.ErrorKind.TheVariants.{DisplayHelp, OutOfMemory}
 use Rattle.command_line.specs.declared.arguments.Job.{Job}
-use Rattle.command_line.specs.declared.arguments.Job.TheVariants.{Check, Trace, Threads, Migrate, Why, Audit, Explore}
+use Rattle.command_line.specs.declared.arguments.Job.TheVariants.{Check, Trace, Threads, Migrate, Why, Audit, Explore, Tree}
 use Rattle.command_line.specs.declared.arguments.LineFault.{LineFault}
 use Rattle.command_line.specs.declared.arguments.LineFault.TheVariants.{Help, Refused, Conflict, Memory}
 use Rattle.command_line.specs.declared.arguments.Options.{Options}
@@ -76,6 +76,9 @@ explore_command =
     with_rule (with_rule (with_rule (with_file (codes "explore"))
     (number_rule (codes "first"))) (number_rule (codes "states"))) (text_rule (codes "witness"))
 
+abbrev pub tree_command : App
+tree_command = with_rule (with_file (codes "tree")) (number_rule (codes "after"))
+
 -- `sel4sim`, with the subcommands that have no options
 abbrev pub plain_command : App
 plain_command =
@@ -85,7 +88,9 @@ plain_command =
 
 -- `sel4sim`, with all its subcommands
 unfoldable pub command : App
-command = and_subcommand explore_command (and_subcommand audit_command (and_subcommand why_command plain_command))
+command =
+    and_subcommand tree_command
+    (and_subcommand explore_command (and_subcommand audit_command (and_subcommand why_command plain_command)))
 
 -- the job of a subcommand's name
 abbrev pub job_named : Text → Option Job
@@ -97,6 +102,7 @@ job_named name =
     else if bytes_eq name (codes "why") then Some Why
     else if bytes_eq name (codes "audit") then Some Audit
     else if bytes_eq name (codes "explore") then Some Explore
+    else if bytes_eq name (codes "tree") then Some Tree
     else None
 
 -- the job where a subcommand of that name with these matches is met, and where none is

@@ -20,6 +20,8 @@ pub enum Job {
     Audit,
     /// Run a set-up's clients in every order of their calls.
     Explore,
+    /// Run a set-up and tell what is derived from what.
+    Tree,
 }
 
 /// What the options of a command line give; `None` where an option is not there.
@@ -27,7 +29,7 @@ pub enum Job {
 pub struct Options<'a> {
     /// `--call` of `why`: the call that is told of, from 1.
     pub call: Option<u64>,
-    /// `--after` of `audit`: how many calls are made.
+    /// `--after` of `audit` and `tree`: how many calls are made.
     pub after: Option<u64>,
     /// `--slot` of `audit`: the address of a slot.
     pub slot: Option<u64>,
@@ -109,6 +111,8 @@ impl Job {
             Some(Job::Audit)
         } else if name == "explore" {
             Some(Job::Explore)
+        } else if name == "tree" {
+            Some(Job::Tree)
         } else {
             None
         }

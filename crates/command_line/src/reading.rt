@@ -4,7 +4,7 @@ ghost use Rattle.clap.specs.Words.{app_of, fault_of, first_of, found_of, rows_of
 ghost use Rattle.clap.specs.declared.builder.command.Command.TheViews.{out-Command};
 ghost use Rattle.clap.specs.Values.{kind_of};
 ghost use Rattle.clap.specs.Walk.{texts};
-ghost use Rattle.command_line.specs.CommandLine.{Explains, HasOptions, Says, StandsFor, agrees, and_subcommand, audit_command, bare_command, command as definition, explore_command, file_asked, file_of, file_rule, flag_rule, is_set, job_asked, job_of, number_rule, own_rows, plain_command, text_rule, version_rule, why_command, with_file as with_file_definition};
+ghost use Rattle.command_line.specs.CommandLine.{Explains, HasOptions, Says, StandsFor, agrees, and_subcommand, audit_command, bare_command, command as definition, explore_command, file_asked, file_of, file_rule, flag_rule, is_set, job_asked, job_of, number_rule, own_rows, plain_command, text_rule, tree_command, version_rule, why_command, with_file as with_file_definition};
 
 use crate::arguments::{Job, Line, LineFault, Options};
 use clap::builder::ValueParser;
@@ -25,6 +25,7 @@ Examples:
   sel4sim layout.toml            the report of a set-up
   sel4sim trace layout.toml      what each of its calls changed
   sel4sim why layout.toml        why its calls are refused
+  sel4sim tree layout.toml       which slot is derived from which
   sel4sim audit layout.toml      who reaches what, and who can send to whom
   sel4sim audit --ever --without loader layout.toml
                                  what the clients can never get
@@ -208,6 +209,18 @@ fn explore<'a>(alloc: Global) -> Result<Command<'a>, AllocError>
     Ok(whole)
 }
 
+/// The subcommand `tree`.
+fn tree<'a>(alloc: Global) -> Result<Command<'a>, AllocError>
+    ensures app { IfOk result (λ c. app_of c ≡ tree_command) }
+    ensures local { IfOk result (λ c. (out-Command c).has_globals ≡ false) }
+{
+    let about = "Runs a set-up and prints each slot below the one that it is derived from";
+    let command = with_file(alloc, "tree", about)?;
+    let after = number(alloc, "after", "Make the first N calls alone");
+    let whole = command.arg(after)?;
+    Ok(whole)
+}
+
 /// The command with the subcommands that have no options.
 fn plain<'a>(alloc: Global) -> Result<Command<'a>, AllocError>
     ensures { IfOk result (λ c. app_of c ≡ plain_command) }
@@ -245,7 +258,8 @@ fn command<'a>(alloc: Global) -> Result<Command<'a>, AllocError>
 {
     let with_why = plain(alloc)?.subcommand(why(alloc)?)?;
     let with_audit = with_why.subcommand(audit(alloc)?)?;
-    let whole = with_audit.subcommand(explore(alloc)?)?;
+    let with_explore = with_audit.subcommand(explore(alloc)?)?;
+    let whole = with_explore.subcommand(tree(alloc)?)?;
     Ok(whole)
 }
 

@@ -14,6 +14,7 @@ fn name_of(job: Job) -> &'static str {
         Job::Why => "why",
         Job::Audit => "audit",
         Job::Explore => "explore",
+        Job::Tree => "tree",
     }
 }
 

@@ -2,7 +2,7 @@
 use Rattle.std.specs.Prelude.{◌≡◌, ◌==◌, ℕ, List, [], Option, Some, None, option_map, unwrap_or, MatchBool}
 use Rattle.std.specs.List.{slice_split}
 use Rattle.command_line.specs.declared.arguments.Job.{Job}
-use Rattle.command_line.specs.declared.arguments.Job.TheVariants.{Check, Trace, Threads, Migrate, Why, Audit, Explore}
+use Rattle.command_line.specs.declared.arguments.Job.TheVariants.{Check, Trace, Threads, Migrate, Why, Audit, Explore, Tree}
 use Rattle.command_line.specs.declared.arguments.Options.{Options}
 use Rattle.engine_core.specs.declared.fault.Verdict.{Verdict}
 use Rattle.engine.specs.Program.{program}
@@ -12,6 +12,7 @@ use Rattle.engine_ever.specs.Ever.{IsEverOfBytes}
 use Rattle.engine_explore.specs.Explorations.{explored_of_bytes}
 use Rattle.engine_threads.specs.SharedRuns.{IsSharedProgram}
 use Rattle.engine_trace.specs.Traces.{trace_of_bytes}
+use Rattle.engine_tree.specs.Trees.{IsTreeOfBytes}
 use Rattle.engine_why.specs.Explained.{why_of_bytes}
 use Rattle.program.specs.WitnessWords.{IsNamedWitness}
 
@@ -48,3 +49,4 @@ meaning Migrate options = IsMigration
 meaning Why options = λ input text verdict. why_of_bytes options.call input ≡ (text, verdict)
 meaning Audit options = IsAudit options
 meaning Explore options = IsExploration options
+meaning Tree options = IsTreeOfBytes options.after

@@ -16,6 +16,7 @@ use engine_ever::ever_run;
 use engine_explore::{ExploreOptions, explore_run, witness_run};
 use engine_threads::threads_run_open;
 use engine_trace::trace_run;
+use engine_tree::tree_run;
 use engine_why::why_run;
 use std::alloc::{AllocError, Global};
 use std::sync::Wait;
@@ -148,5 +149,6 @@ pub fn run_job<R: Threads + Wait + Sync, S: Source, K: Sink>(
         Job::Why => why_run(alloc, options.call, source, sink),
         Job::Audit => audit(alloc, options, source, sink),
         Job::Explore => explore(alloc, options, source, sink),
+        Job::Tree => tree_run(alloc, options.after, source, sink),
     }
 }

@@ -38,13 +38,46 @@ fn absent_thread(
     Ok(None)
 }
 
-/// What is absent of an audit, where the calls are there.
+/// The call that is absent.
+fn absent_call(
+    alloc: Global,
+    options: Options<'_>,
+    calls: u64,
+) -> Result<Option<String>, AllocError> {
+    match options.call {
+        None => Ok(None),
+        Some(n) => {
+            let text = format!(in alloc; "--call {n}: the set-up has {calls} calls")?;
+            Ok(Some(text))
+        }
+    }
+}
+
+/// How many calls are asked for, where the set-up has fewer.
+fn absent_calls(
+    alloc: Global,
+    options: Options<'_>,
+    calls: u64,
+) -> Result<Option<String>, AllocError> {
+    match options.after {
+        Some(n) if n > calls => {
+            let text = format!(in alloc; "--after {n}: the set-up has {calls} calls")?;
+            Ok(Some(text))
+        }
+        _ => Ok(None),
+    }
+}
+
+/// What is absent of an audit.
 fn absent_in_audit(
     alloc: Global,
     named: &NamedSetup,
     options: Options<'_>,
     calls: u64,
 ) -> Result<Option<String>, AllocError> {
+    if let Some(text) = absent_calls(alloc, options, calls)? {
+        return Ok(Some(text));
+    }
     if let Some(without) = options.without {
         return absent_thread(alloc, named, without);
     }
@@ -78,16 +111,12 @@ fn absent_in(
     named: &NamedSetup,
 ) -> Result<Option<String>, AllocError> {
     let calls = named.setup.calls().len() as u64;
-    match (line.job, line.options.call, line.options.after) {
-        (Job::Why, Some(n), _) => Ok(Some(format!(in alloc;
-            "--call {n}: the set-up has {calls} calls"
-        )?)),
-        (Job::Audit, _, Some(n)) if n > calls => Ok(Some(format!(in alloc;
-            "--after {n}: the set-up has {calls} calls"
-        )?)),
-        (Job::Audit, _, _) => absent_in_audit(alloc, named, line.options, calls),
-        (Job::Explore, _, _) => absent_order(alloc, line.options),
-        _ => Ok(None),
+    match line.job {
+        Job::Why => absent_call(alloc, line.options, calls),
+        Job::Audit => absent_in_audit(alloc, named, line.options, calls),
+        Job::Tree => absent_calls(alloc, line.options, calls),
+        Job::Explore => absent_order(alloc, line.options),
+        Job::Check | Job::Trace | Job::Threads | Job::Migrate => Ok(None),
     }
 }
 

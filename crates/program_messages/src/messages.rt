@@ -153,9 +153,8 @@ fn name_of(file: Option<&str>) -> &str {
 fn formats_of(job: Job) -> Formats {
     match job {
         Job::Migrate => Formats::First,
-        Job::Check | Job::Trace | Job::Threads | Job::Why | Job::Audit | Job::Explore => {
-            Formats::All
-        }
+        Job::Check | Job::Trace | Job::Threads | Job::Why | Job::Audit | Job::Explore | Job::Tree =>
+            Formats::All,
     }
 }
 

@@ -14,5 +14,6 @@ mod threads;
 
 pub use ends::Asked;
 pub use laws::a_revoke_does_this;
-pub use run::audit;
+pub use names::{ThreadName, thread_name};
+pub use run::{audit, calls_made, kernel_after};
 pub use threads::ThreadSlots;

@@ -27,7 +27,11 @@ fn first_calls(setup: &Setup, count: usize) -> &[Call]
 }
 
 /// The kernel of a set-up behind its first calls.
-fn kernel_after<P: Profile, S: MakeStore<P>, W: MakeWaiters<P>>(
+///
+/// # Errors
+///
+/// Memory was refused.
+pub fn kernel_after<P: Profile, S: MakeStore<P>, W: MakeWaiters<P>>(
     alloc: Global,
     setup: &Setup,
     count: usize,
@@ -43,8 +47,8 @@ fn kernel_after<P: Profile, S: MakeStore<P>, W: MakeWaiters<P>>(
     Ok(kernel)
 }
 
-/// How many calls are asked for, where the set-up has them: all of them, where no number is given.
-fn calls_made(setup: &Setup, after: Option<u64>) -> Option<usize>
+/// How many calls are asked for, where the set-up has them: all of them, where no number is given. `None` where it has fewer.
+pub fn calls_made(setup: &Setup, after: Option<u64>) -> Option<usize>
     ensures { result ≡ spec.calls_made setup.now after }
 {
     let calls = setup.calls().len();

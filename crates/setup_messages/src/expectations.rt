@@ -1,4 +1,5 @@
 //! Expectations that no reply can meet.
+use crate::near::Nearest;
 use cap_core::limits::MAX_MESSAGE_WORDS;
 use setup_format::{Setup, read_setup};
 use std::alloc::{AllocError, Global};
@@ -16,6 +17,19 @@ const REFUSALS: [&str; 13] = [
 /// behind them all.
 #[rattlefmt::skip]
 const DELIVERED: [&str; 11] = ["delivered", "", "from", "", "to", "", "badge", "", "label", "", "words"];
+
+/// seL4's names of refusals, without `seL4_`, and the number of failed lookups alone, each with what to write in its place.
+const NAMED: [(&str, &str); 9] = [
+    ("InvalidArgument", "1"),
+    ("InvalidCapability", "2"),
+    ("IllegalOperation", "3"),
+    ("RangeError", "4"),
+    ("FailedLookup", "6/1, 6/2, 6/3 or 6/4"),
+    ("6", "6/1, 6/2, 6/3 or 6/4"),
+    ("DeleteFirst", "8"),
+    ("RevokeFirst", "9"),
+    ("NotEnoughMemory", "10"),
+];
 
 /// Whether a text is a number as a reply has it.
 fn is_number(text: &str) -> bool {
@@ -51,13 +65,59 @@ fn is_beginning(expectation: &str) -> bool {
     }
 }
 
+/// What to write in the place of a refusal's name.
+fn number_of(name: &str) -> Option<&'static str> {
+    let name = name.strip_prefix("seL4_").unwrap_or(name);
+    let (_, number) = NAMED.iter().find(|(known, _)| *known == name)?;
+    Some(*number)
+}
+
+/// The one of the replies' words that looks most like an expectation.
+fn nearest(alloc: Global, expectation: &str) -> Result<Nearest<'_>, AllocError> {
+    let mut near = Nearest::to(expectation);
+    for word in WORDS {
+        near.try_name(alloc, word)?;
+    }
+    near.try_name(alloc, DELIVERED[0])?;
+    Ok(near)
+}
+
+/// Adds a line on an expectation with which no reply begins, that of a call, 1 the first.
+fn add_warning(
+    message: &mut String,
+    alloc: Global,
+    n: usize,
+    expectation: &str,
+) -> Result<(), AllocError> {
+    let trimmed = expectation.trim();
+    let refusal = trimmed.strip_prefix("refused ");
+    write!(message, "call {n}: no reply begins with {expectation:?}")?;
+    if is_beginning(trimmed) {
+        return write!(message, "; did you mean {trimmed}?\n");
+    }
+    match refusal {
+        None => {
+            let near = nearest(alloc, expectation)?;
+            write!(message, "{near}\n")
+        }
+        Some(name) => match number_of(name) {
+            Some(number) => write!(message, "; did you mean refused {number}?\n"),
+            None => write!(message, "\n"),
+        },
+    }
+}
+
 /// Adds a line for a call, 0 the first, where its expectation is the beginning of no reply.
-fn say_unmet(message: &mut String, i: usize, expectation: &str) -> Result<(), AllocError> {
+fn say_unmet(
+    message: &mut String,
+    alloc: Global,
+    i: usize,
+    expectation: &str,
+) -> Result<(), AllocError> {
     if is_beginning(expectation) {
         return Ok(());
     }
-    let n = i.saturating_add(1);
-    write!(message, "call {n}: no reply begins with {expectation:?}\n")
+    add_warning(message, alloc, i.saturating_add(1), expectation)
 }
 
 /// The warnings on the calls of a set-up, each as a line.
@@ -65,7 +125,7 @@ fn warnings_on(alloc: Global, setup: &Setup) -> Result<String, AllocError> {
     let mut message = String::new(alloc);
     for i in 0..setup.calls().len() {
         if let Some(expectation) = setup.expect(i) {
-            say_unmet(&mut message, i, expectation)?;
+            say_unmet(&mut message, alloc, i, expectation)?;
         }
     }
     Ok(message)
