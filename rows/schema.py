@@ -32,6 +32,7 @@ BEYOND = {
     "untyped_unaligned": LAYOUT,
     "name_that_does_not_exist": NAMES,
     "refused": NAMES,    # of crates/worked_audits
+    "refused_name": NAMES,    # of crates/worked_trees
 }
 
 SLOTS = ["cap", "index", "depth", "src_root", "src_index", "src_depth"]
