@@ -362,7 +362,9 @@ class Page {
     if (key === "F1") return () => byId("keys").showModal();
     if (key === "Escape" && this.program.isRunning) return () => this.stop();
     if (isTyping) return null;
-    if (/^[1-9]$/u.test(key) && Number(key) <= TABS.length) return () => this.chooseAt(Number(key) - 1);
+    // The tenth tab has the key 0.
+    const place = /^\d$/u.test(key) ? (Number(key) + 9) % 10 : TABS.length;
+    if (place < TABS.length) return () => this.chooseAt(place);
     return { "?": () => byId("keys").showModal(), e: () => this.edit(),
       w: () => this.setWide(!document.body.classList.contains("wide")) }[key] ?? null;
   }

@@ -387,9 +387,9 @@ def tabs(test, _):
     test.settle()
     browser.value("document.getElementById('tab-report').focus()")
     names = browser.value("[...document.querySelectorAll('[role=tab]')].map((tab) => tab.textContent)")
-    test.wanted(len(names) <= 9, "there are more tabs than keys")
+    test.wanted(len(names) <= 10, "there are more tabs than keys")
     for number, name in enumerate(names, 1):
-        browser.press(str(number))
+        browser.press(str(number % 10))
         test.settle()
         test.wanted(browser.value(f"document.getElementById('tab-{name}').getAttribute('aria-selected')") == "true",
                     f"the key {number} does not lead to the tab {name}")
@@ -400,7 +400,7 @@ def tabs(test, _):
     test.wanted("boot, 2 calls" == browser.value(f"{inside}.getElementById('position').textContent"), "the steps are not shown")
     browser.value(f"{inside}.getElementById('on').click()")
     test.wanted("call 1 of 2" == browser.value(f"{inside}.getElementById('position').textContent"), "the steps do not step")
-    browser.press(str(names.index("migrate") + 1))
+    browser.press(str((names.index("migrate") + 1) % 10))
     test.settle()
     test.wanted("format = 2" in test.text("panel-migrate"), "a set-up is not migrated")
     browser.value("document.querySelector('#panel-migrate button').click()")
