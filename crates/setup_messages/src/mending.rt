@@ -21,7 +21,7 @@ pub enum Mended {
     Nothing,
     /// The fault.
     Fault,
-    /// A size that is no number, or too great or small, and put in its place another, so that a fault of the layout is none of the set-up.
+    /// A size that was not accepted, with another one in its place. What the layout then lacks is no fault of the set-up.
     Size,
 }
 
@@ -97,8 +97,8 @@ fn mend_unknown(table: &mut Table, place: Place, key: &str) -> Mended {
     }
 }
 
-/// Takes a fault out of a document. It can't be done for one of the format, the profile, the names or the clients: what stands behind
-/// it is not read without them.
+/// Takes a fault out of a document. It can't be done for a key of the top table that has no size: what stands behind it is not
+/// read without it.
 ///
 /// # Errors
 /// Where memory was refused.

@@ -13,7 +13,7 @@ use setup_format::{
     Key, Place, SetupFault, Wrong, read_document, read_first_format, read_table, top_keys,
     untyped_keys,
 };
-use setup_positions::NamedText;
+use setup_positions::{NamedText, SoughtKey};
 use setup_values::kinds::{Kind, OpKind};
 use std::alloc::{AllocError, Global};
 use toml::{Table, Value};
@@ -99,7 +99,7 @@ fn fault_words(document: Document<'_>, fault: &SetupFault) -> Result<String, All
 }
 
 /// The table and the key at which the layout of a set-up fails.
-fn spot_of_layout(defect: PlanDefect) -> setup_positions::Spot<'static> {
+fn sought_of_layout(defect: PlanDefect) -> SoughtKey<'static> {
     let (place, key) = match defect {
         PlanDefect::Outside => (Place::Top, "memory_bits"),
         PlanDefect::Slots => (Place::Top, "root_radix"),
@@ -107,17 +107,17 @@ fn spot_of_layout(defect: PlanDefect) -> setup_positions::Spot<'static> {
         | PlanDefect::UntypedOutside(place)
         | PlanDefect::Overlap(place) => (Place::Untyped(place.saturating_add(1)), "base"),
     };
-    setup_positions::Spot { place, key }
+    SoughtKey { place, key }
 }
 
 /// The table and the key at which a fault of a document stands.
-fn spot_of(fault: &SetupFault) -> Option<setup_positions::Spot<'_>> {
+fn sought_of(fault: &SetupFault) -> Option<SoughtKey<'_>> {
     match fault {
         SetupFault::At { place, key, .. } => {
             let (place, key) = (*place, text_of(key));
-            Some(setup_positions::Spot { place, key })
+            Some(SoughtKey { place, key })
         }
-        SetupFault::Layout(defect) => Some(spot_of_layout(*defect)),
+        SetupFault::Layout(defect) => Some(sought_of_layout(*defect)),
         SetupFault::Text | SetupFault::Memory => None,
     }
 }
@@ -131,8 +131,8 @@ fn add_fault(
 ) -> Result<(), AllocError> {
     words.push_str(fault_words(document, fault)?.as_str())?;
     words.push('\n')?;
-    let spot = spot_of(fault);
-    if let Some(excerpt) = spot.and_then(|spot| source.excerpt_at(document.alloc, spot)) {
+    let sought = sought_of(fault);
+    if let Some(excerpt) = sought.and_then(|sought| source.excerpt_at(document.alloc, sought)) {
         let lines = format!(in document.alloc; "{excerpt}\n")?;
         words.push_str(lines.as_str())?;
     }
@@ -147,7 +147,7 @@ fn first_fault(document: Document<'_>) -> Option<SetupFault> {
     }
 }
 
-/// The words on the faults of a document, the first of each call and region.
+/// The words on the faults of a document.
 fn document_words(
     alloc: Global,
     table: Table,
@@ -200,7 +200,8 @@ fn text_words(alloc: Global, bytes: &[u8], name: &str) -> Result<String, AllocEr
 /// stands, or what is wrong with a text that is no TOML document; nothing where it is not refused. `name` is the file's.
 ///
 /// The first fault is the one for which the set-up is refused. The others are those that are found once it is mended:
-/// at most one of each call, and `MAX_FAULTS` in all.
+/// of a call each unknown key and one other, and `MAX_FAULTS` in all. Behind a fault of a region, or of the layout, the regions
+/// are not looked at any more, and behind one of another key of the top table than a size nothing is.
 ///
 /// # Errors
 /// Where memory was refused.

@@ -1,5 +1,5 @@
 //! A line of a text, with some of its bytes underlined.
-use crate::search::{Spot, span_at};
+use crate::search::{SoughtKey, span_at};
 use std::alloc::Global;
 use std::fmt;
 use std::ops::Range;
@@ -27,8 +27,8 @@ impl<'a> NamedText<'a> {
 
     /// The bytes of the text that are a key of a table, or, where the key is missing, those with which the table begins. None
     /// where the text is no TOML document, or memory was refused.
-    pub fn excerpt_at(self, alloc: Global, spot: Spot<'_>) -> Option<Excerpt<'a>> {
-        Some(self.excerpt(span_at(alloc, self.text, spot)?))
+    pub fn excerpt_at(self, alloc: Global, sought: SoughtKey<'_>) -> Option<Excerpt<'a>> {
+        Some(self.excerpt(span_at(alloc, self.text, sought)?))
     }
 }
 

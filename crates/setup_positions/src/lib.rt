@@ -7,4 +7,4 @@ mod search;
 mod steps;
 
 pub use excerpt::{Excerpt, NamedText};
-pub use search::{Spot, span_at};
+pub use search::{SoughtKey, span_at};

@@ -8,9 +8,9 @@ use std::ops::Range;
 use toml_parser::dotted_key;
 use toml_parser::text::{first, skip_blank};
 
-/// A key of a table of a set-up.
+/// A key of a set-up that is looked for in its text.
 #[derive(Clone, Copy)]
-pub struct Spot<'a> {
+pub struct SoughtKey<'a> {
     /// The table.
     pub place: Place,
     /// The key.
@@ -78,11 +78,11 @@ impl<'t> Search<'t> {
         self,
         alloc: Global,
         at: &'t str,
-        spot: Spot<'_>,
+        sought: SoughtKey<'_>,
     ) -> Option<(Search<'t>, &'t str)> {
         let (key, is_element, rest) = head_of(alloc, at)?;
-        let Some((array, n)) = array_of(spot.place) else {
-            let found = if begins_with(&key, spot.key) {
+        let Some((array, n)) = array_of(sought.place) else {
+            let found = if begins_with(&key, sought.key) {
                 Some(at)
             } else {
                 None
@@ -124,10 +124,10 @@ impl<'t> Search<'t> {
         self,
         alloc: Global,
         entry: &Entry<'t>,
-        spot: Spot<'_>,
+        sought: SoughtKey<'_>,
     ) -> Option<(Search<'t>, &'t str)> {
         let rest = after_value(alloc, entry.value)?;
-        if self.is_inside && begins_with(&entry.key, spot.key) {
+        if self.is_inside && begins_with(&entry.key, sought.key) {
             return Some((
                 Search {
                     key: Some(entry.at),
@@ -136,14 +136,14 @@ impl<'t> Search<'t> {
                 rest,
             ));
         }
-        let table = match array_of(spot.place) {
+        let table = match array_of(sought.place) {
             Some((array, n)) if is_key(&entry.key, array) => element_at(alloc, entry.value, n),
             _ => None,
         };
         match table {
             None => Some((self, rest)),
             Some(table) => {
-                let key = key_within(alloc, table, spot.key).or(self.key);
+                let key = key_within(alloc, table, sought.key).or(self.key);
                 Some((
                     Search {
                         table: Some(table),
@@ -157,24 +157,29 @@ impl<'t> Search<'t> {
     }
 
     /// Behind the head or the key at the front of a text.
-    fn step(self, alloc: Global, at: &'t str, spot: Spot<'_>) -> Option<(Search<'t>, &'t str)> {
+    fn step(
+        self,
+        alloc: Global,
+        at: &'t str,
+        sought: SoughtKey<'_>,
+    ) -> Option<(Search<'t>, &'t str)> {
         if first(at) == b'[' {
-            return self.after_head(alloc, at, spot);
+            return self.after_head(alloc, at, sought);
         }
         let entry = entry_of(alloc, at)?;
-        self.after_entry(alloc, &entry, spot)
+        self.after_entry(alloc, &entry, sought)
     }
 }
 
 /// The text from the key on; from the head of the table on, where the key is not there. None where neither was found.
-fn text_from<'t>(alloc: Global, text: &'t str, spot: Spot<'_>) -> Option<&'t str> {
-    let (mut search, mut rest) = (Search::new(text, spot.place), text);
+fn text_from<'t>(alloc: Global, text: &'t str, sought: SoughtKey<'_>) -> Option<&'t str> {
+    let (mut search, mut rest) = (Search::new(text, sought.place), text);
     for _passed in 0..text.len() {
         let at = skip_blank(rest, true);
         if at.is_empty() {
             return search.table;
         }
-        (search, rest) = search.step(alloc, at, spot)?;
+        (search, rest) = search.step(alloc, at, sought)?;
         if search.key.is_some() {
             return search.key;
         }
@@ -198,8 +203,8 @@ fn length_at(alloc: Global, text: &str) -> usize {
 
 /// Which bytes of a set-up's text are a key of a table: those of the key as it is written; where it is missing, those with
 /// which the table begins. None where the text is no TOML document, or memory was refused.
-pub fn span_at(alloc: Global, text: &str, spot: Spot<'_>) -> Option<Range<usize>> {
-    let at = text_from(alloc, text, spot)?;
+pub fn span_at(alloc: Global, text: &str, sought: SoughtKey<'_>) -> Option<Range<usize>> {
+    let at = text_from(alloc, text, sought)?;
     let start = text.len().checked_sub(at.len())?;
     Some(start..start.checked_add(length_at(alloc, at))?)
 }
