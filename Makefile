@@ -6,7 +6,7 @@
 # make dist: dist/sel4sim-COMMIT-x86_64-linux.tar.gz: the program, proved as by make run, with examples, pages, man page
 # and completions; make dist-test tries what goes into it, on the program that is built, also where there is no toolchain;
 # make install: the program that make run built, and the same files, below PREFIX (/usr/local) and DESTDIR;
-# make test: the gate;
+# make test: the gate, and what it took;
 # make rows: the built program: each worked set-up, as it is, migrated and traced, why its calls are refused, and by
 # the schema for editors; each worked audit, layout and exploration; explorations of random set-ups beside all orders one by one; what --help names beside the completions and the
 # man page; what it says of wrong command lines, files and set-ups, an address used again a thousand times, each
@@ -46,7 +46,7 @@ install:
 	@python3 build/archive.py install
 
 test:
-	rt ci
+	@python3 build/gate.py
 
 try:
 	@test -z "$$FILE" || test -e "$$FILE" || { echo "make try: there is no file $$FILE" >&2; exit 3; }
