@@ -7,10 +7,10 @@ ghost use Rattle.engine_explore.specs.Explorations.{explored_in, explored_of_byt
 use cap_core::{Narrow, Profile, ProfileName, Wide};
 use engine::refusal;
 use engine_core::{Engine, RunFault, Sink, Source, Verdict, run_engine};
-use ipc_core::{LinkedWaiters, MakeWaiters};
+use ipc_core::{MakeWaiters, RowWaiters};
 use setup_explore::explored_report;
 use setup_format::{Setup, SetupFault, read_setup};
-use slot_core::{DerivationStore, LinkedStore, MakeStore};
+use slot_core::{DerivationStore, MakeStore, RowStore};
 use std::alloc::{AllocError, Global};
 
 /// How many calls of a set-up are made before its clients begin, and how many states are explored at most.
@@ -56,12 +56,10 @@ fn explore_named(
 {
     match setup.profile() {
         ProfileName::Wide => {
-            explore_setup::<Wide, LinkedStore<Wide>, LinkedWaiters<Wide>>(alloc, options, setup)
+            explore_setup::<Wide, RowStore<Wide>, RowWaiters<Wide>>(alloc, options, setup)
         }
         ProfileName::Narrow => {
-            explore_setup::<Narrow, LinkedStore<Narrow>, LinkedWaiters<Narrow>>(
-                alloc, options, setup,
-            )
+            explore_setup::<Narrow, RowStore<Narrow>, RowWaiters<Narrow>>(alloc, options, setup)
         }
     }
 }
@@ -82,7 +80,7 @@ fn explored_text(
     }
 }
 
-/// Explores, by the linked forms.
+/// Explores, by the plain forms: a copy of these has the full slots and the threads that wait alone to write.
 #[derive(Drop)]
 struct Explorer {
     options: ExploreOptions,

@@ -10,10 +10,10 @@ use crate::exploring::ExploreOptions;
 use cap_core::{Narrow, ProfileName, Wide};
 use engine::{refusal, table_text};
 use engine_core::{Engine, RunFault, Sink, Source, Verdict, run_engine};
-use ipc_core::LinkedWaiters;
+use ipc_core::RowWaiters;
 use setup_explore::{Witness, make_witness};
 use setup_format::{Setup, SetupFault, read_document, read_table};
-use slot_core::LinkedStore;
+use slot_core::RowStore;
 use std::alloc::{AllocError, Global};
 use toml::Table;
 
@@ -31,10 +31,10 @@ fn witness_named(
 {
     let ExploreOptions { first, states } = options;
     match setup.profile() {
-        ProfileName::Wide => make_witness::<Wide, LinkedStore<Wide>, LinkedWaiters<Wide>>(
+        ProfileName::Wide => make_witness::<Wide, RowStore<Wide>, RowWaiters<Wide>>(
             alloc, setup, first, states, witness, table,
         ),
-        ProfileName::Narrow => make_witness::<Narrow, LinkedStore<Narrow>, LinkedWaiters<Narrow>>(
+        ProfileName::Narrow => make_witness::<Narrow, RowStore<Narrow>, RowWaiters<Narrow>>(
             alloc, setup, first, states, witness, table,
         ),
     }
@@ -86,7 +86,7 @@ fn witness_bytes(
     }
 }
 
-/// Writes a witness, by the linked forms.
+/// Writes a witness, by the plain forms, as `Explorer` does.
 #[derive(Drop)]
 struct WitnessWriter {
     options: ExploreOptions,

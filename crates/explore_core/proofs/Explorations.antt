@@ -34,6 +34,7 @@ use Rattle.explore_core.specs.Nodes.{state_words, lead_alike, layer, IsNode, Are
 use Rattle.explore_core.specs.Counts.{saturated, saturated_sum, counted, states_before, ends_before}
 use Rattle.explore_core.specs.Found.{answers_of, stuck_of, same_left, counts_of, IsMade, IsExpanded}
 use Rattle.explore_core.specs.Explorations.{is_last, is_last_layer, depth_from, depth, IsBegun, IsExploredTo, IsExplored}
+use Rattle.explore_core.specs.Private.Kernels.{IsKernelOf}
 use Rattle.explore_core.specs.Private.Tables.{with_node}
 use Rattle.explore_core.specs.Private.Progress.{IsProgress}
 use Rattle.explore_core.proofs.Steps.{world_after-append, alike_from, alike_to, may_alike, longer_alike, end_alike, stuck_alike, layer_next}
@@ -127,23 +128,25 @@ module _ (p : ProfileName) (own : List (List Call)) where
       }
 
   -- a client without a call left makes none
-  pub none_made : (w : World) (same : Answer → Answer → Bool) (n m : Node) (client : ℕ) (c : Option Call) (found : List FoundAnswer) → IsNode p own w n → c ≡ next_call own n.made.items client → c ≡ None →
-      m.order.items ≡ n.order.items ++ client ∷ [] → m.calls.items ≡ n.calls.items → m.made.items ≡ n.made.items → m.waits.items ≡ n.waits.items → m.words.items ≡ n.words.items →
-      IsMade p own w n m client same found found
-  none_made w same n m client c found node is none order calls made waits words =
+  pub none_made : (w : World) (same : Answer → Answer → Bool) (n m : Node) (client : ℕ) (c : Option Call) (found : List FoundAnswer) (v : Shown) → IsNode p own w n → c ≡ next_call own n.made.items client → c ≡ None →
+      m.order.items ≡ n.order.items ++ client ∷ [] → m.calls.items ≡ n.calls.items → m.made.items ≡ n.made.items → m.waits.items ≡ n.waits.items → m.words.items ≡ n.words.items → IsKernelOf p own w n v →
+      IsMade p own w n m client same found found × IsKernelOf p own w m v
+  none_made w same n m client c found v node is none order calls made waits words at =
       let x = world_after p own w n.order.items in
       let no_call : next_call own x.made client ≡ None = ap (λ (l : List ℕ). next_call own l client) (sym node.made_is) ∙ sym is ∙ none in
-      let after : world_after p own w m.order.items ≡ x = ap (world_after p own w) order ∙ world_after-append p own w n.order.items (client ∷ []) ∙ ap (with_call p x client) no_call in
-      record {
-        is = record {
-          made_is = made ∙ node.made_is ∙ sym (ap (λ (y : World). y.made) after);
-          waits_are = waits ∙ node.waits_are ∙ sym (ap (λ (y : World). y.waits) after);
-          words_are = words ∙ node.words_are ∙ sym (ap (λ (y : World). state_words y.made y.waits (shown y.kernel)) after);
-          calls_are = ap (state_after p w.kernel) calls ∙ node.calls_are ∙ sym (ap (λ (y : World). y.kernel) after);
-        };
-        order_is = order;
-        told_are = sym (ap (λ (o : Option Call). with_firsts (same_answer same) (answers_of found) (call_answers p x n.order.items client o)) no_call);
-      }
+      let after : world_after p own w m.order.items ≡ x = ap (world_after p own w) order ∙ world_after-append p own w n.order.items (client ∷ []) ∙ ap (with_call p x client) no_call in (
+        record {
+          is = record {
+            made_is = made ∙ node.made_is ∙ sym (ap (λ (y : World). y.made) after);
+            waits_are = waits ∙ node.waits_are ∙ sym (ap (λ (y : World). y.waits) after);
+            words_are = words ∙ node.words_are ∙ sym (ap (λ (y : World). state_words y.made y.waits (shown y.kernel)) after);
+            calls_are = ap (state_after p w.kernel) calls ∙ node.calls_are ∙ sym (ap (λ (y : World). y.kernel) after);
+          };
+          order_is = order;
+          told_are = sym (ap (λ (o : Option Call). with_firsts (same_answer same) (answers_of found) (call_answers p x n.order.items client o)) no_call);
+        },
+        at ∙ sym (ap (λ (y : World). shown y.kernel) after),
+      )
 
   first_more : (w : World) (made order : List ℕ) (client : ℕ) →
       first_answers p own w made (order ++ client ∷ []) ≡ first_answers p own w made order ++ call_answers p (world_after p own w order) (made ++ order) client (next_call own (world_after p own w order).made client)

@@ -5,3 +5,4 @@ pub mod Tables
 pub mod Loops
 pub mod Explorations
 pub mod Places
+pub mod Kept

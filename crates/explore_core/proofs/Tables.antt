@@ -13,7 +13,7 @@ use Rattle.abstract_kernel.specs.declared.call.Reply.{Reply}
 use Rattle.abstract_kernel.specs.Shown.{Shown}
 use Rattle.abstract_kernel.specs.State.{State, shown}
 use Rattle.abstract_kernel.specs.Step.{step, state_after}
-use Rattle.abstract_kernel.specs.Reached.{IsReached, StepsTo}
+use Rattle.abstract_kernel.specs.Reached.{StepsTo}
 use Rattle.abstract_kernel.proofs.Reached.Runs.{state_after-snoc}
 use Rattle.kinds.specs.Kinds.{has_kind_of, with_first, with_firsts, with_count_up_to, with_counts_up_to, each_times}
 use Rattle.kinds.proofs.Merging.{with_firsts-append}
@@ -34,6 +34,7 @@ use Rattle.explore_core.specs.declared.stuck.FoundStuck.{FoundStuck}
 use Rattle.explore_core.specs.Nodes.{state_words, world_words, lead_alike, one_longer, IsNode, AreNodes, entry_of, entries_of}
 use Rattle.explore_core.specs.Counts.{saturated, saturated_sum}
 use Rattle.explore_core.specs.Found.{answer_of, answers_of, one_told, calls_told, not_made_told, end_told, stuck_of, stuck_told, same_left, IsMade, IsVisited, IsFound, IsExpanded}
+use Rattle.explore_core.specs.Private.Kernels.{IsKernelOf}
 use Rattle.explore_core.specs.Private.Tables.{by_words, heavier, heavier_in, heavier_at, with_node}
 use Rattle.explore_core.proofs.Steps.{world_after-append, any_agree}
 use Rattle.explore_core.proofs.Loops.{client_counted, number_more}
@@ -212,11 +213,16 @@ module _ (p : ProfileName) (own : List (List Call)) (w : World) where
         ∙ ap (λ (l : List WaitingCall). whole (place_of before.made client) (step p before.kernel call).reply (shown (step p before.kernel call).state) l) node.waits_are
         ∙ ap (λ (c : Option Call). call_answers p before n.order.items client c) (sym next_is)
 
+    after_is : (m : Node) → m.order.items ≡ n.order.items ++ client ∷ [] → world_after p own w m.order.items ≡ with_call p before client (Some call)
+    after_is m order = ap (world_after p own w) order ∙ world_after-append p own w n.order.items (client ∷ []) ∙ ap (with_call p before client) next_is
+
+    pub kernel_is : (m : Node) → m.order.items ≡ n.order.items ++ client ∷ [] → IsKernelOf p own w m v
+    kernel_is m order = steps.shows ∙ sym (ap (λ (y : World). shown y.kernel) (after_is m order))
+
     pub followed_is : (m : Node) → m.order.items ≡ n.order.items ++ client ∷ [] → m.calls.items ≡ n.calls.items ++ call ∷ [] → m.made.items ≡ one_more client (slice_get n.made.items client) n.made.items →
         m.waits.items ≡ waits_after v n.waits.items (waiting_call call.thread client (place_of n.made.items client)) reply → m.words.items ≡ state_words m.made.items m.waits.items v → IsNode p own w m
     followed_is m order calls made waits words =
-        let after : world_after p own w m.order.items ≡ with_call p before client (Some call) =
-        ap (world_after p own w) order ∙ world_after-append p own w n.order.items (client ∷ []) ∙ ap (with_call p before client) next_is in
+        let after = after_is m order in
         let made_is : m.made.items ≡ (world_after p own w m.order.items).made =
         made ∙ ap (λ (l : List ℕ). one_more client (slice_get l client) l) node.made_is ∙ sym (ap (λ (y : World). y.made) after) in
         let by = λ (x : Shown) (l : List WaitingCall) (made : List ℕ) (r : Reply). waits_after x l (waiting_call call.thread client (place_of made client)) r in
@@ -227,7 +233,7 @@ module _ (p : ProfileName) (own : List (List Call)) (w : World) where
         ∙ ap (λ (l : List ℕ). by (shown (step p before.kernel call).state) before.waits l reply) node.made_is
         ∙ ap (λ (r : Reply). by (shown (step p before.kernel call).state) before.waits before.made r) steps.reply_is
         ∙ sym (ap (λ (y : World). y.waits) after) in
-        let shows : v ≡ shown (world_after p own w m.order.items).kernel = steps.shows ∙ sym (ap (λ (y : World). shown y.kernel) after) in
+        let shows = kernel_is m order in
         record {
           made_is = made_is;
           waits_are = waits_are;
@@ -397,25 +403,25 @@ module _ (p : ProfileName) (own : List (List Call)) (w : World) where
 
   -- ---- a client's next call, where it can make one and where it cannot
 
-  pub made_is : (same : Answer → Answer → Bool) (n : Node) (v : Shown) (client : ℕ) (call : Call) (found found' : List FoundAnswer) (reply : Reply) (next : Shown) (order : List ℕ) (place : ℕ) (m : Node) →
-      IsReached p w.kernel → IsReached p (world_after p own w n.order.items).kernel → IsNode p own w n → v ≡ shown (world_after p own w n.order.items).kernel →
-      next_call own n.made.items client ≡ Some call → ((A : State) → IsReached p A → v ≡ shown A → StepsTo p A call reply next) →
+  pub made_is : (same : Answer → Answer → Bool) (n : Node) (client : ℕ) (call : Call) (found found' : List FoundAnswer) (reply : Reply) (next : Shown) (order : List ℕ) (place : ℕ) (m : Node) →
+      IsNode p own w n → StepsTo p (world_after p own w n.order.items).kernel call reply next → next_call own n.made.items client ≡ Some call →
       order ≡ n.order.items ++ client ∷ [] → place ≡ place_of n.made.items client →
       answers_of found' ≡ with_firsts (same_answer same) (answers_of found) (replied order client place reply ++ waits_ended order next n.waits.items reply) →
       m.order.items ≡ order → m.calls.items ≡ n.calls.items ++ call ∷ [] → m.made.items ≡ one_more client (slice_get n.made.items client) n.made.items →
       m.waits.items ≡ waits_after next n.waits.items (waiting_call call.thread client (place_of n.made.items client)) reply → m.words.items ≡ state_words m.made.items m.waits.items next →
-      IsMade p own w n m client same found found'
-  made_is same n v client call found found' reply next order place m reached reached' node at is steps order_is place_is told o c k t d =
-      let step_is = steps (world_after p own w n.order.items).kernel reached' at in
-      record {
-        is = followed_is n node client call is reply next step_is m (o ∙ order_is) c k t d;
-        order_is = o ∙ order_is;
-        told_are =
-            told
-            ∙ ap (λ (l : List ℕ). with_firsts (same_answer same) (answers_of found) (replied l client place reply ++ waits_ended l next n.waits.items reply)) order_is
-            ∙ ap (λ (i : ℕ). with_firsts (same_answer same) (answers_of found) (replied (n.order.items ++ client ∷ []) client i reply ++ waits_ended (n.order.items ++ client ∷ []) next n.waits.items reply)) place_is
-            ∙ ap (with_firsts (same_answer same) (answers_of found)) (told_is n node client call is reply next step_is);
-      }
+      IsMade p own w n m client same found found' × IsKernelOf p own w m next
+  made_is same n client call found found' reply next order place m node step_is is order_is place_is told o c k t d = (
+    record {
+      is = followed_is n node client call is reply next step_is m (o ∙ order_is) c k t d;
+      order_is = o ∙ order_is;
+      told_are =
+          told
+          ∙ ap (λ (l : List ℕ). with_firsts (same_answer same) (answers_of found) (replied l client place reply ++ waits_ended l next n.waits.items reply)) order_is
+          ∙ ap (λ (i : ℕ). with_firsts (same_answer same) (answers_of found) (replied (n.order.items ++ client ∷ []) client i reply ++ waits_ended (n.order.items ++ client ∷ []) next n.waits.items reply)) place_is
+          ∙ ap (with_firsts (same_answer same) (answers_of found)) (told_is n node client call is reply next step_is);
+    },
+    kernel_is n node client call is reply next step_is m (o ∙ order_is),
+  )
 
   pub visited_not : (same : Answer → Answer → Bool) (n : Node) (v : Shown) (client : ℕ) (got : Option Call) (nodes : List Node) (found : List FoundAnswer) → IsNode p own w n → v ≡ shown (world_after p own w n.order.items).kernel → AreNodes p own w nodes →
       got ≡ None → is_some got ≡ can_be_made v (next_call own n.made.items client) →

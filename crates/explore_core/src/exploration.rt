@@ -10,12 +10,14 @@ ghost use Rattle.explore_core.specs.Nodes.{own_calls, layer, IsNode};
 ghost use Rattle.explore_core.specs.Found.{IsMade};
 ghost use Rattle.explore_core.specs.Counts.{saturated};
 ghost use Rattle.explore_core.specs.Explorations.{IsExplored, IsBegun, is_last};
+ghost use Rattle.explore_core.specs.Private.Kernels.{IsKernelOf, AreKernels};
 ghost use Rattle.explore_core.specs.Private.Progress.{IsProgress};
 
 use crate::answers::FoundAnswer;
+use crate::kernels::KeptLayer;
 use crate::layer::Layer;
-use crate::layers::{make_call, next_layer};
-use crate::node::{Node, kernel_after, next_call};
+use crate::layers::{next_layer, note_call};
+use crate::node::{Node, next_call};
 use crate::stuck::Findings;
 use crate::words::state_words;
 use cap_core::Profile;
@@ -24,6 +26,7 @@ use kernel_core::{Call, Kernel};
 use orders::Answer;
 use slot_core::{DerivationStore, MakeStore};
 use std::alloc::{AllocError, Global};
+use std::collections::VecDeque;
 
 /// What the orders give that begin in one way and have fewer calls more than `calls`: what stands behind them, how many states
 /// they lead to, with those that the first calls lead through, up to 2^64 - 1; and the states that orders of just `calls` more
@@ -74,42 +77,46 @@ fn uncalled(node: Node, client: usize) -> Result<Node, AllocError>
 }
 
 /// Makes the next call of a client, be its thread ready or not, and notes what it tells. Where the client has none, nothing is
-/// made.
+/// made. `at` is the kernel of the node, and then that of the new one.
 fn first_call<P: Profile, S: MakeStore<P> + DerivationStore<P>, W: MakeWaiters<P>>(
     alloc: Global,
     calls: &[Vec<Call>],
-    kernel: &Kernel<P, S, W>,
+    at: &mut Kernel<P, S, W>,
     node: Node,
     client: usize,
     found: &mut Vec<FoundAnswer>,
 ) -> Result<Node, AllocError>
-    ensures made { IfOk result (λ new. (w : World) → IsReached P.profile w.kernel → kernel.now ≡ shown w.kernel → IsNode P.profile (own_calls calls.now) w node
-        → IsMade P.profile (own_calls calls.now) w node new client ⟦<Answer as PartialEq>⟧.eq found.old.items found.new.items) }
+    ensures made { IfOk result (λ new. (w : World) → IsReached P.profile w.kernel → IsNode P.profile (own_calls calls.now) w node
+        → IsKernelOf P.profile (own_calls calls.now) w node at.old
+        → IsMade P.profile (own_calls calls.now) w node new client ⟦<Answer as PartialEq>⟧.eq found.old.items found.new.items
+        × IsKernelOf P.profile (own_calls calls.now) w new at.new) }
     ensures weight { IfOk result (λ new. new.weight ≡ node.weight) }
 {
     match next_call(calls, node.made.as_slice(), client) {
         Some(call) => {
-            let at = kernel_after(alloc, kernel, node.calls.as_slice())?;
-            make_call(alloc, &at, &node, client, call, found)
+            let reply = at.step(call);
+            note_call(alloc, &node, client, call, at, reply, found)
         }
         None => uncalled(node, client),
     }
 }
 
-/// Makes the calls by which all orders begin, each the next one of a client, and notes what they tell.
+/// Makes the calls by which all orders begin, each the next one of a client, and notes what they tell. `at` is the kernel that
+/// makes them.
 fn begin<P: Profile, S: MakeStore<P> + DerivationStore<P>, W: MakeWaiters<P>>(
     alloc: Global,
     calls: &[Vec<Call>],
-    kernel: &Kernel<P, S, W>,
+    at: &mut Kernel<P, S, W>,
     first: &[usize],
     found: &mut Vec<FoundAnswer>,
 ) -> Result<Node, AllocError>
-    ensures { IfOk result (λ node. (A : State) → IsReached P.profile A → kernel.now ≡ shown A
-        → IsBegun P.profile (own_calls calls.now) A first.now node ⟦<Answer as PartialEq>⟧.eq found.old.items found.new.items) }
+    ensures { IfOk result (λ node. (A : State) → IsReached P.profile A → at.old ≡ shown A
+        → IsBegun P.profile (own_calls calls.now) A first.now node ⟦<Answer as PartialEq>⟧.eq found.old.items found.new.items
+        × IsKernelOf P.profile (own_calls calls.now) (start (own_calls calls.now) A) node at.new) }
 {
-    let mut node = first_node(alloc, calls.len(), kernel)?;
+    let mut node = first_node(alloc, calls.len(), at)?;
     for i in 0..first.len() {
-        node = first_call(alloc, calls, kernel, node, first[i], found)?;
+        node = first_call(alloc, calls, at, node, first[i], found)?;
     }
     Ok(node)
 }
@@ -121,20 +128,25 @@ fn states_through(first: &[usize]) -> u64
     0u64.saturating_add(first.len() as u64)
 }
 
-/// What is known before any call behind the first ones.
+/// What is known before any call behind the first ones. The kernel after these is kept.
 fn begun<P: Profile, S: MakeStore<P> + DerivationStore<P>, W: MakeWaiters<P>>(
     alloc: Global,
     calls: &[Vec<Call>],
     kernel: &Kernel<P, S, W>,
     first: &[usize],
+    kept: &mut VecDeque<Kernel<P, S, W>>,
 ) -> Result<Explored, AllocError>
+    requires { kept.old.items ≡ [] }
     ensures { IfOk result (λ e. (A : State) → IsReached P.profile A → kernel.now ≡ shown A
-        → IsProgress P.profile (own_calls calls.now) A first.now ⟦<Answer as PartialEq>⟧.eq e × (e.calls ≡ 0)) }
+        → IsProgress P.profile (own_calls calls.now) A first.now ⟦<Answer as PartialEq>⟧.eq e × ((e.calls ≡ 0)
+        × AreKernels P.profile (own_calls calls.now) (start (own_calls calls.now) A) kept.new.items e.layer)) }
 {
     let mut found = Findings::new(alloc);
-    let node = begin(alloc, calls, kernel, first, &mut found.answers)?;
+    let mut at = kernel.copy(alloc)?;
+    let node = begin(alloc, calls, &mut at, first, &mut found.answers)?;
     let mut layer = Layer::new(alloc);
     layer.note(node)?;
+    kept.push_back(at)?;
     let states = states_through(first);
     Ok(Explored {
         layer,
@@ -160,23 +172,28 @@ fn goes_on(explored: &Explored, limit: u64, count: usize) -> bool
     explored.calls < count && !is_last
 }
 
-/// Explores the orders that have one call more.
+/// Explores the orders that have one call more. `kept` has the kernels of the layer's first nodes.
 fn advance<P: Profile, S: MakeStore<P> + DerivationStore<P>, W: MakeWaiters<P>>(
     alloc: Global,
     calls: &[Vec<Call>],
     kernel: &Kernel<P, S, W>,
     explored: &mut Explored,
+    kept: &mut VecDeque<Kernel<P, S, W>>,
 ) -> Result<(), AllocError>
     requires { explored.old.calls < usize.MAX }
     ensures progress { OnOk result ((A : State) (first : List ℕ) → IsReached P.profile A → kernel.now ≡ shown A
         → IsProgress P.profile (own_calls calls.now) A first ⟦<Answer as PartialEq>⟧.eq explored.old
-        → IsProgress P.profile (own_calls calls.now) A first ⟦<Answer as PartialEq>⟧.eq explored.new) }
+        → AreKernels P.profile (own_calls calls.now) (start (own_calls calls.now) A) kept.old.items explored.old.layer
+        → IsProgress P.profile (own_calls calls.now) A first ⟦<Answer as PartialEq>⟧.eq explored.new
+        × AreKernels P.profile (own_calls calls.now) (start (own_calls calls.now) A) kept.new.items explored.new.layer) }
     ensures calls { OnOk result (explored.new.calls ≡ explored.old.calls + 1) }
 {
     let states = states_after(explored);
     let nodes = explored.layer.nodes();
-    let next = next_layer(alloc, calls, kernel, nodes, &mut explored.found)?;
-    explored.layer = next;
+    let next = next_layer(alloc, calls, kernel, nodes, kept, &mut explored.found)?;
+    let KeptLayer { layer, kernels } = next;
+    explored.layer = layer;
+    *kept = kernels;
     explored.states = states;
     explored.calls += 1;
     Ok(())
@@ -201,9 +218,10 @@ pub fn explore<P: Profile, S: MakeStore<P> + DerivationStore<P>, W: MakeWaiters<
     ensures { IfOk result (λ e. (A : State) → IsReached P.profile A → kernel.now ≡ shown A
         → IsExplored P.profile (own_calls calls.now) A first.now ⟦<Answer as PartialEq>⟧.eq limit count e) }
 {
-    let mut explored = begun(alloc, calls, kernel, first)?;
+    let mut kept = VecDeque::new(alloc);
+    let mut explored = begun(alloc, calls, kernel, first, &mut kept)?;
     while goes_on(&explored, limit, count) {
-        advance(alloc, calls, kernel, &mut explored)?;
+        advance(alloc, calls, kernel, &mut explored, &mut kept)?;
     }
     Ok(explored)
 }

@@ -5,6 +5,7 @@
 mod answers;
 mod ends;
 mod exploration;
+mod kernels;
 mod layer;
 mod layers;
 mod node;

@@ -4,14 +4,18 @@ use Rattle.orders.specs.contracts.answer.AnswerPartialEq.TheImpl as answer_eq
 use Rattle.explore_core.specs.declared.node.Node.{Node}
 use Rattle.explore_core.specs.Nodes.{own_calls, AreNodes, entries_of}
 use Rattle.explore_core.specs.Found.{IsExpanded}
+use Rattle.explore_core.specs.Private.Kernels.{AreKernels}
 use Rattle.explore_core.proofs.Explorations.{progress_more}
 use Rattle.explore_core.proofs.exploration.advance.Goals as goal
 
 pub returns-clause-progress : goal.returns-clause-progress
-returns-clause-progress g c A first r k before =
+returns-clause-progress g c A first r k before kernels =
     let p = g.P.Profile.profile in
     let own = own_calls c.args.calls.now in
+    let w = start own A in
     let is = c.nodes-nodes.ensures in
-    let now = c.in_ok-next.ensures (start own A) r k (subst (AreNodes p own (start own A)) (sym is) before.are) in
-    progress_more p own A first r c.args.explored.now _ before
-    (subst (λ (l : List Node). IsExpanded p own (start own A) [] c.in_ok-next.next answer_eq.ghosts.eq c.args.explored.now.found c.next_layer.new.found (entries_of l)) is now) c.states_after-states.ensures refl
+    let now = c.in_ok-next.ensures w r k (subst (AreNodes p own w) (sym is) before.are) (subst (λ (l : List Node). AreKernels p own w c.args.kept.now.items l) (sym is) kernels) in (
+      progress_more p own A first r c.args.explored.now _ before
+          (subst (λ (l : List Node). IsExpanded p own w [] c.in_ok-next.next.layer answer_eq.ghosts.eq c.args.explored.now.found c.next_layer.new.found (entries_of l)) is now.0) c.states_after-states.ensures refl,
+      now.1,
+    )

@@ -1,12 +1,15 @@
 use Rattle.std.proofs.Common.{◌≡◌, take}
 use Rattle.abstract_kernel.specs.State.{State, shown}
 use Rattle.abstract_kernel.specs.Reached.{IsReached}
+use Rattle.orders.specs.World.{start}
 use Rattle.orders.specs.contracts.answer.AnswerPartialEq.TheImpl as answer_eq
 use Rattle.explore_core.specs.Nodes.{own_calls}
 use Rattle.explore_core.specs.Explorations.{IsBegun}
+use Rattle.explore_core.specs.Private.Kernels.{IsKernelOf}
 use Rattle.explore_core.proofs.exploration.begin.Given as goal
 
 abbrev pub invariant-loop-i : goal.invariant-loop-i
 invariant-loop-i g l =
-    (A : State) → IsReached g.P.Profile.profile A → l.kernel ≡ shown A
+    (A : State) → IsReached g.P.Profile.profile A → l.fn.at ≡ shown A
     → IsBegun g.P.Profile.profile (own_calls l.calls) A (take l.i l.first) l.node answer_eq.ghosts.eq l.fn.found.items l.found.items
+    × IsKernelOf g.P.Profile.profile (own_calls l.calls) (start (own_calls l.calls) A) l.node l.at

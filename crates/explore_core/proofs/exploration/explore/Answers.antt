@@ -10,21 +10,31 @@ loop-alloc-init g c A r k =
     let p = g.P.Profile.profile in
     let own = own_calls c.args.calls.now in
     let b = c.in_ok-explored.ensures A r k in
+    let none = (b.1).0 in
     let whole : c.args.count - 0 ≡ c.args.count = omega arith in (
       b.0,
-      ap (λ (n : ℕ). depth_from p own (start own A) c.args.first.now c.args.limit (c.args.count - n) n) b.1
-          ∙ ap (λ (n : ℕ). depth_from p own (start own A) c.args.first.now c.args.limit n 0) whole,
+      (
+        (b.1).1,
+        ap (λ (n : ℕ). depth_from p own (start own A) c.args.first.now c.args.limit (c.args.count - n) n) none
+            ∙ ap (λ (n : ℕ). depth_from p own (start own A) c.args.first.now c.args.limit n 0) whole,
+      ),
     )
 
 pub loop-alloc-preserved : goal.loop-alloc-preserved
 loop-alloc-preserved g c A r k =
     let p = g.P.Profile.profile in
     let own = own_calls c.args.calls.now in
-    let before = c.loop-alloc.invariant A r k in (
-      c.in_ok-advance.ensures.progress A c.args.first.now r k before.0,
-      ap (λ (n : ℕ). depth_from p own (start own A) c.args.first.now c.args.limit (c.args.count - n) n) c.in_ok-advance.ensures.calls
-          ∙ sym (depth_goes_on p own A c.args.first.now c.args.limit c.args.count c.loop-alloc.explored c.goes_on.result (before.0).to c.goes_on.ensures c.loop-alloc-test.true)
-          ∙ before.1,
+    let before = c.loop-alloc.invariant A r k in
+    let kernels = (before.1).0 in
+    let depths = (before.1).1 in
+    let now = c.in_ok-advance.ensures.progress A c.args.first.now r k before.0 kernels in (
+      now.0,
+      (
+        now.1,
+        ap (λ (n : ℕ). depth_from p own (start own A) c.args.first.now c.args.limit (c.args.count - n) n) c.in_ok-advance.ensures.calls
+            ∙ sym (depth_goes_on p own A c.args.first.now c.args.limit c.args.count c.loop-alloc.explored c.goes_on.result (before.0).to c.goes_on.ensures c.loop-alloc-test.true)
+            ∙ depths,
+      ),
     )
 
 pub loop-alloc-smaller : goal.loop-alloc-smaller
@@ -35,4 +45,5 @@ returns g c A r k =
     let p = g.P.Profile.profile in
     let own = own_calls c.args.calls.now in
     let before = c.loop-alloc.invariant A r k in
-    depth_ends p own A c.args.first.now c.args.limit c.args.count c.loop-alloc.explored c.goes_on.result (before.0).to c.goes_on.ensures c.loop-alloc-test.false before.1
+    let depths = (before.1).1 in
+    depth_ends p own A c.args.first.now c.args.limit c.args.count c.loop-alloc.explored c.goes_on.result (before.0).to c.goes_on.ensures c.loop-alloc-test.false depths

@@ -5,6 +5,7 @@ use Rattle.orders.specs.World.{start}
 use Rattle.orders.specs.contracts.answer.AnswerPartialEq.TheImpl as answer_eq
 use Rattle.explore_core.specs.Nodes.{own_calls}
 use Rattle.explore_core.specs.Explorations.{depth_from, depth}
+use Rattle.explore_core.specs.Private.Kernels.{AreKernels}
 use Rattle.explore_core.specs.Private.Progress.{IsProgress}
 use Rattle.explore_core.proofs.exploration.explore.Given as goal
 
@@ -14,7 +15,8 @@ invariant-loop-alloc g l =
     let own = own_calls l.calls in
     (A : State) → IsReached p A → l.kernel ≡ shown A
     → IsProgress p own A l.first answer_eq.ghosts.eq l.explored
-    × (depth_from p own (start own A) l.first l.limit (l.count - l.explored.calls) l.explored.calls ≡ depth p own (start own A) l.first l.limit l.count)
+    × (AreKernels p own (start own A) l.kept.items l.explored.layer
+    × (depth_from p own (start own A) l.first l.limit (l.count - l.explored.calls) l.explored.calls ≡ depth p own (start own A) l.first l.limit l.count))
 
 abbrev pub decreases-loop-alloc : goal.decreases-loop-alloc
 decreases-loop-alloc g l = l.count - l.explored.calls

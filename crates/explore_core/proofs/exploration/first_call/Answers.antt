@@ -1,31 +1,28 @@
 use Rattle.std.proofs.Common.{◌≡◌, List, ℕ, Some, ap, sym, ◌∙◌}
-use Rattle.abstract_kernel.specs.declared.call.Call.{Call}
-use Rattle.abstract_kernel.specs.State.{shown}
-use Rattle.abstract_kernel.specs.Step.{state_after}
-use Rattle.orders.specs.World.{next_call}
+use Rattle.orders.specs.World.{next_call, world_after}
 use Rattle.orders.specs.contracts.answer.AnswerPartialEq.TheImpl as answer_eq
 use Rattle.explore_core.specs.Nodes.{own_calls}
-use Rattle.explore_core.proofs.Tables.{if_ok, at_is}
+use Rattle.explore_core.proofs.Steps.{world_reached}
+use Rattle.explore_core.proofs.Tables.{if_ok}
 use Rattle.explore_core.proofs.Explorations.{none_made}
 use Rattle.explore_core.proofs.exploration.first_call.Goals as goal
 
-pub returns-in_ok-at-in-Some-clause-made : goal.returns-in_ok-at-in-Some-clause-made
-returns-in_ok-at-in-Some-clause-made g c =
+pub returns-in-Some-clause-made : goal.returns-in-Some-clause-made
+returns-in-Some-clause-made g c =
     let p = g.P.Profile.profile in
     let own = own_calls c.args.calls.now in
-    if_ok c.make_call.result c.make_call.ensures.made
-    (λ new h w r k node.
-    (let shows = at_is p own w c.args.node c.in_ok-at-in-Some.at node (c.in_ok-at-in-Some.ensures w.kernel r k ∙ ap (λ (l : List Call). shown (state_after p w.kernel l)) c.as_slice-in-Some.ensures.value) in
-    let next_is : next_call own c.args.node.made.items c.args.client ≡ Some c.in-Some.call = sym (c.next_call.ensures.call ∙ ap (λ (l : List ℕ). next_call own l c.args.client) c.as_slice.ensures.value) ∙ c.in-Some.is in
-    h own w r node shows next_is))
+    if_ok c.note_call.result c.note_call.ensures.made
+    (λ new h w r node at.
+    (let next_is : next_call own c.args.node.made.items c.args.client ≡ Some c.in-Some.call = sym (c.next_call.ensures.call ∙ ap (λ (l : List ℕ). next_call own l c.args.client) c.as_slice.ensures.value) ∙ c.in-Some.is in
+    h own w r node (c.step-reply.ensures.stands (world_after p own w c.args.node.order.items).kernel (world_reached p own w c.args.node.order.items r) at) next_is))
 
 pub returns-in-None-clause-made : goal.returns-in-None-clause-made
 returns-in-None-clause-made g c =
     let p = g.P.Profile.profile in
     let own = own_calls c.args.calls.now in
     if_ok c.uncalled.result c.uncalled.ensures.rest
-    (λ new h w r k node.
+    (λ new h w r node at.
     (let a = h.1 in
     let b = a.1 in
     let d = b.1 in
-    none_made p own w answer_eq.ghosts.eq c.args.node new c.args.client c.next_call.result c.args.found.now.items node (c.next_call.ensures.call ∙ ap (λ (l : List ℕ). next_call own l c.args.client) c.as_slice.ensures.value) c.in-None.is h.0 a.0 b.0 d.0 d.1))
+    none_made p own w answer_eq.ghosts.eq c.args.node new c.args.client c.next_call.result c.args.found.now.items c.args.at.now node (c.next_call.ensures.call ∙ ap (λ (l : List ℕ). next_call own l c.args.client) c.as_slice.ensures.value) c.in-None.is h.0 a.0 b.0 d.0 d.1 at))

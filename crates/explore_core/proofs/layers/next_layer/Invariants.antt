@@ -1,15 +1,17 @@
-use Rattle.std.proofs.Common.{◌≡◌, [], take}
+use Rattle.std.proofs.Common.{◌≡◌, [], take, drop}
 use Rattle.abstract_kernel.specs.State.{shown}
 use Rattle.abstract_kernel.specs.Reached.{IsReached}
 use Rattle.orders.specs.World.{World}
 use Rattle.orders.specs.contracts.answer.AnswerPartialEq.TheImpl as answer_eq
 use Rattle.explore_core.specs.Nodes.{own_calls, AreNodes, entries_of}
 use Rattle.explore_core.specs.Found.{IsExpanded}
+use Rattle.explore_core.specs.Private.Kernels.{AreKernels}
 use Rattle.explore_core.proofs.layers.next_layer.Given as goal
 
 abbrev pub invariant-loop-node : goal.invariant-loop-node
 invariant-loop-node g l =
     let p = g.P.Profile.profile in
     let own = own_calls l.calls in
-    (w : World) → IsReached p w.kernel → l.kernel ≡ shown w.kernel → AreNodes p own w l.layer
-    → IsExpanded p own w [] l.next answer_eq.ghosts.eq l.fn.found l.found (entries_of (take l.node-index l.layer))
+    (w : World) → IsReached p w.kernel → l.kernel ≡ shown w.kernel → AreNodes p own w l.layer → AreKernels p own w l.fn.kept.items l.layer
+    → IsExpanded p own w [] l.next.layer answer_eq.ghosts.eq l.fn.found l.found (entries_of (take l.node-index l.layer))
+    × (AreKernels p own w l.next.kernels.items l.next.layer × AreKernels p own w l.kept.items (drop l.node-index l.layer))

@@ -1,6 +1,5 @@
-use Rattle.std.proofs.Common.{◌≡◌, ◌++◌, ◌∷◌, [], map, filter}
+use Rattle.std.proofs.Common.{◌++◌, ◌∷◌, [], map, filter}
 use Rattle.std.specs.List.{flat_map}
-use Rattle.abstract_kernel.specs.State.{shown}
 use Rattle.abstract_kernel.specs.Reached.{IsReached}
 use Rattle.kinds.specs.Kinds.{each_times}
 use Rattle.orders.specs.World.{World, next_call, may_call, world_after}
@@ -9,13 +8,16 @@ use Rattle.orders.specs.Answers.{call_answers}
 use Rattle.orders.specs.contracts.answer.AnswerPartialEq.TheImpl as answer_eq
 use Rattle.explore_core.specs.Nodes.{own_calls, IsNode, AreNodes}
 use Rattle.explore_core.specs.Found.{IsVisited}
+use Rattle.explore_core.specs.Private.Kernels.{IsKernelOf, AreKernels}
 use Rattle.explore_core.proofs.layers.visit_clients.Given as goal
 
 abbrev pub invariant-loop-client : goal.invariant-loop-client
 invariant-loop-client g l =
     let p = g.P.Profile.profile in
     let own = own_calls l.calls in
-    (w : World) → IsReached p w.kernel → IsNode p own w l.node → l.at ≡ shown (world_after p own w l.node.order.items).kernel → AreNodes p own w l.fn.nodes
-    → IsVisited p own w l.fn.nodes l.nodes (each_times l.node.weight (map (λ c. l.node.order.items ++ c ∷ []) (filter (may_call own (world_after p own w l.node.order.items)) (below l.client))))
+    ((w : World) → IsReached p w.kernel → IsNode p own w l.node → IsKernelOf p own w l.node l.at → AreNodes p own w l.fn.nodes.layer
+    → IsVisited p own w l.fn.nodes.layer l.nodes.layer (each_times l.node.weight (map (λ c. l.node.order.items ++ c ∷ []) (filter (may_call own (world_after p own w l.node.order.items)) (below l.client))))
     answer_eq.ghosts.eq l.fn.found.items l.found.items
-    (flat_map (λ c. call_answers p (world_after p own w l.node.order.items) l.node.order.items c (next_call own (world_after p own w l.node.order.items).made c)) (filter (may_call own (world_after p own w l.node.order.items)) (below l.client)))
+    (flat_map (λ c. call_answers p (world_after p own w l.node.order.items) l.node.order.items c (next_call own (world_after p own w l.node.order.items).made c)) (filter (may_call own (world_after p own w l.node.order.items)) (below l.client))))
+    × ((w : World) → IsReached p w.kernel → IsNode p own w l.node → IsKernelOf p own w l.node l.at → AreKernels p own w l.fn.nodes.kernels.items l.fn.nodes.layer
+    → AreKernels p own w l.nodes.kernels.items l.nodes.layer)

@@ -5,24 +5,24 @@ use Rattle.orders.specs.World.{place_of}
 use Rattle.orders.specs.Answers.{same_answer, replied, waits_ended}
 use Rattle.orders.specs.contracts.answer.AnswerPartialEq.TheImpl as answer_eq
 use Rattle.explore_core.specs.Found.{answers_of}
-use Rattle.explore_core.proofs.Steps.{world_reached}
 use Rattle.explore_core.proofs.Tables.{made_is}
-use Rattle.explore_core.proofs.layers.make_call.Goals as goal
+use Rattle.explore_core.proofs.layers.note_call.Goals as goal
 
 pub returns-clause-made : goal.returns-clause-made
-returns-clause-made g c own w r node at next_is =
+returns-clause-made g c own w r node steps next_is =
     let p = g.P.Profile.profile in
     let n = c.args.node.now in
     let client = c.args.client in
-    let next = c.in_ok-next.next in
+    let after = c.args.after.now in
+    let reply = c.args.reply in
     let order = c.in_ok-order.order.items in
     let place = c.place_of-place.result in
     let told =
     c.in_ok-note_outcome.ensures
-    ∙ ap (λ (o : List ℕ). with_firsts (same_answer answer_eq.ghosts.eq) (answers_of c.args.found.now.items) (replied o client place next.reply ++ waits_ended o next.kernel c.as_slice-3.result.now next.reply)) c.as_slice-4.ensures.value
-    ∙ ap (λ (l : List WaitingCall). with_firsts (same_answer answer_eq.ghosts.eq) (answers_of c.args.found.now.items) (replied order client place next.reply ++ waits_ended order next.kernel l next.reply)) c.as_slice-3.ensures.value in
-    made_is p own w answer_eq.ghosts.eq n c.args.at.now client c.args.call c.args.found.now.items c.note_outcome.new.found.items next.reply next.kernel order place c.in_ok-new.new
-    r (world_reached p own w n.order.items r) node at next_is c.in_ok-next.ensures
+    ∙ ap (λ (o : List ℕ). with_firsts (same_answer answer_eq.ghosts.eq) (answers_of c.args.found.now.items) (replied o client place reply ++ waits_ended o after c.as_slice-3.result.now reply)) c.as_slice-4.ensures.value
+    ∙ ap (λ (l : List WaitingCall). with_firsts (same_answer answer_eq.ghosts.eq) (answers_of c.args.found.now.items) (replied order client place reply ++ waits_ended order after l reply)) c.as_slice-3.ensures.value in
+    made_is p own w answer_eq.ghosts.eq n client c.args.call c.args.found.now.items c.note_outcome.new.found.items reply after order place c.in_ok-new.new
+    node steps next_is
     (c.in_ok-order.ensures ∙ ap (λ (l : List ℕ). l ++ client ∷ []) c.as_slice.ensures.value)
     (c.place_of-place.ensures ∙ ap (λ (l : List ℕ). place_of l client) c.as_slice-2.ensures.value)
     told c.in_ok-new.ensures.order c.in_ok-new.ensures.calls c.in_ok-new.ensures.made c.in_ok-new.ensures.waits c.in_ok-new.ensures.words
