@@ -1,6 +1,6 @@
 -- The list of the full slots of a forest.
 use Rattle.std.proofs.Common.{◌≡◌, ◌≢◌, ℕ, zero, suc, ◌<◌, ◌≤◌, ◌⊎◌, inl, inr, refl, sym, ap, ◌∙◌, arith, Bool, true, false, cond, ◌==◌, ◌||◌, List, [], ◌∷◌, ◌++◌, length, map, get_or, Option, Some, None, option_map, replicate, eq-eqb}
-use Rattle.std.proofs.lemmas.List.{map-append, length-replicate}
+use Rattle.std.proofs.lemmas.List.{map-append}
 use Rattle.std.specs.List.{slice_get, list_any, Contains, Any, All, IsDistinct}
 use Rattle.std.specs.List.Sorted.{IsStrictlySortedBy}
 use Rattle.std.specs.Ordering.{nat_cmp}
@@ -157,17 +157,20 @@ got_push (y ∷ xs) x zero u e = inl e
 got_push (y ∷ xs) x (suc k) u e = got_push xs x k u e
 
 -- rows with no words
-none_in : (n k : ℕ) → word_in (replicate n None) k ≡ None
+pub none_in : (n k : ℕ) → word_in (replicate n None) k ≡ None
 none_in zero k = refl
 none_in (suc n) zero = refl
 none_in (suc n) (suc k) = none_in n k
 
-pub empty_more : {A : Type 0} (items : A → List (Option ℕ)) (width : ℕ) (rows : List A) (row : A) → AreEmpty width (map items rows) → items row ≡ replicate width None →
-    AreEmpty width (map items (rows ++ row ∷ []))
-empty_more items width rows row empty is t r e = elim (got_push (map items rows) (items row) t r (rw (map-append items rows (row ∷ [])) at e)) [
-  | inl old ↦ empty t r old
-  | inr new ↦ (let same : r ≡ replicate width None = sym new ∙ is in rw same (length-replicate width None, none_in width))
-]
+row_push : (rows : List (List (Option ℕ))) (row : List (Option ℕ)) → AreEmpty rows → row ≡ [] → AreEmpty (rows ++ row ∷ [])
+row_push [] row empty is zero = is
+row_push [] row empty is (suc t) = refl
+row_push (first ∷ rows) row empty is zero = empty zero
+row_push (first ∷ rows) row empty is (suc t) = row_push rows row (λ k. empty (suc k)) is t
+
+pub empty_more : {A : Type 0} (items : A → List (Option ℕ)) (rows : List A) (row : A) → AreEmpty (map items rows) → items row ≡ [] →
+    AreEmpty (map items (rows ++ row ∷ []))
+empty_more items rows row empty is = rw (map-append items rows (row ∷ [])) (row_push (map items rows) (items row) empty is)
 
 -- slots that were put into an order, each once
 pub lawful_in_order : (p : ProfileName) (was filled : List FullSlot) → ((u : FullSlot) → Contains filled u → Contains was u) → AreLawful p was → AreLawful p filled

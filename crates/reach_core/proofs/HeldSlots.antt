@@ -33,7 +33,7 @@ use Rattle.reach_core.specs.Private.Paths.{path_in, row_of, path_at, IsUpTo, Are
 use Rattle.reach_core.specs.Private.Exploring.{whole_slot, target_from, IsExplored, AreStarts, StandsForIndex}
 use Rattle.reach_core.specs.Private.Entries.{HasStarts, path_of, earlier, IsHeldAt, IsBest, IsListed, HasEntry}
 use Rattle.reach_core.proofs.FullSlots.{one_place, got_contains, contains_got}
-use Rattle.reach_core.proofs.PathTables.{IsPut}
+use Rattle.reach_core.specs.Private.Paths.{IsPut}
 use Rattle.reach_core.proofs.Targets.{LeadsTo, leads_to, leading_to, entered_whole}
 
 -- the slot of a call's index and depth, and of the search

@@ -1,9 +1,9 @@
 -- What a path that is put leaves in a table, and paths put one after another.
 use Rattle.std.proofs.Common.{◌≡◌, ◌≢◌, ℕ, zero, suc, ◌+◌, ◌<◌, ◌≤◌, ◌⊎◌, inl, inr, refl, sym, ap, ◌∙◌, arith, Bool, true, false, cond, ◌==◌, ◌&&◌, ◌||◌, nat_lt, List, [], ◌∷◌, ◌++◌, length, map, get_or, Option, None, Some, option_map, unwrap_or, set, replicate, eq-eqb}
 use Rattle.std.specs.List.{slice_get}
-use Rattle.std.proofs.lemmas.Bool.{cases_eq, ltb-true, ltb-false, eqb-true}
-use Rattle.std.proofs.lemmas.List.{map-append, map-set, length-set, length-replicate}
-use Rattle.std.proofs.lemmas.Option.{slice_get-map, slice_get_read, slice_get_within, slice_get-get_or}
+use Rattle.std.proofs.lemmas.Bool.{cases_eq, cases_lt, ltb-true, ltb-false, eqb-true}
+use Rattle.std.proofs.lemmas.List.{map-append, map-set, length-map, length-set, length-replicate}
+use Rattle.std.proofs.lemmas.Option.{slice_get-map, slice_get_read, slice_get_within, slice_get_past}
 use Rattle.std.specs.Option.{option_and_then}
 use Rattle.cap_core.specs.declared.profile.ProfileName.{ProfileName}
 use Rattle.cap_core.specs.declared.capability.Cap.{Cap}
@@ -14,7 +14,7 @@ use Rattle.cspace_core.specs.Inside.{IsSlotOf}
 use Rattle.cspace_core.proofs.Nodes.{lawful_node}
 use Rattle.reach_core.specs.declared.filled.FullSlot.{FullSlot}
 use Rattle.reach_core.specs.declared.paths.Path.{Path}
-use Rattle.reach_core.specs.Private.Paths.{path_in, row_of, path_at, IsUpTo, lesser_path, first_with, put_in, put, HasUpTo, IsWide}
+use Rattle.reach_core.specs.Private.Paths.{path_in, row_of, path_at, IsUpTo, lesser_path, first_with, put_in, put, HasUpTo, IsWide, IsOpened, IsPut}
 use Rattle.reach_core.specs.Private.Exploring.{IsStep, IsStepAt, Adds, Extends, ExtendsRow}
 use Rattle.reach_core.proofs.Tabled.{slice_get-set_same, slice_get-set_other}
 
@@ -97,14 +97,8 @@ first-keeps : (path v : Path) (known : Option Path) → known ≡ Some v → IsU
 first-keeps path v None e = cc
 first-keeps path v (Some old) e = let s : old ≡ v = cc in rw (← s) (lesser old path).left
 
--- what is put: the facts of one write
-pub record IsPut (rows : List (List (Option Path))) (read place : ℕ) (path : Path) (new : List (List (Option Path))) : Type 0 where
-  pub front : (t k : ℕ) → t < read → path_at new t k ≡ path_at rows t k
-  pub kept : (t k : ℕ) (w : Path) → path_at rows t k ≡ Some w → HasUpTo new t k w
-  pub only : (t k : ℕ) (w : Path) → path_at new t k ≡ Some w → (path_at rows t k ≡ Some w) ⊎ ((t ≡ read) × ((k ≡ place) × (w ≡ path)))
-  pub there : HasUpTo new read place path
-
-pub is_put : (rows : List (List (Option Path))) (read place : ℕ) (path : Path) → read < length rows → place < length (row_of rows read) → IsPut rows read place path (put rows read place path)
+-- the facts of one write
+is_put : (rows : List (List (Option Path))) (read place : ℕ) (path : Path) → read < length rows → place < length (row_of rows read) → IsPut rows read place path (put rows read place path)
 is_put rows read place path h h' = record {
   front = λ t k less. put_elsewhere rows read place t k path (λ e. omega arith);
   kept = λ t k w e. elim (cases_eq t read) [
@@ -128,15 +122,90 @@ is_put rows read place path h h' = record {
   there = (first_with path (path_at rows read place), (first-below path (path_at rows read place), put_there rows read place path h h'));
 }
 
-pub put_wide : (height width : ℕ) (rows : List (List (Option Path))) (read place : ℕ) (path : Path) → read < height → IsWide height width rows → IsWide height width (put rows read place path)
+width-same : (row row' : List (Option Path)) (width : ℕ) → length row' ≡ length row → (length row ≡ 0) ⊎ (length row ≡ width) → (length row' ≡ 0) ⊎ (length row' ≡ width)
+width-same row row' width e (inl h) = inl (e ∙ h)
+width-same row row' width e (inr h) = inr (e ∙ h)
+
+put_width : (rows : List (List (Option Path))) (read place t : ℕ) (path : Path) → read < length rows → length (row_of (put rows read place path) t) ≡ length (row_of rows t)
+put_width rows read place t path h = elim (cases_eq t read) [
+  | inr ne ↦ ap length (row-set_other rows read t (put_in (row_of rows read) place path) ne)
+  | inl e ↦ rw e (ap length (row-set_same rows read (put_in (row_of rows read) place path) h)
+      ∙ length-set (row_of rows read) place (Some (first_with path (path_at rows read place))))
+]
+
+put_wide : (height width : ℕ) (rows : List (List (Option Path))) (read place : ℕ) (path : Path) → read < length rows → IsWide height width rows → IsWide height width (put rows read place path)
 put_wide height width rows read place path h is = record {
   high = length-set rows read (put_in (row_of rows read) place path) ∙ is.high;
-  wide = λ t low. elim (cases_eq t read) [
-    | inr ne ↦ ap length (row-set_other rows read t (put_in (row_of rows read) place path) ne) ∙ is.wide t low
-    | inl e ↦ rw e (ap length (row-set_same rows read (put_in (row_of rows read) place path) (omega (arith, is.high)))
-        ∙ (length-set (row_of rows read) place (Some (first_with path (path_at rows read place))) ∙ is.wide read h))
+  wide = λ t. width-same (row_of rows t) (row_of (put rows read place path) t) width (put_width rows read place t path h) (is.wide t);
+}
+
+-- a row that is given places
+row_none : (width k : ℕ) → path_in (replicate width None) k ≡ None
+row_none zero k = refl
+row_none (suc width) zero = refl
+row_none (suc width) (suc k) = row_none width k
+
+no_path : (row : List (Option Path)) (k : ℕ) → length row ≡ 0 → path_in row k ≡ None
+no_path [] k e = refl
+no_path (path ∷ row) k e = absurd (omega arith)
+
+opened : (rows : List (List (Option Path))) (read width : ℕ) → read < length rows → length (row_of rows read) ≡ 0 →
+    IsOpened read width rows (set rows read (replicate width None))
+opened rows read width h none = record {
+  wide = λ height is. record {
+    high = length-set rows read (replicate width None) ∙ is.high;
+    wide = λ t. elim (cases_eq t read) [
+      | inr ne ↦ width-same (row_of rows t) (row_of (set rows read (replicate width None)) t) width (ap length (row-set_other rows read t (replicate width None) ne)) (is.wide t)
+      | inl e ↦ inr (rw e (ap length (row-set_same rows read (replicate width None) h) ∙ length-replicate width None))
+    ];
+  };
+  places = ap length (row-set_same rows read (replicate width None) h) ∙ length-replicate width None;
+  paths = λ t k. elim (cases_eq t read) [
+    | inr ne ↦ ap (λ (r : List (Option Path)). path_in r k) (row-set_other rows read t (replicate width None) ne)
+    | inl e ↦ rw e (ap (λ (r : List (Option Path)). path_in r k) (row-set_same rows read (replicate width None) h) ∙ (row_none width k ∙ sym (no_path (row_of rows read) k none)))
   ];
 }
+
+pub row_read : {A : Type 0} (items : A → List (Option Path)) (rows : List A) (read : ℕ) (row : A) → read < length rows → row ≡ get_or rows read row → row_of (map items rows) read ≡ items row
+row_read items rows read row h at =
+    let there : slice_get (map items rows) read ≡ Some (items row) = slice_get-map items rows read ∙ ap (option_map items) (slice_get_read rows (length rows) read row refl h at) in
+    ap (λ (o : Option (List (Option Path))). unwrap_or o []) there
+
+pub open_is : {A : Type 0} (items : A → List (Option Path)) (rows : List A) (read width : ℕ) (row row' : A) → read < length rows → row ≡ get_or rows read row →
+    length (items row) ≡ 0 → items row' ≡ replicate width None → IsOpened read width (map items rows) (map items (set rows read row'))
+open_is items rows read width row row' h at none e =
+    let m : length (map items rows) ≡ length rows = rw length-map refl in
+    rw (map-set items rows read row', e) (opened (map items rows) read width (omega arith) (ap length (row_read items rows read row h at) ∙ none))
+
+pub open_already : {A : Type 0} (items : A → List (Option Path)) (rows : List A) (read height width : ℕ) (row : A) → read < length rows → row ≡ get_or rows read row →
+    (length (items row) ≡ 0 → ⊥) → IsWide height width (map items rows) → IsOpened read width (map items rows) (map items rows)
+open_already items rows read height width row h at some wide = record {
+  wide = λ height is. is;
+  places = elim (wide.wide read) [
+    | inl none ↦ absurd (some (sym (ap length (row_read items rows read row h at)) ∙ none))
+    | inr is ↦ is
+  ];
+  paths = λ t k. refl;
+}
+
+-- and in which a path is put
+pub put_opened : (old mid : List (List (Option Path))) (read width place : ℕ) (path : Path) → IsOpened read width old mid → read < length mid → place < width →
+    IsPut old read place path (put mid read place path)
+put_opened old mid read width place path o h low =
+    let p = is_put mid read place path h (omega (arith, low, o.places)) in
+    record {
+      front = λ t k less. p.front t k less ∙ o.paths t k;
+      kept = λ t k w e. p.kept t k w (o.paths t k ∙ e);
+      only = λ t k w e. elim (p.only t k w e) [
+        | inl was ↦ inl (sym (o.paths t k) ∙ was)
+        | inr new ↦ inr new
+      ];
+      there = p.there;
+    }
+
+pub wide_opened : (old mid : List (List (Option Path))) (read width place : ℕ) (path : Path) → IsOpened read width old mid → read < length mid →
+    (height : ℕ) → IsWide height width old → IsWide height width (put mid read place path)
+wide_opened old mid read width place path o h height is = put_wide height width mid read place path h (o.wide height is)
 
 -- nothing later than before
 pub later : (rows : List (List (Option Path))) (t k : ℕ) (w v : Path) → IsUpTo w v → HasUpTo rows t k w → HasUpTo rows t k v
@@ -255,13 +324,26 @@ extend_row_skip p read filled count a b has s = record {
   ];
 }
 
--- the path at a place as the code reads it
-pub path_read : {A : Type 0} (items : A → List (Option Path)) (rows : List A) (read place : ℕ) (row : A) (d o : Option Path) → read < length rows → row ≡ get_or rows read row →
-    place < length (items row) → get_or (items row) place d ≡ o → path_at (map items rows) read place ≡ o
-path_read items rows read place row d o h at within e =
-    let there : slice_get (map items rows) read ≡ Some (items row) = slice_get-map items rows read ∙ ap (option_map items) (slice_get_read rows (length rows) read row refl h at) in
-    let row_is : row_of (map items rows) read ≡ items row = ap (λ (o : Option (List (Option Path))). unwrap_or o []) there in
-    ap (λ (r : List (Option Path)). path_in r place) row_is ∙ ap (option_and_then (λ (path : Option Path). path)) (slice_get-get_or (items row) place d within ∙ ap Some e)
+-- a row has no paths behind its places
+pub extend_row_all : (p : ProfileName) (read : ℕ) (filled : List FullSlot) (count more : ℕ) (a b : List (List (Option Path))) →
+    length (row_of a read) ≤ count → ExtendsRow p read filled count a b → ExtendsRow p read filled more a b
+extend_row_all p read filled count more a b past s = record {
+  front = s.front;
+  kept = s.kept;
+  only = s.only;
+  added = λ holder t k w h n. s.added holder t k w (let within = path_within (row_of a read) holder n.path n.entered in omega arith) n;
+}
+  where
+    path_within : (row : List (Option Path)) (k : ℕ) (path : Path) → path_in row k ≡ Some path → k < length row
+    path_within row k path e = elim (cases_lt k (length row)) [
+      | inl h ↦ h
+      | inr late ↦ absurd (let none : path_in row k ≡ None = ap (option_and_then (λ (path : Option Path). path)) (slice_get_past row k late) in cc)
+    ]
+
+-- what is read behind a row's places is nothing
+pub path_read : {A : Type 0} (items : A → List (Option Path)) (rows : List A) (read place : ℕ) (row : A) → read < length rows → row ≡ get_or rows read row →
+    path_at (map items rows) read place ≡ path_in (items row) place
+path_read items rows read place row h at = ap (λ (r : List (Option Path)). path_in r place) (row_read items rows read row h at)
 
 -- a step is to a slot of the CNode, and reads bits
 pub step_inside : (p : ProfileName) (from : Cap) (read : ℕ) (path : Path) (slot more : ℕ) (next : Path) → IsStep p from read path slot more next → IsSlotOf p from slot
@@ -275,14 +357,6 @@ step_above p memory from read path slot more next lawful s =
     let fits : read + (s.guard.size + s.radix) ≤ word_bits p = s.fits in
     let bits : more ≡ read + (s.guard.size + s.radix) = s.bits in
     (omega arith, omega arith)
-
--- a row as the code reads it is as wide as the table
-pub row_wide : {A : Type 0} (items : A → List (Option Path)) (rows : List A) (read width : ℕ) (row : A) → read < length rows → row ≡ get_or rows read row →
-    length (row_of (map items rows) read) ≡ width → length (items row) ≡ width
-row_wide items rows read width row h at wide =
-    let there : slice_get (map items rows) read ≡ Some (items row) = slice_get-map items rows read ∙ ap (option_map items) (slice_get_read rows (length rows) read row refl h at) in
-    let row_is : row_of (map items rows) read ≡ items row = ap (λ (o : Option (List (Option Path))). unwrap_or o []) there in
-    ap length (sym row_is) ∙ wide
 
 -- rows with no paths
 replicate_more : {X : Type 0} (n : ℕ) (x : X) → replicate n x ++ x ∷ [] ≡ replicate (n + 1) x
@@ -298,26 +372,13 @@ rows_more items rows row n x e e' =
     ∙ (ap (λ (l : List (List (Option Path))). l ++ items row ∷ []) e
     ∙ (ap (λ (r : List (Option Path)). replicate n x ++ r ∷ []) e' ∙ replicate_more n x))
 
-row_none : (width k : ℕ) → path_in (replicate width None) k ≡ None
-row_none zero k = refl
-row_none (suc width) zero = refl
-row_none (suc width) (suc k) = row_none width k
+row_empty : (height t : ℕ) → row_of (replicate height []) t ≡ []
+row_empty zero t = refl
+row_empty (suc height) zero = refl
+row_empty (suc height) (suc t) = row_empty height t
 
-none_at : (height width t k : ℕ) → path_at (replicate height (replicate width None)) t k ≡ None
-none_at zero width t k = refl
-none_at (suc height) width zero k = row_none width k
-none_at (suc height) width (suc t) k = none_at height width t k
+pub empty_wide : (height width : ℕ) (rows : List (List (Option Path))) → rows ≡ replicate height [] → IsWide height width rows
+empty_wide height width rows e = rw e (record { high = length-replicate height []; wide = λ t. inl (ap length (row_empty height t)) })
 
-row_at_empty : (height t : ℕ) (row : List (Option Path)) → t < height → row_of (replicate height row) t ≡ row
-row_at_empty zero t row h = absurd (omega arith)
-row_at_empty (suc height) zero row h = refl
-row_at_empty (suc height) (suc t) row h = row_at_empty height t row (omega arith)
-
-pub empty_wide : (height width : ℕ) (rows : List (List (Option Path))) → rows ≡ replicate height (replicate width None) → IsWide height width rows
-empty_wide height width rows e = rw e (record {
-  high = length-replicate height (replicate width None);
-  wide = λ t low. ap length (row_at_empty height t (replicate width None) low) ∙ length-replicate width None;
-})
-
-pub empty_none : (height width : ℕ) (rows : List (List (Option Path))) → rows ≡ replicate height (replicate width None) → (t k : ℕ) → path_at rows t k ≡ None
-empty_none height width rows e t k = rw e (none_at height width t k)
+pub empty_none : (height : ℕ) (rows : List (List (Option Path))) → rows ≡ replicate height [] → (t k : ℕ) → path_at rows t k ≡ None
+empty_none height rows e t k = rw e (ap (λ (r : List (Option Path)). path_in r k) (row_empty height t))

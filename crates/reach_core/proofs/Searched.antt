@@ -21,9 +21,9 @@ use Rattle.abstract_kernel.specs.Lookups.{slot_found}
 use Rattle.reach_core.specs.declared.filled.FullSlot.{FullSlot}
 use Rattle.reach_core.specs.Reaching.{leads}
 use Rattle.reach_core.specs.Private.Nodes.{goes_on, IsNext}
-use Rattle.reach_core.specs.Private.Tables.{word_in, row_at, word_at}
+use Rattle.reach_core.specs.Private.Tables.{word_in, row_at, word_at, IsWide, IsAtMost}
 use Rattle.reach_core.specs.FullSlots.{AreLawful, AreFullSlots}
-use Rattle.reach_core.specs.Private.Search.{IsAtMost, RowLeads, RowSpreads, IsBounded, StandsFor, IsSearch}
+use Rattle.reach_core.specs.Private.Search.{RowLeads, RowSpreads, IsBounded, StandsFor, IsSearch}
 use Rattle.reach_core.proofs.Numbers.{taken_below, word_below, guard_read, index_read, rest_read, word_made}
 use Rattle.reach_core.proofs.Resolved.{from_node, LeadsOn, leads_on, leading}
 use Rattle.reach_core.proofs.NextWords.{next_made}
@@ -275,21 +275,20 @@ popped_words p all rows row e bounded k w is =
     let b : IsBounded p (rows ++ row ∷ []) = rw e at bounded in
     b (length rows) k w (last_word rows row k ∙ is)
 
-pub popped_width : (all rows : List (List (Option ℕ))) (row : List (Option ℕ)) (n : ℕ) → all ≡ rows ++ row ∷ [] → ((t : ℕ) → t < length all → length (row_at all t) ≡ n) →
-    length row ≡ n
+pub popped_width : (all rows : List (List (Option ℕ))) (row : List (Option ℕ)) (n : ℕ) → all ≡ rows ++ row ∷ [] → IsWide n all → length row ≤ n
 popped_width all rows row n e wide =
-    let w : (t : ℕ) → t < length (rows ++ row ∷ []) → length (row_at (rows ++ row ∷ []) t) ≡ n = rw e at wide in
-    let inside : length rows < length (rows ++ row ∷ []) = simp length-append (omega arith) in
+    let w : IsWide n (rows ++ row ∷ []) = rw e at wide in
     let last : row_at (rows ++ row ∷ []) (length rows) ≡ row = ap (λ (o : Option (List (Option ℕ))). unwrap_or o []) (last_row rows row) in
-    sym (ap length last) ∙ w (length rows) inside
+    let same : length (row_at (rows ++ row ∷ []) (length rows)) ≡ length row = ap length last in
+    elim (w (length rows)) [ inl none ↦ omega (arith, same, none) | inr is ↦ omega (arith, same, is) ]
 
-pub popped_places : (all rows : List (List (Option ℕ))) (row : List (Option ℕ)) (n : ℕ) → all ≡ rows ++ row ∷ [] → ((t : ℕ) → t < length all → length (row_at all t) ≡ n) →
-    (t : ℕ) → t < length rows → length (row_at rows t) ≡ n
-popped_places all rows row n e wide t h =
-    let w : (t : ℕ) → t < length (rows ++ row ∷ []) → length (row_at (rows ++ row ∷ []) t) ≡ n = rw e at wide in
-    let inside : t < length (rows ++ row ∷ []) = simp length-append (omega arith) in
-    let front : row_at (rows ++ row ∷ []) t ≡ row_at rows t = ap (λ (o : Option (List (Option ℕ))). unwrap_or o []) (front_row rows (row ∷ []) t h) in
-    sym (ap length front) ∙ w t inside
+pub popped_wide : (all rows : List (List (Option ℕ))) (row : List (Option ℕ)) (n : ℕ) → all ≡ rows ++ row ∷ [] → IsWide n all → IsWide n rows
+popped_wide all rows row n e wide t =
+    let w : IsWide n (rows ++ row ∷ []) = rw e at wide in
+    elim (cases_lt t (length rows)) [
+      | inl h ↦ (let front : row_at (rows ++ row ∷ []) t ≡ row_at rows t = ap (λ (o : Option (List (Option ℕ))). unwrap_or o []) (front_row rows (row ∷ []) t h) in rw front at (w t))
+      | inr past ↦ inl (ap length (ap (λ (o : Option (List (Option ℕ))). unwrap_or o []) (slice_get_past rows t past)))
+    ]
 
 pub popped : {A : Type 0} (items : A → List (Option ℕ)) (old new : List A) (row : A) → old ≡ new ++ row ∷ [] → map items old ≡ map items new ++ items row ∷ []
 popped items old new row e = ap (map items) e ∙ map-append items new (row ∷ [])

@@ -1,16 +1,17 @@
 -- What a note leaves in a table, and notes one after another.
-use Rattle.std.proofs.Common.{◌≡◌, ◌≢◌, ℕ, zero, suc, ◌+◌, ◌<◌, ◌≤◌, ◌⊎◌, inl, inr, refl, sym, ap, ◌∙◌, arith, List, [], ◌∷◌, length, map, get_or, Option, None, Some, option_map, unwrap_or, min, set}
+use Rattle.std.proofs.Common.{◌≡◌, ◌≢◌, ℕ, zero, suc, ◌+◌, ◌<◌, ◌≤◌, ◌⊎◌, inl, inr, refl, sym, ap, ◌∙◌, arith, List, [], ◌∷◌, length, map, get_or, Option, None, Some, option_map, unwrap_or, min, set, replicate}
 use Rattle.std.specs.List.{slice_get}
 use Rattle.std.proofs.lemmas.Bool.{cases_eq, cases_lt}
-use Rattle.std.proofs.lemmas.List.{map-set, length-set}
-use Rattle.std.proofs.lemmas.Option.{slice_get-map, slice_get_read, slice_get_within, slice_get-get_or}
+use Rattle.std.proofs.lemmas.List.{map-set, length-map, length-set, length-replicate}
+use Rattle.std.proofs.lemmas.Option.{slice_get-map, slice_get_read, slice_get_within, slice_get-get_or, slice_get_past}
 use Rattle.std.specs.Option.{option_and_then}
 use Rattle.cap_core.specs.declared.profile.ProfileName.{ProfileName}
 use Rattle.cap_core.specs.declared.capability.Cap.{Cap}
 use Rattle.reach_core.specs.declared.filled.FullSlot.{FullSlot}
 use Rattle.reach_core.specs.Private.Nodes.{IsNext}
-use Rattle.reach_core.specs.Private.Tables.{word_in, row_at, word_at, least_with, noted_in, noted}
-use Rattle.reach_core.specs.Private.Search.{IsAtMost, IsNextAt, SameShape, Visits, Spreads, RowSpreads}
+use Rattle.reach_core.specs.Private.Tables.{word_in, row_at, word_at, least_with, noted_in, noted, AreEmpty, IsWide, IsAtMost, SameShape, IsOpened, IsNoted, IsFirst}
+use Rattle.reach_core.specs.Private.Search.{IsNextAt, Visits, Spreads, RowSpreads}
+use Rattle.reach_core.proofs.FullSlots.{none_in}
 
 pub slice_get-set_same : {X : Type 0} (xs : List X) (i : ℕ) (v : X) → i < length xs → slice_get (set xs i v) i ≡ Some v
 slice_get-set_same [] i v h = absurd (omega arith)
@@ -93,20 +94,106 @@ pub noted-at : (rows : List (List (Option ℕ))) (left place word : ℕ) → lef
     IsAtMost (noted rows left place word) left place word
 noted-at rows left place word h h' = (least_with word (word_at rows left place), (least-below word (word_at rows left place), noted_there rows left place word h h'))
 
-pub noted-shape : (rows : List (List (Option ℕ))) (left place word : ℕ) → left < length rows → SameShape rows (noted rows left place word)
-noted-shape rows left place word h = record {
+width-same : (row row' : List (Option ℕ)) (width : ℕ) → length row' ≡ length row → (length row ≡ 0) ⊎ (length row ≡ width) → (length row' ≡ 0) ⊎ (length row' ≡ width)
+width-same row row' width e (inl h) = inl (e ∙ h)
+width-same row row' width e (inr h) = inr (e ∙ h)
+
+noted-width : (rows : List (List (Option ℕ))) (left place word t : ℕ) → left < length rows → length (row_at (noted rows left place word) t) ≡ length (row_at rows t)
+noted-width rows left place word t h = elim (cases_eq t left) [
+  | inr ne ↦ ap length (row-set_other rows left t (noted_in (row_at rows left) place word) ne)
+  | inl is ↦ rw is (ap length (row-set_same rows left (noted_in (row_at rows left) place word) h) ∙ length-set (row_at rows left) place (Some (least_with word (word_at rows left place))))
+]
+
+noted-shape : (rows : List (List (Option ℕ))) (left place word width : ℕ) → left < length rows → IsWide width rows → SameShape width rows (noted rows left place word)
+noted-shape rows left place word width h wide = record {
   height = length-set rows left (noted_in (row_at rows left) place word);
-  width = λ t. elim (cases_eq t left) [
-    | inr ne ↦ ap length (row-set_other rows left t (noted_in (row_at rows left) place word) ne)
-    | inl is ↦ rw is (ap length (row-set_same rows left (noted_in (row_at rows left) place word) h) ∙ length-set (row_at rows left) place (Some (least_with word (word_at rows left place))))
+  wide = λ t. width-same (row_at rows t) (row_at (noted rows left place word) t) width (noted-width rows left place word t h) (wide t);
+}
+
+pub same_shape : (rows : List (List (Option ℕ))) (width : ℕ) → IsWide width rows → SameShape width rows rows
+same_shape rows width wide = record { height = refl; wide = wide }
+
+pub shapes : (a b c : List (List (Option ℕ))) (width : ℕ) → SameShape width a b → SameShape width b c → SameShape width a c
+shapes a b c width s t = record { height = t.height ∙ s.height; wide = t.wide }
+
+-- a row that is given places
+no_word : (row : List (Option ℕ)) (k : ℕ) → length row ≡ 0 → word_in row k ≡ None
+no_word [] k e = refl
+no_word (word ∷ row) k e = absurd (omega arith)
+
+opened : (rows : List (List (Option ℕ))) (left width : ℕ) → left < length rows → length (row_at rows left) ≡ 0 → IsWide width rows →
+    IsOpened left width rows (set rows left (replicate width None))
+opened rows left width h none wide = record {
+  shape = record {
+    height = length-set rows left (replicate width None);
+    wide = λ t. elim (cases_eq t left) [
+      | inr ne ↦ width-same (row_at rows t) (row_at (set rows left (replicate width None)) t) width (ap length (row-set_other rows left t (replicate width None) ne)) (wide t)
+      | inl is ↦ inr (rw is (ap length (row-set_same rows left (replicate width None) h) ∙ length-replicate width None))
+    ];
+  };
+  places = ap length (row-set_same rows left (replicate width None) h) ∙ length-replicate width None;
+  words = λ t k. elim (cases_eq t left) [
+    | inr ne ↦ ap (λ (r : List (Option ℕ)). word_in r k) (row-set_other rows left t (replicate width None) ne)
+    | inl is ↦ rw is (ap (λ (r : List (Option ℕ)). word_in r k) (row-set_same rows left (replicate width None) h) ∙ (none_in width k ∙ sym (no_word (row_at rows left) k none)))
   ];
 }
 
-pub same_shape : (rows : List (List (Option ℕ))) → SameShape rows rows
-same_shape rows = record { height = refl; width = λ t. refl }
+row_read : {A : Type 0} (items : A → List (Option ℕ)) (rows : List A) (left : ℕ) (row : A) → left < length rows → row ≡ get_or rows left row → row_at (map items rows) left ≡ items row
+row_read items rows left row h read =
+    let there : slice_get (map items rows) left ≡ Some (items row) = slice_get-map items rows left ∙ ap (option_map items) (slice_get_read rows (length rows) left row refl h read) in
+    ap (λ (o : Option (List (Option ℕ))). unwrap_or o []) there
 
-pub shapes : (a b c : List (List (Option ℕ))) → SameShape a b → SameShape b c → SameShape a c
-shapes a b c s t = record { height = t.height ∙ s.height; width = λ left. t.width left ∙ s.width left }
+pub open_is : {A : Type 0} (items : A → List (Option ℕ)) (rows : List A) (left width : ℕ) (row row' : A) → left < length rows → row ≡ get_or rows left row →
+    length (items row) ≡ 0 → items row' ≡ replicate width None → IsWide width (map items rows) → IsOpened left width (map items rows) (map items (set rows left row'))
+open_is items rows left width row row' h read none e wide =
+    let m : length (map items rows) ≡ length rows = rw length-map refl in
+    rw (map-set items rows left row', e) (opened (map items rows) left width (omega arith) (ap length (row_read items rows left row h read) ∙ none) wide)
+
+pub open_already : {A : Type 0} (items : A → List (Option ℕ)) (rows : List A) (left width : ℕ) (row : A) → left < length rows → row ≡ get_or rows left row →
+    (length (items row) ≡ 0 → ⊥) → IsWide width (map items rows) → IsOpened left width (map items rows) (map items rows)
+open_already items rows left width row h read some wide = record {
+  shape = record { height = refl; wide = wide };
+  places = elim (wide left) [
+    | inl none ↦ absurd (some (sym (ap length (row_read items rows left row h read)) ∙ none))
+    | inr is ↦ is
+  ];
+  words = λ t k. refl;
+}
+
+-- and in which a word is noted
+pub noted_opened : (old mid : List (List (Option ℕ))) (left width place word : ℕ) → IsOpened left width old mid → left < length old → place < width →
+    IsNoted left place word old (noted mid left place word)
+noted_opened old mid left width place word o h low =
+    let h' : left < length mid = omega (arith, h, o.shape.height) in
+    let low' : place < length (row_at mid left) = omega (arith, low, o.places) in
+    record {
+      kept = λ t k w e. noted-kept mid left place word h' low' t k w (o.words t k ∙ e);
+      only = λ t k w e. elim (noted-only mid left place word h' low' t k w e) [
+        | inl was ↦ inl (sym (o.words t k) ∙ was)
+        | inr new ↦ inr new
+      ];
+      there = noted-at mid left place word h' low';
+    }
+
+pub shape_opened : (old mid : List (List (Option ℕ))) (left width place word : ℕ) → IsOpened left width old mid → left < length old →
+    SameShape width old (noted mid left place word)
+shape_opened old mid left width place word o h =
+    let s = noted-shape mid left place word width (omega (arith, h, o.shape.height)) o.shape.wide in
+    record { height = s.height ∙ o.shape.height; wide = s.wide }
+
+-- the first note of a table
+pub empty_wide : (width : ℕ) (rows : List (List (Option ℕ))) → AreEmpty rows → IsWide width rows
+empty_wide width rows empty t = inl (ap length (empty t))
+
+pub first_noted : (left width place : ℕ) (old new : List (List (Option ℕ))) → AreEmpty old → SameShape width old new → IsNoted left place 0 old new → IsFirst left width place new
+first_noted left width place old new empty shape n = record {
+  wide = shape.wide;
+  there = (let zero : n.there.0 ≡ 0 = (let low = n.there.1.0 in omega arith) in rw zero at n.there.1.1);
+  only = λ t k w e. elim (n.only t k w e) [
+    | inl was ↦ absurd (let none : word_at old t k ≡ None = ap (λ (r : List (Option ℕ)). word_in r k) (empty t) in cc)
+    | inr is ↦ is
+  ];
+}
 
 pub at_most : (rows : List (List (Option ℕ))) (t k w v : ℕ) → w ≤ v → IsAtMost rows t k w → IsAtMost rows t k v
 at_most rows t k w v h m = (m.0, (omega (arith, m.1.0), m.1.1))
@@ -123,20 +210,18 @@ spread_none p from left word filled rows = record {
   noted = λ t k w h n. absurd (omega arith);
 }
 
-pub spread_more : (p : ProfileName) (from : Cap) (left word : ℕ) (filled : List FullSlot) (count : ℕ) (a b c : List (List (Option ℕ))) (to : FullSlot) →
-    slice_get filled count ≡ Some to → Spreads p from left word filled count a b → Visits p from left word count to.address to.cap b c →
+pub spread_more : (p : ProfileName) (from : Cap) (left word : ℕ) (filled : List FullSlot) (count : ℕ) (a b c : List (List (Option ℕ))) →
+    Spreads p from left word filled count a b → Visits p from left word filled count b c →
     Spreads p from left word filled (count + 1) a c
-spread_more p from left word filled count a b c to is s v = record {
+spread_more p from left word filled count a b c s v = record {
   kept = λ t k w e. at_least_kept c b v.kept t k w (s.kept t k w e);
   only = λ t k w e. elim (v.only t k w e) [
     | inl old ↦ s.only t k w old
-    | inr new ↦ inr (to, (rw new.0 is, new.1))
+    | inr new ↦ inr (rw new.0 new.1)
   ];
   noted = λ t k w h n. elim (cases_eq k count) [
     | inr ne ↦ at_least_kept c b v.kept t k w (s.noted t k w (omega arith) n)
-    | inl e ↦ (let found : slice_get filled count ≡ Some n.0 = rw e at n.1.0 in
-        let same : to ≡ n.0 = cc in
-        rw e (v.noted t w (rw same n.1.1)))
+    | inl e ↦ rw e (v.noted t w (rw e at n))
   ];
 }
 
@@ -179,30 +264,48 @@ row_spread_skip p row left filled count a b has s = record {
 }
 
 -- what the code does at one place
-pub visit_noted : (p : ProfileName) (from : Cap) (left word place slot : ℕ) (to : Cap) (rows : List (List (Option ℕ))) (more next : ℕ) →
-    more < length rows → place < length (row_at rows more) → IsNext p from left word slot to more next →
-    ((t w : ℕ) → IsNext p from left word slot to t w → ◌≡◌ {A = Option (ℕ × ℕ)} (Some (more, next)) (Some (t, w))) →
-    Visits p from left word place slot to rows (noted rows more place next)
-visit_noted p from left word place slot to rows more next h h' is each = record {
-  kept = noted-kept rows more place next h h';
-  only = λ t k w e. elim (noted-only rows more place next h h' t k w e) [
+pub visit_noted : (p : ProfileName) (from : Cap) (left word place : ℕ) (filled : List FullSlot) (to : FullSlot) (rows new : List (List (Option ℕ))) (more next : ℕ) →
+    slice_get filled place ≡ Some to → IsNoted more place next rows new → IsNext p from left word to.address to.cap more next →
+    ((t w : ℕ) → IsNext p from left word to.address to.cap t w → ◌≡◌ {A = Option (ℕ × ℕ)} (Some (more, next)) (Some (t, w))) →
+    Visits p from left word filled place rows new
+visit_noted p from left word place filled to rows new more next here noted is each = record {
+  kept = noted.kept;
+  only = λ t k w e. elim (noted.only t k w e) [
     | inl old ↦ inl old
-    | inr new ↦ inr (new.1.0, rw (new.0, new.1.1) is)
+    | inr is' ↦ inr (is'.1.0, (to, (here, rw (is'.0, is'.1.1) is)))
   ];
   noted = λ t w n. (
-      let pair : ◌≡◌ {A = Option (ℕ × ℕ)} (Some (more, next)) (Some (t, w)) = each t w n in
+      let same : to ≡ n.0 = (let there : slice_get filled place ≡ Some n.0 = n.1.0 in cc) in
+      let pair : ◌≡◌ {A = Option (ℕ × ℕ)} (Some (more, next)) (Some (t, w)) = each t w (rw same n.1.1) in
       let both : ◌≡◌ {A = ℕ × ℕ} (more, next) (t, w) = cc in
       let more' : more ≡ t = ap (λ (x : ℕ × ℕ). x.0) both in
       let next' : next ≡ w = ap (λ (x : ℕ × ℕ). x.1) both in
-      rw (← more', ← next') (noted-at rows more place next h h'));
+      rw (← more', ← next') noted.there);
 }
 
-pub visit_none : (p : ProfileName) (from : Cap) (left word place slot : ℕ) (to : Cap) (rows : List (List (Option ℕ))) →
-    ((t w : ℕ) → IsNext p from left word slot to t w → ⊥) → Visits p from left word place slot to rows rows
-visit_none p from left word place slot to rows none = record {
+pub visit_none : (p : ProfileName) (from : Cap) (left word place : ℕ) (filled : List FullSlot) (to : FullSlot) (rows : List (List (Option ℕ))) →
+    slice_get filled place ≡ Some to → ((t w : ℕ) → IsNext p from left word to.address to.cap t w → ⊥) → Visits p from left word filled place rows rows
+visit_none p from left word place filled to rows here none = record {
   kept = λ t k w e. (w, (omega arith, e));
   only = λ t k w e. inl e;
-  noted = λ t w n. absurd (none t w n);
+  noted = λ t w n. absurd (let there : slice_get filled place ≡ Some n.0 = n.1.0 in
+      let same : to ≡ n.0 = cc in
+      none t w (rw same n.1.1));
+}
+
+-- a row has no words behind its places
+pub word_inside : (row : List (Option ℕ)) (k w : ℕ) → word_in row k ≡ Some w → k < length row
+word_inside row k w e = elim (cases_lt k (length row)) [
+  | inl h ↦ h
+  | inr late ↦ absurd (let none : word_in row k ≡ None = ap (option_and_then (λ (word : Option ℕ). word)) (slice_get_past row k late) in cc)
+]
+
+pub row_spread_all : (p : ProfileName) (row : List (Option ℕ)) (left : ℕ) (filled : List FullSlot) (count more : ℕ) (a b : List (List (Option ℕ))) →
+    length row ≤ count → RowSpreads p row left filled count a b → RowSpreads p row left filled more a b
+row_spread_all p row left filled count more a b past s = record {
+  kept = s.kept;
+  only = s.only;
+  noted = λ holder t k w h n. s.noted holder t k w (let within = word_inside row holder n.word n.entered in omega arith) n;
 }
 
 -- a row as the code reads it

@@ -12,11 +12,11 @@ ghost use Rattle.reach_core.specs.Lists.{AreReached};
 ghost use Rattle.reach_core.specs.Holding.{AreHeld};
 ghost use Rattle.reach_core.specs.Private.Paths.{path_at, IsWide};
 ghost use Rattle.reach_core.specs.Private.Exploring.{AreStarts};
-ghost use Rattle.reach_core.specs.Private.Entries.{HasStarts, earlier, IsHeldAt, IsListed, HasEntry};
+ghost use Rattle.reach_core.specs.Private.Entries.{HasStarts, earlier, IsHeldAt, IsListed, HasEntry, AreDepths};
 
 use crate::explore::explore;
 use crate::filled::FullSlot;
-use crate::paths::{Path, put_path};
+use crate::paths::{Path, known_path, places_of, put_path};
 use crate::reached::{Reached, put_in_order};
 use crate::search::place_of;
 use cap_core::Profile;
@@ -32,20 +32,13 @@ pub struct Held {
     pub slot: u64,
 }
 
-/// A row with no paths.
-fn empty_row(alloc: Global, width: usize) -> Result<Vec<Option<Path>>, AllocError>
-    ensures { IfOk result (λ row. row.items ≡ replicate width None) }
-{
-    vec![in alloc; None; width]
-}
-
 /// A table with no paths.
-fn empty_rows<P: Profile>(alloc: Global, width: usize) -> Result<Vec<Vec<Option<Path>>>, AllocError>
-    ensures { IfOk result (λ rows. map (λ r. r.items) rows.items ≡ replicate (word_bits P.profile + 1) (replicate width None)) }
+fn empty_rows<P: Profile>(alloc: Global) -> Result<Vec<Vec<Option<Path>>>, AllocError>
+    ensures { IfOk result (λ rows. map (λ r. r.items) rows.items ≡ replicate (word_bits P.profile + 1) []) }
 {
-    let mut rows = Vec::new(alloc);
+    let mut rows = Vec::with_capacity(alloc, P::WORD_BITS as usize + 1)?;
     for read in 0..P::WORD_BITS + 1 {
-        rows.push(empty_row(alloc, width)?)?;
+        rows.push(Vec::new(alloc))?;
     }
     Ok(rows)
 }
@@ -61,14 +54,14 @@ fn start_rows<P: Profile>(
     ensures starts { IfOk result (λ rows. AreStarts (map (λ r. r.items) rows.items)) }
     ensures of { IfOk result (λ rows. HasStarts filled.now reached.now (length reached.now) (map (λ r. r.items) rows.items)) }
 {
-    let mut rows = empty_rows::<P>(alloc, filled.len())?;
+    let mut rows = empty_rows::<P>(alloc)?;
     for r in reached {
         if let Some(place) = place_of(filled, r.slot) {
             let path = Path {
                 word: r.word,
                 index: 0,
             };
-            put_path(&mut rows, 0, place, path);
+            put_path(alloc, &mut rows, 0, filled.len(), place, path)?;
         }
     }
     Ok(rows)
@@ -84,18 +77,40 @@ fn earlier_of(known: Option<Held>, next: Held) -> Held
     }
 }
 
-/// The entry for the slot at a place, where no word leads there and some path does.
-fn held_at<P: Profile>(rows: &[Vec<Option<Path>>], place: usize, slot: u64) -> Option<Held>
-    requires { (width : ℕ) × ((place < width) × IsWide (word_bits P.profile + 1) width (map (λ r. r.items) rows.now)) }
+/// The numbers of bits, from 1 on, whose rows have places.
+fn open_depths(alloc: Global, rows: &[Vec<Option<Path>>]) -> Result<Vec<usize>, AllocError>
+    requires { 0 < length rows.now }
+    ensures { IfOk result (λ depths. AreDepths (map (λ r. r.items) rows.now) depths.items) }
+{
+    let mut depths = Vec::new(alloc);
+    for depth in 1..rows.len() {
+        if places_of(rows, depth) > 0 {
+            depths.push(depth)?;
+        }
+    }
+    Ok(depths)
+}
+
+/// The entry for the slot at a place, where no word leads there and some path does. `depths` has the numbers of bits whose
+/// rows have places.
+fn held_at<P: Profile>(
+    rows: &[Vec<Option<Path>>],
+    depths: &[usize],
+    place: usize,
+    slot: u64,
+) -> Option<Held>
+    requires rows { length rows.now ≡ word_bits P.profile + 1 }
+    requires depths { AreDepths (map (λ r. r.items) rows.now) depths.now }
     ensures some { IfSome result (λ h. IsHeldAt (map (λ r. r.items) rows.now) place slot h) }
     ensures none { IfNone result (HasEntry (map (λ r. r.items) rows.now) place slot []) }
 {
-    if rows[0][place].is_some() {
+    if known_path(rows, 0, place).is_some() {
         return None;
     }
     let mut best = None;
-    for depth in 1..rows.len() {
-        if let Some(path) = rows[depth][place] {
+    for at in 0..depths.len() {
+        let depth = depths[at];
+        if let Some(path) = known_path(rows, depth, place) {
             let next = Held {
                 word: path.word,
                 depth: depth as u32,
@@ -114,14 +129,15 @@ fn found<P: Profile>(
     rows: &[Vec<Option<Path>>],
     filled: &[FullSlot],
 ) -> Result<Vec<Held>, AllocError>
-    requires { IsWide (word_bits P.profile + 1) (length filled.now) (map (λ r. r.items) rows.now) }
+    requires { length rows.now ≡ word_bits P.profile + 1 }
     ensures only { IfOk result (λ list. (h : HeldOf) → Contains list.items h → IsListed (map (λ r. r.items) rows.now) filled.now h) }
     ensures all { IfOk result (λ list. (place : ℕ) (u : FullSlotOf) → slice_get filled.now place ≡ Some u
         → HasEntry (map (λ r. r.items) rows.now) place u.address list.items) }
 {
+    let depths = open_depths(alloc, rows)?;
     let mut list = Vec::new(alloc);
     for place in 0..filled.len() {
-        if let Some(held) = held_at::<P>(rows, place, filled[place].address) {
+        if let Some(held) = held_at::<P>(rows, depths.as_slice(), place, filled[place].address) {
             list.push(held)?;
         }
     }
@@ -150,7 +166,7 @@ pub fn held_slots<P: Profile>(
         → AreHeld P.profile f thread list.items) }
 {
     let mut rows = start_rows::<P>(alloc, filled, reached)?;
-    explore::<P>(filled, &mut rows);
+    explore::<P>(alloc, filled, &mut rows)?;
     let mut list = found::<P>(alloc, rows.as_slice(), filled)?;
     put_in_order(&mut list)?;
     Ok(list)

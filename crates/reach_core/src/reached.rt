@@ -1,5 +1,5 @@
 //! The full slots that a thread's words lead to.
-ghost use Rattle.std.specs.Prelude.{◌≡◌, IfOk, OnOk, length, true};
+ghost use Rattle.std.specs.Prelude.{◌≡◌, ◌≤◌, IfOk, OnOk, length, true};
 ghost use Rattle.std.specs.List.{Contains, Any};
 ghost use Rattle.std.specs.List.Sorted.{IsStrictlySortedBy};
 ghost use Rattle.reach_core.specs.declared.reached.Reached.{Reached as ReachedOf};
@@ -28,12 +28,12 @@ fn found(
     row: &[Option<u64>],
     filled: &[FullSlot],
 ) -> Result<Vec<Reached>, AllocError>
-    requires { length row.now ≡ length filled.now }
+    requires { length row.now ≤ length filled.now }
     ensures only { IfOk result (λ list. (r : ReachedOf) → Contains list.items r → IsFound row.now filled.now r) }
     ensures all { IfOk result (λ list. (r : ReachedOf) → IsFound row.now filled.now r → Contains list.items r) }
 {
     let mut list = Vec::new(alloc);
-    for place in 0..filled.len() {
+    for place in 0..row.len() {
         if let Some(word) = row[place] {
             list.push(Reached {
                 word,
@@ -58,8 +58,8 @@ pub fn put_in_order<T: Ord + Drop>(list: &mut Vec<T>) -> Result<(), AllocError>
 /// The full slots that the words of the thread at an address lead to: each with the least word that leads there, by rising
 /// words (seL4 Reference Manual, on capability space addressing). `filled` has all full slots, as `full_slots` gives them.
 ///
-/// Time: the table has a place for each full slot and each number of bits left. Each place of a CNode that is entered is
-/// followed once, by its least word, to the full slots of the CNode; never each path.
+/// Time: the table has a place for each full slot and each number of bits that are ever left, besides none. Each place of a
+/// CNode that is entered is followed once, by its least word, to the full slots of the CNode; never each path.
 ///
 /// # Errors
 ///
@@ -77,7 +77,7 @@ pub fn reached_slots<P: Profile>(
         return Ok(Vec::new(alloc));
     };
     let mut rows = first_rows::<P>(alloc, filled.len(), root)?;
-    search::<P>(filled, &mut rows);
+    search::<P>(alloc, filled, &mut rows)?;
     let mut list = found(alloc, rows[0].as_slice(), filled)?;
     put_in_order(&mut list)?;
     Ok(list)

@@ -1,42 +1,46 @@
 //! The search of a thread's capability space.
-ghost use Rattle.std.specs.Prelude.{◌≡◌, ◌≢◌, ℕ, ◌+◌, ◌^◌, ◌<◌, ◌≤◌, ◌⊎◌, Some, IfSome, IfNone, slice_get, length, map, vec_len};
+ghost use Rattle.std.specs.Prelude.{◌≡◌, ◌≢◌, ℕ, ◌+◌, ◌^◌, ◌<◌, ◌≤◌, ◌⊎◌, Some, IfSome, IfNone, OnOk, slice_get, length, map, vec_len};
 ghost use Rattle.cap_core.specs.declared.capability.Cap.TheVariants.{Null};
 ghost use Rattle.cap_core.specs.Numbers.{word_bits};
 ghost use Rattle.cap_core.specs.Objects.{IsLawful};
 ghost use Rattle.cspace_core.specs.Inside.{IsSlotOf};
-ghost use Rattle.reach_core.specs.Private.Tables.{word_in, row_at};
+ghost use Rattle.reach_core.specs.Private.Tables.{word_in, row_at, IsWide, SameShape};
 ghost use Rattle.derivation.specs.Forest.{Forest};
 ghost use Rattle.derivation.specs.Entries.{Entry, cap_at};
 ghost use Rattle.reach_core.specs.declared.filled.FullSlot.{FullSlot as FullSlotOf};
 ghost use Rattle.reach_core.specs.FullSlots.{AreLawful, AreRising, AreFullSlots};
-ghost use Rattle.reach_core.specs.Private.Search.{SameShape, Visits, Spreads, RowSpreads, IsBounded, IsNextAt, IsSearch};
+ghost use Rattle.reach_core.specs.Private.Search.{Visits, Spreads, RowSpreads, IsBounded, IsNextAt, IsSearch};
 
 use crate::filled::FullSlot;
 use crate::nodes::next_word;
 use crate::table::note;
 use cap_core::{Cap, Profile};
+use std::alloc::{AllocError, Global};
 
 /// Notes the next word of an entry at one full slot.
 fn visit<P: Profile>(
+    alloc: Global,
     from: Cap,
     left: u32,
     word: u64,
-    to: &FullSlot,
+    filled: &[FullSlot],
     place: usize,
     rows: &mut Vec<Vec<Option<u64>>>,
-)
+) -> Result<(), AllocError>
     requires lawful { (from ≡ Null) ⊎ IsLawful P.profile (word_bits P.profile) from }
     requires left { left ≤ word_bits P.profile }
     requires word { word + 2 ^ left ≤ 2 ^ word_bits P.profile }
     requires some { 0 < left }
     requires rows { left ≤ vec_len rows.old }
-    requires place { (t : ℕ) → t < vec_len rows.old → place < length (row_at (map (λ r. r.items) rows.old.items) t) }
-    ensures shape { SameShape (map (λ r. r.items) rows.old.items) (map (λ r. r.items) rows.new.items) }
-    ensures visits { Visits P.profile from left word place to.now.address to.now.cap (map (λ r. r.items) rows.old.items) (map (λ r. r.items) rows.new.items) }
+    requires place { place < length filled.now }
+    requires wide { IsWide (length filled.now) (map (λ r. r.items) rows.old.items) }
+    ensures shape { OnOk result (SameShape (length filled.now) (map (λ r. r.items) rows.old.items) (map (λ r. r.items) rows.new.items)) }
+    ensures visits { OnOk result (Visits P.profile from left word filled.now place (map (λ r. r.items) rows.old.items) (map (λ r. r.items) rows.new.items)) }
 {
-    if let Some((more, next)) = next_word::<P>(from, left, word, to) {
-        note(rows, more as usize, place, next);
+    if let Some((more, next)) = next_word::<P>(from, left, word, &filled[place]) {
+        note(alloc, rows, more as usize, filled.len(), place, next)?;
     }
+    Ok(())
 }
 
 /// How many slots, of the first ones, lie below an address.
@@ -80,74 +84,87 @@ pub fn places_in<P: Profile>(filled: &[FullSlot], from: Cap) -> (usize, usize)
 
 /// Notes the next words of an entry at all full slots.
 fn expand<P: Profile>(
+    alloc: Global,
     filled: &[FullSlot],
     from: Cap,
     left: u32,
     word: u64,
     rows: &mut Vec<Vec<Option<u64>>>,
-)
+) -> Result<(), AllocError>
     requires rising { AreRising filled.now }
     requires lawful { (from ≡ Null) ⊎ IsLawful P.profile (word_bits P.profile) from }
     requires left { left ≤ word_bits P.profile }
     requires word { word + 2 ^ left ≤ 2 ^ word_bits P.profile }
     requires some { 0 < left }
     requires rows { left ≤ vec_len rows.old }
-    requires places { (t : ℕ) → t < vec_len rows.old → length (row_at (map (λ r. r.items) rows.old.items) t) ≡ length filled.now }
-    ensures shape { SameShape (map (λ r. r.items) rows.old.items) (map (λ r. r.items) rows.new.items) }
-    ensures spreads { Spreads P.profile from left word filled.now (length filled.now) (map (λ r. r.items) rows.old.items) (map (λ r. r.items) rows.new.items) }
+    requires wide { IsWide (length filled.now) (map (λ r. r.items) rows.old.items) }
+    ensures shape { OnOk result (SameShape (length filled.now) (map (λ r. r.items) rows.old.items) (map (λ r. r.items) rows.new.items)) }
+    ensures spreads { OnOk result (Spreads P.profile from left word filled.now (length filled.now) (map (λ r. r.items) rows.old.items) (map (λ r. r.items) rows.new.items)) }
 {
     let (start, stop) = places_in::<P>(filled, from);
     for place in start..stop {
-        visit::<P>(from, left, word, &filled[place], place, rows);
+        visit::<P>(alloc, from, left, word, filled, place, rows)?;
     }
+    Ok(())
 }
 
 /// Notes the next words of the entries of a row, which were entered with `left` bits.
 fn expand_row<P: Profile>(
+    alloc: Global,
     filled: &[FullSlot],
     row: &[Option<u64>],
     left: u32,
     rows: &mut Vec<Vec<Option<u64>>>,
-)
+) -> Result<(), AllocError>
     requires lawful { AreLawful P.profile filled.now }
     requires rising { AreRising filled.now }
     requires left { left ≤ word_bits P.profile }
     requires some { 0 < left }
     requires rows { left ≡ vec_len rows.old }
-    requires width { length row.now ≡ length filled.now }
+    requires width { length row.now ≤ length filled.now }
     requires words { (k w : ℕ) → word_in row.now k ≡ Some w → w + 2 ^ left ≤ 2 ^ word_bits P.profile }
-    requires places { (t : ℕ) → t < vec_len rows.old → length (row_at (map (λ r. r.items) rows.old.items) t) ≡ length filled.now }
-    ensures shape { SameShape (map (λ r. r.items) rows.old.items) (map (λ r. r.items) rows.new.items) }
-    ensures spreads { RowSpreads P.profile row.now left filled.now (length filled.now) (map (λ r. r.items) rows.old.items) (map (λ r. r.items) rows.new.items) }
+    requires wide { IsWide (length filled.now) (map (λ r. r.items) rows.old.items) }
+    ensures shape { OnOk result (SameShape (length filled.now) (map (λ r. r.items) rows.old.items) (map (λ r. r.items) rows.new.items)) }
+    ensures spreads { OnOk result (RowSpreads P.profile row.now left filled.now (length filled.now) (map (λ r. r.items) rows.old.items) (map (λ r. r.items) rows.new.items)) }
 {
-    for place in 0..filled.len() {
+    for place in 0..row.len() {
         if let Some(word) = row[place] {
-            expand::<P>(filled, filled[place].cap, left, word, rows);
+            expand::<P>(alloc, filled, filled[place].cap, left, word, rows)?;
         }
     }
+    Ok(())
 }
 
 /// Empties the rows of a table from the last one on, until the first one alone is left: whatever was entered with bits left
 /// has then been followed to the slots that are found.
-pub fn search<P: Profile>(filled: &[FullSlot], rows: &mut Vec<Vec<Option<u64>>>)
+///
+/// # Errors
+///
+/// `AllocError` where memory was wanted and not there.
+pub fn search<P: Profile>(
+    alloc: Global,
+    filled: &[FullSlot],
+    rows: &mut Vec<Vec<Option<u64>>>,
+) -> Result<(), AllocError>
     requires lawful { AreLawful P.profile filled.now }
     requires rising { AreRising filled.now }
     requires some { 0 < vec_len rows.old }
     requires rows { vec_len rows.old ≤ word_bits P.profile + 1 }
     requires bounded { IsBounded P.profile (map (λ r. r.items) rows.old.items) }
-    requires places { (t : ℕ) → t < vec_len rows.old → length (row_at (map (λ r. r.items) rows.old.items) t) ≡ length filled.now }
-    ensures one { vec_len rows.new ≡ 1 }
-    ensures width { length (row_at (map (λ r. r.items) rows.new.items) 0) ≡ length filled.now }
-    ensures bounded { IsBounded P.profile (map (λ r. r.items) rows.new.items) }
-    ensures found { (memory : ℕ) (f : Forest Entry) (thread : ℕ) → ((s : ℕ) → (cap_at f s ≡ Null) ⊎ IsLawful P.profile memory (cap_at f s)) → AreFullSlots f filled.now
-        → IsSearch P.profile f thread filled.now (map (λ r. r.items) rows.old.items) → IsSearch P.profile f thread filled.now (map (λ r. r.items) rows.new.items) }
+    requires wide { IsWide (length filled.now) (map (λ r. r.items) rows.old.items) }
+    ensures one { OnOk result (vec_len rows.new ≡ 1) }
+    ensures width { OnOk result (length (row_at (map (λ r. r.items) rows.new.items) 0) ≤ length filled.now) }
+    ensures bounded { OnOk result (IsBounded P.profile (map (λ r. r.items) rows.new.items)) }
+    ensures found { OnOk result ((memory : ℕ) (f : Forest Entry) (thread : ℕ) → ((s : ℕ) → (cap_at f s ≡ Null) ⊎ IsLawful P.profile memory (cap_at f s)) → AreFullSlots f filled.now
+        → IsSearch P.profile f thread filled.now (map (λ r. r.items) rows.old.items) → IsSearch P.profile f thread filled.now (map (λ r. r.items) rows.new.items)) }
 {
     while rows.len() > 1 {
         let Some(row) = rows.pop() else {
             unreachable!();
         };
-        expand_row::<P>(filled, row.as_slice(), rows.len() as u32, rows);
+        expand_row::<P>(alloc, filled, row.as_slice(), rows.len() as u32, rows)?;
     }
+    Ok(())
 }
 
 /// The place of the slot at an address.

@@ -73,7 +73,7 @@ parented_all above (tree a under others) =
     ∙ (ap (λ (l : List Entry). l ++ map (λ (e : Entry × Option Entry). e.0) (parented above others)) (parented_all (Some a) under)
     ∙ ap (λ (l : List Entry). preorder under ++ l) (parented_all above others)))
 
-named_entries : (cap : Cap) (f : Forest Entry) → is_named cap (derivations_of f) ≡ list_any (names cap) (preorder f)
+pub named_entries : (cap : Cap) (f : Forest Entry) → is_named cap (derivations_of f) ≡ list_any (names cap) (preorder f)
 named_entries cap f =
     any_seen (λ (e : Entry × Option Entry). (e.0, option_map slot_of e.1)) (λ (d : Derived). names_same d.0.cap cap) (parented None f)
     ∙ sym (any_seen (λ (e : Entry × Option Entry). e.0) (names cap) (parented None f))

@@ -1,3 +1,4 @@
+pub mod Alone
 pub mod Children
 pub mod Counted
 pub mod Ended

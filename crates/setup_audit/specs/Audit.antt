@@ -10,8 +10,8 @@ use Rattle.abstract_kernel.specs.Step.{state_after}
 use Rattle.setup_values.specs.Names.{Names}
 use Rattle.setup_format.specs.Views.{SetupView, CallView}
 use Rattle.setup_report.specs.State.{endpoints, slot_rows}
-use Rattle.setup_trace.specs.Changes.{changes, state_lines}
-use Rattle.setup_trace.specs.Trace.{name_lines}
+use Rattle.trace_lines.specs.Changes.{changes, state_lines}
+use Rattle.trace_lines.specs.Names.{name_lines}
 use Rattle.setup_audit.specs.declared.threads.ThreadSlots.{ThreadSlots}
 use Rattle.setup_audit.specs.Text.{head_line}
 use Rattle.setup_audit.specs.Threads.{AreAllSlots, slots_lines}

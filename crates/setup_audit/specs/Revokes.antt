@@ -2,6 +2,7 @@
 use Rattle.std.specs.Prelude.{codes, ℕ, cond, Bool, List, [], ◌++◌, count_by}
 use Rattle.std.specs.Fmt.{decimal}
 use Rattle.cap_core.specs.declared.profile.ProfileName.{ProfileName}
+use Rattle.cap_core.specs.declared.capability.Cap.{Cap}
 use Rattle.cap_core.specs.Objects.{is_null}
 use Rattle.derivation.specs.Entries.{cap_at, derivations_of}
 use Rattle.clearing.specs.Revoke.{revoke}
@@ -30,6 +31,11 @@ abbrev pub revoke_lines : Names → Shown → Shown → ℕ → List ℕ
 revoke_lines names old new slot =
     terminated (codes "revoke " ++ (held_slot_text slot (cap_at old.derivations slot) ++ (codes " clears " ++ decimal (cleared_count (slot_rows old) new))))
     ++ ends_lines names (ended (slot_rows old) (derivations_of new.derivations))
+
+-- the lines, by how many slots are cleared, and by the capabilities whose objects end
+abbrev pub lines_of_revoke : Names → ℕ → Cap → ℕ → List Cap → List ℕ
+lines_of_revoke names slot cap cleared caps =
+    terminated (codes "revoke " ++ (held_slot_text slot cap ++ (codes " clears " ++ decimal cleared))) ++ ends_lines names caps
 
 -- of a slot that has children
 abbrev pub revoke_lines_at : ProfileName → Names → State → ℕ → List ℕ

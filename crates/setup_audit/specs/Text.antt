@@ -7,7 +7,7 @@ use Rattle.setup_values.specs.Names.{Names}
 use Rattle.setup_format.specs.Views.{SetupView}
 use Rattle.setup_report.specs.Text.{cap_text, rights_text}
 use Rattle.setup_report.specs.Report.{terminated}
-use Rattle.setup_trace.specs.Trace.{profile_text}
+use Rattle.trace_lines.specs.Names.{profile_text}
 
 -- ---- threads are told with their names
 

@@ -17,7 +17,7 @@ use Rattle.setup_values.specs.Names.{Names}
 use Rattle.setup_report.specs.State.{threads as live_threads}
 use Rattle.setup_report.specs.Text.{state_text}
 use Rattle.setup_report.specs.Report.{terminated}
-use Rattle.setup_trace.specs.Lines.{offer_text}
+use Rattle.trace_lines.specs.Lines.{offer_text}
 use Rattle.setup_audit.specs.declared.threads.ThreadSlots.{ThreadSlots}
 use Rattle.setup_audit.specs.Text.{thread_name, held_slot_text}
 

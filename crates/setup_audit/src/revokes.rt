@@ -6,11 +6,14 @@ ghost use Rattle.abstract_kernel.specs.Reached.{IsReached};
 ghost use Rattle.abstract_kernel.specs.State.{State, shown};
 ghost use Rattle.setup_report.specs.State.{slot_rows};
 ghost use Rattle.setup_values.specs.Names.{names_view};
+ghost use Rattle.descendants.specs.Below.{AreTold};
+ghost use Rattle.descendants.specs.Index.{IsIndex};
 ghost use Rattle.setup_audit.specs.Revokes as spec;
 
 use crate::ends::{add_ends, ended_caps};
 use crate::text::HeldSlot;
 use cap_core::{Cap, Profile};
+use descendants::{DerivationIndex, by_object, derivation_index, revoked_alone};
 use ipc_core::{MakeWaiters, Waiters};
 use kernel_core::Kernel;
 use setup_values::Name;
@@ -59,6 +62,22 @@ fn count_cleared<P: Profile, S: CapStore<P> + Drop, W: Waiters<P> + Drop>(
         .count()
 }
 
+/// Adds how many slots a revoke of a slot empties, and the objects that end, by capabilities that name them.
+fn add_lines(
+    alloc: Global,
+    out: &mut String,
+    names: &[Name],
+    slot: HeldSlot,
+    cleared: usize,
+    caps: &[Cap],
+) -> Result<(), AllocError>
+    ensures { OnOk result (string_bytes out.new ≡ string_bytes out.old
+        ++ spec.lines_of_revoke (names_view names.now) slot.slot slot.cap cleared caps.now) }
+{
+    writeln!(out, "revoke {slot} clears {cleared}")?;
+    add_ends(alloc, out, names, caps)
+}
+
 /// Adds what a revoke of a slot does: how many slots it empties, and which objects end. `rows` has the full slots of the
 /// kernel before it, and `new` is the one after it.
 ///
@@ -79,30 +98,49 @@ pub fn add_revoke<P: Profile, S: DerivationStore<P> + Drop, W: Waiters<P> + Drop
         ++ spec.revoke_lines (names_view names.now) old.now new.now slot) }
 {
     let left = new.derivations(alloc)?;
-    let caps = ended_caps::<P, S, W>(alloc, rows, left.as_slice(), new)?;
+    let objects = by_object(alloc, left.as_slice())?;
+    let caps = ended_caps::<P, S, W>(alloc, rows, left.as_slice(), objects.as_slice(), new)?;
     let cleared = count_cleared::<P, S, W>(rows, new);
     let slot = HeldSlot {
         slot,
         cap: old.cap_at(slot),
     };
-    writeln!(out, "revoke {slot} clears {cleared}")?;
-    add_ends(alloc, out, names, caps.as_slice())
+    add_lines(alloc, out, names, slot, cleared, caps.as_slice())
 }
 
-/// Adds what a revoke of a slot does, where it has children.
+/// Adds what a revoke of a slot does, where it has children. A revoke is made, in a copy of the kernel, only where an object
+/// that has slots ends with it. `rows` and `index` have the full slots.
 fn add_revoke_at<P: Profile, S: MakeStore<P> + DerivationStore<P>, W: MakeWaiters<P>>(
     alloc: Global,
     out: &mut String,
     names: &[Name],
     rows: &[Derivation],
+    index: &DerivationIndex,
     slot: u64,
     kernel: &Kernel<P, S, W>,
 ) -> Result<(), AllocError>
-    requires { map (derivation_view P.profile) rows.now ≡ slot_rows kernel.now }
+    requires rows { map (derivation_view P.profile) rows.now ≡ slot_rows kernel.now }
+    requires index { IsIndex P.profile index.now }
+    requires told { AreTold P.profile index.now.list.items kernel.now.derivations }
     ensures { OnOk result ((A : State) → IsReached P.profile A → kernel.now ≡ shown A → string_bytes out.new ≡ string_bytes out.old
         ++ spec.revoke_lines_at P.profile (names_view names.now) A slot) }
 {
     if !kernel.has_children(slot) {
+        return Ok(());
+    }
+    if let Some(alone) = revoked_alone::<P>(alloc, index, slot)? {
+        let held = HeldSlot {
+            slot,
+            cap: kernel.cap_at(slot),
+        };
+        add_lines(
+            alloc,
+            out,
+            names,
+            held,
+            alone.cleared,
+            alone.ended.as_slice(),
+        )?;
         return Ok(());
     }
     let new = revoked::<P, S, W>(alloc, kernel, slot)?;
@@ -126,8 +164,11 @@ pub fn add_revokes<P: Profile, S: MakeStore<P> + DerivationStore<P>, W: MakeWait
     ensures { OnOk result ((A : State) → IsReached P.profile A → kernel.now ≡ shown A → string_bytes out.new ≡ string_bytes out.old
         ++ flat_map (λ d. spec.revoke_lines_of P.profile (names_view names.now) A (derivation_view P.profile d)) rows.now) }
 {
+    let list = kernel.derivations(alloc)?;
+    let index = derivation_index::<P>(alloc, list)?;
     for row in rows {
-        add_revoke_at::<P, S, W>(alloc, out, names, rows, row.slot.address::<P>(), kernel)?;
+        let slot = row.slot.address::<P>();
+        add_revoke_at::<P, S, W>(alloc, out, names, rows, &index, slot, kernel)?;
     }
     Ok(())
 }

@@ -17,10 +17,10 @@ use kernel_core::Kernel;
 use kernel_reach::kernel_slots;
 use setup_format::Setup;
 use setup_report::state_rows;
-use setup_trace::{add_changes_between, add_names};
 use setup_values::Name;
 use slot_core::{DerivationStore, MakeStore};
 use std::alloc::{AllocError, Global};
+use trace_lines::{add_changes_between, add_names};
 
 /// The audit of a kernel's state behind so many calls of a set-up: the names by which it was spelt, what each live thread can
 /// name, who can send to whom, and what a revoke of each full slot with children would do.

@@ -13,12 +13,12 @@ use ipc_core::Waiters;
 use kernel_core::Kernel;
 use reach_core::{FullSlot, Held, Reached, held_slots, reached_slots};
 use setup_report::StateText;
-use setup_trace::OfferText;
 use setup_values::Name;
 use slot_core::CapStore;
 use std::alloc::{AllocError, Global};
 use std::collections::BTreeSet;
 use std::fmt::Write;
+use trace_lines::OfferText;
 
 /// A live thread, and all full slots that it can name: those that its words lead to, and those that it names by an index
 /// and a depth alone.

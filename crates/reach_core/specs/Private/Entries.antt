@@ -1,5 +1,5 @@
 -- What a table of paths says of the full slots: where its paths start, and which slots are held.
-use Rattle.std.specs.Prelude.{◌≡◌, ℕ, ◌<◌, ◌≤◌, nat_le, cond, List, Option, None, Some, slice_get}
+use Rattle.std.specs.Prelude.{◌≡◌, ℕ, ◌<◌, ◌≤◌, nat_le, cond, length, List, Option, None, Some, slice_get}
 use Rattle.std.specs.List.{Contains}
 use Rattle.reach_core.specs.declared.filled.FullSlot.{FullSlot}
 use Rattle.reach_core.specs.declared.held.Held.{Held}
@@ -27,6 +27,12 @@ pub record IsHeldAt (rows : List (List (Option Path))) (place address : ℕ) (h 
   pub unreached : path_at rows 0 place ≡ None
   pub slot_is : h.slot ≡ address
   pub first : IsFirstAt rows place h.depth (path_of h)
+
+-- numbers of bits, from 1 on, in rising order, are those of the rows that have places: all that some path reads are among them
+pub record AreDepths (rows : List (List (Option Path))) (depths : List ℕ) : Type 0 where
+  pub within : (i depth : ℕ) → slice_get depths i ≡ Some depth → (1 ≤ depth) × (depth < length rows)
+  pub rising : (i j a b : ℕ) → i < j → slice_get depths i ≡ Some a → slice_get depths j ≡ Some b → a < b
+  pub all : (depth place : ℕ) (path : Path) → 1 ≤ depth → path_at rows depth place ≡ Some path → (i : ℕ) × (slice_get depths i ≡ Some depth)
 
 -- no path reads some bits at a place
 abbrev pub HasNone : List (List (Option Path)) → ℕ → ℕ → Type 0

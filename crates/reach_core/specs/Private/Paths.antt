@@ -36,10 +36,23 @@ put rows read place path = slice_set rows read (put_in (row_of rows read) place 
 abbrev pub HasUpTo : List (List (Option Path)) → ℕ → ℕ → Path → Type 0
 HasUpTo rows read place path = (first : Path) × (IsUpTo first path × (path_at rows read place ≡ Some first))
 
--- each row has a place for each full slot
+-- so many rows; each has no places yet, or one for each full slot
 pub record IsWide (height width : ℕ) (rows : List (List (Option Path))) : Type 0 where
   pub high : length rows ≡ height
-  pub wide : (read : ℕ) → read < height → length (row_of rows read) ≡ width
+  pub wide : (read : ℕ) → (length (row_of rows read) ≡ 0) ⊎ (length (row_of rows read) ≡ width)
+
+-- a row has a place for each full slot, and the paths are what they were
+pub record IsOpened (read width : ℕ) (old new : List (List (Option Path))) : Type 0 where
+  pub wide : (height : ℕ) → IsWide height width old → IsWide height width new
+  pub places : length (row_of new read) ≡ width
+  pub paths : (t k : ℕ) → path_at new t k ≡ path_at old t k
+
+-- a path is put at a place, and nothing else
+pub record IsPut (rows : List (List (Option Path))) (read place : ℕ) (path : Path) (new : List (List (Option Path))) : Type 0 where
+  pub front : (t k : ℕ) → t < read → path_at new t k ≡ path_at rows t k
+  pub kept : (t k : ℕ) (w : Path) → path_at rows t k ≡ Some w → HasUpTo new t k w
+  pub only : (t k : ℕ) (w : Path) → path_at new t k ≡ Some w → (path_at rows t k ≡ Some w) ⊎ ((t ≡ read) × ((k ≡ place) × (w ≡ path)))
+  pub there : HasUpTo new read place path
 
 -- an index has no more bits than were read
 abbrev pub AreWithinBits : List (List (Option Path)) → Type 0

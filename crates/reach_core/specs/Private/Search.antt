@@ -1,5 +1,5 @@
 -- What the parts of a search do to its table.
-use Rattle.std.specs.Prelude.{◌≡◌, ℕ, ◌+◌, ◌%◌, ◌^◌, ◌<◌, ◌≤◌, ◌⊎◌, List, length, Option, Some, slice_get, Ok}
+use Rattle.std.specs.Prelude.{◌≡◌, ℕ, ◌+◌, ◌%◌, ◌^◌, ◌<◌, ◌≤◌, ◌⊎◌, List, Option, Some, slice_get, Ok}
 use Rattle.cap_core.specs.declared.profile.ProfileName.{ProfileName}
 use Rattle.cap_core.specs.declared.capability.Cap.{Cap}
 use Rattle.cap_core.specs.Numbers.{word_bits}
@@ -8,26 +8,18 @@ use Rattle.derivation.specs.Entries.{Entry}
 use Rattle.reach_core.specs.declared.filled.FullSlot.{FullSlot}
 use Rattle.reach_core.specs.Reaching.{leads, Reaches}
 use Rattle.reach_core.specs.Private.Nodes.{goes_on, IsNext}
-use Rattle.reach_core.specs.Private.Tables.{word_in, row_at, word_at}
-
--- a table stands for no greater word at a place
-abbrev pub IsAtMost : List (List (Option ℕ)) → ℕ → ℕ → ℕ → Type 0
-IsAtMost rows left place word = (least : ℕ) × ((least ≤ word) × (word_at rows left place ≡ Some least))
+use Rattle.reach_core.specs.Private.Tables.{word_in, word_at, IsAtMost}
 
 -- the next words of an entry at one place
 abbrev pub IsNextAt : ProfileName → Cap → ℕ → ℕ → List FullSlot → ℕ → ℕ → ℕ → Type 0
 IsNextAt p from left word filled place more next =
     (to : FullSlot) × ((slice_get filled place ≡ Some to) × IsNext p from left word to.address to.cap more next)
 
-pub record SameShape (old new : List (List (Option ℕ))) : Type 0 where
-  pub height : length new ≡ length old
-  pub width : (left : ℕ) → length (row_at new left) ≡ length (row_at old left)
-
 -- the next words of an entry are noted at one place, and nothing else
-pub record Visits (p : ProfileName) (from : Cap) (left word place slot : ℕ) (to : Cap) (old new : List (List (Option ℕ))) : Type 0 where
+pub record Visits (p : ProfileName) (from : Cap) (left word : ℕ) (filled : List FullSlot) (place : ℕ) (old new : List (List (Option ℕ))) : Type 0 where
   pub kept : (t k w : ℕ) → word_at old t k ≡ Some w → IsAtMost new t k w
-  pub only : (t k w : ℕ) → word_at new t k ≡ Some w → (word_at old t k ≡ Some w) ⊎ ((k ≡ place) × IsNext p from left word slot to t w)
-  pub noted : (t w : ℕ) → IsNext p from left word slot to t w → IsAtMost new t place w
+  pub only : (t k w : ℕ) → word_at new t k ≡ Some w → (word_at old t k ≡ Some w) ⊎ ((k ≡ place) × IsNextAt p from left word filled place t w)
+  pub noted : (t w : ℕ) → IsNextAt p from left word filled place t w → IsAtMost new t place w
 
 -- the next words of an entry are noted at all places below a number, and nothing else
 pub record Spreads (p : ProfileName) (from : Cap) (left word : ℕ) (filled : List FullSlot) (count : ℕ) (old new : List (List (Option ℕ))) : Type 0 where

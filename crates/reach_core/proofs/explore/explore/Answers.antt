@@ -19,9 +19,9 @@ loop-read-preserved g c =
     let first : List (List (Option Path)) = map (λ r. r.items) c.args.rows.now.items in
     let old : List (List (Option Path)) = map (λ r. r.items) c.loop-read.rows.items in
     let new : List (List (Option Path)) = map (λ r. r.items) c.extend_row.new.rows.items in
-    let s = c.extend_row.ensures.extends in
+    let s = c.in_ok-extend_row.ensures.extends in
     record {
-      wide = c.extend_row.ensures.wide;
+      wide = c.in_ok-extend_row.ensures.wide;
       bits = bits_more g.P.Profile.profile c.args.filled.now c.loop-read.read (length c.args.filled.now) old new c.requires.lawful c.loop-read.invariant.bits s;
       front = λ place. s.front 0 place (omega arith) ∙ c.loop-read.invariant.front place;
       explored = λ f are. explored_more g.P.Profile.profile (word_bits g.P.Profile.profile) f c.args.filled.now first old new c.loop-read.read

@@ -1,11 +1,11 @@
-use Rattle.std.proofs.Common.{◌≡◌, ◌+◌, arith, replicate, None, ◌∙◌}
+use Rattle.std.proofs.Common.{◌≡◌, ◌+◌, arith, [], ◌∙◌}
 use Rattle.cap_core.specs.Numbers.{word_bits}
 use Rattle.reach_core.proofs.PathTables.{rows_more}
 use Rattle.reach_core.proofs.held.empty_rows.Goals as goal
 
 pub loop-read-preserved : goal.loop-read-preserved
 loop-read-preserved g c =
-    rw c.in_ok-push.ensures.items (rows_more (λ r. r.items) c.loop-read.rows.items c.in_ok-empty_row.field-0 c.loop-read.read (replicate c.args.width None) c.loop-read.invariant c.in_ok-empty_row.ensures)
+    rw c.in_ok-push.ensures.items (rows_more (λ r. r.items) c.loop-read.rows.items c.new.result c.loop-read.read [] c.loop-read.invariant c.new.ensures.items)
 
 pub returns : goal.returns
 returns g c =

@@ -1,5 +1,5 @@
-use Rattle.std.proofs.Common.{◌≡◌, map, replicate, None}
+use Rattle.std.proofs.Common.{◌≡◌, map, replicate, []}
 use Rattle.reach_core.proofs.held.empty_rows.Given as goal
 
 abbrev pub invariant-loop-read : goal.invariant-loop-read
-invariant-loop-read g l = map (λ r. r.items) l.rows.items ≡ replicate l.read (replicate l.width None)
+invariant-loop-read g l = map (λ r. r.items) l.rows.items ≡ replicate l.read []

@@ -7,9 +7,6 @@ use Rattle.reach_core.proofs.HeldSlots.{listed_only, entries_more, entries_skip}
 use Rattle.reach_core.proofs.held.found.Goals as goal
 use Rattle.reach_core.proofs.held.found.Goals.{in-Some+in_ok-push, in_default}
 
-pub held_at-requires : goal.held_at-requires
-held_at-requires g c = (length c.args.filled.now, (c.loop-place-test.true, c.requires))
-
 pub loop-place-preserved : goal.loop-place-preserved
 loop-place-preserved g c =
     let none : FullSlot = record { address = 0; cap = Null } in

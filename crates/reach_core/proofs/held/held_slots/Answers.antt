@@ -14,10 +14,10 @@ returns g c f thread are reach =
       up = c.requires.rising;
       reach = reach;
       starts = c.in_ok-rows.ensures.of;
-      front = c.explore.ensures.front;
-      high = c.explore.ensures.wide.high;
-      bits = c.explore.ensures.bits;
-      explored = c.explore.ensures.explored f are;
+      front = c.in_ok-explore.ensures.front;
+      high = c.in_ok-explore.ensures.wide.high;
+      bits = c.in_ok-explore.ensures.bits;
+      explored = c.in_ok-explore.ensures.explored f are;
     } in
     are_held g.P.Profile.profile f thread c.args.filled.now c.args.reached.now first rows c.in_ok-list.list.items c.put_in_order.new.list.items s
     (rw c.as_slice.ensures.value at c.in_ok-list.ensures.only) (rw c.as_slice.ensures.value at c.in_ok-list.ensures.all)

@@ -1,18 +1,18 @@
-use Rattle.std.proofs.Common.{◌≡◌, ◌+◌, arith, length, map, get_or, List, Option}
+use Rattle.std.proofs.Common.{◌≡◌, ◌+◌, arith, length, map, get_or, List, Option, refl}
+use Rattle.std.proofs.lemmas.List.{length-map}
 use Rattle.std.proofs.lemmas.Option.{slice_get-get_or, slice_get_within}
 use Rattle.cap_core.specs.Numbers.{word_bits}
 use Rattle.reach_core.specs.declared.paths.Path.{Path}
 use Rattle.reach_core.specs.declared.reached.Reached.{Reached}
-use Rattle.reach_core.specs.Private.Paths.{row_of}
-use Rattle.reach_core.proofs.PathTables.{is_put, put_wide, empty_wide, empty_none}
+use Rattle.reach_core.proofs.PathTables.{empty_wide, empty_none}
 use Rattle.reach_core.proofs.HeldSlots.{starts_more, starts_skip, starts_put, starts_none, starts_nothing}
 use Rattle.reach_core.proofs.held.start_rows.Goals as goal
-use Rattle.reach_core.proofs.held.start_rows.Goals.{in-Some, in_default}
+use Rattle.reach_core.proofs.held.start_rows.Goals.{in-Some+in_ok-put_path, in_default}
 
 pub loop-r-init : goal.loop-r-init
 loop-r-init g c =
     let rows : List (List (Option Path)) = map (λ r. r.items) c.in_ok-rows.rows.items in
-    let none = empty_none (word_bits g.P.Profile.profile + 1) (length c.args.filled.now) rows (c.in_ok-rows.ensures) in
+    let none = empty_none (word_bits g.P.Profile.profile + 1) rows (c.in_ok-rows.ensures) in
     record {
       wide = empty_wide (word_bits g.P.Profile.profile + 1) (length c.args.filled.now) rows c.in_ok-rows.ensures;
       starts = starts_nothing rows none;
@@ -23,8 +23,16 @@ pub put_path-requires-clause-place : goal.put_path-requires-clause-place
 put_path-requires-clause-place g c =
     let at = c.in-Some.ensures.some in
     let within = slice_get_within c.args.filled.now c.in-Some.place at.0 at.1.0 in
-    let row : length (row_of (map (λ r. r.items) c.loop-r.rows.items) 0) ≡ length c.args.filled.now = c.loop-r.invariant.wide.wide 0 (omega arith) in
-    omega (arith, within, row)
+    omega (arith, within)
+
+pub put_path-requires-clause-read : goal.put_path-requires-clause-read
+put_path-requires-clause-read g c =
+    let high = c.loop-r.invariant.wide.high in
+    let m : length (map (λ r. r.items) c.loop-r.rows.items) ≡ length c.loop-r.rows.items = rw length-map refl in
+    omega (arith, high, m, c.loop-r.rows.ok.0)
+
+pub put_path-requires-clause-wide : goal.put_path-requires-clause-wide
+put_path-requires-clause-wide g c = (word_bits g.P.Profile.profile + 1, c.loop-r.invariant.wide)
 
 pub loop-r-preserved : goal.loop-r-preserved
 loop-r-preserved g c =
@@ -34,14 +42,11 @@ loop-r-preserved g c =
     let rows : List (List (Option Path)) = map (λ r. r.items) c.loop-r.rows.items in
     let wide = c.loop-r.invariant.wide in
     elim c.match-place_of.branch [
-      | in-Some w ↦ rw (w.rows-is, w.put_path.ensures) (
+      | in-Some+in_ok-put_path w ↦ rw w.rows-is (
           let at = w.in-Some.ensures.some in
-          let within = slice_get_within c.args.filled.now w.in-Some.place at.0 at.1.0 in
-          let row : length (row_of rows 0) ≡ length c.args.filled.now = wide.wide 0 (omega arith) in
-          let path : Path = record { word = r.word; index = 0 } in
-          let put = is_put rows 0 w.in-Some.place path (omega (arith, wide.high)) (omega (arith, row, within)) in
+          let put = w.in_ok-put_path.ensures.put in
           record {
-            wide = put_wide (word_bits g.P.Profile.profile + 1) (length c.args.filled.now) rows 0 w.in-Some.place path (omega arith) wide;
+            wide = w.in_ok-put_path.ensures.wide (word_bits g.P.Profile.profile + 1) wide;
             starts = starts_put rows _ w.in-Some.place r.word put c.loop-r.invariant.starts;
             of = starts_more c.args.filled.now c.args.reached.now c.loop-r.r-index w.in-Some.place rows _ r at.0 c.requires here at.1.0 at.1.1 put c.loop-r.invariant.of;
           })

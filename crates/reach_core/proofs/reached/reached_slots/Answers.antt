@@ -26,11 +26,11 @@ returns g c f are =
     first_search g.P.Profile.profile f c.args.thread (length c.args.filled.now) c.in-Some.root c.args.filled.now (map (λ r. r.items) c.in_ok-rows.rows.items) at.0
     c.in_ok-rows.ensures.first at.1.0 at.1.1 in
     let searched : IsSearch g.P.Profile.profile f c.args.thread c.args.filled.now rows =
-    c.search.ensures.found (word_bits g.P.Profile.profile) f c.args.thread (all_lawful g.P.Profile.profile f c.args.filled.now are c.requires.lawful) are start in
-    let one : length c.search.new.rows.items ≡ 1 = omega (arith, c.search.ensures.one, c.search.new.rows.ok.0) in
+    c.in_ok-search.ensures.found (word_bits g.P.Profile.profile) f c.args.thread (all_lawful g.P.Profile.profile f c.args.filled.now are c.requires.lawful) are start in
+    let one : length c.search.new.rows.items ≡ 1 = omega (arith, c.in_ok-search.ensures.one, c.search.new.rows.ok.0) in
     let one' : length rows ≡ 1 = rw length-map one in
     let row : c.as_slice.result.now ≡ row_at rows 0 = c.as_slice.ensures.value ∙ only_row (λ r. r.items) c.search.new.rows.items c.index.result.now one c.index.ensures in
     are_reached g.P.Profile.profile f c.args.thread c.args.filled.now rows c.in_ok-list.list.items c.put_in_order.new.list.items
-    are c.requires.rising one' c.search.ensures.bounded searched
+    are c.requires.rising one' c.in_ok-search.ensures.bounded searched
     (rw row at c.in_ok-list.ensures.only) (rw row at c.in_ok-list.ensures.all)
     (λ r h. any_same r c.put_in_order.new.list.items (c.in_ok-put_in_order.ensures.kept r h)) c.in_ok-put_in_order.ensures.only c.in_ok-put_in_order.ensures.order

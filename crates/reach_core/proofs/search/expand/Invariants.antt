@@ -1,9 +1,10 @@
-use Rattle.std.proofs.Common.{map}
-use Rattle.reach_core.specs.Private.Search.{SameShape, Spreads}
+use Rattle.std.proofs.Common.{length, map}
+use Rattle.reach_core.specs.Private.Tables.{SameShape}
+use Rattle.reach_core.specs.Private.Search.{Spreads}
 use Rattle.reach_core.proofs.search.expand.Given as goal
 
 abbrev pub invariant-loop-place : goal.invariant-loop-place
 invariant-loop-place g l = record {
-  shape : SameShape (map (λ r. r.items) l.fn.rows.items) (map (λ r. r.items) l.rows.items);
+  shape : SameShape (length l.filled) (map (λ r. r.items) l.fn.rows.items) (map (λ r. r.items) l.rows.items);
   spreads : Spreads g.P.Profile.profile l.from l.left l.word l.filled l.place (map (λ r. r.items) l.fn.rows.items) (map (λ r. r.items) l.rows.items);
 }

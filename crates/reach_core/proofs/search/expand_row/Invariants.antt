@@ -1,9 +1,10 @@
-use Rattle.std.proofs.Common.{map}
-use Rattle.reach_core.specs.Private.Search.{SameShape, RowSpreads}
+use Rattle.std.proofs.Common.{length, map}
+use Rattle.reach_core.specs.Private.Tables.{SameShape}
+use Rattle.reach_core.specs.Private.Search.{RowSpreads}
 use Rattle.reach_core.proofs.search.expand_row.Given as goal
 
 abbrev pub invariant-loop-place : goal.invariant-loop-place
 invariant-loop-place g l = record {
-  shape : SameShape (map (λ r. r.items) l.fn.rows.items) (map (λ r. r.items) l.rows.items);
+  shape : SameShape (length l.filled) (map (λ r. r.items) l.fn.rows.items) (map (λ r. r.items) l.rows.items);
   spreads : RowSpreads g.P.Profile.profile l.row l.left l.filled l.place (map (λ r. r.items) l.fn.rows.items) (map (λ r. r.items) l.rows.items);
 }

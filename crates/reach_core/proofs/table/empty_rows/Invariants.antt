@@ -5,5 +5,5 @@ use Rattle.reach_core.proofs.table.empty_rows.Given as goal
 abbrev pub invariant-loop-left : goal.invariant-loop-left
 invariant-loop-left l = record {
   height : vec_len l.rows ≡ l.left;
-  empty : AreEmpty l.width (map (λ r. r.items) l.rows.items);
+  empty : AreEmpty (map (λ r. r.items) l.rows.items);
 }

@@ -14,7 +14,7 @@ returns-then-names_same g c =
     let same : names_same c.cap_at.result cap ≡ true = sym c.names_same.ensures ∙ c.if-names_same.true in
     let named : is_named cap (derivations_of c.args.new.now.derivations) ≡ true =
     slot_names c.args.new.now.derivations c.address.result cap (ap (λ x. names_same x cap) (sym c.cap_at.ensures.cap) ∙ same) in
-    stays cap new c.args.caps.now.items (ap (is_named cap) c.requires ∙ named)
+    stays cap new c.args.caps.now.items (ap (is_named cap) c.requires.left ∙ named)
 
 pub returns-then-is_named : goal.returns-then-is_named
 returns-then-is_named g c =

@@ -3,7 +3,7 @@ use Rattle.cap_core.specs.declared.refusal.Refusal.{Refusal}
 use Rattle.abstract_kernel.specs.declared.invocation.Invocation.{Invocation}
 use Rattle.abstract_kernel.specs.State.{shown}
 use Rattle.abstract_kernel.specs.Step.{outcome, step}
-use Rattle.setup_trace.specs.Changes.{changes, state_lines}
+use Rattle.trace_lines.specs.Changes.{changes, state_lines}
 use Rattle.setup_audit.proofs.laws.a_revoke_does_this.Goals as goal
 
 pub returns : goal.returns

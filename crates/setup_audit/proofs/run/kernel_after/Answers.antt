@@ -2,7 +2,7 @@ use Rattle.std.proofs.Common.{ap, ◌∙◌}
 use Rattle.abstract_kernel.specs.Boot.{boot}
 use Rattle.abstract_kernel.specs.State.{shown}
 use Rattle.abstract_kernel.specs.Step.{state_after}
-use Rattle.setup_trace.proofs.Steps.{booted}
+use Rattle.trace_lines.proofs.Steps.{booted}
 use Rattle.setup_audit.proofs.run.kernel_after.Goals as goal
 
 pub returns : goal.returns

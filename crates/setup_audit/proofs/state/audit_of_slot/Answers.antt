@@ -1,6 +1,6 @@
 use Rattle.std.proofs.Common.{◌≡◌, ◌++◌, Some, string_bytes, ap, ◌∙◌}
 use Rattle.setup_values.specs.Names.{names_view}
-use Rattle.setup_trace.specs.Changes.{changes, state_lines}
+use Rattle.trace_lines.specs.Changes.{changes, state_lines}
 use Rattle.setup_audit.specs.Text.{head_line}
 use Rattle.setup_audit.specs.Revokes.{revoked, revoke_lines}
 use Rattle.setup_audit.proofs.Joined.{joined_three}

@@ -8,7 +8,7 @@ use Rattle.abstract_kernel.specs.State.{shown}
 use Rattle.reach_core.specs.FullSlots.{AreFullSlots}
 use Rattle.setup_values.specs.Names.{names_view}
 use Rattle.setup_report.specs.State.{threads, endpoints, slot_rows}
-use Rattle.setup_trace.specs.Trace.{name_lines}
+use Rattle.trace_lines.specs.Names.{name_lines}
 use Rattle.setup_audit.specs.Text.{head_line}
 use Rattle.setup_audit.specs.Threads.{AreSlotsOf, slots_lines}
 use Rattle.setup_audit.specs.Channels.{words_of, channel_lines}

@@ -1,0 +1,9 @@
+pub mod Below
+pub mod Found
+pub mod Halving
+pub mod Keys
+pub mod Left
+pub mod Named
+pub mod Objects
+pub mod Parts
+pub mod Runs

@@ -1,0 +1,22 @@
+-- A number for each object and each untyped region.
+use Rattle.std.specs.Prelude.{ℕ, ◌+◌, ◌*◌, ◌^◌}
+use Rattle.cap_core.specs.declared.capability.Cap.{Cap}
+use Rattle.cap_core.specs.declared.capability.Cap.TheVariants.{Null, Untyped, Endpoint, CNode, Tcb}
+
+-- the bits of a region's size, and those by which a CNode chooses a slot
+abbrev pub size_in : Cap → ℕ
+size_in Null = 0
+size_in (Untyped base bits free) = bits
+size_in (Endpoint base badge rights) = 0
+size_in (CNode base radix guard) = radix
+size_in (Tcb base) = 0
+
+abbrev pub number_of : ℕ → ℕ → ℕ → ℕ
+number_of base kind size = base * 2 ^ 64 + kind * 2 ^ 32 + size
+
+abbrev pub object_number : Cap → ℕ
+object_number Null = number_of 0 0 0
+object_number (Untyped base bits free) = number_of base 1 bits
+object_number (Endpoint base badge rights) = number_of base 2 0
+object_number (CNode base radix guard) = number_of base 3 radix
+object_number (Tcb base) = number_of base 4 0

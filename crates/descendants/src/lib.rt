@@ -1,0 +1,13 @@
+//! What a revoke takes along where it ends no object that has slots: what stands below its slot, and nothing else.
+#![tactic(auto)]
+
+mod index;
+mod keyed;
+mod numbers;
+mod revoked;
+mod run;
+
+pub use index::{DerivationIndex, derivation_index};
+pub use keyed::Keyed;
+pub use numbers::{by_object, is_named};
+pub use revoked::{Revoked, revoked_alone};

@@ -1,0 +1,94 @@
+//! The places of derivations by their slots, and by the objects that they name.
+ghost use Rattle.std.specs.Prelude.{◌≡◌, ℕ, ◌^◌, ◌<◌, IfOk, All, map};
+ghost use Rattle.std.specs.List.{list_any};
+ghost use Rattle.derivation.specs.Derivation.{names_same};
+ghost use Rattle.slot_core.specs.Places.{address_of};
+ghost use Rattle.descendants.specs.Keyed.{numbered, AreKeyed};
+ghost use Rattle.descendants.specs.Objects as spec;
+
+use crate::keyed::{Keyed, at_key, put_in_order};
+use cap_core::{Cap, Profile};
+use slot_core::Derivation;
+use std::alloc::{AllocError, Global};
+
+/// The number of the object, or of the untyped region, that a capability names: no other one has it.
+pub fn object_number(cap: Cap) -> u128
+    ensures number { result ≡ spec.object_number cap }
+    ensures small { spec.size_in cap < 2 ^ 32 }
+{
+    let (base, kind, size) = match cap {
+        Cap::Null => (0, 0, 0),
+        Cap::Untyped { base, bits, .. } => (base, 1, bits),
+        Cap::Endpoint { base, .. } => (base, 2, 0),
+        Cap::CNode { base, radix, .. } => (base, 3, radix),
+        Cap::Tcb { base } => (base, 4, 0),
+    };
+    u128::from(base) * 0x1_0000_0000_0000_0000 + kind * 0x1_0000_0000 + u128::from(size)
+}
+
+fn addresses<P: Profile>(alloc: Global, list: &[Derivation]) -> Result<Vec<Keyed>, AllocError>
+    ensures { IfOk result (λ keyed. keyed.items ≡ numbered 0 (map (λ d. address_of P.profile d.slot) list.now)) }
+{
+    let mut keyed = Vec::with_capacity(alloc, list.len())?;
+    for place in 0..list.len() {
+        keyed.push(Keyed {
+            key: u128::from(list[place].slot.address::<P>()),
+            place,
+        })?;
+    }
+    Ok(keyed)
+}
+
+fn numbers(alloc: Global, list: &[Derivation]) -> Result<Vec<Keyed>, AllocError>
+    ensures numbers { IfOk result (λ keyed. keyed.items ≡ numbered 0 (map (λ d. spec.object_number d.cap) list.now)) }
+    ensures small { IfOk result (λ keyed. All (λ d. spec.size_in d.cap < 2 ^ 32) list.now) }
+{
+    let mut keyed = Vec::with_capacity(alloc, list.len())?;
+    for place in 0..list.len() {
+        keyed.push(Keyed {
+            key: object_number(list[place].cap),
+            place,
+        })?;
+    }
+    Ok(keyed)
+}
+
+/// Whether one of some derivations names the object, or the untyped region, of a capability. `objects` has their places, as
+/// `by_object` gives them.
+pub fn is_named(list: &[Derivation], objects: &[Keyed], cap: Cap) -> bool
+    requires objects { AreKeyed (map (λ d. spec.object_number d.cap) list.now) objects.now }
+    requires small { All (λ d. spec.size_in d.cap < 2 ^ 32) list.now }
+    ensures { result ≡ list_any (λ d. names_same d.cap cap) list.now }
+{
+    if let Cap::Null = cap {
+        return false;
+    }
+    !at_key(objects, object_number(cap)).is_empty()
+}
+
+/// The places of derivations by rising addresses of their slots.
+///
+/// # Errors
+///
+/// Memory was refused.
+pub fn by_address<P: Profile>(alloc: Global, list: &[Derivation]) -> Result<Vec<Keyed>, AllocError>
+    ensures { IfOk result (λ keyed. AreKeyed (map (λ d. address_of P.profile d.slot) list.now) keyed.items) }
+{
+    let mut keyed = addresses::<P>(alloc, list)?;
+    put_in_order(&mut keyed)?;
+    Ok(keyed)
+}
+
+/// The places of derivations by the objects that their capabilities name: those of one object are together, in their order.
+///
+/// # Errors
+///
+/// Memory was refused.
+pub fn by_object(alloc: Global, list: &[Derivation]) -> Result<Vec<Keyed>, AllocError>
+    ensures objects { IfOk result (λ keyed. AreKeyed (map (λ d. spec.object_number d.cap) list.now) keyed.items) }
+    ensures small { IfOk result (λ keyed. All (λ d. spec.size_in d.cap < 2 ^ 32) list.now) }
+{
+    let mut keyed = numbers(alloc, list)?;
+    put_in_order(&mut keyed)?;
+    Ok(keyed)
+}
