@@ -18,8 +18,12 @@ use slot_core::{DerivationStore, LinkedStore, MakeStore};
 use std::alloc::{AllocError, Global};
 
 /// The kernel of a set-up behind its first calls.
+///
+/// # Errors
+///
+/// Memory was refused.
 #[tactic(auto, unfolding(crate::specs::Ever::state_behind))]
-fn kernel_behind<P: Profile, S: MakeStore<P>, W: MakeWaiters<P>>(
+pub fn kernel_behind<P: Profile, S: MakeStore<P>, W: MakeWaiters<P>>(
     alloc: Global,
     setup: &Setup,
     made: usize,
@@ -38,14 +42,14 @@ fn kernel_behind<P: Profile, S: MakeStore<P>, W: MakeWaiters<P>>(
 /// What is asked for: behind how many calls, all where no number is given; and the threads that are trusted to make no
 /// more calls, each by its address or by a name of the set-up.
 #[derive(Clone, Copy)]
-struct Teller<'a> {
-    after: Option<u64>,
-    without: &'a [&'a str],
+pub struct Teller<'a> {
+    pub after: Option<u64>,
+    pub without: &'a [&'a str],
 }
 
 impl Teller<'_> {
     /// How many calls are made.
-    fn calls_made(&self, setup: &Setup) -> u64
+    pub fn calls_made(&self, setup: &Setup) -> u64
         ensures { result ≡ spec.calls_made setup.now self.now.after }
     {
         match self.after {
@@ -55,7 +59,7 @@ impl Teller<'_> {
     }
 
     /// Whether the set-up has that many calls, and each of the words means a thread.
-    fn has_asked(&self, names: &[Name], setup: &Setup) -> bool
+    pub fn has_asked(&self, names: &[Name], setup: &Setup) -> bool
         ensures { result ≡ spec.has_asked (names_view names.now) setup.now self.now.after (map (λ w. w.now) self.now.without.now) }
     {
         self.calls_made(setup) <= setup.calls().len() as u64 && are_meant(names, self.without)

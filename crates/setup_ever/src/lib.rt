@@ -9,5 +9,9 @@ mod text;
 mod threads;
 mod ways;
 
-pub use text::ever;
-pub use threads::{are_meant, trusted};
+pub use names::{ThreadName, thread_name};
+pub use parts::{BadgeText, is_of_part};
+pub use sets::{is_in, listed, rising};
+pub use text::{ever, parts_of_callers};
+pub use threads::{are_meant, thread_meant, trusted};
+pub use ways::{has_use_to_receive, has_use_to_send};

@@ -68,7 +68,8 @@ fn add_state<P: Profile, S: CapStore<P> + Drop, W: Waiters<P> + Drop>(
     }
 }
 
-fn is_of_part(memory: &[PartMemory], part: u64, address: u64) -> bool
+/// Whether an address lies in the memory of a part.
+pub fn is_of_part(memory: &[PartMemory], part: u64, address: u64) -> bool
     ensures { result ≡ spec.is_part part (listed.part_at memory.now address) }
 {
     match part_at(memory, address) {

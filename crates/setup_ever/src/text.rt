@@ -156,7 +156,11 @@ fn text_of_parts<P: Profile, S: DerivationStore<P> + Drop, W: Waiters<P> + Drop>
 }
 
 /// Closed parts around the live threads that are not trusted to make no more calls.
-fn parts_of_callers<P: Profile, S: DerivationStore<P> + Drop, W: Waiters<P> + Drop>(
+///
+/// # Errors
+///
+/// Memory was refused.
+pub fn parts_of_callers<P: Profile, S: DerivationStore<P> + Drop, W: Waiters<P> + Drop>(
     alloc: Global,
     without: &[u64],
     kernel: &Kernel<P, S, W>,

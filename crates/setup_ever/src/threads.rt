@@ -65,7 +65,7 @@ fn number_or_name(names: &[Name], text: &[u8]) -> Option<u64>
 }
 
 /// The address of a thread: decimal digits, or a name of the set-up, also behind a `@`.
-fn thread_meant(names: &[Name], text: &[u8]) -> Option<u64>
+pub fn thread_meant(names: &[Name], text: &[u8]) -> Option<u64>
     ensures { result ≡ spec.thread_meant (names_view names.now) text.now }
 {
     match text {

@@ -59,7 +59,15 @@ fn has_use_for_any(uses: &[PartUse], part: u64, endpoint: u64) -> bool
         .any(|u| may_send(u, part, endpoint) && u.badge.0 == 0)
 }
 
-fn has_use_to_receive(uses: &[PartUse], part: u64, endpoint: u64) -> bool
+/// Whether a part has a use to send to an endpoint.
+pub fn has_use_to_send(uses: &[PartUse], part: u64, endpoint: u64) -> bool
+    ensures { result ≡ list_any (spec.is_use write_bit part endpoint) uses.now }
+{
+    uses.iter().any(|u| may_send(u, part, endpoint))
+}
+
+/// Whether a part has a use to receive on an endpoint.
+pub fn has_use_to_receive(uses: &[PartUse], part: u64, endpoint: u64) -> bool
     ensures { result ≡ list_any (spec.is_use read_bit part endpoint) uses.now }
 {
     uses.iter().any(|u| may_hear(u, part, endpoint))

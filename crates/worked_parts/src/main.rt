@@ -1,32 +1,34 @@
-//! Tells the parts of each layout in the folder that it stands in, and compares the whole text and the exit status.
+//! Tells the parts of each layout in the folder that it stands in, asks whether the part of one thread is kept from that of
+//! another, and compares the whole text and the exit status.
 //!
-//! `NAME.toml` is a set-up, `NAME.args` what is asked of it, in the options of `sel4sim audit --ever` with one word a line, and
-//! `NAME.ever` what its threads can ever get, byte for byte. The wanted status is 4 where that file is empty, 2 where it is the
-//! line of a refusal, and else 0.
+//! `NAME.toml` is a set-up. `NAME.ever` is what its threads can ever get, byte for byte, and `NAME.args` what is asked of it,
+//! in the options of `sel4sim audit --ever` with one word a line. `NAME.QUESTION.never` is whether one part is kept from
+//! another, and `NAME.QUESTION.args` what is asked, in the options of `sel4sim audit`. The wanted status is 4 where a file is
+//! empty, 2 where it is the line of a refusal, 1 where its first line ends with ` possible`, and else 0.
 //!
-//! One line says how many there are, and one line for each that differs says which. At the end one text is compared with
+//! One line says how many texts there are, and one line for each that differs says which. At the end one text is compared with
 //! another one, and has to differ. The exit status is 1 where one failed, or nothing differed there.
 #![tactic(auto)]
 
-use engine_core::{ReaderSource, WriterSink, status_of};
-use engine_ever::ever_run;
+use engine_core::{ReaderSource, RunFault, Verdict, WriterSink, status_of};
+use engine_ever::{Question, ever_run, never_run};
 use std::alloc::Global;
 use std::fs::{self, Files};
 use std::process::ExitCode;
 
-/// The ending of the files that are wanted.
-const ENDING: &str = ".ever";
-
-/// What is asked for: behind how many calls, and which threads are trusted.
+/// What is asked for: behind how many calls, which threads are trusted, and, where two threads are given, whether the part of
+/// the one is kept from that of the other, but by which endpoints.
 #[derive(Drop)]
 struct Asked<'a> {
     after: Option<u64>,
     without: Vec<&'a str>,
+    between: Option<(&'a str, &'a str)>,
+    by: Vec<&'a str>,
 }
 
-fn add_trusted<'a>(without: &mut Vec<&'a str>, threads: &'a str) -> anyhow::Result<()> {
-    for thread in threads.split(',') {
-        without.push(thread)?;
+fn add_words<'a>(words: &mut Vec<&'a str>, list: &'a str) -> anyhow::Result<()> {
+    for word in list.split(',') {
+        words.push(word)?;
     }
     Ok(())
 }
@@ -37,6 +39,8 @@ enum Word {
     Option,
     Calls,
     Threads,
+    Between,
+    Endpoints,
 }
 
 /// What comes behind a word that should be an option.
@@ -45,6 +49,10 @@ fn word_behind(option: &str) -> Word {
         Word::Calls
     } else if option == "--without" {
         Word::Threads
+    } else if option == "--never" {
+        Word::Between
+    } else if option == "--by" {
+        Word::Endpoints
     } else {
         Word::Option
     }
@@ -54,6 +62,8 @@ fn word_behind(option: &str) -> Word {
 fn asked_by(alloc: Global, args: &str) -> anyhow::Result<Asked<'_>> {
     let mut after = None;
     let mut without = Vec::new(alloc);
+    let mut between = None;
+    let mut by = Vec::new(alloc);
     let mut next = Word::Option;
     for word in args.lines() {
         let this = next;
@@ -61,54 +71,94 @@ fn asked_by(alloc: Global, args: &str) -> anyhow::Result<Asked<'_>> {
         match this {
             Word::Option => next = word_behind(word),
             Word::Calls => after = Some(word.parse()?),
-            Word::Threads => add_trusted(&mut without, word)?,
+            Word::Threads => add_words(&mut without, word)?,
+            Word::Between => between = word.split_once(','),
+            Word::Endpoints => add_words(&mut by, word)?,
         }
     }
-    Ok(Asked { after, without })
+    Ok(Asked {
+        after,
+        without,
+        between,
+        by,
+    })
 }
 
 /// The exit status that is wanted with a text.
-fn status_with(text: &[u8]) -> u8 {
-    if text.is_empty() {
-        4
-    } else if text.starts_with(b"set-up refused ") {
-        2
-    } else {
-        0
+fn status_with(text: &str) -> u8 {
+    match text.lines().next() {
+        None => 4,
+        Some(line) if line.starts_with("set-up refused ") => 2,
+        Some(line) if line.ends_with(" possible") => 1,
+        Some(_) => 0,
     }
 }
 
-/// The text and the exit status of what is asked of a set-up.
-fn told<R: Files + AllocGlobal>(
-    rt: &R,
-    name: &str,
+/// Writes what is asked of a set-up.
+fn answer(
+    alloc: Global,
     asked: &Asked<'_>,
-) -> anyhow::Result<(Vec<u8>, u8)> {
-    let path = format!(in rt.alloc(); "{name}.toml")?;
-    let setup = fs::read(rt, path.as_str())?;
-    let mut text = Vec::new(rt.alloc());
-    let mut source = ReaderSource::new(setup.as_slice());
-    let mut sink = WriterSink::new(&mut text);
+    setup: &[u8],
+    text: &mut Vec<u8>,
+) -> Result<Verdict, RunFault> {
+    let mut source = ReaderSource::new(setup);
+    let mut sink = WriterSink::new(text);
+    let after = asked.after;
     let without = asked.without.as_slice();
-    let answer = ever_run(rt.alloc(), asked.after, without, &mut source, &mut sink);
-    Ok((text, status_of(&answer)))
+    match asked.between {
+        None => ever_run(alloc, after, without, &mut source, &mut sink),
+        Some((from, to)) => {
+            let by = asked.by.as_slice();
+            let question = Question {
+                after,
+                without,
+                from,
+                to,
+                by,
+            };
+            never_run(alloc, &question, &mut source, &mut sink)
+        }
+    }
 }
 
-/// Whether what is asked of a set-up is not the text that is wanted.
-fn differs<R: Files + AllocGlobal>(rt: &R, name: &str, args: &str) -> anyhow::Result<bool> {
-    let path = format!(in rt.alloc(); "{name}{ENDING}")?;
-    let wanted = fs::read(rt, path.as_str())?;
+/// The set-up that a wanted file is of: its name up to the first dot.
+fn setup_of(wanted: &str) -> &str {
+    match wanted.split_once('.') {
+        None => wanted,
+        Some((name, _)) => name,
+    }
+}
+
+/// What stands before the last dot of a name.
+fn stem_of(wanted: &str) -> &str {
+    match wanted.rsplit_once('.') {
+        None => wanted,
+        Some((stem, _)) => stem,
+    }
+}
+
+/// Whether what is asked of a set-up is not the text that is wanted, or another status.
+fn differs<R: Files + AllocGlobal>(rt: &R, wanted: &str, args: &str) -> anyhow::Result<bool> {
+    let path = format!(in rt.alloc(); "{}.toml", setup_of(wanted))?;
+    let setup = fs::read(rt, path.as_str())?;
+    let expected = fs::read_to_string(rt, wanted)?;
     let asked = asked_by(rt.alloc(), args)?;
-    let (text, status) = told(rt, name, &asked)?;
-    Ok(text.as_slice() != wanted.as_slice() || status != status_with(wanted.as_slice()))
+    let mut text = Vec::new(rt.alloc());
+    let end = answer(rt.alloc(), &asked, setup.as_slice(), &mut text);
+    Ok(text.as_slice() != expected.as_bytes() || status_of(&end) != status_with(expected.as_str()))
 }
 
-/// The names of the set-ups, in order.
+fn is_wanted(name: &str) -> bool {
+    name.ends_with(".ever") || name.ends_with(".never")
+}
+
+/// The names of the files that are wanted, in order.
 fn names<R: Files + AllocGlobal + Clone + Drop>(rt: &R) -> anyhow::Result<Vec<String>> {
     let mut names = Vec::new(rt.alloc());
     for entry in fs::read_dir(rt, ".")? {
         let entry = entry?;
-        if let Some(name) = entry.file_name().strip_suffix(ENDING) {
+        let name = entry.file_name();
+        if is_wanted(name) {
             names.push(String::from_str(rt.alloc(), name)?)?;
         }
     }
@@ -116,13 +166,13 @@ fn names<R: Files + AllocGlobal + Clone + Drop>(rt: &R) -> anyhow::Result<Vec<St
     Ok(names)
 }
 
-/// Asks what stands beside a set-up: whether the text differs.
-fn ask<R: Files + Print + AllocGlobal>(rt: &R, name: &str) -> anyhow::Result<bool> {
-    let path = format!(in rt.alloc(); "{name}.args")?;
+/// Asks what stands beside a wanted file: whether the text differs.
+fn ask<R: Files + Print + AllocGlobal>(rt: &R, wanted: &str) -> anyhow::Result<bool> {
+    let path = format!(in rt.alloc(); "{}.args", stem_of(wanted))?;
     let args = fs::read_to_string(rt, path.as_str())?;
-    let differs = differs(rt, name, args.as_str())?;
+    let differs = differs(rt, wanted, args.as_str())?;
     if differs {
-        println!(rt; "{name}{ENDING}: another text, or another status")?;
+        println!(rt; "{wanted}: another text, or another status")?;
     }
     Ok(differs)
 }
@@ -141,7 +191,7 @@ fn ask_all<R: Files + Print + AllocGlobal>(rt: &R, names: &[String]) -> anyhow::
 fn main(rt: HostRuntime) -> anyhow::Result<ExitCode> {
     let names = names(&rt)?;
     let right = ask_all(&rt, names.as_slice())?;
-    let found = differs(&rt, "two_clients", "")?;
-    println!(rt; "{} layouts", names.len())?;
+    let found = differs(&rt, "two_clients.ever", "")?;
+    println!(rt; "{} texts", names.len())?;
     Ok(ExitCode::from(if right && found { 0 } else { 1 }))
 }

@@ -1,0 +1,11 @@
+//! Whether one thread's part is kept from another's, but for the endpoints that are named, whatever calls threads make.
+#![tactic(auto)]
+
+mod laws;
+mod never;
+mod open;
+mod waits;
+
+pub use laws::what_is_not_open_is_kept;
+pub use never::Never;
+pub use open::never_gets;
