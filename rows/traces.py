@@ -3,21 +3,26 @@
 
 NAME.trace, where there is one, is the trace of NAME.toml, byte for byte. Of every set-up, the trace has the report's lines of the
 calls, its last line and its exit status; a call that is refused, dropped or finds nothing has no changes; a line that goes was
-there, and one that comes was not; and the state behind the last call gives the report's lines of the state. A refused set-up gets
-the line of its refusal.
+there, and one that comes was not; and the state behind the last call gives the report's lines of the state. The state behind each
+call, or behind the last one of a long run, gives the forest that `tree` writes, siblings in its order. A refused set-up gets the line
+of its refusal.
 """
 import pathlib
 import re
 import subprocess
 import sys
 
-KINDS = ["thread", "inbox", "endpoint", "slot", "selfheld"]
+KINDS = ["thread", "inbox", "endpoint", "slot", "selfheld", "sibling"]
 CALL = re.compile(r"[1-9][0-9]* ")
+REFUSED = re.compile(r"[0-9]+ [0-9]+ [a-z_]+: refused\b")
 WITHOUT_CHANGES = re.compile(r"[0-9]+ [0-9]+ [a-z_]+: (refused|dropped|empty)\b")
 
 
-def run(program, job, setup):
-    done = subprocess.run([program, job, str(setup)], capture_output=True, timeout=60)
+MOST_FORESTS = 12
+
+
+def run(program, job, setup, *words):
+    done = subprocess.run([program, job, *words, str(setup)], capture_output=True, timeout=60)
     return done.returncode, done.stdout.decode()
 
 
@@ -33,9 +38,20 @@ def steps_of(trace):
     for line in trace.splitlines()[1:-1]:
         if line.startswith(("  - ", "  + ")):
             steps[-1][1].append((line[2], line[4:]))
-        elif not line.startswith(("name ", "  with")):
+        elif not line.startswith(("name ", "  ")):
             steps.append((line, []))
     return steps
+
+
+def reasons_of(trace):
+    """The lines of `why` for the refused calls: each call's line, and those below it that are neither words nor changes."""
+    reasons = []
+    for line in trace.splitlines()[1:-1]:
+        if CALL.match(line):
+            reasons.append([line])
+        elif line.startswith("  ") and not line.startswith(("  with", "  - ", "  + ")):
+            reasons[-1].append(line)
+    return [line for told in reasons if len(told) > 1 or REFUSED.match(told[0]) for line in told]
 
 
 def apply(state, changes):
@@ -63,8 +79,37 @@ def report_lines(state):
             yield re.sub(r"(sending [0-9]+).*", r"\1", line) + re.sub(r"^inbox [0-9]+", " inbox", inbox)
         elif KINDS[kind] == "slot":
             yield re.sub(r"( under [0-9]+)?( original)?$", "", line) + (" children" if address in parents else "")
-        elif KINDS[kind] != "inbox":
+        elif KINDS[kind] not in ("inbox", "sibling"):
             yield line
+
+
+def forest_lines(state, names):
+    """The lines of `tree`: each full slot below the one that it is `under`, behind the sibling that it stands after."""
+    slots = {address: line for (kind, address), line in state.items() if KINDS[kind] == "slot"}
+    behind = {int(line.split(" ")[3]): address for (kind, address), line in state.items() if KINDS[kind] == "sibling"}
+    first = {}
+    for address in slots.keys() - set(behind.values()):
+        under = re.search(r" under ([0-9]+)", slots[address])
+        first.setdefault(int(under[1]) if under else None, []).append(address)
+
+    def below(under, depth):
+        for address in sorted(first.get(under, [])):
+            while address is not None:
+                held = re.sub(r"^slot [0-9]+ |( under [0-9]+)?( original)?$", "", slots[address])
+                found = names.get(held.removeprefix("tcb "), []) if held.startswith("tcb ") else []
+                yield "  " * depth + f"{address} {held}" + (f" @{found[0]}" if len(found) == 1 else "")
+                yield from below(address, depth + 1)
+                address = behind.get(address)
+
+    yield from below(None, 0)
+
+
+def names_in(trace):
+    """The names of each word."""
+    names = {}
+    for name, word in re.findall(r"^name (\S+) ([0-9]+)$", trace, re.M):
+        names.setdefault(word, []).append(name)
+    return names
 
 
 def faults(program, setup):
@@ -79,12 +124,20 @@ def faults(program, setup):
         if trace != report:
             yield f"wanted the refusal {report}got {trace}"
         return
-    steps, state = steps_of(trace), {}
+    steps, state, names = steps_of(trace), {}, names_in(trace)
     for heading, changes in steps:
         if changes and WITHOUT_CHANGES.match(heading):
             yield f"changes of {heading}"
         for fault in apply(state, changes):
             yield f"{heading}: {fault}"
+        made = int(heading.split(" ")[0])
+        if made == len(steps) - 1 or len(steps) <= MOST_FORESTS:
+            _, tree = run(program, "tree", setup, "--after", str(made))
+            if list(forest_lines(state, names)) != tree.splitlines()[1:]:
+                yield f"{heading}: another forest than that of tree"
+    _, why = run(program, "why", setup)
+    if reasons_of(trace) != why.splitlines()[:-2]:
+        yield "other reasons than those of why"
     calls = [heading for heading, _ in steps if CALL.match(heading)]
     told = [*calls, *report_lines(state), trace.splitlines()[-1]]
     if told != report.splitlines():

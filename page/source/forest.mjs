@@ -17,8 +17,12 @@ const LEAST_ABOVE = 40;
 /** The rows to draw: all full slots, and those that the call emptied. */
 const rowsOf = (view) => [...view.after.slots, ...view.changes.emptied.values()];
 
-/** The rows below each slot by its address, and those below none under null. */
-function childrenOf(rows) {
+/** The rows below each slot by its address, and those below none under null, in the kernel's order. */
+function childrenOf(view, rows) {
+  const { emptied, old } = view.changes;
+  const isEmptied = (row) => emptied.get(row.address) === row;
+  const lineOf = (row) => (isEmptied(row) ? old.get(`sibling ${row.address}`) : view.state.sibling.get(row.address));
+  const inFront = (row) => lineOf(row)?.after ?? null;
   const present = new Set(rows.map((row) => row.address));
   const children = new Map();
   for (const row of rows) {
@@ -26,7 +30,7 @@ function childrenOf(rows) {
     if (!children.has(parent)) children.set(parent, []);
     children.get(parent).push(row);
   }
-  return new Map([...children].map(([parent, below]) => [parent, inOrder(below)]));
+  return new Map([...children].map(([parent, below]) => [parent, inOrder(below, inFront, isEmptied)]));
 }
 
 /** The addresses that are always shown: what changed or is named by the call, and all that it was derived from. */
@@ -63,7 +67,7 @@ function folded(rows, most, few) {
 class Forest {
   constructor(view) {
     const rows = rowsOf(view);
-    Object.assign(this, { view, children: childrenOf(rows), shown: shownAddresses(view, rows), sums: new Map() });
+    Object.assign(this, { view, children: childrenOf(view, rows), shown: shownAddresses(view, rows), sums: new Map() });
     if (isSummedUp(view.changes)) this.sums = emptiedTrees(view.changes);
   }
 
@@ -108,9 +112,8 @@ class Forest {
 /** The derivation forest of the state of a view. */
 export function drawForest(view) {
   const list = new Forest(view).draw();
-  const isTold = view.after.slots.every(({ after }) => after !== undefined);
-  const remark = `${view.after.slots.length} full slots; below each slot stands what was derived from it, in `
-    + `${isTold ? "the kernel's order" : "order of address"}`;
+  const remark = `${view.after.slots.length} full slots; below each slot stands what was derived from it, in the `
+    + "kernel's order";
   const attributes = { class: "forest-scroll", tabindex: "0", role: "region", "aria-label": "Derivation forest, tree" };
   return [heading("Derivation forest", remark), element("div", attributes, list)];
 }

@@ -1,16 +1,14 @@
 // The order of siblings in the derivation forest.
 
-/** Slots that stand below one slot, in their order: by rising address, or, where their lines have the address of the
-    sibling before them (`after`, which is null for the first one), as these tell it. A slot that a call emptied stands
-    where it stood: before the slot that came behind the same sibling. */
-export function inOrder(rows) {
-  const byAddress = [...rows].sort((one, other) => one.address - other.address);
-  if (rows.some(({ after }) => after === undefined)) return byAddress;
+/** Slots that stand below one slot, in the kernel's order: `inFront` gives of each the address of the sibling right in
+    front of it, or null. A slot that a call emptied stands where it stood, in front of those that came into its place. */
+export function inOrder(rows, inFront, isEmptied) {
   const present = new Set(rows.map(({ address }) => address));
   const behind = new Map();
-  for (const row of byAddress) {
-    const before = present.has(row.after) ? row.after : null;
-    behind.set(before, [...(behind.get(before) ?? []), row]);
+  for (const row of [...rows].sort((one, other) => isEmptied(other) - isEmptied(one))) {
+    const before = present.has(inFront(row)) ? inFront(row) : null;
+    if (!behind.has(before)) behind.set(before, []);
+    behind.get(before).push(row);
   }
   const ordered = new Set();
   const todo = [...(behind.get(null) ?? [])].reverse();
@@ -20,5 +18,5 @@ export function inOrder(rows) {
     ordered.add(row);
     todo.push(...[...(behind.get(row.address) ?? [])].reverse());
   }
-  return [...ordered, ...byAddress.filter((row) => !ordered.has(row))];
+  return [...ordered, ...rows.filter((row) => !ordered.has(row))];
 }

@@ -171,9 +171,9 @@ class Page {
   /** The step as the trace has it, and the state as lines, where these are opened. */
   drawLines() {
     const { step, state, isAsked } = this.view;
-    const changes = isAsked ? [] : step.changes.map(({ sign, line }) => `  ${sign} ${line.text}`);
+    const effect = [...step.reasons.map((reason) => `  ${reason}`), ...step.changes.map(({ sign, line }) => `  ${sign} ${line.text}`)];
     const line = isAsked ? `${step.number} ${step.thread} ${step.operation}` : step.line;
-    byId("step-text").textContent = [line, step.with, ...changes].filter(Boolean).join("\n");
+    byId("step-text").textContent = [line, step.with, ...(isAsked ? [] : effect)].filter(Boolean).join("\n");
     byId("state-text").textContent = byId("state-lines").open ? state.texts().join("\n") : "";
   }
 

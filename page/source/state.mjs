@@ -2,7 +2,7 @@
 // what was and what is, so it is undone as easily as done, and no earlier state has to be kept.
 
 /** The kinds of lines, in the order in which a state shows them. */
-const KINDS = ["thread", "inbox", "endpoint", "slot", "selfheld"];
+const KINDS = ["thread", "inbox", "endpoint", "slot", "selfheld", "sibling"];
 
 /** The lines of one moment of a run. */
 class State {

@@ -148,16 +148,21 @@ function expectationMark(expectation) {
   return element("span", { class: "tag missed" }, `✗ ${expectation}`);
 }
 
-/** The sentence and the reply: what a screen reader says at each step. */
+/** The sentence, the reply, and why the call is refused: what a screen reader says at each step. */
 export function drawSentence(view) {
   const { step, changes } = view;
   const sentence = element("p", { id: "sentence" }, sentenceOf(view));
   if (step.number === 0) return [sentence];
   if (view.isAsked) return [sentence, element("p", {}, dim("What does it change? The same key, or button, shows it."))];
   const look = step.reply.startsWith("refused") ? "reply refused" : "reply";
-  const changed = step.changes.length === 0 ? "Nothing changed." : countedChanges(changes);
-  return [sentence, element("p", {}, element("span", { class: look }, step.reply), " ", meaningOf(step.reply), " ",
-    expectationMark(step.expectation), " ", dim(changed))];
+  const isOrder = ({ line }) => line.kind === "sibling";
+  const changed = step.changes.length === 0 ? "Nothing changed."
+    : step.changes.every(isOrder) ? "The order of siblings changed." : countedChanges(changes);
+  const reply = element("p", {}, element("span", { class: look }, step.reply), " ", meaningOf(step.reply), " ",
+    expectationMark(step.expectation), " ", dim(changed));
+  if (step.reasons.length === 0) return [sentence, reply];
+  const reasons = step.reasons.map((reason) => element("li", { class: "code" }, reason));
+  return [sentence, reply, element("ul", { class: "reasons", "aria-label": "Why it is refused" }, reasons)];
 }
 
 /** What changed, one line for each thing. */

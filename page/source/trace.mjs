@@ -7,10 +7,11 @@ const DELIVERED = `delivered ${NUMBER} from ${NUMBER} to ${NUMBER} badge ${NUMBE
 const REPLY = `done|waiting|dropped|empty|refused ${NUMBER}(?:/${NUMBER})?|${DELIVERED}`;
 
 const pattern = (text) => new RegExp(`^${text}$`);
-const HEAD = pattern(`trace 1 (wide|narrow) memory_bits (${NUMBER}) calls (${NUMBER})`);
+const HEAD = pattern(`trace 2 (wide|narrow) memory_bits (${NUMBER}) calls (${NUMBER})`);
 const NAME = pattern(`name ([a-z0-9_]{1,40}) (${NUMBER})`);
 const CALL = pattern(`(${NUMBER}) (${NUMBER}) ([a-z_]+): (${REPLY})(?: \\[(met|not met: ([ -~]{1,120}))\\])?`);
-const CHANGE = pattern("  ([-+]) ((thread|inbox|endpoint|slot|selfheld) .*)");
+const REASON = pattern("  ([a-z][ -~]{1,1000})");
+const CHANGE = pattern("  ([-+]) ((thread|inbox|endpoint|slot|selfheld|sibling) .*)");
 const EXPECTED = pattern(`expected (${NUMBER}) of (${NUMBER})`);
 
 const THREAD = pattern(`thread (${NUMBER}) (?:(ready|inactive)|(receiving) (${NUMBER})|`
@@ -20,6 +21,7 @@ const ENDPOINT = pattern(`endpoint (${NUMBER}) (?:idle|(sending|receiving)((?: $
 const SLOT = pattern(`slot (${NUMBER}) (untyped|endpoint|cnode|tcb) (${NUMBER})(.*?)`
   + `(?: under (${NUMBER}))?( original)?`);
 const SELF_HELD = pattern(`selfheld (${NUMBER})`);
+const SIBLING = pattern(`sibling (${NUMBER}) after (${NUMBER})`);
 const DETAILS = {
   untyped: pattern(` bits (${NUMBER}) free (${NUMBER})`),
   endpoint: pattern(` badge (${NUMBER}) rights ([w-][r-][g-][p-])`),
@@ -39,6 +41,7 @@ const KEYS = {
 const ENDPOINT_BYTES = 16;
 const MOST_CALLS = 65536;
 const MOST_QUOTED = 80;
+const MOST_REASONS = 4;
 
 /** What is wrong with a text that should be a trace, and in which line. */
 export class TraceFault extends Error {
@@ -122,6 +125,10 @@ const LINE_READERS = {
     };
   },
   selfheld: (text, machine) => ({ address: readAddress(partsOf(text, SELF_HELD)[0], machine) }),
+  sibling(text, machine) {
+    const [address, after] = partsOf(text, SIBLING);
+    return { address: readAddress(address, machine), after: readAddress(after, machine) };
+  },
 };
 
 /** A line of a state: its kind, its address, its text and what it says. */
@@ -179,7 +186,7 @@ class Reader {
 
 function readHead(reader) {
   const head = reader.take(HEAD);
-  if (!head) reader.refuse("a trace begins with `trace 1 ..`, and this with");
+  if (!head) reader.refuse("a trace begins with `trace 2 ..`, and this with");
   const [, profile, memoryBits, calls] = head;
   return reader.within(() => ({
     machine: machineOf(profile, readBounded(memoryBits, 12, 20)), calls: readBounded(calls, 0, MOST_CALLS),
@@ -208,8 +215,17 @@ function readChanges(reader, machine) {
 function readBoot(reader, machine) {
   const line = reader.line;
   if (!reader.take(pattern("0 boot"))) reader.refuse("neither a name nor `0 boot`");
-  return { number: 0, line, with: "", thread: "", operation: "boot", reply: "", expectation: "", words: {},
+  return { number: 0, line, with: "", thread: "", operation: "boot", reply: "", expectation: "", words: {}, reasons: [],
     changes: readChanges(reader, machine) };
+}
+
+/** The lines that say why a call is refused: none where it is answered otherwise. */
+function readReasons(reader, reply) {
+  const reasons = [];
+  if (!reply.startsWith("refused")) return reasons;
+  for (let match = reader.take(REASON); match; match = reader.take(REASON)) reasons.push(match[1]);
+  if (reasons.length === 0 || reasons.length > MOST_REASONS) reader.refuse("a refused call has one to four lines of its reason");
+  return reasons;
 }
 
 function readCall(reader, match, machine) {
@@ -218,7 +234,8 @@ function readCall(reader, match, machine) {
   const words = reader.take(/^  with .*$/);
   if (!words) reader.refuse("a call has its words in the line below it");
   return { number: Number(number), line, with: words[0], thread, operation, reply, expectation,
-    words: reader.within(() => readWords(operation, words[0])), changes: readChanges(reader, machine) };
+    words: reader.within(() => readWords(operation, words[0])), reasons: readReasons(reader, reply),
+    changes: readChanges(reader, machine) };
 }
 
 function readSteps(reader, machine) {

@@ -3,15 +3,17 @@ import assert from "node:assert/strict";
 import { test } from "node:test";
 import { TraceFault, readTrace } from "../source/trace.mjs";
 import { Run, firstMisfit } from "../source/state.mjs";
+import { inOrder } from "../source/order.mjs";
 import { namedSlots, slotOfWord } from "../source/lookup.mjs";
 import { wordsOfSteps } from "../source/words.mjs";
 
-const HEAD = "trace 1 narrow memory_bits 12 calls 1\nname server 1024\nname again 1024\n0 boot\n";
+const HEAD = "trace 2 narrow memory_bits 12 calls 1\nname server 1024\nname again 1024\n0 boot\n";
 const BOOT = `  + thread 1024 ready
   + endpoint 2048 idle
   + slot 16 cnode 0 radix 4 guard 0 size 28 original
   + slot 48 endpoint 2048 badge 0 rights wrgp original
   + slot 1024 cnode 0 radix 4 guard 0 size 28 under 16
+  + sibling 48 after 16
 `;
 const CALL = `1 1024 send: waiting [not met: done] [met]]
   with cap 3 label 7 words 1 2
@@ -31,6 +33,17 @@ test("a trace is read in its parts", () => {
   assert.deepEqual([complete, expected], [true, { met: 0, of: 1 }]);
 });
 
+test("a refused call has its reason, and no other call has one", () => {
+  const call = CALL.split("\n")[1];
+  const refused = `1 1024 send: refused 2\n${call}\n  cap 3 leads to slot 48: empty\n  a send is made so\n`;
+  const read = (text) => readTrace(`${HEAD}${BOOT}${text}expected 0 of 0\n`).steps[1].reasons;
+  assert.deepEqual(read(refused), ["cap 3 leads to slot 48: empty", "a send is made so"]);
+  assert.deepEqual(read(CALL), []);
+  assert.throws(() => read(`1 1024 send: refused 2\n${call}\n`), TraceFault);
+  assert.throws(() => read(refused.replace("refused 2", "waiting")), TraceFault);
+  assert.throws(() => read(refused.replace("  a send", "  a third\n  a fourth\n  a fifth\n  a send")), TraceFault);
+});
+
 test("the state runs forward and back", () => {
   const { steps } = readTrace(TRACE);
   const run = new Run(steps);
@@ -46,6 +59,15 @@ test("the state runs forward and back", () => {
   assert.deepEqual(run.state.texts(), []);
 });
 
+test("siblings stand in the kernel's order, and an emptied one where it stood", () => {
+  const rows = [32, 64, 96, 128].map((address) => ({ address }));
+  const inFront = new Map([[96, 128], [32, 96], [64, 96]]);
+  const order = (emptied) => inOrder(rows, ({ address }) => inFront.get(address) ?? null,
+    ({ address }) => address === emptied).map(({ address }) => address);
+  assert.deepEqual(order(64), [128, 96, 64, 32]);
+  assert.deepEqual(order(32), [128, 96, 32, 64]);
+});
+
 test("words lead to slots", () => {
   const { machine, steps } = readTrace(TRACE);
   const run = new Run(steps);
@@ -57,8 +79,8 @@ test("words lead to slots", () => {
 });
 
 test("what is written of a call has the places of its slots, the names of its threads and what its reply means", () => {
-  const call = "1 1024 resume: refused 100\n  with cap 4\n";
-  const other = "  + thread 3072 inactive\n  + slot 64 tcb 3072 original\n";
+  const call = "1 1024 resume: refused 100\n  with cap 4\n  no live thread is at 1024\n  live threads: 3072\n";
+  const other = "  + thread 3072 inactive\n  + slot 64 tcb 3072 original\n  + sibling 64 after 48\n";
   const text = `${HEAD.replace("0 boot", "name other 3072\nname fourth 4\n0 boot")}${BOOT}${other}${call}expected 0 of 0\n`;
   const [, { gist, texts }] = wordsOfSteps(readTrace(text));
   assert.equal(gist, "by 4");

@@ -3,7 +3,7 @@ state, and which CNodes no thread leads to."""
 import bisect
 import re
 
-KINDS = ("thread", "inbox", "endpoint", "slot", "selfheld")
+KINDS = ("thread", "inbox", "endpoint", "slot", "selfheld", "sibling")
 
 
 def key_of(line):
@@ -13,10 +13,10 @@ def key_of(line):
 
 
 class Step:
-    """A call's lines as they stand in the trace, and the lines that go and come."""
+    """A call's lines as they stand in the trace, the lines that go and come, and those of the reason why it is refused."""
 
     def __init__(self, line):
-        self.lines, self.gone, self.come = [line], [], []
+        self.lines, self.gone, self.come, self.reasons = [line], [], [], []
 
     @property
     def changes(self):
@@ -36,6 +36,8 @@ def steps_of(trace):
                 steps[-1].gone.append(line[4:])
             elif line.startswith("  + "):
                 steps[-1].come.append(line[4:])
+            elif not line.startswith("  with"):
+                steps[-1].reasons.append(line[2:])
     return steps
 
 
@@ -101,6 +103,25 @@ class Slot:
 def slots_of(state):
     """The slots of a state by their addresses."""
     return {address: Slot(line) for (kind, address), line in state.items() if KINDS[kind] == "slot"}
+
+
+def siblings_of(state):
+    """The slots below each slot, and those below none under None, in the order that the lines of siblings tell."""
+    behind = {}
+    for (kind, address), line in state.items():
+        if KINDS[kind] == "sibling":
+            behind[int(line.split(" ")[3])] = address
+    slots, ordered = slots_of(state), {}
+    for address in sorted(set(slots) - set(behind.values())):
+        row = ordered.setdefault(slots[address].under, [])
+        assert not row, f"two siblings stand first below {slots[address].under}"
+        while address is not None:
+            row.append(address)
+            address = behind.get(address)
+    for under, row in ordered.items():
+        assert all(slots[address].under == under for address in row), f"slots below {under} and others stand in one row"
+    assert sorted(address for row in ordered.values() for address in row) == sorted(slots), "siblings stand in a ring"
+    return ordered
 
 
 def sizes_of(profile):

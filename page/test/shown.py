@@ -4,7 +4,7 @@ import re
 from collections import Counter
 
 from invoked import READ_TABLE, wrong_table
-from replay import KINDS, lost_nodes, slot_of_index, slot_of_word, slots_of
+from replay import KINDS, lost_nodes, siblings_of, slot_of_index, slot_of_word, slots_of
 
 # Looks whether the forest was scrolled to what changed; opens what is folded, until nothing is, and reads the page.
 READ = r"""
@@ -24,12 +24,13 @@ READ = r"""
   const around = (element) => element.parentElement.closest("li[data-slot]")?.dataset.slot ?? null;
   return {
     inSight, title: document.title, table: """ + READ_TABLE + r""",
+    reasons: all("#said .reasons > li", (reason) => reason.textContent),
     names: all("#sentence .name", (name) => name.textContent), changed: text("changed"),
     nodes: all("#spaces h3[data-node]", (node) => [Number(node.dataset.node), node.textContent]),
     state: text("state-text"), step: text("step-text"), position: text("position"), sentence: text("said"),
     everything: document.getElementById("run").textContent,
     forest: all("#forest li[data-slot]", (row) => [Number(row.dataset.slot), around(row) && Number(around(row)),
-      row.dataset.mark ?? "", row.firstElementChild.textContent]),
+      row.dataset.mark ?? "", row.firstElementChild.textContent, row.parentElement.closest("li")?.dataset.key ?? ""]),
     threads: all(".threads > li[data-thread]", (row) => [Number(row.dataset.thread), row.textContent]),
     endpoints: all(".endpoints > li[data-endpoint]", (row) => [Number(row.dataset.endpoint), row.dataset.state,
       [...row.querySelectorAll("ol.queue > li")].map((waiter) => Number(waiter.dataset.thread))]),
@@ -66,8 +67,8 @@ def marks_of(step):
 
 
 def wrong_sentence(shown, step, number):
-    """What is said of a call has its thread, its reply, whether it was expected, and how much it changed; the list of
-    calls has the operation and the reply."""
+    """What is said of a call has its thread, its reply, whether it was expected, why it is refused, and how much it changed;
+    the list of calls has the operation and the reply."""
     if number == 0:
         return
     _, thread, operation, reply, expected = CALL.fullmatch(step.lines[0]).groups()
@@ -82,6 +83,8 @@ def wrong_sentence(shown, step, number):
     for text in wanted:
         if text not in shown["sentence"]:
             yield f"{text!r} is not in {shown['sentence']!r}"
+    if shown["reasons"] != step.reasons:
+        yield f"the reasons are {shown['reasons']}, and not {step.reasons}"
     for text in (operation, reply):
         if not any(text in row for _, row in shown["current"]):
             yield f"{text!r} is not in the list: {shown['current']}"
@@ -97,7 +100,7 @@ def wrong_forest(shown, state, step, number, word_bits):
         yield f"the forest has the slots {sorted(standing)}"
     if left != gone:
         yield f"the forest marks {left} as emptied or moved, and not {gone}"
-    for address, (_, under, mark, text) in standing.items():
+    for address, (_, under, mark, text, _) in standing.items():
         slot = slots.get(address)
         if slot is None:
             continue
@@ -107,6 +110,18 @@ def wrong_forest(shown, state, step, number, word_bits):
             yield f"slot {address} is marked {mark!r}, and not {marks.get(address, '')!r}"
         if str(slot.base) not in text or slot.details(word_bits) not in text or slot.original != ("◆" in text):
             yield f"slot {address} is told as {text!r}"
+
+
+def wrong_order(shown, state):
+    """Siblings stand in the kernel's order: those in sight, and those that are folded away together."""
+    wanted = {address: place for row in siblings_of(state).values() for place, address in enumerate(row)}
+    rows = {}
+    for address, under, mark, _, around in shown:
+        if mark not in ("emptied", "moved"):
+            rows.setdefault((under, around), []).append(address)
+    for (under, _), row in rows.items():
+        if row != sorted(row, key=lambda address: wanted.get(address, -1)):
+            yield f"below {under} stand {row}, and not {sorted(row, key=lambda address: wanted.get(address, -1))}"
 
 
 def wrong_threads(shown, state):
@@ -278,6 +293,7 @@ def wrong_page(shown, replay, number):
         yield "the page is wider than its window"
     yield from wrong_sentence(shown, step, number)
     yield from wrong_forest(shown["forest"], state, step, number, 64 if profile == "wide" else 32)
+    yield from wrong_order(shown["forest"], state)
     yield from wrong_threads(shown, state)
     yield from wrong_words(shown, state, profile)
     yield from wrong_table(shown["table"], replay, state)
@@ -294,8 +310,8 @@ def wrong_asked(shown, replay, number):
     _, thread, operation, reply, _ = CALL.fullmatch(replay.steps[number].lines[0]).groups()
     if shown["state"] != "\n".join(replay.states[number - 1].values()):
         yield f"the state is\n{shown['state']}"
-    if shown["marked"] or shown["changed"]:
-        yield f"the effect is told: {shown['marked']} {shown['changed']}"
+    if shown["marked"] or shown["changed"] or shown["reasons"]:
+        yield f"the effect is told: {shown['marked']} {shown['changed']} {shown['reasons']}"
     if f"{number} · thread {thread}" not in shown["sentence"] or "asks to" not in shown["sentence"]:
         yield f"the call is told as {shown['sentence']!r}"
     told = [shown["sentence"], shown["step"], *(row for _, row in shown["current"])]

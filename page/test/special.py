@@ -13,20 +13,24 @@ BOOT = """  + thread 2048 ready
   + slot 64 tcb 2048 original
   + slot 96 endpoint 4096 badge 0 rights wrgp original
   + slot 2048 cnode 0 radix 4 guard 0 size 60 under 32
+  + sibling 64 after 32
+  + sibling 96 after 64
 """
 HARM = ("</pre></body><script>document.title = 'taken'</script>",
         "&lt;b&gt; & &amp; <img src=http://page-test.invalid/a>", "done] [met]",
         "' onmouseover='document.title = 1",
         "{script} {trace} \\")
 COUNT = len(HARM) + 4
+# The last of these is refused, with texts that mean harm in its reason too.
+REASON = f"  cap 3 {HARM[0]}\n  the second line {HARM[1]}\n"
 # A run with these texts, and with a guard that its thread has to name.
-RUN = f"""trace 1 wide memory_bits 16 calls {COUNT}
+RUN = f"""trace 2 wide memory_bits 16 calls {COUNT}
 name sender 2048
 name endpoint 3
 0 boot
-{BOOT}""" + "".join(f"""{number} 2048 nbsend: dropped [not met: {harm}]
+{BOOT}""" + "".join(f"""{number} 2048 nbsend: {"refused 2" if number == len(HARM) else "dropped"} [not met: {harm}]
   with cap 3 label 0 words
-""" for number, harm in enumerate(HARM, 1)) + f"""{COUNT - 3} 2048 revoke: done
+""" for number, harm in enumerate(HARM, 1)) + REASON + f"""{COUNT - 3} 2048 revoke: done
   with cap 1 index 4 depth 64
 {COUNT - 2} 2048 copy: done
   with cap 1 index 5 depth 64 src_root 1 src_index 3 src_depth 64 rights 1
@@ -174,12 +178,15 @@ DROP = """(() => {
 ODD_TEXTS = {
     "another file": ("format = 2\n", "line 1: a trace begins with"),
     "a refused set-up": ("set-up refused 204 at call 1 key op\n", "set-up refused 204 at call 1 key op"),
-    "another version": (RUN.replace("trace 1", "trace 2"), "line 1"),
+    "another version": (RUN.replace("trace 2", "trace 1"), "line 1"),
     "a name of other letters": (RUN.replace("name sender", "name <img/src=x/onerror=alert(1)>"), "line 2"),
     "an address outside of the memory": (RUN.replace("slot 160", "slot 99999999"), "no address in the memory"),
+    "a sibling outside of the memory": (RUN.replace("after 64", "after 99999999"), "no address in the memory"),
     "a CNode without slots": (RUN.replace("radix 4", "radix 0"), "0 is not from 1 to 20"),
     "a guard of too many bits": (RUN.replace("size 58", "size 61"), "61 is not from 0 to 60"),
     "a call that is missing": (RUN.replace("2 2048 nbsend", "9 2048 nbsend"), "call 2 should stand here"),
+    "a refusal without its reason": (re.sub(r"  cap 3 .*\n.*\n", "", RUN), "one to four lines of its reason"),
+    "a reason of a call that is answered": (RUN.replace("expected", "  no reason\nexpected"), "no line of a trace"),
     "a call without a word": (RUN.replace(" rights 1\n", "\n"), "the words of a copy are"),
     "another operation": (RUN.replace("copy:", "steal:"), "no operation"),
     "a line of its own": (RUN.replace("expected", "unexpected"), "no line of a trace"),

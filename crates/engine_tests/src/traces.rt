@@ -10,7 +10,7 @@ const BOOT: &str =
 
 /// The changes by which boot makes its state out of none.
 const BOOTED: &str =
-    "0 boot\n  + thread 2048 ready\n  + thread 4096 ready\n  + endpoint 6144 idle\n  + slot 32 cnode 0 radix 4 guard 0 size 60 original\n  + slot 64 tcb 2048 original\n  + slot 96 tcb 4096 original\n  + slot 128 endpoint 6144 badge 0 rights wrgp original\n  + slot 160 untyped 16384 bits 12 free 0 original\n  + slot 2048 cnode 0 radix 4 guard 0 size 60 under 32\n  + slot 4096 cnode 0 radix 4 guard 0 size 60 under 32\n";
+    "0 boot\n  + thread 2048 ready\n  + thread 4096 ready\n  + endpoint 6144 idle\n  + slot 32 cnode 0 radix 4 guard 0 size 60 original\n  + slot 64 tcb 2048 original\n  + slot 96 tcb 4096 original\n  + slot 128 endpoint 6144 badge 0 rights wrgp original\n  + slot 160 untyped 16384 bits 12 free 0 original\n  + slot 2048 cnode 0 radix 4 guard 0 size 60 under 32\n  + slot 4096 cnode 0 radix 4 guard 0 size 60 under 32\n  + sibling 64 after 32\n  + sibling 96 after 64\n  + sibling 128 after 96\n  + sibling 160 after 128\n  + sibling 2048 after 4096\n";
 
 /// The same set-up in format 2, with a name for a thread and one for the endpoint's slot, and a call of these.
 const NAMED: &[u8] =
@@ -34,7 +34,7 @@ fn run(alloc: Global, calls: &str) -> Result<(Vec<u8>, u8), Fail> {
 /// Whether a set-up of these calls has this trace, but for its head and the changes of its boot, and this exit status.
 fn gives(alloc: Global, calls: &str, count: usize, lines: &str, status: u8) -> Result<bool, Fail> {
     let (text, given) = run(alloc, calls)?;
-    let head = "trace 1 wide memory_bits 16 calls";
+    let head = "trace 2 wide memory_bits 16 calls";
     let wanted = format!(in alloc; "{head} {count}\n{BOOTED}{lines}")?;
     Ok(text.as_slice() == wanted.as_bytes() && given == status)
 }
@@ -61,7 +61,7 @@ fn trace_of_a_set_up_with_names(rt: HostRuntime) -> Result<(), Fail> {
     let names = "name a 2048\nname ep 4";
     let call = "1 2048 nbsend: dropped\n  with cap 4 label 0 words\nexpected 0 of 0";
     let wanted = format!(in rt.alloc();
-        "trace 1 wide memory_bits 16 calls 1\n{names}\n{BOOTED}{call}\n"
+        "trace 2 wide memory_bits 16 calls 1\n{names}\n{BOOTED}{call}\n"
     )?;
     assert!(rt; text.as_slice() == wanted.as_bytes());
     assert!(rt; status == 0);

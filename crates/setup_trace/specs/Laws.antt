@@ -1,223 +1,15 @@
--- What the laws of a trace say: its changes as data, a state's lines after them, and the report within it.
-use Rattle.std.specs.Prelude.{◌≡◌, ℕ, ◌+◌, Bool, true, false, not, ◌==◌, nat_eq, List, [], ◌∷◌, ◌++◌, map, Option, None, Some}
-use Rattle.std.specs.List.{filter, flat_map, list_any}
-use Rattle.std.specs.List.Sorted.{IsStrictlySortedBy}
-use Rattle.std.specs.Ordering.{nat_cmp}
-use Rattle.std.specs.BTreeMap.{insert_entry}
-use lib.Pointwise.{pointwise}
+-- What the law of a trace says: the report within it.
+use Rattle.std.specs.Prelude.{ℕ, ◌+◌, List, [], ◌∷◌, ◌++◌}
+use Rattle.toml.specs.Data.{Members}
 use Rattle.cap_core.specs.declared.profile.ProfileName.{ProfileName}
-use Rattle.cap_core.specs.Objects.{is_null}
-use Rattle.derivation.specs.Entries.{slots, cap_at, derivations_of}
 use Rattle.abstract_kernel.specs.declared.call.Call.{Call}
 use Rattle.abstract_kernel.specs.declared.call.Reply.{Reply}
-use Rattle.abstract_kernel.specs.Boot.{boot}
-use Rattle.abstract_kernel.specs.Plan.{Plan}
-use Rattle.abstract_kernel.specs.Shown.{Shown, has_child}
 use Rattle.abstract_kernel.specs.State.{State, shown}
 use Rattle.abstract_kernel.specs.Step.{step}
 use Rattle.setup_format.specs.Views.{CallView}
-use Rattle.setup_report.specs.State.{Derived, found, rising}
-use Rattle.setup_report.specs.Report.{terminated, call_text, thread_line}
-use Rattle.setup_report.specs.Report as report
-use Rattle.setup_trace.specs.Lines.{Lines, thread_lines, endpoint_lines, slot_lines, selfheld_lines}
-use Rattle.setup_trace.specs.Changes.{StateLines, state_lines, no_lines, addresses, text_at, removed, added, changes}
-use Rattle.setup_trace.specs.Trace.{words_line}
-
--- ---- how lines differ
-
--- an address, the line that it had and the line that it has, where there is one
-pub record Difference : Type 0 where
-  pub address : ℕ
-  pub old : Option (List ℕ)
-  pub new : Option (List ℕ)
-
-abbrev pub difference_at : Lines → Lines → ℕ → Difference
-difference_at old new address = record { address = address; old = text_at address old; new = text_at address new }
-
--- whether two lines are the same, or neither is there
-abbrev pub is_same : Option (List ℕ) → Option (List ℕ) → Bool
-is_same None None = true
-is_same None (Some new) = false
-is_same (Some old) None = false
-is_same (Some old) (Some new) = pointwise nat_eq old new
-
-abbrev pub is_difference : Difference → Bool
-is_difference d = not (is_same d.old d.new)
-
--- each address of the old lines or of the new ones, in rising order, where the line differs
-abbrev pub differences : Lines → Lines → List Difference
-differences old new = filter is_difference (map (difference_at old new) (rising (addresses old ++ addresses new)))
-
--- its text: the old line is removed, and the new one is added
-abbrev pub told : Difference → List ℕ
-told d = removed d.old ++ added d.new
-
--- ---- differences applied to lines: the line at the address is taken away, and the new one is put in by its address
-
-abbrev pub without : ℕ → Lines → Lines
-without address lines = filter (λ (l : ℕ × List ℕ). not (l.0 == address)) lines
-
-abbrev pub with_line : ℕ → Option (List ℕ) → Lines → Lines
-with_line address None lines = lines
-with_line address (Some text) lines = insert_entry nat_cmp lines address text
-
-abbrev pub apply : Lines → Difference → Lines
-apply lines d = with_line d.address d.new (without d.address lines)
-
--- one after another
-abbrev pub applied : Lines → List Difference → Lines
-applied lines [] = lines
-applied lines (d ∷ ds) = applied (apply lines d) ds
-
--- the lines are in the order of their addresses, and no address has two
-abbrev pub Rise : Lines → Type 0
-Rise lines = IsStrictlySortedBy nat_cmp (addresses lines)
-
--- the difference that leads back: the new line is taken away, and the old one is put in
-abbrev pub flipped : Difference → Difference
-flipped d = record { address = d.address; old = d.new; new = d.old }
-
--- ---- the same of all that is told of two states
-
-pub record StateDifferences : Type 0 where
-  pub threads : List Difference
-  pub inboxes : List Difference
-  pub endpoints : List Difference
-  pub slots : List Difference
-  pub selfheld : List Difference
-
-abbrev pub state_differences : StateLines → StateLines → StateDifferences
-state_differences old new =
-    record {
-      threads = differences old.threads new.threads;
-      inboxes = differences old.inboxes new.inboxes;
-      endpoints = differences old.endpoints new.endpoints;
-      slots = differences old.slots new.slots;
-      selfheld = differences old.selfheld new.selfheld;
-    }
-
-abbrev pub state_told : StateDifferences → List ℕ
-state_told d =
-    flat_map told d.threads
-    ++ (flat_map told d.inboxes
-    ++ (flat_map told d.endpoints
-    ++ (flat_map told d.slots
-    ++ flat_map told d.selfheld)))
-
-abbrev pub state_applied : StateLines → StateDifferences → StateLines
-state_applied lines d =
-    record {
-      threads = applied lines.threads d.threads;
-      inboxes = applied lines.inboxes d.inboxes;
-      endpoints = applied lines.endpoints d.endpoints;
-      slots = applied lines.slots d.slots;
-      selfheld = applied lines.selfheld d.selfheld;
-    }
-
-abbrev pub state_flipped : StateDifferences → StateDifferences
-state_flipped d =
-    record {
-      threads = map flipped d.threads;
-      inboxes = map flipped d.inboxes;
-      endpoints = map flipped d.endpoints;
-      slots = map flipped d.slots;
-      selfheld = map flipped d.selfheld;
-    }
-
--- ---- runs
-
--- what is told of a state, and of the state after a call
-abbrev pub lines_in : ProfileName → State → StateLines
-lines_in p A = state_lines p (shown A)
-
-abbrev pub lines_after : ProfileName → State → Call → StateLines
-lines_after p A call = lines_in p (step p A call).state
-
--- what a call changes: its text, and as data
-abbrev pub call_changes : ProfileName → State → Call → List ℕ
-call_changes p A call = changes (lines_in p A) (lines_after p A call)
-
-abbrev pub call_differences : ProfileName → State → Call → StateDifferences
-call_differences p A call = state_differences (lines_in p A) (lines_after p A call)
-
--- boot changes nothing into its state
-abbrev pub boot_differences : ProfileName → Plan → StateDifferences
-boot_differences p plan = state_differences no_lines (lines_in p (boot p plan))
-
--- what each call of a run changes
-unfoldable pub run_differences : ProfileName → State → List Call → List StateDifferences
-run_differences p A [] = []
-run_differences p A (call ∷ calls) = call_differences p A call ∷ run_differences p (step p A call).state calls
-
--- the lines after differences that are applied one after another
-abbrev pub replayed : StateLines → List StateDifferences → StateLines
-replayed lines [] = lines
-replayed lines (d ∷ ds) = replayed (state_applied lines d) ds
-
--- the differences that lead back, the last one first
-abbrev pub backwards : List StateDifferences → List StateDifferences
-backwards [] = []
-backwards (d ∷ ds) = backwards ds ++ state_flipped d ∷ []
-
--- ---- a state's lines, and the report's
-
--- the lines of the same kind one below another, as the report has them
-abbrev pub lines_text : Lines → List ℕ
-lines_text lines = flat_map (λ (l : ℕ × List ℕ). terminated l.1) lines
-
--- The report's lines of threads are of the threads that the trace has lines of, in that order. The two lines of a
--- thread differ in what follows its state: the trace tells what it waits to send, and the report what it received last.
-abbrev pub TellsTheThreads : ProfileName → Shown → Type 0
-TellsTheThreads p v = flat_map (thread_line v) (addresses (thread_lines p v)) ≡ report.thread_lines p v
-
--- the lines of endpoints, and those of CNodes that hold themselves, are the report's
-abbrev pub TellsTheEndpoints : ProfileName → Shown → Type 0
-TellsTheEndpoints p v = lines_text (endpoint_lines p v) ≡ report.endpoint_lines p v
-
-abbrev pub TellsTheSelfheld : ProfileName → Shown → Type 0
-TellsTheSelfheld p v = lines_text (selfheld_lines p (derivations_of v.derivations)) ≡ report.selfheld_lines p v
-
--- the slots that hold a capability
-abbrev pub is_full : Shown → ℕ → Bool
-is_full v slot = not (is_null (cap_at v.derivations slot))
-
-abbrev pub full_slots : Shown → List ℕ
-full_slots v = filter (is_full v) (slots v.derivations)
-
--- the slots that have a line are the full ones
-abbrev pub TellsTheSlots : Shown → Type 0
-TellsTheSlots v = addresses (slot_lines (derivations_of v.derivations)) ≡ rising (full_slots v)
-
--- whether some slot stands right below one, which the trace tells by `under`
-abbrev pub is_under : ℕ → Option ℕ → Bool
-is_under slot None = false
-is_under slot (Some parent) = parent == slot
-
-abbrev pub has_slot_under : ℕ → List Derived → Bool
-has_slot_under slot list = list_any (λ (d : Derived). is_under slot d.1) list
-
--- the report's line of a slot, by what the trace tells of it: its capability, and `children` where some slot is under
--- it
-abbrev pub slot_line_of : List Derived → ℕ → Option Derived → List ℕ
-slot_line_of list slot None = []
-slot_line_of list slot (Some d) = terminated (report.slot_text slot d.0.cap (has_slot_under slot list))
-
-abbrev pub report_slot_line : List Derived → ℕ → List ℕ
-report_slot_line list slot = slot_line_of list slot (found list slot)
-
--- the report's lines of slots are those, of the slots that have a line
-abbrev pub TellsTheSlotLines : Shown → Type 0
-TellsTheSlotLines v =
-    flat_map (report_slot_line (derivations_of v.derivations)) (addresses (slot_lines (derivations_of v.derivations))) ≡ report.slot_lines v
-
--- each of them tells the capability that its slot holds, and whether the slot has a child
-abbrev pub held_slot_line : Shown → ℕ → List ℕ
-held_slot_line v slot = terminated (report.slot_text slot (cap_at v.derivations slot) (has_child slot v.derivations))
-
-abbrev pub TellsTheCapabilities : Shown → Type 0
-TellsTheCapabilities v = flat_map (held_slot_line v) (rising (full_slots v)) ≡ report.slot_lines v
-
--- ---- the report within a trace
+use Rattle.setup_report.specs.Report.{terminated, call_text}
+use Rattle.trace_lines.specs.Told.{told_lines, told_changes}
+use Rattle.setup_trace.specs.Trace.{words_line, why_text, why_at}
 
 -- the report's line of each call
 abbrev pub report_lines : ℕ → List CallView → List Reply → List (List ℕ)
@@ -226,11 +18,15 @@ report_lines number (call ∷ calls) [] = []
 report_lines number (call ∷ calls) (reply ∷ replies) =
     terminated (call_text number call.call reply call.expect) ∷ report_lines (number + 1) calls replies
 
--- what a trace says of each call below that line: its words and what it changed
-unfoldable pub details : ProfileName → State → List CallView → List (List ℕ)
-details p A [] = []
-details p A (call ∷ calls) =
-    (words_line call.call.op ++ call_changes p A call.call) ∷ details p (step p A call.call).state calls
+-- what a trace says of each call below that line: its words, why it is refused, and what it changed
+abbrev pub call_details : ProfileName → Members → ℕ → State → Call → List ℕ
+call_details p table i A call =
+    words_line call.op ++ (why_text (why_at p table i A call) ++ told_changes (told_lines p (shown A)) (told_lines p (shown (step p A call).state)))
+
+unfoldable pub details : ProfileName → Members → ℕ → State → List CallView → List (List ℕ)
+details p table i A [] = []
+details p table i A (call ∷ calls) =
+    call_details p table i A call.call ∷ details p table (i + 1) (step p A call.call).state calls
 
 -- each line, followed by its own of some details while there are any
 abbrev pub followed : List (List ℕ) → List (List ℕ) → List ℕ

@@ -1,8 +1,4 @@
--- A trace: Lines has what is told of a state, Changes how two states differ, Words the words of a call, Trace all of it.
--- Laws has what its laws say.
-pub mod Lines
-pub mod Changes
+-- A trace: Words has the words of a call, Trace all of it. Laws has what its law says.
 pub mod Words
 pub mod Trace
 pub mod Laws
-pub mod Private

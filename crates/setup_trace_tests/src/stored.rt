@@ -23,7 +23,7 @@ expect = \"delivered 6144 from 2048\"
 ";
 
 /// A message waits, and is delivered.
-pub const MESSAGE_TRACE: &str = "trace 1 wide memory_bits 16 calls 2
+pub const MESSAGE_TRACE: &str = "trace 2 wide memory_bits 16 calls 2
 0 boot
   + thread 2048 ready
   + thread 4096 ready
@@ -35,6 +35,11 @@ pub const MESSAGE_TRACE: &str = "trace 1 wide memory_bits 16 calls 2
   + slot 160 untyped 16384 bits 12 free 0 original
   + slot 2048 cnode 0 radix 4 guard 0 size 60 under 32
   + slot 4096 cnode 0 radix 4 guard 0 size 60 under 32
+  + sibling 64 after 32
+  + sibling 96 after 64
+  + sibling 128 after 96
+  + sibling 160 after 128
+  + sibling 2048 after 4096
 1 2048 send: waiting
   with cap 4 label 7 words 1 2
   - thread 2048 ready
@@ -85,7 +90,7 @@ index = 8
 ";
 
 /// The copy goes up to the place of the deleted one, and only the CNode itself holds it then.
-pub const LAST_COPY_TRACE: &str = "trace 1 wide memory_bits 16 calls 3
+pub const LAST_COPY_TRACE: &str = "trace 2 wide memory_bits 16 calls 3
 0 boot
   + thread 2048 ready
   + thread 4096 ready
@@ -97,6 +102,11 @@ pub const LAST_COPY_TRACE: &str = "trace 1 wide memory_bits 16 calls 3
   + slot 160 untyped 16384 bits 12 free 0 original
   + slot 2048 cnode 0 radix 4 guard 0 size 60 under 32
   + slot 4096 cnode 0 radix 4 guard 0 size 60 under 32
+  + sibling 64 after 32
+  + sibling 96 after 64
+  + sibling 128 after 96
+  + sibling 160 after 128
+  + sibling 2048 after 4096
 1 2048 retype: done
   with cap 5 kind 4 size_bits 2 root 1 index 0 depth 0 offset 8 count 1
   - slot 160 untyped 16384 bits 12 free 0 original
@@ -135,7 +145,7 @@ cap = 4
 ";
 
 /// The second call is refused: it changes nothing.
-pub const ENDED_THREAD_TRACE: &str = "trace 1 wide memory_bits 16 calls 2
+pub const ENDED_THREAD_TRACE: &str = "trace 2 wide memory_bits 16 calls 2
 0 boot
   + thread 2048 ready
   + thread 4096 ready
@@ -147,13 +157,24 @@ pub const ENDED_THREAD_TRACE: &str = "trace 1 wide memory_bits 16 calls 2
   + slot 160 untyped 16384 bits 12 free 0 original
   + slot 2048 cnode 0 radix 4 guard 0 size 60 under 32
   + slot 4096 cnode 0 radix 4 guard 0 size 60 under 32
+  + sibling 64 after 32
+  + sibling 96 after 64
+  + sibling 128 after 96
+  + sibling 160 after 128
+  + sibling 2048 after 4096
 1 2048 delete: done
   with cap 1 index 2 depth 64
   - thread 2048 ready
   - slot 64 tcb 2048 original
   - slot 2048 cnode 0 radix 4 guard 0 size 60 under 32
+  - sibling 64 after 32
+  - sibling 96 after 64
+  + sibling 96 after 32
+  - sibling 2048 after 4096
 2 2048 recv: refused 100
   with cap 4
+  no live thread is at 2048
+  live threads: 4096
 expected 0 of 0
 ";
 
@@ -176,7 +197,7 @@ cap = \"@ep\"
 ";
 
 /// The names come first, the numbers in the calls. A dropped message changes nothing.
-pub const NAMED_TRACE: &str = "trace 1 wide memory_bits 16 calls 1
+pub const NAMED_TRACE: &str = "trace 2 wide memory_bits 16 calls 1
 name a 2048
 name ep 4
 0 boot
@@ -190,6 +211,11 @@ name ep 4
   + slot 160 untyped 16384 bits 12 free 0 original
   + slot 2048 cnode 0 radix 4 guard 0 size 60 under 32
   + slot 4096 cnode 0 radix 4 guard 0 size 60 under 32
+  + sibling 64 after 32
+  + sibling 96 after 64
+  + sibling 128 after 96
+  + sibling 160 after 128
+  + sibling 2048 after 4096
 1 2048 nbsend: dropped
   with cap 4 label 0 words
 expected 0 of 0
@@ -208,7 +234,7 @@ bits = 12
 ";
 
 /// Only boot is told.
-pub const NARROW_TRACE: &str = "trace 1 narrow memory_bits 16 calls 0
+pub const NARROW_TRACE: &str = "trace 2 narrow memory_bits 16 calls 0
 0 boot
   + thread 1024 ready
   + thread 2048 ready
@@ -220,5 +246,10 @@ pub const NARROW_TRACE: &str = "trace 1 narrow memory_bits 16 calls 0
   + slot 80 untyped 16384 bits 12 free 0 original
   + slot 1024 cnode 0 radix 4 guard 0 size 28 under 16
   + slot 2048 cnode 0 radix 4 guard 0 size 28 under 16
+  + sibling 32 after 16
+  + sibling 48 after 32
+  + sibling 64 after 48
+  + sibling 80 after 64
+  + sibling 1024 after 2048
 expected 0 of 0
 ";

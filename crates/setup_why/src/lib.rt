@@ -7,4 +7,6 @@ mod run;
 mod tables;
 mod threads;
 
+pub use explaining::explain;
 pub use run::why;
+pub use tables::call_table;

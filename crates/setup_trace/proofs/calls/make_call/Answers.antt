@@ -1,16 +1,18 @@
 use Rattle.std.proofs.Common.{◌+◌, ◌++◌, subst, ◌∙◌, string_bytes, option_copied}
 use Rattle.abstract_kernel.specs.Reached.{StepsTo}
 use Rattle.setup_report.specs.Report.{terminated, call_text}
-use Rattle.setup_trace.specs.Changes.{state_lines, changes}
-use Rattle.setup_trace.specs.Trace.{words_line}
-use Rattle.setup_trace.proofs.Views.{view_told}
-use Rattle.setup_trace.proofs.Steps.{follows, call_is, expected_is, three_parts}
+use Rattle.trace_lines.specs.Told.{told_lines, told_changes}
+use Rattle.setup_why.specs.Why.{explained}
+use Rattle.setup_trace.specs.Trace.{words_line, why_text}
+use Rattle.trace_lines.proofs.Views.{told_whole}
+use Rattle.trace_lines.proofs.Steps.{follows, call_is, expected_is}
+use Rattle.setup_trace.proofs.Steps.{four_parts}
 use Rattle.setup_trace.proofs.calls.make_call.Goals as goal
 
-pub after_call-requires : goal.after_call-requires
-after_call-requires g c = (
+pub tell_call-requires : goal.tell_call-requires
+tell_call-requires g c = (
   c.args.kernel.now,
-  c.requires.view,
+  c.requires.told,
   follows g.P.Profile.profile c.requires.reached.0 _ c.step-reply.result c.args.kernel.now c.step-reply.new.self c.requires.reached.2
       (c.step-reply.ensures.stands c.requires.reached.0 c.requires.reached.1 c.requires.reached.2),
 )
@@ -26,10 +28,16 @@ returns-clause-text g c = λ call there.
     let p = g.P.Profile.profile in
     let made = call_is c.args.setup.now.calls c.calls.result.now c.args.i _ call c.calls.ensures there in
     let expected = expected_is c.args.setup.now.calls c.args.i (option_copied c.expect.result) call c.expect.ensures there in
-    let told = state_lines p c.step-reply.new.self in
-    three_parts (string_bytes c.args.out.now) (string_bytes c.add_call.new.out) (string_bytes c.add_words.new.out) (string_bytes c.after_call.new.out) _ _ _
-    c.in_ok-add_call.ensures.line c.in_ok-add_words.ensures c.in_ok-told.ensures.text
+    let told = told_lines p c.step-reply.new.self in
+    four_parts (string_bytes c.args.out.now) (string_bytes c.add_call.new.out) (string_bytes c.add_words.new.out) (string_bytes c.add_why.new.out) (string_bytes c.tell_call.new.out) _ _ _ _
+    c.in_ok-add_call.ensures.line c.in_ok-add_words.ensures c.in_ok-add_why.ensures c.in_ok-told.ensures.text
     ∙ (λ k. string_bytes c.args.out.now
     ++ (terminated (call_text (c.args.i + 1) (made k) c.step-reply.result (expected k))
     ++ (words_line (made k).op
-    ++ changes (view_told p c.args.kernel.now c.args.view c.requires.view k) told)))
+    ++ (why_text (c.in_ok-why.ensures k)
+    ++ told_changes (told_whole p c.args.kernel.now c.args.told c.requires.told k) told))))
+    ∙ (λ k. string_bytes c.args.out.now
+    ++ (terminated (call_text (c.args.i + 1) call.call c.step-reply.result call.expect)
+    ++ (words_line call.call.op
+    ++ (why_text (explained p c.args.kernel.now (record { call = made k; table = c.call_table.ensures k }))
+    ++ told_changes (told_lines p c.args.kernel.now) told))))

@@ -1,21 +1,17 @@
 use Rattle.std.proofs.Common.{◌≡◌, ◌++◌, codes, map, length, string_bytes, ap, ◌∙◌}
 use Rattle.std.proofs.lemmas.List.{length-map}
+use Rattle.toml.specs.View.{table_view}
 use Rattle.abstract_kernel.specs.Boot.{boot}
 use Rattle.abstract_kernel.specs.State.{shown}
 use Rattle.setup_format.specs.Views.{CallView}
 use Rattle.setup_values.specs.Names.{names_view}
 use Rattle.setup_report.specs.Report.{terminated, met_count, expectation_count}
-use Rattle.setup_trace.specs.Changes.{changes, state_lines}
-use Rattle.setup_trace.specs.Trace.{head_line, name_lines, calls_lines, count_line, replies_to, trace_of}
-use Rattle.setup_trace.proofs.Views.{nothing_rises}
-use Rattle.setup_trace.proofs.Steps.{booted, replies_length, whole_text}
+use Rattle.trace_lines.specs.Names.{name_lines}
+use Rattle.trace_lines.specs.Told.{told_changes, told_lines, nothing_told}
+use Rattle.setup_trace.specs.Trace.{head_line, calls_lines, count_line, replies_to, trace_of}
+use Rattle.trace_lines.proofs.Steps.{booted, replies_length}
+use Rattle.setup_trace.proofs.Steps.{whole_text}
 use Rattle.setup_trace.proofs.run.trace.Goals as goal
-
-pub retell-requires-clause-memory : goal.retell-requires-clause-memory
-retell-requires-clause-memory g c = (nothing_rises c.nothing.result c.nothing.ensures).0
-
-pub retell-requires-clause-messages : goal.retell-requires-clause-messages
-retell-requires-clause-messages g c = (nothing_rises c.nothing.result c.nothing.ensures).1
 
 pub add_calls-requires-clause-reached : goal.add_calls-requires-clause-reached
 add_calls-requires-clause-reached g c =
@@ -43,16 +39,16 @@ returns-clause-text g c =
     c.as_slice.ensures.value ∙ c.in_ok-replies.ensures.replies (boot p plan) (booted p plan c.requires) stands in
     let calls = c.args.setup.now.calls in
     (λ i. (c.into_bytes.ensures.value i).items)
-    ∙ whole_text (string_bytes c.add_names.new.out) (string_bytes c.add_boot.new.out) (string_bytes c.retell.new.out) (string_bytes c.add_calls.new.out) (string_bytes c.add_expectations.new.out)
+    ∙ whole_text (string_bytes c.add_names.new.out) (string_bytes c.add_boot.new.out) (string_bytes c.tell.new.out) (string_bytes c.add_calls.new.out) (string_bytes c.add_expectations.new.out)
     _ _ _ _ _
     (c.in_ok-add_names.ensures ∙ ap (λ l. l ++ name_lines (names_view c.args.names.now)) (c.in_ok-add_head.ensures ∙ ap (λ l. l ++ head_line c.args.setup.now) c.new-out.ensures.bytes))
     c.in_ok-add_boot.ensures
-    c.in_ok-view.ensures.text
+    c.in_ok-told.ensures.text
     (c.in_ok-replies.ensures.text (boot p plan) (booted p plan c.requires) stands)
     c.in_ok-add_expectations.ensures
     ∙ (λ i. (head_line c.args.setup.now ++ name_lines (names_view c.args.names.now))
-    ++ ((terminated (codes "0 boot") ++ changes (c.nothing.ensures i) (state_lines p (stands i)))
-    ++ (calls_lines p 1 (boot p plan) calls
+    ++ ((terminated (codes "0 boot") ++ told_changes nothing_told (told_lines p (stands i)))
+    ++ (calls_lines p (table_view c.args.table.now) 0 (boot p plan) calls
     ++ count_line
     ((c.in_ok-count.ensures.met ∙ ap (met_count calls) replies) i)
     ((c.in_ok-count.ensures.expected ∙ ap (expectation_count calls) replies) i))))

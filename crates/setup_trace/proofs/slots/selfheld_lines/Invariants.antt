@@ -1,8 +1,0 @@
-use Rattle.std.proofs.Common.{◌≡◌, map, take}
-use Rattle.std.specs.List.{flat_map}
-use Rattle.setup_trace.specs.Lines.{line_at, selfheld_at}
-use Rattle.setup_trace.specs.Private.Listed.{line_view}
-use Rattle.setup_trace.proofs.slots.selfheld_lines.Given as goal
-
-abbrev pub invariant-loop-node : goal.invariant-loop-node
-invariant-loop-node l = map line_view l.lines.items ≡ flat_map (line_at selfheld_at) (take l.node-index l.nodes)

@@ -1,3 +1,0 @@
--- What only private contracts cite, in proofs of the public ones: nobody has to believe it.
-pub mod Listed
-pub mod Views

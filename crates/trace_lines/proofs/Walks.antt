@@ -1,0 +1,4 @@
+pub mod Rows
+pub mod Walked
+pub mod Sorted
+pub mod Told

@@ -1,0 +1,4 @@
+-- What only private contracts cite, in proofs of the public ones: nobody has to believe it.
+pub mod Listed
+pub mod Path
+pub mod Kept

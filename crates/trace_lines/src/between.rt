@@ -1,0 +1,43 @@
+//! How the states of two kernels differ.
+ghost use Rattle.std.specs.Prelude.{◌≡◌, ◌++◌, IfOk, OnOk, string_bytes};
+ghost use Rattle.trace_lines.specs.Changes.{changes, state_lines};
+ghost use Rattle.trace_lines.specs.Views.{IsViewOf};
+
+use crate::state::{View, memory_of, messages_of, retell};
+use cap_core::Profile;
+use ipc_core::Waiters;
+use kernel_core::Kernel;
+use slot_core::DerivationStore;
+use std::alloc::{AllocError, Global};
+
+/// What is told of a kernel's state.
+fn view_of<P: Profile, S: DerivationStore<P> + Drop, W: Waiters<P> + Drop>(
+    alloc: Global,
+    kernel: &Kernel<P, S, W>,
+) -> Result<View, AllocError>
+    ensures { IfOk result (IsViewOf P.profile kernel.now) }
+{
+    let memory = memory_of::<P, S, W>(alloc, kernel)?;
+    let messages = messages_of::<P, S, W>(alloc, &memory, kernel)?;
+    Ok(View { memory, messages })
+}
+
+/// Adds how the state of a kernel differs from that of another one, as a trace tells what a call changed: each line of the
+/// old state that is gone, and each that is new.
+///
+/// # Errors
+///
+/// Memory was refused.
+pub fn add_changes_between<P: Profile, S: DerivationStore<P> + Drop, W: Waiters<P> + Drop>(
+    alloc: Global,
+    out: &mut String,
+    old: &Kernel<P, S, W>,
+    new: &Kernel<P, S, W>,
+) -> Result<(), AllocError>
+    ensures { OnOk result (string_bytes out.new ≡ string_bytes out.old
+        ++ changes (state_lines P.profile old.now) (state_lines P.profile new.now)) }
+{
+    let told = view_of::<P, S, W>(alloc, old)?;
+    let _ = retell::<P, S, W>(alloc, out, &told, new)?;
+    Ok(())
+}
