@@ -14,7 +14,7 @@ use setup_values::kinds::{Label, RightsKind, Word, WordsKind};
 use setup_values::{OpName, Words};
 
 #[tactic(auto, unfolding(crate::specs::Operations::retype_at))]
-fn retype_at<P: Profile>(keys: &Keys<'_, P>) -> Result<Op, SetupFault>
+fn retype_at<P: Profile>(keys: &Keys<'_, '_, '_, P>) -> Result<Op, SetupFault>
     ensures { Gives (λ o. o) result (spec.retype_at P.profile (names_view keys.now.names.now) keys.now.place (table_view keys.now.table.now)) }
 {
     Ok(Op::Retype {
@@ -32,7 +32,7 @@ fn retype_at<P: Profile>(keys: &Keys<'_, P>) -> Result<Op, SetupFault>
 /// The address of the CNode by which a copy or a move is made, and the words by which it names its slots. A depth that is
 /// not given is all the bits of a word, and the source's CNode is the one that is invoked where none is given.
 #[tactic(auto, unfolding(crate::specs::Operations::slots_at))]
-fn slots_at<P: Profile>(keys: &Keys<'_, P>) -> Result<(u64, SlotArguments), SetupFault>
+fn slots_at<P: Profile>(keys: &Keys<'_, '_, '_, P>) -> Result<(u64, SlotArguments), SetupFault>
     ensures { Gives (λ w. w) result (spec.slots_at P.profile (names_view keys.now.names.now) keys.now.place (table_view keys.now.table.now)) }
 {
     let cap = keys.required("cap", Word)?;
@@ -47,7 +47,7 @@ fn slots_at<P: Profile>(keys: &Keys<'_, P>) -> Result<(u64, SlotArguments), Setu
 }
 
 #[tactic(auto, unfolding(crate::specs::Operations::copy_at))]
-fn copy_at<P: Profile>(keys: &Keys<'_, P>) -> Result<Op, SetupFault>
+fn copy_at<P: Profile>(keys: &Keys<'_, '_, '_, P>) -> Result<Op, SetupFault>
     ensures { Gives (λ o. o) result (spec.copy_at P.profile (names_view keys.now.names.now) keys.now.place (table_view keys.now.table.now)) }
 {
     let (cap, slots) = slots_at(keys)?;
@@ -63,7 +63,7 @@ fn copy_at<P: Profile>(keys: &Keys<'_, P>) -> Result<Op, SetupFault>
 }
 
 #[tactic(auto, unfolding(crate::specs::Operations::mint_at))]
-fn mint_at<P: Profile>(keys: &Keys<'_, P>) -> Result<Op, SetupFault>
+fn mint_at<P: Profile>(keys: &Keys<'_, '_, '_, P>) -> Result<Op, SetupFault>
     ensures { Gives (λ o. o) result (spec.mint_at P.profile (names_view keys.now.names.now) keys.now.place (table_view keys.now.table.now)) }
 {
     let (cap, slots) = slots_at(keys)?;
@@ -80,7 +80,7 @@ fn mint_at<P: Profile>(keys: &Keys<'_, P>) -> Result<Op, SetupFault>
 }
 
 #[tactic(auto, unfolding(crate::specs::Operations::move_at))]
-fn move_at<P: Profile>(keys: &Keys<'_, P>) -> Result<Op, SetupFault>
+fn move_at<P: Profile>(keys: &Keys<'_, '_, '_, P>) -> Result<Op, SetupFault>
     ensures { Gives (λ o. o) result (spec.move_at P.profile (names_view keys.now.names.now) keys.now.place (table_view keys.now.table.now)) }
 {
     let (cap, slots) = slots_at(keys)?;
@@ -95,7 +95,7 @@ fn move_at<P: Profile>(keys: &Keys<'_, P>) -> Result<Op, SetupFault>
 }
 
 #[tactic(auto, unfolding(crate::specs::Operations::mutate_at))]
-fn mutate_at<P: Profile>(keys: &Keys<'_, P>) -> Result<Op, SetupFault>
+fn mutate_at<P: Profile>(keys: &Keys<'_, '_, '_, P>) -> Result<Op, SetupFault>
     ensures { Gives (λ o. o) result (spec.mutate_at P.profile (names_view keys.now.names.now) keys.now.place (table_view keys.now.table.now)) }
 {
     let (cap, slots) = slots_at(keys)?;
@@ -112,7 +112,7 @@ fn mutate_at<P: Profile>(keys: &Keys<'_, P>) -> Result<Op, SetupFault>
 
 /// The address of a CNode, and the words by which an operation names a slot of it.
 #[tactic(auto, unfolding(crate::specs::Operations::slot_at))]
-fn slot_at<P: Profile>(keys: &Keys<'_, P>) -> Result<(u64, u64, u64), SetupFault>
+fn slot_at<P: Profile>(keys: &Keys<'_, '_, '_, P>) -> Result<(u64, u64, u64), SetupFault>
     ensures { Gives (λ w. w) result (spec.slot_at P.profile (names_view keys.now.names.now) keys.now.place (table_view keys.now.table.now)) }
 {
     let cap = keys.required("cap", Word)?;
@@ -123,7 +123,7 @@ fn slot_at<P: Profile>(keys: &Keys<'_, P>) -> Result<(u64, u64, u64), SetupFault
 
 /// The address of an endpoint, and the message that is sent to it.
 #[tactic(auto, unfolding(crate::specs::Operations::message_at))]
-fn message_at<P: Profile>(keys: &Keys<'_, P>) -> Result<(u64, Message), SetupFault>
+fn message_at<P: Profile>(keys: &Keys<'_, '_, '_, P>) -> Result<(u64, Message), SetupFault>
     ensures { Gives (λ m. m) result (spec.message_at P.profile (names_view keys.now.names.now) keys.now.place (table_view keys.now.table.now)) }
 {
     let cap = keys.required("cap", Word)?;
@@ -141,7 +141,7 @@ fn message_at<P: Profile>(keys: &Keys<'_, P>) -> Result<(u64, Message), SetupFau
 
 /// An operation, from the keys of its call.
 #[tactic(auto, unfolding(crate::specs::Operations::set_space_at))]
-pub fn operation_at<P: Profile>(op: OpName, keys: &Keys<'_, P>) -> Result<Op, SetupFault>
+pub fn operation_at<P: Profile>(op: OpName, keys: &Keys<'_, '_, '_, P>) -> Result<Op, SetupFault>
     ensures { Gives (λ o. o) result (spec.operation_at P.profile (names_view keys.now.names.now) keys.now.place (table_view keys.now.table.now) op) }
 {
     Ok(match op {

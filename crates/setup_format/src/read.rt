@@ -23,8 +23,8 @@ use cap_core::limits::{
     MAX_MEMORY_BITS, MAX_ROOT_RADIX, MIN_BOOT_THREADS, MIN_MEMORY_BITS, MIN_ROOT_RADIX,
 };
 use cap_core::{Narrow, Profile, ProfileName, Wide};
-use setup_values::Name;
 use setup_values::kinds::{Number, OpKind, ProfileKind, Word};
+use setup_values::{KnownNames, Name};
 use std::alloc::Global;
 use toml::Table;
 
@@ -40,7 +40,8 @@ fn untyped_at<P: Profile>(table: &Table, n: usize) -> Result<(u64, u32), SetupFa
     ensures region { Gives (λ r. r) result (spec.untyped_at P.profile n (table_view table.now)) }
     ensures sized { IfOk result (IsUntypedSize P.profile) }
 {
-    let keys = Keys::<P>::new(table, Place::Untyped(n), &[]);
+    let no_names = KnownNames::none();
+    let keys = Keys::<P>::new(table, Place::Untyped(n), &no_names);
     keys.known_only(untyped_keys())?;
     let base = keys.required("base", Word)?;
     let bits = keys.required("bits", Number(P::MIN_UNTYPED_BITS, P::MAX_OBJECT_BITS))?;
@@ -63,7 +64,7 @@ fn untypeds_of<P: Profile>(alloc: Global, tables: &[&Table]) -> Result<Vec<(u64,
 #[tactic(auto, unfolding(crate::specs::Setups::call_at))]
 fn call_at<P: Profile>(
     alloc: Global,
-    names: &[Name],
+    names: &KnownNames<'_>,
     clients: u32,
     n: usize,
     table: &Table,
@@ -84,7 +85,7 @@ fn call_at<P: Profile>(
 
 fn calls_of<P: Profile>(
     alloc: Global,
-    names: &[Name],
+    names: &KnownNames<'_>,
     clients: u32,
     tables: &[&Table],
 ) -> Result<SetupCalls, SetupFault>
@@ -102,7 +103,7 @@ fn calls_of<P: Profile>(
 }
 
 #[tactic(auto, unfolding(crate::specs::Setups::sizes_at))]
-fn sizes_at<P: Profile>(keys: &Keys<'_, P>) -> Result<Sizes, SetupFault>
+fn sizes_at<P: Profile>(keys: &Keys<'_, '_, '_, P>) -> Result<Sizes, SetupFault>
     ensures sizes { Gives (λ s. s) result (spec.sizes_at keys.now.place (table_view keys.now.table.now)) }
     ensures within { IfOk result IsSizes }
 {
@@ -168,7 +169,8 @@ fn setup_with<P: Profile>(
 {
     let untypeds = untypeds_of::<P>(alloc, untyped)?;
     let plan = plan_of::<P>(sizes, untypeds)?;
-    let calls = calls_of::<P>(alloc, names, clients, call)?;
+    let known = KnownNames::new(alloc, names)?;
+    let calls = calls_of::<P>(alloc, &known, clients, call)?;
     let limit = limit_of(limit, calls.len());
     Ok(Setup::new(P::name(), plan, clients, limit, calls))
 }
@@ -180,7 +182,8 @@ fn setup_at<P: Profile>(alloc: Global, table: &Table) -> Result<Setup, SetupFaul
     ensures plan { IfOk result (λ s. IsPlan s.profile s.plan) }
     ensures bounds { IfOk result IsWithinBounds }
 {
-    let keys = Keys::<P>::new(table, Place::Top, &[]);
+    let no_names = KnownNames::none();
+    let keys = Keys::<P>::new(table, Place::Top, &no_names);
     let sizes = sizes_at(&keys)?;
     let clients = keys.optional("clients", 1, Number(1, MAX_CLIENTS))?;
     let limit = keys.optional("limit", 0, Number(1, MAX_HISTORY_LIMIT))?;
@@ -223,7 +226,8 @@ fn setup_up_to(newest: u32, alloc: Global, table: &Table) -> Result<Setup, Setup
     ensures plan { IfOk result (λ s. IsPlan s.profile s.plan) }
     ensures bounds { IfOk result IsWithinBounds }
 {
-    let keys = Keys::<Wide>::new(table, Place::Top, &[]);
+    let no_names = KnownNames::none();
+    let keys = Keys::<Wide>::new(table, Place::Top, &no_names);
     let format = keys.required("format", Number(FIRST_FORMAT, newest))?;
     keys.known_only(top_keys(format))?;
     match keys.optional("profile", ProfileName::Wide, ProfileKind)? {
@@ -255,9 +259,12 @@ pub fn read_table(alloc: Global, table: &Table) -> Result<Setup, SetupFault>
 fn names_of(alloc: Global, profile: ProfileName, table: &Table) -> Result<Vec<Name>, SetupFault>
     ensures { Gives (λ v. names_view v.items) result (spec.names_of profile (table_view table.now)) }
 {
+    let no_names = KnownNames::none();
     match profile {
-        ProfileName::Wide => Keys::<Wide>::new(table, Place::Top, &[]).names(alloc, "names"),
-        ProfileName::Narrow => Keys::<Narrow>::new(table, Place::Top, &[]).names(alloc, "names"),
+        ProfileName::Wide => Keys::<Wide>::new(table, Place::Top, &no_names).names(alloc, "names"),
+        ProfileName::Narrow => {
+            Keys::<Narrow>::new(table, Place::Top, &no_names).names(alloc, "names")
+        }
     }
 }
 

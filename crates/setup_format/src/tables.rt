@@ -13,24 +13,24 @@ ghost use Rattle.setup_format.specs.Tables as spec;
 
 use crate::fault::{Key, Place, SetupFault, Wrong};
 use cap_core::Profile;
-use setup_values::Name;
 use setup_values::kinds::{Kind, array, expect, named_word, table_in};
+use setup_values::{KnownNames, Name};
 use std::alloc::Global;
 use std::marker::PhantomData;
 use toml::{Table, Value};
 
 /// The keys of a table: where it stands in its set-up, and the names that its words may take.
 #[derive(Drop)]
-pub struct Keys<'t, P: Profile> {
+pub struct Keys<'t, 'n, 'k, P: Profile> {
     table: &'t Table,
     place: Place,
-    names: &'t [Name],
+    names: &'n KnownNames<'k>,
     profile: PhantomData<P>,
 }
 
-impl<'t, P: Profile> Keys<'t, P> {
+impl<'t, 'n, 'k, P: Profile> Keys<'t, 'n, 'k, P> {
     /// The keys of the table at a place, whose words may take these names.
-    pub fn new(table: &'t Table, place: Place, names: &'t [Name]) -> Keys<'t, P>
+    pub fn new(table: &'t Table, place: Place, names: &'n KnownNames<'k>) -> Keys<'t, 'n, 'k, P>
         ensures table { result.table.now ≡ table.now }
         ensures place { result.place ≡ place }
         ensures names { result.names.now ≡ names.now }

@@ -3,6 +3,7 @@ ghost use Rattle.std.specs.Prelude.{◌≡◌, ◌⊎◌};
 
 use cap_core::{ProfileName, Wide};
 use setup_format::Place;
+use setup_values::KnownNames;
 use setup_values::kinds::{Kind, ProfileKind};
 use std::alloc::Global;
 use toml::{Table, Value};
@@ -59,7 +60,9 @@ pub fn read_or<K: Kind + Copy>(table: &Table, key: &str, kind: K, default: K::Ou
     ensures { (result ≡ default) ⊎ K.holds kind result }
 {
     match table.get(key) {
-        Some(value) => kind.read::<Wide>(&[], value).unwrap_or(default),
+        Some(value) => kind
+            .read::<Wide>(&KnownNames::none(), value)
+            .unwrap_or(default),
         None => default,
     }
 }

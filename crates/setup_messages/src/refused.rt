@@ -14,6 +14,7 @@ use setup_format::{
     untyped_keys,
 };
 use setup_positions::{NamedText, SoughtKey};
+use setup_values::KnownNames;
 use setup_values::kinds::{Kind, OpKind};
 use std::alloc::{AllocError, Global};
 use toml::{Table, Value};
@@ -32,7 +33,10 @@ fn keys_at(table: &Table, place: Place) -> &'static [&'static str] {
             _ => top_keys(NEWEST_FORMAT),
         },
         Place::Untyped(_) => untyped_keys(),
-        Place::Call(_) => match table.get("op").map(|op| OpKind.read::<Wide>(&[], op)) {
+        Place::Call(_) => match table
+            .get("op")
+            .map(|op| OpKind.read::<Wide>(&KnownNames::none(), op))
+        {
             Some(Ok(op)) => op.keys(),
             _ => &[],
         },

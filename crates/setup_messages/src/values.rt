@@ -6,17 +6,17 @@ use crate::near::Nearest;
 use cap_core::limits::MAX_MESSAGE_WORDS;
 use cap_core::{Narrow, ProfileName, Wide};
 use setup_format::Place;
-use setup_values::OpName;
 use setup_values::kinds::{Kind, Word};
 use setup_values::names::is_name;
+use setup_values::{KnownNames, OpName};
 use std::alloc::AllocError;
 use toml::{Table, Value};
 
 /// Whether a value is a word of the document without a name.
 fn is_plain_word(document: &Document<'_>, value: &Value) -> bool {
     match document.profile() {
-        ProfileName::Wide => Word.read::<Wide>(&[], value).is_ok(),
-        ProfileName::Narrow => Word.read::<Narrow>(&[], value).is_ok(),
+        ProfileName::Wide => Word.read::<Wide>(&KnownNames::none(), value).is_ok(),
+        ProfileName::Narrow => Word.read::<Narrow>(&KnownNames::none(), value).is_ok(),
     }
 }
 

@@ -6,6 +6,7 @@ ghost use Rattle.setup_migrate.specs.Migration as spec;
 
 use boot_plan::BootPlan;
 use cap_core::Profile;
+use setup_values::KnownNames;
 use setup_values::kinds::{Kind, Word};
 use std::alloc::{AllocError, Global};
 use toml::{Table, Value};
@@ -23,7 +24,7 @@ fn boot_thread<P: Profile>(plan: &BootPlan, thread: &Value) -> Option<u32>
     requires { IsPlan P.profile plan.now }
     ensures { result ≡ spec.boot_thread P.profile plan.now (view thread.now) }
 {
-    let address = Word.read::<P>(&[], thread).ok()?;
+    let address = Word.read::<P>(&KnownNames::none(), thread).ok()?;
     thread_at::<P>(plan, address)
 }
 

@@ -9,7 +9,7 @@ ghost use Rattle.setup_values.specs.Kinds.{seen};
 ghost use Rattle.setup_values.specs.Kinds as kind;
 
 use crate::limits::MAX_EXPECT_BYTES;
-use crate::names::{Name, is_name, word_of};
+use crate::names::{KnownNames, is_name};
 use crate::operations::OpName;
 use crate::values::{Words, Wrong};
 use cap_core::limits::MAX_MESSAGE_WORDS;
@@ -38,7 +38,7 @@ pub trait Kind {
     /// # Errors
     ///
     /// `OtherType` or `OtherValue` where the kind does not accept it.
-    fn read<P: Profile>(&self, names: &[Name], value: &Value) -> Result<Self::Out, Wrong>
+    fn read<P: Profile>(&self, names: &KnownNames<'_>, value: &Value) -> Result<Self::Out, Wrong>
         ensures means { result ≡ means self.now P.profile (names_view names.now) (view value.now) }
         ensures holds { IfOk result (holds self.now) };
 }
@@ -56,7 +56,7 @@ impl Kind for Number {
 
     ghost holds = { λ k n. (k.0 ≤ n) × (n ≤ k.1) };
 
-    fn read<P: Profile>(&self, _names: &[Name], value: &Value) -> Result<u32, Wrong> {
+    fn read<P: Profile>(&self, _names: &KnownNames<'_>, value: &Value) -> Result<u32, Wrong> {
         let n = value.as_integer().ok_or(Wrong::OtherType)?;
         if n < i64::from(self.0) || n > i64::from(self.1) {
             Err(Wrong::OtherValue)
@@ -103,17 +103,17 @@ fn hexadecimal(text: &[u8]) -> Option<u64>
 }
 
 /// The number that a text stands for: `@` and a name, or `0x` and hexadecimal digits.
-fn spelt(names: &[Name], text: &[u8]) -> Option<u64>
+fn spelt(names: &KnownNames<'_>, text: &[u8]) -> Option<u64>
     ensures { result ≡ kind.spelt (names_view names.now) text.now }
 {
     match text {
-        [b'@', name @ ..] => word_of(names, name),
+        [b'@', name @ ..] => names.word_of(name),
         _ => hexadecimal(text),
     }
 }
 
 /// A number not below 0, as an integer or as a text.
-fn natural(names: &[Name], value: &Value) -> Result<u64, Wrong>
+fn natural(names: &KnownNames<'_>, value: &Value) -> Result<u64, Wrong>
     ensures { result ≡ kind.natural (names_view names.now) (view value.now) }
 {
     if let Some(n) = value.as_integer() {
@@ -146,7 +146,7 @@ impl Kind for Word {
 
     ghost means = { λ _ p names. word p names };
 
-    fn read<P: Profile>(&self, names: &[Name], value: &Value) -> Result<u64, Wrong> {
+    fn read<P: Profile>(&self, names: &KnownNames<'_>, value: &Value) -> Result<u64, Wrong> {
         let number = natural(names, value)?;
         if is_word::<P>(number) {
             Ok(number)
@@ -167,8 +167,8 @@ impl Kind for Label {
 
     ghost means = { λ _ p _. label p };
 
-    fn read<P: Profile>(&self, _names: &[Name], value: &Value) -> Result<u64, Wrong> {
-        let number = Word.read::<P>(&[], value)?;
+    fn read<P: Profile>(&self, _names: &KnownNames<'_>, value: &Value) -> Result<u64, Wrong> {
+        let number = Word.read::<P>(&KnownNames::none(), value)?;
         if number < 1 << P::LABEL_BITS {
             Ok(number)
         } else {
@@ -189,7 +189,7 @@ impl Kind for RightsKind {
 
     ghost means = { λ _ _ _. rights };
 
-    fn read<P: Profile>(&self, names: &[Name], value: &Value) -> Result<Rights, Wrong> {
+    fn read<P: Profile>(&self, names: &KnownNames<'_>, value: &Value) -> Result<Rights, Wrong> {
         let number = Number(0, u32::from(Rights::ALL.0)).read::<P>(names, value)?;
         Ok(Rights(number as u8))
     }
@@ -226,7 +226,7 @@ impl Kind for WordsKind {
 
     ghost means = { λ _ p names. words p names };
 
-    fn read<P: Profile>(&self, names: &[Name], value: &Value) -> Result<Words, Wrong> {
+    fn read<P: Profile>(&self, names: &KnownNames<'_>, value: &Value) -> Result<Words, Wrong> {
         let elements = array(value, 0, MAX_MESSAGE_WORDS)?;
         let mut words = [0; MAX_MESSAGE_WORDS];
         for (i, element) in elements.iter().enumerate() {
@@ -253,7 +253,7 @@ pub fn named_word<P: Profile>(name: &str, value: &Value) -> Result<u64, Wrong>
     if !is_name(name.as_bytes()) {
         return Err(Wrong::OtherValue);
     }
-    Word.read::<P>(&[], value)
+    Word.read::<P>(&KnownNames::none(), value)
 }
 
 fn is_shown(text: &[u8]) -> bool
@@ -287,7 +287,11 @@ impl Kind for ProfileKind {
 
     ghost means = { λ _ _ _. profile };
 
-    fn read<P: Profile>(&self, _names: &[Name], value: &Value) -> Result<ProfileName, Wrong> {
+    fn read<P: Profile>(
+        &self,
+        _names: &KnownNames<'_>,
+        value: &Value,
+    ) -> Result<ProfileName, Wrong> {
         match value.as_str() {
             None => Err(Wrong::OtherType),
             Some("wide") => Ok(ProfileName::Wide),
@@ -309,7 +313,7 @@ impl Kind for OpKind {
 
     ghost means = { λ _ _ _. op };
 
-    fn read<P: Profile>(&self, _names: &[Name], value: &Value) -> Result<OpName, Wrong> {
+    fn read<P: Profile>(&self, _names: &KnownNames<'_>, value: &Value) -> Result<OpName, Wrong> {
         let text = value.as_str().ok_or(Wrong::OtherType)?;
         OpName::named(text).ok_or(Wrong::OtherValue)
     }

@@ -11,6 +11,6 @@ pub mod values;
 
 pub use depth::table_is_within;
 pub use kinds::Kind;
-pub use names::Name;
+pub use names::{KnownNames, Name};
 pub use operations::OpName;
 pub use values::{Words, Wrong};
