@@ -71,6 +71,7 @@ rows: rows-needs run
 	python3 rows/audits.py $(program) crates/worked_audits/data crates/worked_parts/data crates/worked_trees/data
 	python3 rows/explore.py $(program) crates/worked_explorations/data
 	python3 rows/orders_one_by_one.py $(program) 100
+	python3 rows/new_set_ups.py $(program)
 	python3 rows/messages.py $(program)
 	python3 rows/use_address_again.py $(program) 1000
 	cd crates/refused_memory && rt run

@@ -1,8 +1,9 @@
 #!/usr/bin/env python3
 """audits.py PROGRAM FOLDER..: each audit and each derivation forest that is wanted in the FOLDERs, by the program.
 
-NAME.toml is a set-up and NAME.audit its audit, byte for byte; NAME.tree is what `tree` writes in the same way. Options stand in the file's name: NAME.after-14.slot-320.audit is
-what `audit --after 14 --slot 320` writes. NAME.ever is what `audit --ever` writes, with the options in NAME.args, one word a line.
+NAME.toml is a set-up and NAME.audit its audit, byte for byte; NAME.tree is what `tree` writes in the same way, and NAME.dot what `tree --dot` writes. Options stand in the file's name: NAME.after-14.slot-320.audit is
+what `audit --after 14 --slot 320` writes. NAME.ever is what `audit --ever` writes, with the options in NAME.args, one word a line; NAME.PAIR.never what `audit` writes with
+the options in NAME.PAIR.args, of which `--never` is one.
 An empty file wants status 4, the line of a refusal 2, any other text 0.
 
 In the end the first audit of each folder is compared with the text of its second, and has to differ.
@@ -14,15 +15,18 @@ import sys
 
 def command(file):
     """The command, with its options, that a file of what is wanted asks for."""
-    if file.suffix == ".ever":
-        return ["audit", "--ever", *file.with_suffix(".args").read_text().split()]
+    if file.suffix in (".ever", ".never"):
+        return ["audit", *([] if file.suffix == ".never" else ["--ever"]), *file.with_suffix(".args").read_text().split()]
     parts = [part.split("-") for part in file.stem.split(".")[1:]]
-    return [file.suffix[1:], *(word for option, number in parts for word in (f"--{option}", number))]
+    asked = ["tree", "--dot"] if file.suffix == ".dot" else [file.suffix[1:]]
+    return [*asked, *(word for option, number in parts for word in (f"--{option}", number))]
 
 
 def status_with(text):
     if not text:
         return 4
+    if text.startswith(b"never ") and text.split(b"\n")[0].endswith(b" possible"):
+        return 1
     return 2 if text.startswith(b"set-up refused ") else 0
 
 
@@ -36,7 +40,7 @@ def faults(program, file, wanted):
 
 
 def files_in(folder):
-    return sorted(file for file in folder.iterdir() if file.suffix in (".audit", ".ever", ".tree"))
+    return sorted(file for file in folder.iterdir() if file.suffix in (".audit", ".ever", ".never", ".tree", ".dot"))
 
 
 def run_folder(program, folder):

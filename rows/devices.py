@@ -12,7 +12,8 @@ import subprocess
 import sys
 import tempfile
 
-SUBCOMMANDS = [["check"], ["trace"], ["threads"], ["migrate"], ["why"], ["audit"], ["audit", "--ever"], ["explore"], ["tree"]]
+SUBCOMMANDS = [["check"], ["trace"], ["threads"], ["migrate"], ["why"], ["audit"], ["audit", "--ever"], ["explore"], ["tree"], ["tree", "--dot"],
+               ["audit", "--never", "2048,4096"]]
 
 SECONDS = 60
 NOBODY = 65534

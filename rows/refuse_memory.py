@@ -78,7 +78,8 @@ int posix_memalign(void **made, size_t alignment, size_t size)
 """
 
 
-SUBCOMMANDS = [["check"], ["trace"], ["threads"], ["migrate"], ["why"], ["audit"], ["audit", "--ever"], ["explore"], ["tree"]]
+SUBCOMMANDS = [["check"], ["trace"], ["threads"], ["migrate"], ["why"], ["audit"], ["audit", "--ever"], ["explore"], ["tree"], ["tree", "--dot"],
+               ["audit", "--never", "2048,4096"], ["new"]]
 POOL = 4
 MEMORY = (3, b"", b"sel4sim: out of memory\n")
 THREAD = (3, b"", b"sel4sim: thread not started\n")

@@ -1,5 +1,5 @@
 -- The program's command as clap's definition, and what clap's matches for the words say.
-use Rattle.std.specs.Prelude.{◌≡◌, ◌≢◌, ◌<◌, ◌^◌, ⊤, Bool, true, false, not, codes, ℕ, List, [], Option, Some, None, is_some, option_map, if◌then◌else◌}
+use Rattle.std.specs.Prelude.{◌≡◌, ◌≢◌, ◌<◌, ◌^◌, ◌&&◌, ◌||◌, ⊤, Bool, true, false, not, codes, ℕ, List, [], Option, Some, None, is_some, option_map, if◌then◌else◌}
 use Rattle.std.specs.Str.Parse.{IsNumeral, digits_value, without_leading_plus}
 use Rattle.std.specs.Option.{option_or}
 use Rattle.std.specs.Str.{bytes_eq}
@@ -10,7 +10,7 @@ use Rattle.clap.specs.declared.builder.value_parser.ValueParser.TheVariants.{Uns
 use Rattle.clap.specs.declared.error.kind.ErrorKind.{ErrorKind}
 use Rattle.clap.specs.declared.error.kind.ErrorKind.TheVariants.{DisplayHelp, OutOfMemory}
 use Rattle.command_line.specs.declared.arguments.Job.{Job}
-use Rattle.command_line.specs.declared.arguments.Job.TheVariants.{Check, Trace, Threads, Migrate, Why, Audit, Explore, Tree}
+use Rattle.command_line.specs.declared.arguments.Job.TheVariants.{Check, Trace, Threads, Migrate, Why, Audit, Explore, Tree, New}
 use Rattle.command_line.specs.declared.arguments.LineFault.{LineFault}
 use Rattle.command_line.specs.declared.arguments.LineFault.TheVariants.{Help, Refused, Conflict, Memory}
 use Rattle.command_line.specs.declared.arguments.Options.{Options}
@@ -68,8 +68,9 @@ why_command = with_rule (with_file (codes "why")) (number_rule (codes "call"))
 
 abbrev pub audit_command : App
 audit_command =
-    with_rule (with_rule (with_rule (with_rule (with_file (codes "audit"))
-    (number_rule (codes "after"))) (number_rule (codes "slot"))) (flag_rule (codes "ever"))) (text_rule (codes "without"))
+    with_rule (with_rule (with_rule (with_rule (with_rule (with_rule (with_file (codes "audit"))
+    (number_rule (codes "after"))) (number_rule (codes "slot"))) (flag_rule (codes "ever"))) (text_rule (codes "without")))
+    (text_rule (codes "never"))) (text_rule (codes "by"))
 
 abbrev pub explore_command : App
 explore_command =
@@ -77,7 +78,13 @@ explore_command =
     (number_rule (codes "first"))) (number_rule (codes "states"))) (text_rule (codes "witness"))
 
 abbrev pub tree_command : App
-tree_command = with_rule (with_file (codes "tree")) (number_rule (codes "after"))
+tree_command = with_rule (with_rule (with_file (codes "tree")) (number_rule (codes "after"))) (flag_rule (codes "dot"))
+
+-- the subcommand `new`, which reads no file
+abbrev pub new_command : App
+new_command =
+    with_rule (with_rule (with_rule (with_rule (new_app (codes "new"))
+    (text_rule (codes "profile"))) (number_rule (codes "threads"))) (number_rule (codes "endpoints"))) (text_rule (codes "untyped"))
 
 -- `sel4sim`, with the subcommands that have no options
 abbrev pub plain_command : App
@@ -89,8 +96,9 @@ plain_command =
 -- `sel4sim`, with all its subcommands
 unfoldable pub command : App
 command =
-    and_subcommand tree_command
-    (and_subcommand explore_command (and_subcommand audit_command (and_subcommand why_command plain_command)))
+    and_subcommand new_command
+    (and_subcommand tree_command
+    (and_subcommand explore_command (and_subcommand audit_command (and_subcommand why_command plain_command))))
 
 -- the job of a subcommand's name
 abbrev pub job_named : Text → Option Job
@@ -103,6 +111,7 @@ job_named name =
     else if bytes_eq name (codes "audit") then Some Audit
     else if bytes_eq name (codes "explore") then Some Explore
     else if bytes_eq name (codes "tree") then Some Tree
+    else if bytes_eq name (codes "new") then Some New
     else None
 
 -- the job where a subcommand of that name with these matches is met, and where none is
@@ -136,14 +145,29 @@ pub record HasOptions (rows : List Row) (options : Options) : Type 0 where
   pub after : Says (first_of (codes "after") rows) options.after
   pub slot : Says (first_of (codes "slot") rows) options.slot
   pub ever : options.ever ≡ is_set (first_of (codes "ever") rows)
+  pub never : option_map (λ s. s.now) options.never ≡ first_of (codes "never") rows
+  pub by : option_map (λ s. s.now) options.by ≡ first_of (codes "by") rows
   pub without : option_map (λ s. s.now) options.without ≡ first_of (codes "without") rows
   pub first : Says (first_of (codes "first") rows) options.first
   pub states : Says (first_of (codes "states") rows) options.states
   pub witness : option_map (λ s. s.now) options.witness ≡ first_of (codes "witness") rows
+  pub dot : options.dot ≡ is_set (first_of (codes "dot") rows)
+  pub profile : option_map (λ s. s.now) options.profile ≡ first_of (codes "profile") rows
+  pub threads : Says (first_of (codes "threads") rows) options.threads
+  pub endpoints : Says (first_of (codes "endpoints") rows) options.endpoints
+  pub untyped : option_map (λ s. s.now) options.untyped ≡ first_of (codes "untyped") rows
 
--- the options go together: `--ever` tells of no slot, and `--without` needs it
+-- `--ever` and `--never` tell of all calls to come
+abbrev pub is_of_parts : Options → Bool
+is_of_parts options = options.ever || is_some options.never
+
+-- the options go together: `--ever` and `--never` not with each other, and not with `--slot`; `--without` needs one of them,
+-- and `--by` needs `--never`
 abbrev pub agrees : Options → Bool
-agrees options = if options.ever then not (is_some options.slot) else not (is_some options.without)
+agrees options =
+    not (options.ever && is_some options.never)
+    && (not (is_of_parts options && is_some options.slot)
+    && ((is_of_parts options || not (is_some options.without)) && (is_some options.never || not (is_some options.by))))
 
 -- the matches of the subcommand that is met
 abbrev pub own_rows : Option (Text × List Row) → List Row

@@ -22,6 +22,8 @@ pub enum Job {
     Explore,
     /// Run a set-up and tell what is derived from what.
     Tree,
+    /// Write a set-up to start from.
+    New,
 }
 
 /// What the options of a command line give; `None` where an option is not there.
@@ -35,7 +37,13 @@ pub struct Options<'a> {
     pub slot: Option<u64>,
     /// Whether `--ever` of `audit` is there: what threads can never get is asked for.
     pub ever: bool,
-    /// `--without` of `audit --ever`: the threads that are trusted to make no more calls, with commas between them.
+    /// `--never` of `audit`: two threads, with a comma between them. Whether the first one's part is kept from the other's is asked
+    /// for.
+    pub never: Option<&'a str>,
+    /// `--by` of `audit --never`: the endpoints by which the parts may have to do with each other, with commas between them.
+    pub by: Option<&'a str>,
+    /// `--without` of `audit --ever` and `audit --never`: the threads that are trusted to make no more calls, with commas
+    /// between them.
     pub without: Option<&'a str>,
     /// `--first` of `explore`: how many calls are made before the clients begin.
     pub first: Option<u64>,
@@ -43,6 +51,17 @@ pub struct Options<'a> {
     pub states: Option<u64>,
     /// `--witness` of `explore`: the order whose set-up is written, by the report's name of what it tells.
     pub witness: Option<&'a str>,
+    /// Whether `--dot` of `tree` is there: a graph is asked for.
+    pub dot: bool,
+    /// `--profile` of `new`: the machine.
+    pub profile: Option<&'a str>,
+    /// `--threads` of `new`: how many threads a boot makes.
+    pub threads: Option<u64>,
+    /// `--endpoints` of `new`: how many endpoints a boot makes.
+    pub endpoints: Option<u64>,
+    /// `--untyped` of `new`: the base and the bits of each untyped region, with a colon between them, and commas between the
+    /// regions.
+    pub untyped: Option<&'a str>,
 }
 
 /// A command line that was taken: what to do, by which options, and with which file; without a file, with standard
@@ -113,6 +132,8 @@ impl Job {
             Some(Job::Explore)
         } else if name == "tree" {
             Some(Job::Tree)
+        } else if name == "new" {
+            Some(Job::New)
         } else {
             None
         }

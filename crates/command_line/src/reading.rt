@@ -1,10 +1,10 @@
 //! The words of the command line.
-ghost use Rattle.std.specs.Prelude.{◌≡◌, [], true, false, not, is_some, option_map, IfOk, IfErr, IsSome, OnOk};
-ghost use Rattle.clap.specs.Words.{app_of, fault_of, first_of, found_of, rows_of, rule_of, subcommand_of, subcommand_rows_of};
+ghost use Rattle.std.specs.Prelude.{◌≡◌, [], codes, true, false, not, is_some, option_map, IfOk, IfErr, IsSome, OnOk};
+ghost use Rattle.clap.specs.Words.{app_of, fault_of, first_of, found_of, rows_of, rule_of, subcommand_of, subcommand_rows_of, with_rule};
 ghost use Rattle.clap.specs.declared.builder.command.Command.TheViews.{out-Command};
 ghost use Rattle.clap.specs.Values.{kind_of};
 ghost use Rattle.clap.specs.Walk.{texts};
-ghost use Rattle.command_line.specs.CommandLine.{Explains, HasOptions, Says, StandsFor, agrees, and_subcommand, audit_command, bare_command, command as definition, explore_command, file_asked, file_of, file_rule, flag_rule, is_set, job_asked, job_of, number_rule, own_rows, plain_command, text_rule, tree_command, version_rule, why_command, with_file as with_file_definition};
+ghost use Rattle.command_line.specs.CommandLine.{Explains, HasOptions, Says, StandsFor, agrees, and_subcommand, audit_command, bare_command, command as definition, explore_command, file_asked, file_of, file_rule, flag_rule, is_set, job_asked, job_of, new_command, number_rule, own_rows, plain_command, text_rule, tree_command, version_rule, why_command, with_file as with_file_definition};
 
 use crate::arguments::{Job, Line, LineFault, Options};
 use clap::builder::ValueParser;
@@ -29,8 +29,11 @@ Examples:
   sel4sim audit layout.toml      who reaches what, and who can send to whom
   sel4sim audit --ever --without loader layout.toml
                                  what the clients can never get
+  sel4sim audit --never client,server --by endpoint layout.toml
+                                 whether one of them is kept from the other
   sel4sim explore layout.toml    what every order of its calls comes to
   sel4sim check - < layout.toml  the set-up on standard input
+  sel4sim new > layout.toml      a set-up to start from
 
 Exit status:
   0  every expectation is met, or there is none
@@ -42,9 +45,13 @@ Exit status:
 Pages: docs/first-set-up.md, and below the installation share/doc/sel4sim";
 
 /// What is said of options that do not go together.
-const SLOT_WITH_EVER: &str = "--slot and --ever do not go together";
+const EVER_WITH_NEVER: &str = "--ever and --never do not go together";
 
-const WITHOUT_ALONE: &str = "--without goes with --ever alone";
+const SLOT_WITH_PARTS: &str = "--slot goes neither with --ever nor with --never";
+
+const WITHOUT_ALONE: &str = "--without goes with --ever or --never alone";
+
+const BY_ALONE: &str = "--by goes with --never alone";
 
 /// The base in which the numbers of options are written.
 const DECIMAL: u32 = 10;
@@ -151,6 +158,29 @@ fn why<'a>(alloc: Global) -> Result<Command<'a>, AllocError>
     Ok(whole)
 }
 
+/// The options of `audit` by which one thread's part is asked to be kept from another's.
+fn and_never<'a>(alloc: Global, command: Command<'a>) -> Result<Command<'a>, AllocError>
+    requires { (out-Command command).has_globals ≡ false }
+    ensures app { IfOk result (λ c. app_of c ≡ with_rule (with_rule (app_of command.entry) (text_rule (codes "never"))) (text_rule (codes "by"))) }
+    ensures local { IfOk result (λ c. (out-Command c).has_globals ≡ false) }
+{
+    let never = text(
+        alloc,
+        "never",
+        "FROM,TO",
+        "Tell whether FROM's part can never get what TO's part has, nor send to it",
+    );
+    let with_never = command.arg(never)?;
+    let by = text(
+        alloc,
+        "by",
+        "E",
+        "With --never: but by these endpoints, with commas between them",
+    );
+    let whole = with_never.arg(by)?;
+    Ok(whole)
+}
+
 /// The subcommand `audit`.
 fn audit<'a>(alloc: Global) -> Result<Command<'a>, AllocError>
     ensures app { IfOk result (λ c. app_of c ≡ audit_command) }
@@ -177,9 +207,10 @@ fn audit<'a>(alloc: Global) -> Result<Command<'a>, AllocError>
         alloc,
         "without",
         "WHO",
-        "With --ever: these threads, with commas between them, make no more calls",
+        "With --ever or --never: these threads, with commas between them, make no more calls",
     );
-    let whole = with_ever.arg(without)?;
+    let with_without = with_ever.arg(without)?;
+    let whole = and_never(alloc, with_without)?;
     Ok(whole)
 }
 
@@ -217,7 +248,48 @@ fn tree<'a>(alloc: Global) -> Result<Command<'a>, AllocError>
     let about = "Runs a set-up and prints each slot below the one that it is derived from";
     let command = with_file(alloc, "tree", about)?;
     let after = number(alloc, "after", "Make the first N calls alone");
-    let whole = command.arg(after)?;
+    let with_after = command.arg(after)?;
+    let dot = flag(alloc, "dot", "Print a graph in Graphviz' language DOT");
+    let whole = with_after.arg(dot)?;
+    Ok(whole)
+}
+
+/// The options of `new` by which its sizes are given.
+fn and_sizes<'a>(alloc: Global, command: Command<'a>) -> Result<Command<'a>, AllocError>
+    requires { (out-Command command).has_globals ≡ false }
+    ensures app { IfOk result (λ c. app_of c ≡ with_rule (with_rule (with_rule (app_of command.entry)
+        (number_rule (codes "threads"))) (number_rule (codes "endpoints"))) (text_rule (codes "untyped"))) }
+    ensures local { IfOk result (λ c. (out-Command c).has_globals ≡ false) }
+{
+    let threads = number(alloc, "threads", "It has N threads [default: 2]");
+    let with_threads = command.arg(threads)?;
+    let endpoints = number(alloc, "endpoints", "It has N endpoints [default: 1]");
+    let with_endpoints = with_threads.arg(endpoints)?;
+    let untyped = text(
+        alloc,
+        "untyped",
+        "BASE:BITS",
+        "It has these untyped regions, with commas between them",
+    );
+    let whole = with_endpoints.arg(untyped)?;
+    Ok(whole)
+}
+
+/// The subcommand `new`.
+fn new<'a>(alloc: Global) -> Result<Command<'a>, AllocError>
+    ensures app { IfOk result (λ c. app_of c ≡ new_command) }
+    ensures local { IfOk result (λ c. (out-Command c).has_globals ≡ false) }
+{
+    let about = "Prints a set-up to start from, with names for all that it has";
+    let command = Command::new(alloc, "new").about(about);
+    let profile = text(
+        alloc,
+        "profile",
+        "PROFILE",
+        "It is for this machine, wide or narrow [default: wide]",
+    );
+    let with_profile = command.arg(profile)?;
+    let whole = and_sizes(alloc, with_profile)?;
     Ok(whole)
 }
 
@@ -259,7 +331,8 @@ fn command<'a>(alloc: Global) -> Result<Command<'a>, AllocError>
     let with_why = plain(alloc)?.subcommand(why(alloc)?)?;
     let with_audit = with_why.subcommand(audit(alloc)?)?;
     let with_explore = with_audit.subcommand(explore(alloc)?)?;
-    let whole = with_explore.subcommand(tree(alloc)?)?;
+    let with_tree = with_explore.subcommand(tree(alloc)?)?;
+    let whole = with_tree.subcommand(new(alloc)?)?;
     Ok(whole)
 }
 
@@ -297,10 +370,17 @@ fn options_in<'a>(matches: &ArgMatches<'a>) -> Options<'a>
         after: number_given(matches, "after"),
         slot: number_given(matches, "slot"),
         ever: flag_given(matches, "ever"),
+        never: text_given(matches, "never"),
+        by: text_given(matches, "by"),
         without: text_given(matches, "without"),
         first: number_given(matches, "first"),
         states: number_given(matches, "states"),
         witness: text_given(matches, "witness"),
+        dot: flag_given(matches, "dot"),
+        profile: text_given(matches, "profile"),
+        threads: number_given(matches, "threads"),
+        endpoints: number_given(matches, "endpoints"),
+        untyped: text_given(matches, "untyped"),
     }
 }
 
@@ -321,10 +401,17 @@ fn line_in<'a>(matches: &ArgMatches<'a>) -> Line<'a>
                 after: None,
                 slot: None,
                 ever: false,
+                never: None,
+                by: None,
                 without: None,
                 first: None,
                 states: None,
                 witness: None,
+                dot: false,
+                profile: None,
+                threads: None,
+                endpoints: None,
+                untyped: None,
             },
             file: above,
         },
@@ -343,10 +430,15 @@ fn line_in<'a>(matches: &ArgMatches<'a>) -> Line<'a>
 fn conflict_of(options: &Options) -> Option<&'static str>
     ensures { is_some result ≡ not (agrees options.now) }
 {
-    if options.ever && options.slot.is_some() {
-        Some(SLOT_WITH_EVER)
-    } else if !options.ever && options.without.is_some() {
+    let is_of_parts = options.ever || options.never.is_some();
+    if options.ever && options.never.is_some() {
+        Some(EVER_WITH_NEVER)
+    } else if is_of_parts && options.slot.is_some() {
+        Some(SLOT_WITH_PARTS)
+    } else if !is_of_parts && options.without.is_some() {
         Some(WITHOUT_ALONE)
+    } else if options.never.is_none() && options.by.is_some() {
+        Some(BY_ALONE)
     } else {
         None
     }

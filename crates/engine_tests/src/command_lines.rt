@@ -15,6 +15,7 @@ fn name_of(job: Job) -> &'static str {
         Job::Audit => "audit",
         Job::Explore => "explore",
         Job::Tree => "tree",
+        Job::New => "new",
     }
 }
 

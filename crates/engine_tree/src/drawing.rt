@@ -11,14 +11,15 @@ use engine::refusal;
 use engine_core::{Engine, RunFault, Sink, Source, Verdict, run_engine};
 use ipc_core::LinkedWaiters;
 use setup_format::{NamedSetup, Setup, SetupFault, read_named_setup};
-use setup_tree::tree;
+use setup_tree::{Form, tree};
 use setup_values::Name;
 use slot_core::LinkedStore;
 use std::alloc::{AllocError, Global};
 
-/// Behind how many calls the forest is asked for: all, where no number is given.
+/// In which form the forest is asked for, and behind how many calls: all, where no number is given.
 #[derive(Clone, Copy)]
 struct Drawer {
+    form: Form,
     after: Option<u64>,
 }
 
@@ -31,16 +32,18 @@ impl Drawer {
         setup: &Setup,
     ) -> Result<Option<Vec<u8>>, AllocError>
         requires { IsPlan setup.now.profile setup.now.plan }
-        ensures { IfOk result (λ text. option_map (λ v. v.items) text ≡ tree_of setup.now.profile (names_view names.now) setup.now self.after) }
+        ensures { IfOk result (λ text. option_map (λ v. v.items) text ≡ tree_of setup.now.profile self.form (names_view names.now) setup.now self.after) }
     {
-        let after = self.after;
+        let Drawer { form, after } = self;
         match setup.profile() {
             ProfileName::Wide => {
-                tree::<Wide, LinkedStore<Wide>, LinkedWaiters<Wide>>(alloc, names, setup, after)
+                tree::<Wide, LinkedStore<Wide>, LinkedWaiters<Wide>>(
+                    alloc, form, names, setup, after,
+                )
             }
             ProfileName::Narrow => {
                 tree::<Narrow, LinkedStore<Narrow>, LinkedWaiters<Narrow>>(
-                    alloc, names, setup, after,
+                    alloc, form, names, setup, after,
                 )
             }
         }
@@ -54,7 +57,7 @@ impl Drawer {
         setup: &Setup,
     ) -> Result<(Vec<u8>, Verdict), AllocError>
         requires { IsPlan setup.now.profile setup.now.plan }
-        ensures { IfOk result (λ made. (made.0.items, made.1) ≡ spec.told (tree_of setup.now.profile (names_view names.now) setup.now self.after)) }
+        ensures { IfOk result (λ made. (made.0.items, made.1) ≡ spec.told (tree_of setup.now.profile self.form (names_view names.now) setup.now self.after)) }
     {
         let text = self.tree_named(alloc, names, setup)?;
         match text {
@@ -65,7 +68,7 @@ impl Drawer {
 
     /// The text that is written for the bytes of an input, and the verdict.
     fn text_of(self, alloc: Global, bytes: &[u8]) -> Result<(Vec<u8>, Verdict), AllocError>
-        ensures { IfOk result (λ made. spec.IsTreeOfBytes self.after bytes.now made.0.items made.1) }
+        ensures { IfOk result (λ made. spec.IsTreeOfBytes self.form self.after bytes.now made.0.items made.1) }
     {
         match read_named_setup(alloc, bytes) {
             Ok(NamedSetup { names, setup }) => self.told(alloc, names.as_slice(), &setup),
@@ -76,7 +79,7 @@ impl Drawer {
 }
 
 impl Engine for Drawer {
-    ghost means = { λ drawer. spec.IsTreeOfBytes drawer.after };
+    ghost means = { λ drawer. spec.IsTreeOfBytes drawer.form drawer.after };
 
     fn make(&self, alloc: Global, input: &[u8]) -> Result<(Vec<u8>, Verdict), RunFault> {
         self.text_of(alloc, input).map_err(|_| RunFault::Memory)
@@ -84,8 +87,7 @@ impl Engine for Drawer {
 }
 
 /// Reads the source to its end, makes the first `after` calls of the set-up that it holds, or all, and writes to the sink the
-/// derivation forest of the state then, a line for each full slot below the slot that it is derived from; or the line of a
-/// refusal. The verdict is `AllMet` where a forest is written, `Refused`, or `Absent` with nothing written: where the set-up
+/// derivation forest of the state then, as lines or as a graph; or the line of a refusal. The verdict is `AllMet` where a forest is written, `Refused`, or `Absent` with nothing written: where the set-up
 /// has fewer calls.
 ///
 /// # Errors
@@ -94,14 +96,15 @@ impl Engine for Drawer {
 /// written then.
 pub fn tree_run<S: Source, K: Sink>(
     alloc: Global,
+    form: Form,
     after: Option<u64>,
     source: &mut S,
     sink: &mut K,
 ) -> Result<Verdict, RunFault>
     requires source { S.failed source.old ≡ false }
     requires sink { K.failed sink.old ≡ false }
-    ensures run { IsRun (spec.IsTreeOfBytes after) S.Source K.Sink source.old source.new sink.old sink.new result }
+    ensures run { IsRun (spec.IsTreeOfBytes form after) S.Source K.Sink source.old source.new sink.old sink.new result }
     ensures never_thread { result ≢ Err RunFault.Thread }
 {
-    run_engine(alloc, &Drawer { after }, source, sink)
+    run_engine(alloc, &Drawer { form, after }, source, sink)
 }

@@ -1,21 +1,23 @@
 -- What the program does with the words of its command line.
-use Rattle.std.specs.Prelude.{◌≡◌, ℕ, List, [], codes, Option, Some, None, Result, Err, true, false, if◌then◌else◌, IfErr, OnOk, OnErr}
+use Rattle.std.specs.Prelude.{◌≡◌, ℕ, List, [], codes, Option, Some, None, Result, Err, true, false, if◌then◌else◌, IfOk, IfErr, OnOk, OnErr}
 use Rattle.std.specs.Str.{bytes_eq}
 use Rattle.clap.specs.Words.{Text, subcommand_of, takes, fault_of, IsAmong}
 use Rattle.clap.specs.declared.error.kind.ErrorKind.TheVariants.{DisplayHelp}
 use Rattle.command_line.specs.CommandLine.{agrees, command, file_asked, job_asked, own_rows, HasConflict, HasOptions, HasOtherFault}
 use Rattle.command_line.specs.declared.arguments.Job.{Job}
+use Rattle.command_line.specs.declared.arguments.Job.TheVariants.{New}
 use Rattle.command_line.specs.declared.arguments.Options.{Options}
 use Rattle.engine_core.specs.Devices.{Took, TookFront}
 use Rattle.engine_core.specs.Runs.{IsRun}
 use Rattle.engine_core.specs.declared.fault.Verdict.{Verdict}
 use Rattle.engine_core.specs.declared.fault.RunFault.{RunFault}
-use Rattle.engine_core.specs.declared.fault.RunFault.TheVariants.{Reading, Writing}
+use Rattle.engine_core.specs.declared.fault.RunFault.TheVariants.{Reading, Writing, Memory, Thread}
 use Rattle.engine_core.specs.declared.sink.Sink.{Ghosts as SinkGhosts}
 use Rattle.engine_core.specs.declared.source.Source.{Ghosts as SourceGhosts}
 use Rattle.program.specs.Jobs.{meaning}
+use Rattle.program.specs.NewWords.{IsNewOf}
 use Rattle.program_messages.specs.declared.ended.Used.{Used}
-use Rattle.program_messages.specs.declared.ended.Used.TheVariants.{Standard, File, Unopened}
+use Rattle.program_messages.specs.declared.ended.Used.TheVariants.{Standard, File, Unopened, Nothing}
 use Rattle.program_messages.specs.declared.ended.Ended.{Ended}
 use Rattle.program_messages.specs.declared.ended.Ended.TheVariants.{Did, Helped, Refused, Conflict, NoMemory}
 
@@ -24,8 +26,20 @@ abbrev pub named_input : Option Text → Option Text
 named_input None = None
 named_input (Some name) = if bytes_eq name (codes "-") then None else Some name
 
+-- a text and a verdict of that meaning were made of no input, and the text was written, or a front of it where a write failed
+pub record IsWriting {K : Type 0} (means : List ℕ → Verdict → Type 0) (to : SinkGhosts K) (sink_old sink_new : K)
+    (result : Result Verdict RunFault) : Type 0 where
+  pub ok : IfOk result (λ verdict. (text : List ℕ) × Took to.taken to.written sink_old sink_new text × means text verdict)
+  pub writing : result ≡ Err Writing → to.failed sink_new ≡ true
+  pub writing_front : result ≡ Err Writing → (text : List ℕ) × (verdict : Verdict)
+      × TookFront to.taken to.written sink_old sink_new text × means text verdict
+  pub sink_marked : to.failed sink_new ≡ true → result ≡ Err Writing
+  pub reading_keeps : result ≡ Err Reading → sink_new ≡ sink_old
+  pub memory_keeps : result ≡ Err Memory → sink_new ≡ sink_old
+  pub thread_keeps : result ≡ Err Thread → sink_new ≡ sink_old
+
 -- the job's run over standard input, where no file is named, and else over the file of that name; where this can't be
--- opened, a failed read, and nothing is written
+-- opened, a failed read, and nothing is written; a new set-up is made of no input
 abbrev pub IsDone : {S F E K : Type 0} → (S → Type 0) → (Text → F → Type 0) → (Text → E → Type 0)
     → SourceGhosts S → SourceGhosts F → SinkGhosts K
     → Job → Options → Option Text → Used S F E → Result Verdict RunFault → K → K → Type 0
@@ -37,6 +51,8 @@ IsDone is_standard is_file is_fault from_standard from_file to job options name 
     × IsRun (meaning job options) from_file to unread source old new answer
 IsDone is_standard is_file is_fault from_standard from_file to job options name (Unopened fault) answer old new =
     (named : Text) × (name ≡ Some named) × is_fault named fault × (answer ≡ Err Reading) × (new ≡ old)
+IsDone is_standard is_file is_fault from_standard from_file to job options name Nothing answer old new =
+    (job ≡ New) × IsWriting (IsNewOf options) to old new answer
 
 -- a text was written, or a front of it where a write failed
 abbrev pub IsWritten : {K : Type 0} → SinkGhosts K → Result Unit RunFault → K → K → Type 0

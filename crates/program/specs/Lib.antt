@@ -1,3 +1,6 @@
+pub mod Commas
 pub mod Ends
 pub mod Jobs
+pub mod NewWords
+pub mod Texts
 pub mod WitnessWords

@@ -1,19 +1,19 @@
 -- What the text of `--witness` names.
-use Rattle.std.specs.Prelude.{◌≡◌, ◌==◌, ℕ, codes, true, false, List, Option, Some, unwrap_or}
-use Rattle.std.specs.List.{before_first, after_first}
+use Rattle.std.specs.Prelude.{◌≡◌, ℕ, codes, true, false, List, Option, Some, unwrap_or}
 use Rattle.std.specs.Str.{bytes_eq}
 use Rattle.command_line.specs.CommandLine.{Says}
 use Rattle.engine_core.specs.declared.fault.Verdict.{Verdict}
 use Rattle.engine_explore.specs.Witnessed.{IsWitness, witness_of_bytes}
 use Rattle.setup_explore.specs.declared.witness.Witness.{Witness}
 use Rattle.setup_explore.specs.declared.witness.Witness.TheVariants.{Answer, Stuck}
+use Rattle.program.specs.Texts.{before_mark, behind_mark}
 
--- the texts before and behind the first dot (46); without a dot, the whole text and none
+-- the texts before and behind the first dot (46)
 abbrev pub before_dot : List ℕ → List ℕ
-before_dot text = before_first (λ c. c == 46) text
+before_dot text = before_mark 46 text
 
 abbrev pub behind_dot : List ℕ → List ℕ
-behind_dot text = after_first (λ c. c == 46) text
+behind_dot text = behind_mark 46 text
 
 -- the number that a text says, or 0, the number of none, where it says none
 abbrev pub Numbers : List ℕ → ℕ → Type 0

@@ -1,11 +1,14 @@
 //! What the program does with the words of its command line, with the inputs that they name and with standard output.
 #![tactic(auto)]
 
+mod commas;
 mod front;
 mod host;
 mod inputs;
 mod jobs;
 mod lines;
+mod marks;
+mod new_setup;
 mod witness;
 
 pub use host::run;

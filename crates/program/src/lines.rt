@@ -1,12 +1,13 @@
 //! A command line, from its words to its end.
 ghost use Rattle.std.specs.Prelude.{◌≡◌, false, Some, None, option_map};
 ghost use Rattle.clap.specs.Walk.{texts};
-ghost use Rattle.program.specs.Ends.{IsDone, IsEnd, named_input};
+ghost use Rattle.program.specs.Ends.{IsDone, IsEnd, IsWriting, named_input};
+ghost use Rattle.program.specs.NewWords.{IsNewOf};
 
 use crate::inputs::Inputs;
-use crate::jobs::run_job;
-use command_line::{Line, LineFault, line};
-use engine_core::{RunFault, Sink, write_all};
+use crate::jobs::{run_job, write_new};
+use command_line::{Job, Line, LineFault, line};
+use engine_core::{ReaderSource, RunFault, Sink, write_all};
 use program_messages::{Done, Ended, Used};
 use std::alloc::Global;
 use std::sync::Wait;
@@ -66,8 +67,25 @@ fn run_file<'a, R: Threads + Wait + Sync, I: Inputs, K: Sink>(
     }
 }
 
-/// Does what a line asks for.
-fn run_line<'a, R: Threads + Wait + Sync, I: Inputs, K: Sink>(
+/// Makes a new set-up, for which nothing is read.
+fn run_new<'a, S, F, E, K: Sink>(alloc: Global, line: Line<'a>, sink: &mut K) -> Done<'a, S, F, E>
+    requires sink { K.failed sink.old ≡ false }
+    ensures line { result.line ≡ line.entry }
+    ensures input { result.input ≡ Used.Nothing }
+    ensures written { IsWriting (IsNewOf line.entry.options) K.Sink sink.old sink.new result.answer }
+{
+    let nothing: &[u8] = &[];
+    let mut source = ReaderSource::new(nothing);
+    let answer = write_new(alloc, line.options, &mut source, sink);
+    Done {
+        line,
+        input: Used::Nothing,
+        answer,
+    }
+}
+
+/// Does the job of a line that reads a set-up.
+fn run_setup<'a, R: Threads + Wait + Sync, I: Inputs, K: Sink>(
     rt: &R,
     alloc: Global,
     inputs: &I,
@@ -89,6 +107,26 @@ fn run_line<'a, R: Threads + Wait + Sync, I: Inputs, K: Sink>(
                 run_file(rt, alloc, inputs, line, name, sink)
             }
         }
+    }
+}
+
+/// Does what a line asks for.
+fn run_line<'a, R: Threads + Wait + Sync, I: Inputs, K: Sink>(
+    rt: &R,
+    alloc: Global,
+    inputs: &I,
+    line: Line<'a>,
+    sink: &mut K,
+) -> Done<'a, I::Standard, I::File, I::Fault>
+    requires sink { K.failed sink.old ≡ false }
+    ensures line { result.line ≡ line.entry }
+    ensures done { IsDone (I.is_standard inputs.now) (I.is_file inputs.now) (I.is_fault inputs.now)
+        I.Standard.Source I.File.Source K.Sink
+        line.entry.job line.entry.options (named_input (option_map (λ s. s.now) line.entry.file)) result.input result.answer sink.old sink.new }
+{
+    match line.job {
+        Job::New => run_new(alloc, line, sink),
+        _ => run_setup(rt, alloc, inputs, line, sink),
     }
 }
 

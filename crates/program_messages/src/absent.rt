@@ -1,4 +1,5 @@
 //! What the options of a command line name and a set-up does not have.
+use crate::sizes::absent_size;
 use command_line::{Job, Line, Options};
 use setup_format::{NamedSetup, read_named_setup};
 use std::alloc::{AllocError, Global};
@@ -19,23 +20,43 @@ fn is_known(named: &NamedSetup, word: &str) -> bool {
     is_name || is_address(word)
 }
 
-/// Of the words of `--without` the first that means no thread.
-fn absent_thread(
+/// Of the words of an option the first that means nothing.
+fn absent_word(
     alloc: Global,
     named: &NamedSetup,
-    without: &str,
+    option: &str,
+    words: &str,
 ) -> Result<Option<String>, AllocError> {
-    for word in without.split(',') {
+    for word in words.split(',') {
         if word.is_empty() {
-            return Ok(Some(format!(in alloc; "--without: a word between its commas is empty")?));
+            return Ok(Some(format!(in alloc; "{option}: a word between its commas is empty")?));
         }
         if !is_known(named, word) {
             return Ok(Some(format!(in alloc;
-                "--without {word}: no address, and no name of the set-up"
+                "{option} {word}: no address, and no name of the set-up"
             )?));
         }
     }
     Ok(None)
+}
+
+/// What is absent of the two threads of `--never`: one of them is asked for, where no word is at fault.
+fn absent_threads(
+    alloc: Global,
+    named: &NamedSetup,
+    threads: &str,
+) -> Result<Option<String>, AllocError> {
+    if threads.split(',').count() != 2 {
+        let text = format!(in alloc;
+            "--never {threads}: two threads are accepted, with a comma between them"
+        )?;
+        return Ok(Some(text));
+    }
+    if let Some(text) = absent_word(alloc, named, "--never", threads)? {
+        return Ok(Some(text));
+    }
+    let text = format!(in alloc; "--never {threads}: one of them is no live thread there")?;
+    Ok(Some(text))
 }
 
 /// The call that is absent.
@@ -68,6 +89,41 @@ fn absent_calls(
     }
 }
 
+/// Of the words of some options the first that means nothing.
+fn absent_words(
+    alloc: Global,
+    named: &NamedSetup,
+    options: Options<'_>,
+) -> Result<Option<String>, AllocError> {
+    if let Some(without) = options.without {
+        if let Some(text) = absent_word(alloc, named, "--without", without)? {
+            return Ok(Some(text));
+        }
+    }
+    match options.by {
+        None => Ok(None),
+        Some(by) => absent_word(alloc, named, "--by", by),
+    }
+}
+
+/// The slot that is absent of an audit.
+fn absent_slot(
+    alloc: Global,
+    options: Options<'_>,
+    calls: u64,
+) -> Result<Option<String>, AllocError> {
+    match options.slot {
+        None => Ok(None),
+        Some(slot) => {
+            let made = options.after.unwrap_or(calls);
+            let text = format!(in alloc;
+                "--slot {slot}: no full slot is there after {made} calls"
+            )?;
+            Ok(Some(text))
+        }
+    }
+}
+
 /// What is absent of an audit.
 fn absent_in_audit(
     alloc: Global,
@@ -78,18 +134,12 @@ fn absent_in_audit(
     if let Some(text) = absent_calls(alloc, options, calls)? {
         return Ok(Some(text));
     }
-    if let Some(without) = options.without {
-        return absent_thread(alloc, named, without);
+    if let Some(text) = absent_words(alloc, named, options)? {
+        return Ok(Some(text));
     }
-    match options.slot {
-        None => Ok(None),
-        Some(slot) => {
-            let made = options.after.unwrap_or(calls);
-            let text = format!(in alloc;
-                "--slot {slot}: no full slot is there after {made} calls"
-            )?;
-            Ok(Some(text))
-        }
+    match options.never {
+        None => absent_slot(alloc, options, calls),
+        Some(threads) => absent_threads(alloc, named, threads),
     }
 }
 
@@ -116,16 +166,19 @@ fn absent_in(
         Job::Audit => absent_in_audit(alloc, named, line.options, calls),
         Job::Tree => absent_calls(alloc, line.options, calls),
         Job::Explore => absent_order(alloc, line.options),
-        Job::Check | Job::Trace | Job::Threads | Job::Migrate => Ok(None),
+        Job::Check | Job::Trace | Job::Threads | Job::Migrate | Job::New => Ok(None),
     }
 }
 
-/// Says which word or number of a line's options the set-up does not have, which the bytes are; nothing where they are
-/// none.
+/// Says which word or number of a line's options the set-up does not have, which the bytes are, or why there is no set-up of
+/// the sizes that they give; nothing where they are none.
 ///
 /// # Errors
 /// Where memory was refused.
 pub fn absence(alloc: Global, line: Line<'_>, bytes: &[u8]) -> Result<Option<String>, AllocError> {
+    if let Job::New = line.job {
+        return Ok(Some(absent_size(alloc, line.options)?));
+    }
     match read_named_setup(alloc, bytes) {
         Ok(named) => absent_in(alloc, line, &named),
         Err(_) => Ok(None),

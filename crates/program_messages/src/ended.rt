@@ -16,6 +16,8 @@ pub enum Used<S, F, E> {
     File(F),
     /// None, since the file that the line names could not be opened.
     Unopened(E),
+    /// None, since the job reads nothing.
+    Nothing,
 }
 
 /// A line that was taken, and what came of it.

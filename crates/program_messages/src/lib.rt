@@ -5,6 +5,7 @@
 mod absent;
 mod ended;
 mod messages;
+mod sizes;
 mod unexpected;
 mod words;
 

@@ -43,6 +43,7 @@ fn failure_of<S, F>(input: &HostUsed<S, F>) -> Option<&io::Error> {
         Used::Standard(source) => source.reader().failure(),
         Used::File(source) => source.reader().failure(),
         Used::Unopened(error) => Some(error),
+        Used::Nothing => None,
     }
 }
 
@@ -52,6 +53,7 @@ fn bytes_of<S, F>(input: &HostUsed<S, F>) -> Option<&[u8]> {
         Used::Standard(source) => source.reader().bytes(),
         Used::File(source) => source.reader().bytes(),
         Used::Unopened(_) => None,
+        Used::Nothing => Some(&[]),
     }
 }
 
@@ -153,8 +155,7 @@ fn name_of(file: Option<&str>) -> &str {
 fn formats_of(job: Job) -> Formats {
     match job {
         Job::Migrate => Formats::First,
-        Job::Check | Job::Trace | Job::Threads | Job::Why | Job::Audit | Job::Explore | Job::Tree =>
-            Formats::All,
+        _ => Formats::All,
     }
 }
 

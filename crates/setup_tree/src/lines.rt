@@ -1,5 +1,5 @@
 //! The lines of a derivation forest.
-ghost use Rattle.std.specs.Prelude.{◌≡◌, ◌==◌, ◌++◌, ℕ, OnOk, map, option_copied, string_bytes};
+ghost use Rattle.std.specs.Prelude.{◌≡◌, ◌==◌, ◌++◌, ℕ, OnOk, map, string_bytes};
 ghost use Rattle.std.specs.List.{IsDistinct};
 ghost use Rattle.derivation.specs.Forest.{Forest};
 ghost use Rattle.derivation.specs.Entries.{Entry, slots, derivations_of};
@@ -9,9 +9,8 @@ ghost use Rattle.setup_tree.specs.Tree as spec;
 ghost use Rattle.setup_tree.specs.Private.Path.{kept, path_below};
 
 use crate::path::keep_to;
-use cap_core::{Cap, Profile};
-use setup_audit::thread_name;
-use setup_report::CapText;
+use crate::slot::{parent_address, slot_text};
+use cap_core::Profile;
 use setup_values::Name;
 use slot_core::Derivation;
 use std::alloc::{AllocError, Global};
@@ -27,16 +26,6 @@ fn add_indent(out: &mut String, above: &[u64]) -> Result<(), AllocError>
     Ok(())
 }
 
-/// The name of the thread that a capability is of, where it is of one, and exactly one name of the set-up has its address.
-fn thread_named(names: &[Name], cap: Cap) -> Option<&str>
-    ensures { option_copied result ≡ spec.thread_named (names_view names.entry.now) cap }
-{
-    match cap {
-        Cap::Tcb { base } => thread_name(names, base).name,
-        _ => None,
-    }
-}
-
 /// Adds the line of a full slot, which stands below the slots `above`.
 fn add_slot<P: Profile>(
     out: &mut String,
@@ -48,21 +37,8 @@ fn add_slot<P: Profile>(
         ++ spec.slot_line (names_view names.now) (derivation_view P.profile row.now).0 above.now) }
 {
     add_indent(out, above)?;
-    let slot = row.slot.address::<P>();
-    let cap = CapText(row.cap);
-    match thread_named(names, row.cap) {
-        None => writeln!(out, "{slot} {cap}"),
-        Some(name) => writeln!(out, "{slot} {cap} @{name}"),
-    }
-}
-
-fn parent_address<P: Profile>(row: &Derivation) -> Option<u64>
-    ensures { result ≡ (derivation_view P.profile row.now).1 }
-{
-    match row.parent {
-        Some(parent) => Some(parent.address::<P>()),
-        None => None,
-    }
+    let slot = slot_text::<P>(names, row);
+    writeln!(out, "{slot}")
 }
 
 /// Adds the line of the next full slot, and makes of `path` the path to what stands right below it.

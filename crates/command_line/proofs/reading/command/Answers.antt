@@ -9,4 +9,5 @@ returns c =
     let with_why = c.in_ok-with_why.ensures.shape c.in_ok-why.ensures.local ∙ ap₂ and_subcommand c.in_ok-why.ensures.app c.in_ok-plain.ensures in
     let with_audit = c.in_ok-with_audit.ensures.shape c.in_ok-audit.ensures.local ∙ ap₂ and_subcommand c.in_ok-audit.ensures.app with_why in
     let with_explore = c.in_ok-with_explore.ensures.shape c.in_ok-explore.ensures.local ∙ ap₂ and_subcommand c.in_ok-explore.ensures.app with_audit in
-    c.in_ok-whole.ensures.shape c.in_ok-tree.ensures.local ∙ ap₂ and_subcommand c.in_ok-tree.ensures.app with_explore
+    let with_tree = c.in_ok-with_tree.ensures.shape c.in_ok-tree.ensures.local ∙ ap₂ and_subcommand c.in_ok-tree.ensures.app with_explore in
+    c.in_ok-whole.ensures.shape c.in_ok-new.ensures.local ∙ ap₂ and_subcommand c.in_ok-new.ensures.app with_tree

@@ -33,9 +33,9 @@ returns-in-Some-named-clause-file c =
 
 pub returns-in-None-clause-options : goal.returns-in-None-clause-options
 returns-in-None-clause-options c =
-    let none : Options = record { call = None; after = None; slot = None; ever = false; without = None; first = None; states = None; witness = None } in
+    let none : Options = record { call = None; after = None; slot = None; ever = false; never = None; by = None; without = None; first = None; states = None; witness = None; dot = false; profile = None; threads = None; endpoints = None; untyped = None } in
     subst (λ s. HasOptions (own_rows s) none) (sym (no_subcommand_is c.args.matches.now c.in-None.ensures.name))
-    (record { call = refl; after = refl; slot = refl; ever = refl; without = refl; first = refl; states = refl; witness = refl })
+    (record { call = refl; after = refl; slot = refl; ever = refl; never = refl; by = refl; without = refl; first = refl; states = refl; witness = refl; dot = refl; profile = refl; threads = refl; endpoints = refl; untyped = refl })
 
 pub returns-in-Some-named-clause-options : goal.returns-in-Some-named-clause-options
 returns-in-Some-named-clause-options c =

@@ -1,8 +1,10 @@
--- Which of the two audits is made is what the option says.
+-- Whether an audit or an answer is written is what the option says.
+use Rattle.program.specs.Jobs.{IsNeverAsked}
 use Rattle.program.proofs.jobs.audit.Goals as goal
 
-pub returns-then-options-clause-run : goal.returns-then-options-clause-run
-returns-then-options-clause-run g c = rw c.if-options.true c.tell_ever.ensures.run
+pub returns-in-Some-clause-run : goal.returns-in-Some-clause-run
+unfolding IsNeverAsked
+returns-in-Some-clause-run g c = rw c.in-Some.is c.tell_never.ensures.run
 
-pub returns-else-options-clause-run : goal.returns-else-options-clause-run
-returns-else-options-clause-run g c = rw c.if-options.false c.audit_run.ensures.run
+pub returns-in-None-clause-run : goal.returns-in-None-clause-run
+returns-in-None-clause-run g c = rw c.in-None.is c.audit_state.ensures.run

@@ -3,7 +3,7 @@ use Rattle.abstract_kernel.specs.Shown.{Shown}
 use Rattle.setup_values.specs.Names.{names_view}
 use Rattle.setup_audit.specs.Audit.{state_behind}
 use Rattle.setup_audit.proofs.Shows.{derivations_shown}
-use Rattle.setup_tree.specs.Tree.{forest_text, tree_behind}
+use Rattle.setup_tree.specs.Tree.{text_in, tree_behind}
 use Rattle.setup_tree.proofs.run.tree.Goals as goal
 
 pub returns : goal.returns
@@ -13,5 +13,5 @@ returns g c =
     let setup = c.args.setup.now in
     let made = c.in-Some.made in
     ap Some (c.in_ok-text.ensures
-    ∙ ap (forest_text names setup made) (ap (λ (v : Shown). v.derivations) c.in_ok-kernel.ensures.shows ∙ derivations_shown (state_behind p setup made)))
-    ∙ ap (tree_behind p names setup) c.in-Some.ensures
+    ∙ ap (text_in c.args.form names setup made) (ap (λ (v : Shown). v.derivations) c.in_ok-kernel.ensures.shows ∙ derivations_shown (state_behind p setup made)))
+    ∙ ap (tree_behind p c.args.form names setup) c.in-Some.ensures

@@ -9,9 +9,10 @@ use Rattle.engine_tree.proofs.drawing.Drawer.text_of.Goals as goal
 
 pub returns-in-Ok : goal.returns-in-Ok
 returns-in-Ok c =
+    let form = c.args.self.form in
     let after = c.args.self.after in
     let setup = c.in-Ok.field-0.setup in
-    subst (λ (r : Result (Names × SetupView) Fault). IfOk c.told.result (λ made. (made.0.items, made.1) ≡ tree_in after r))
+    subst (λ (r : Result (Names × SetupView) Fault). IfOk c.told.result (λ made. (made.0.items, made.1) ≡ tree_in form after r))
     (sym c.in-Ok.ensures.setup)
-    (subst (λ (names : List Name). IfOk c.told.result (λ made. (made.0.items, made.1) ≡ told (tree_of setup.profile (names_view names) setup after)))
+    (subst (λ (names : List Name). IfOk c.told.result (λ made. (made.0.items, made.1) ≡ told (tree_of setup.profile form (names_view names) setup after)))
     c.as_slice.ensures.value c.told.ensures)

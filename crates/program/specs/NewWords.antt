@@ -1,0 +1,43 @@
+-- What the options of `new` ask for.
+use Rattle.std.specs.Prelude.{◌≡◌, ℕ, List, [], ◌∷◌, ⊤, codes, true, Option, Some, None, option_map, unwrap_or}
+use Rattle.std.specs.Str.{bytes_eq}
+use Rattle.cap_core.specs.declared.profile.ProfileName.{ProfileName}
+use Rattle.cap_core.specs.declared.profile.ProfileName.TheVariants.{Wide, Narrow}
+use Rattle.command_line.specs.CommandLine.{Says}
+use Rattle.command_line.specs.declared.arguments.Options.{Options}
+use Rattle.engine_core.specs.declared.fault.Verdict.{Verdict}
+use Rattle.engine_core.specs.declared.fault.Verdict.TheVariants.{AllMet, NotMet, Refused, Absent}
+use Rattle.engine_new.specs.New.{IsNew}
+use Rattle.engine_new.specs.declared.asked.NewSetup.{NewSetup}
+use Rattle.program.specs.Texts.{before_mark, behind_mark}
+use Rattle.program.specs.Commas.{words_in}
+
+-- the profile of a name; the wide one, where none is given
+abbrev pub IsProfileNamed : Option (List ℕ) → ProfileName → Type 0
+IsProfileNamed None profile = profile ≡ Wide
+IsProfileNamed (Some name) Wide = bytes_eq name (codes "wide") ≡ true
+IsProfileNamed (Some name) Narrow = bytes_eq name (codes "narrow") ≡ true
+
+-- a word says the base of a region and, behind a colon (58), its bits
+abbrev pub IsRegion : List ℕ → ℕ × ℕ → Type 0
+IsRegion word region = Says (Some (before_mark 58 word)) (Some region.0) × Says (Some (behind_mark 58 word)) (Some region.1)
+
+abbrev pub AreRegions : List (List ℕ) → List (ℕ × ℕ) → Type 0
+AreRegions [] [] = ⊤
+AreRegions [] (region ∷ regions) = ⊥
+AreRegions (word ∷ words) [] = ⊥
+AreRegions (word ∷ words) (region ∷ regions) = IsRegion word region × AreRegions words regions
+
+-- the sizes: two threads and one endpoint, where no numbers are given, and the regions between commas
+pub record AsksFor (options : Options) (asked : NewSetup) : Type 0 where
+  pub profile : IsProfileNamed (option_map (λ s. s.now) options.profile) asked.profile
+  pub threads : asked.threads ≡ unwrap_or options.threads 2
+  pub endpoints : asked.endpoints ≡ unwrap_or options.endpoints 1
+  pub untypeds : AreRegions (words_in (option_map (λ s. s.now) options.untyped)) asked.untypeds.items
+
+-- a set-up of the sizes that are asked for, or nothing
+unfoldable pub IsNewOf : Options → List ℕ → Verdict → Type 0
+IsNewOf options text AllMet = (asked : NewSetup) × AsksFor options asked × IsNew asked text
+IsNewOf options text NotMet = ⊥
+IsNewOf options text Refused = ⊥
+IsNewOf options text Absent = text ≡ []

@@ -1,0 +1,81 @@
+#!/usr/bin/env python3
+"""new_set_ups.py PROGRAM: set-ups that `new` writes, of many sizes.
+
+Each is read by Python's own reader of TOML: it has the sizes and the regions that were asked for, its names stand for the
+addresses and the slots that docs/formats.md gives, and its report has each thread and each slot at them. Sizes for which no
+set-up is there give status 4 with nothing written."""
+import itertools
+import re
+import subprocess
+import sys
+import tomllib
+
+# Of each profile: the bits of a slot and of a thread control block.
+PROFILES = {"wide": (5, 11), "narrow": (4, 10)}
+REGIONS = ([], [(0x8000, 12)], [(0x8000, 12), (0xA000, 10), (0xFFF0, 4)])
+WRONG = (["--threads", "0"], ["--threads", "65"], ["--threads", "4294967297"], ["--endpoints", "257"], ["--untyped", "32768"],
+         ["--untyped", "32768:x"], ["--untyped", ""], ["--untyped", "0:12"], ["--untyped", "32769:12"], ["--untyped", "1048576:12"],
+         ["--untyped", "32768:12,32768:12"], ["--profile", "Wide"], ["--profile", "mcs"], ["--untyped", "32768:12,"])
+
+
+def run(program, words, text=b""):
+    return subprocess.run([program, *words], input=text, capture_output=True, timeout=60)
+
+
+def names_wanted(profile, radix, threads, endpoints, regions):
+    """The names, by the layout of the boot."""
+    slot_bits, tcb_bits = PROFILES[profile]
+    first = -(-(1 << (slot_bits + radix)) // (1 << tcb_bits)) << tcb_bits
+    names = {f"thread_{i}": first + (i << tcb_bits) for i in range(threads)}
+    names |= {f"tcb_{i}": 2 + i for i in range(threads)}
+    names |= {f"ep_{i}": 2 + threads + i for i in range(endpoints)}
+    return names | {f"untyped_{i}": 2 + threads + endpoints + i for i in range(len(regions))}
+
+
+def faults(program, profile, threads, endpoints, regions):
+    words = ["new", "--profile", profile, "--threads", str(threads), "--endpoints", str(endpoints)]
+    words += ["--untyped", ",".join(f"{base}:{bits}" for base, bits in regions)] if regions else []
+    made = run(program, words)
+    if made.returncode or made.stderr:
+        return [f"status {made.returncode}, {made.stderr}"]
+    read = tomllib.loads(made.stdout.decode())
+    radix = read["root_radix"]
+    wanted = {"format": 2, "profile": profile, "threads": threads, "endpoints": endpoints,
+              "names": names_wanted(profile, radix, threads, endpoints, regions)}
+    found = [f"{key}: {read.get(key)}, wanted {value}" for key, value in wanted.items() if read.get(key) != value]
+    if [(it["base"], it["bits"]) for it in read.get("untyped", [])] != regions:
+        found.append("other regions")
+    if 2 * (2 + threads + endpoints + len(regions)) > 1 << radix and radix < 12:
+        found.append(f"radix {radix} leaves less than half of the slots free")
+    report = run(program, ["check", "-"], made.stdout)
+    told = {int(it) for it in re.findall(rb"^thread (\d+)", report.stdout, re.M)}
+    if report.returncode or told != {wanted["names"][f"thread_{i}"] for i in range(threads)}:
+        found.append(f"check: status {report.returncode}, threads {sorted(told)}")
+    if b"refused" in report.stdout:
+        found.append("its call is refused")
+    return found
+
+
+def main():
+    program, wrong = sys.argv[1], 0
+    sizes = list(itertools.product(PROFILES, (1, 2, 3, 8, 14), (0, 1, 5, 40), REGIONS))
+    for size in sizes:
+        for fault in faults(program, *size):
+            wrong += 1
+            print(f"new of {size}: {fault}")
+    for words in WRONG:
+        done = run(program, ["new", *words])
+        if done.returncode != 4 or done.stdout or done.stderr.count(b"\n") != 2:
+            wrong += 1
+            print(f"new {words}: status {done.returncode}, {done.stdout}, {done.stderr}")
+    for words in ([], ["--threads", "64"], ["--endpoints", "256"]):
+        done = run(program, ["new", *words])
+        if done.returncode or run(program, ["check", "-"], done.stdout).returncode:
+            wrong += 1
+            print(f"new {words}: status {done.returncode}")
+    print(f"{len(sizes)} new set-ups as asked for and {len(WRONG)} wrong sizes, {wrong} faults")
+    return 1 if wrong else 0
+
+
+if __name__ == "__main__":
+    sys.exit(main())
