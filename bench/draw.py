@@ -4,6 +4,7 @@ docs/performance.md. The same figures give the same pictures, byte for byte."""
 import re
 import subprocess
 
+import explorations
 import figures
 import tables
 
@@ -47,6 +48,9 @@ SHARED = [
     ("clients that look", {"look": ""}, "seconds", "seconds of a look, of all clients together"),
     ("clients that look", {"call beside looks": ""}, "seconds", "seconds of a call meanwhile"),
 ]
+
+# The picture of explorations, which have no plain Rust beside them.
+EXPLORED = [("seconds", "processor seconds"), ("peak_kib", "peak memory, MB")]
 
 PARTS = {"reading": "the reading of the set-up", "running": "the calls", "reporting": "the report"}
 
@@ -93,10 +97,10 @@ def axis(rows, subjects, sizes):
     return f'set xrange {span}\nset xtics ({marks})\nset xlabel "{sizes}"\n'
 
 
-def head_of(title):
+def head_of(title, height=620, layout="2,2", margins="0.09,0.98,0.12,0.88"):
     return [
-        'set terminal svg size 800,620 font "sans-serif,11" background "#ffffff"',
-        f'set multiplot layout 2,2 title "{title}" margins 0.09,0.98,0.12,0.88 spacing 0.10,0.15',
+        f'set terminal svg size 800,{height} font "sans-serif,11" background "#ffffff"',
+        f'set multiplot layout {layout} title "{title}" margins {margins} spacing 0.10,0.15',
         "set logscale xy",
         'set format y "10^{%T}"',
         "set tics nomirror",
@@ -131,6 +135,15 @@ def shared_script(rows, notes):
     return head + "".join([*drawn[:-1], caption_of(notes), drawn[-1]])
 
 
+def explored_script(rows, notes):
+    """The picture of explorations: a row of panels."""
+    head = head_of("sel4sim explore of three clients with mixed calls", 340, "1,2", "0.09,0.98,0.22,0.80")
+    subjects = {explorations.SUBJECT: ""}
+    drawn = [panel(rows, subjects, field, title) for field, title in EXPLORED]
+    whole = "\n".join(head) + "\n" + axis(rows, subjects, "steps from a state to one")
+    return whole + "".join([*drawn[:-1], caption_of(notes), drawn[-1]])
+
+
 def compact(svg):
     """The same picture without the groups in which nothing is drawn, and without spaces at the ends of lines."""
     groups = re.compile(r"<g [^>]*>\s*</g>\n?")
@@ -150,6 +163,7 @@ def main():
     for name in SUBJECTS:
         draw(name, script(rows, notes, name))
     draw("shared", shared_script(rows, notes))
+    draw("explorations", explored_script(rows, notes))
     tables.write(notes, rows, figures.PATH.parent / "performance.md")
 
 

@@ -1,13 +1,14 @@
 """growth.py PROGRAM PLAIN: measures how cost grows with the work, of the proved PROGRAM beside the same in plain Rust
 (PLAIN, the built program of bench/check_plain): of `check` for the set-ups of set_ups.py, at four sizes each, and of
-the kernel's steps and revocations, and of kernels that clients share. Writes docs/performance.csv. Both programs have
-to write the same report, byte for byte."""
+the kernel's steps and revocations, and of kernels that clients share; and of `audit` beside the report of `check`. Both
+programs have to write the same report, byte for byte. Measures `explore` too, by itself. Writes docs/performance.csv."""
 
 import pathlib
 import sys
 import tempfile
 
 import cycles
+import explorations
 import figures
 import set_ups
 import shared
@@ -16,6 +17,13 @@ from measures import counts_of_functions, instructions, least_seconds, output, p
 # The functions whose instructions are those of a part; the C compiler puts `text_of` into its only caller.
 WHOLE = ["engine::run::text_of", "engine::checking::CheckerEngine::make"]
 BOOT = "engine::run::boot"
+AUDITS = ["engine_audit::auditing::Auditor::text_of", "engine_audit::auditing::AuditorEngine::make"]
+READ = "setup_format::read::read_named_setup"
+REVOKES = "setup_audit::revokes::add_revokes"
+
+# The subjects whose set-ups are audited too.
+AUDITED = ["memories"]
+
 PLAIN_PARTS = {
     "reading": "setup::read_setup",
     "booting": "boot",
@@ -36,6 +44,23 @@ def plain_parts(command):
     counts = counts_of_functions(command)
     parts = {part: counts[f"check_plain::{name}"] for part, name in PLAIN_PARTS.items()}
     return {"instructions": counts[None], **parts}
+
+
+def audit_parts(command, calls):
+    """The parts of an audit, where `calls` has those of `check` for the same set-up: the calls are the same. Reporting is
+    what threads name and who can send to whom; revoking what is told of revokes."""
+    counts = counts_of_functions(command)
+    made = next(counts[name] for name in AUDITS if name in counts)
+    parts = {"reading": counts[READ], "booting": calls["booting"], "running": calls["running"]}
+    revoking = counts[REVOKES]
+    return {"instructions": counts[None], **parts, "reporting": made - sum(parts.values()) - revoking}, revoking
+
+
+def audit_rows(proved, path, size):
+    """An audit of a memory, and what it tells of revokes alone."""
+    parts, revoking = audit_parts([proved, "audit", path], proved_parts([proved, "check", path]))
+    yield {"subject": "audits", "size": size, "program": "proved", **parts}
+    yield {"subject": "audits, revokes", "size": size, "program": "proved", "reporting": revoking}
 
 
 def whole(command):
@@ -64,6 +89,8 @@ def growth_rows(proved, plain):
             for size in sizes:
                 path.write_text(text_of(size))
                 yield from check_rows(proved, plain, path, subject, size)
+                if subject in AUDITED:
+                    yield from audit_rows(proved, path, size)
 
 
 def told(rows):
@@ -75,7 +102,8 @@ def told(rows):
 
 def main():
     proved, plain = sys.argv[1:]
-    figures.write([*told(cycles.rows()), *told(shared.rows()), *told(growth_rows(proved, plain))])
+    beside_plain = [*told(cycles.rows()), *told(shared.rows()), *told(growth_rows(proved, plain))]
+    figures.write([*beside_plain, *told(explorations.rows(proved))])
 
 
 main()

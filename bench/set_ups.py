@@ -1,4 +1,5 @@
-"""Set-ups that grow: the text of each, by its size. All are of format 1 and the wide profile."""
+"""Set-ups that grow: the text of each, by its size. All are of the wide profile, and of format 1 but those that clients
+share."""
 
 SLOT_BITS = 5
 TCB_BITS = 11
@@ -165,3 +166,37 @@ SUBJECTS = {
     "forests, wide": ([16, 256, 2048, 16384], lambda size: forest(size, False)),
     "forests, deep": ([16, 256, 2048, 16384], lambda size: forest(size, True)),
 }
+
+
+# What the clients of a set-up do in turn, each beginning elsewhere: they fill and empty the same three slots, and use
+# what they find there. No call waits.
+CLIENTS = 3
+MIXED = ["mint", "nbsend", "delete", "nbrecv", "copy"]
+SHARED_SLOTS = 3
+
+
+def mixed_call(client, number):
+    """A call of a client, by its number from 0 on; slots 5 and 6 have the endpoints."""
+    slot = 9 + (number + client) % SHARED_SLOTS
+    word = 10 * client + number + 1
+    words = {
+        "mint": {"cap": 1, "index": slot, "src_index": 5, "word": word},
+        "nbsend": {"cap": slot, "label": word},
+        "delete": {"cap": 1, "index": slot},
+        "nbrecv": {"cap": 5},
+        "copy": {"cap": 1, "index": slot, "src_index": 6},
+    }
+    op = MIXED[(number + 2 * client) % len(MIXED)]
+    return 2048 * (client + 1), op, words[op]
+
+
+def mixed_clients(counts):
+    """Clients that make so many calls each."""
+    calls = [(client, mixed_call(client, number)) for client, count in enumerate(counts) for number in range(count)]
+    lines = ",\n".join("{ " + ", ".join([f"client = {client}", *pairs(call)]) + " }" for client, call in calls)
+    head = top(16, 4, CLIENTS, 2).replace("format = 1", "format = 2")
+    return f"{head}clients = {CLIENTS}\ncall = [\n{lines}\n]\n"
+
+
+# How many calls each of the clients makes whose orders are explored.
+EXPLORED = [4, 6, 8, 10]

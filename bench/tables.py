@@ -1,5 +1,6 @@
 """The tables of docs/performance.md, between two marks, from the figures of docs/performance.csv."""
 
+import explorations
 import shared
 
 BEGIN, END = "<!-- figures: bench/draw.py writes what stands from here on -->", "<!-- end of the figures -->"
@@ -45,8 +46,8 @@ class Figures:
         return self.of(subject, size, "proved", field), self.of(subject, size, plain, field)
 
     def grown(self):
-        """The subjects of which whole runs were measured, at several sizes."""
-        return [s for s, sizes in self.sizes.items() if self.of(s, sizes[-1], "proved", "peak_kib") is not None]
+        """The subjects of which whole runs were measured beside plain Rust, at several sizes."""
+        return [s for s, sizes in self.sizes.items() if self.of(s, sizes[-1], "plain Rust", "peak_kib") is not None]
 
     def small(self):
         """The subjects of which the time of one step was measured."""
@@ -127,9 +128,32 @@ def instructions_of_one(figures):
     return table(head, lines)
 
 
+def explored(figures):
+    """The figures of explorations, none where there are none."""
+    head = ["explorations, steps", "ms", "µs a step", "peak MB"]
+    lines = []
+    for size in figures.sizes.get(explorations.SUBJECT, []):
+        seconds, peak = (figures.of(explorations.SUBJECT, size, "proved", field) for field in ("seconds", "peak_kib"))
+        lines.append([f"{size:,}", shown(seconds * 1e3), shown(seconds * 1e6 / size), shown(peak * KIB_IN_MB)])
+    return table(head, lines)
+
+
+AUDITS = {"audits": "what threads name, and who can send to whom", "audits, revokes": "what each revoke would do"}
+
+
+def audits(figures):
+    """What an audit of a full memory takes, in the instructions of the report of `check` for the same set-up."""
+    lines = []
+    for subject, name in AUDITS.items():
+        sizes = figures.sizes.get(subject, [])
+        pairs = [(figures.of(subject, size, "proved", "reporting"), figures.of("memories", size, "proved", "reporting")) for size in sizes]
+        lines.append([name, ", ".join(ratio(*pair) for pair in pairs)])
+    return table(["audit of a full memory, ratio of instructions to the report", "at the four sizes"], lines)
+
+
 def write(notes, rows, path):
     figures = Figures(rows)
-    drawn = [table_of(figures) for table_of in (largest, growth, times_of_one, instructions_of_one)]
+    drawn = [table_of(figures) for table_of in (largest, growth, audits, explored, times_of_one, instructions_of_one)]
     text = "\n\n".join([f"{notes[0].capitalize()}; {notes[1]}.", *drawn])
     before, rest = path.read_text().split(BEGIN)
     path.write_text(f"{before}{BEGIN}\n\n{text}\n\n{END}{rest.split(END)[1]}")
