@@ -10,13 +10,19 @@ _sel4sim() {
         --after) COMPREPLY=($(compgen -W '' -- "$word")); return ;;
         --slot) COMPREPLY=($(compgen -W '' -- "$word")); return ;;
         --without) COMPREPLY=($(compgen -W '' -- "$word")); return ;;
+        --never) COMPREPLY=($(compgen -W '' -- "$word")); return ;;
+        --by) COMPREPLY=($(compgen -W '' -- "$word")); return ;;
         --first) COMPREPLY=($(compgen -W '' -- "$word")); return ;;
         --states) COMPREPLY=($(compgen -W '' -- "$word")); return ;;
         --witness) COMPREPLY=($(compgen -W '' -- "$word")); return ;;
+        --profile) COMPREPLY=($(compgen -W '' -- "$word")); return ;;
+        --threads) COMPREPLY=($(compgen -W '' -- "$word")); return ;;
+        --endpoints) COMPREPLY=($(compgen -W '' -- "$word")); return ;;
+        --untyped) COMPREPLY=($(compgen -W '' -- "$word")); return ;;
     esac
     case $command in
         '')
-            COMPREPLY=($(compgen -W 'check trace threads migrate why audit explore tree -V --version -h --help' -- "$word"))
+            COMPREPLY=($(compgen -W 'check trace threads migrate why audit explore tree new -V --version -h --help' -- "$word"))
             [[ $word == -* ]] || mapfile -t -O "${#COMPREPLY[@]}" COMPREPLY < <(compgen -f -- "$word")
             ;;
         check)
@@ -40,7 +46,7 @@ _sel4sim() {
             [[ $word == -* ]] || mapfile -t -O "${#COMPREPLY[@]}" COMPREPLY < <(compgen -f -- "$word")
             ;;
         audit)
-            COMPREPLY=($(compgen -W '--after --slot --ever --without -h --help' -- "$word"))
+            COMPREPLY=($(compgen -W '--after --slot --ever --without --never --by -h --help' -- "$word"))
             [[ $word == -* ]] || mapfile -t -O "${#COMPREPLY[@]}" COMPREPLY < <(compgen -f -- "$word")
             ;;
         explore)
@@ -48,8 +54,11 @@ _sel4sim() {
             [[ $word == -* ]] || mapfile -t -O "${#COMPREPLY[@]}" COMPREPLY < <(compgen -f -- "$word")
             ;;
         tree)
-            COMPREPLY=($(compgen -W '--after -h --help' -- "$word"))
+            COMPREPLY=($(compgen -W '--after --dot -h --help' -- "$word"))
             [[ $word == -* ]] || mapfile -t -O "${#COMPREPLY[@]}" COMPREPLY < <(compgen -f -- "$word")
+            ;;
+        new)
+            COMPREPLY=($(compgen -W '--profile --threads --endpoints --untyped -h --help' -- "$word"))
             ;;
     esac
 }

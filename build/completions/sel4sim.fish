@@ -23,7 +23,9 @@ complete -c sel4sim -n '__fish_use_subcommand' -a audit -d 'Runs a set-up and pr
 complete -c sel4sim -n '__fish_seen_subcommand_from audit' -l after -x -a '' -d 'Make the first N calls alone'
 complete -c sel4sim -n '__fish_seen_subcommand_from audit' -l slot -x -a '' -d 'Tell what a revoke of the slot at N would change'
 complete -c sel4sim -n '__fish_seen_subcommand_from audit' -l ever -d 'Tell what the threads can never get, whatever they call'
-complete -c sel4sim -n '__fish_seen_subcommand_from audit' -l without -x -a '' -d 'With --ever: these threads, with commas between them, make no more calls'
+complete -c sel4sim -n '__fish_seen_subcommand_from audit' -l without -x -a '' -d 'With --ever or --never: these threads, with commas between them, make no more calls'
+complete -c sel4sim -n '__fish_seen_subcommand_from audit' -l never -x -a '' -d 'Tell whether FROM'\''s part can never get what TO'\''s part has, nor send to it'
+complete -c sel4sim -n '__fish_seen_subcommand_from audit' -l by -x -a '' -d 'With --never: but by these endpoints, with commas between them'
 complete -c sel4sim -n '__fish_seen_subcommand_from audit' -s h -l help -d 'Print help'
 complete -c sel4sim -n '__fish_seen_subcommand_from audit' -F
 complete -c sel4sim -n '__fish_use_subcommand' -a explore -d 'Runs the clients of a set-up in every order of their calls and prints what can happen'
@@ -34,5 +36,12 @@ complete -c sel4sim -n '__fish_seen_subcommand_from explore' -s h -l help -d 'Pr
 complete -c sel4sim -n '__fish_seen_subcommand_from explore' -F
 complete -c sel4sim -n '__fish_use_subcommand' -a tree -d 'Runs a set-up and prints each slot below the one that it is derived from'
 complete -c sel4sim -n '__fish_seen_subcommand_from tree' -l after -x -a '' -d 'Make the first N calls alone'
+complete -c sel4sim -n '__fish_seen_subcommand_from tree' -l dot -d 'Print a graph in Graphviz'\'' language DOT'
 complete -c sel4sim -n '__fish_seen_subcommand_from tree' -s h -l help -d 'Print help'
 complete -c sel4sim -n '__fish_seen_subcommand_from tree' -F
+complete -c sel4sim -n '__fish_use_subcommand' -a new -d 'Prints a set-up to start from, with names for all that it has'
+complete -c sel4sim -n '__fish_seen_subcommand_from new' -l profile -x -a '' -d 'It is for this machine, wide or narrow'
+complete -c sel4sim -n '__fish_seen_subcommand_from new' -l threads -x -a '' -d 'It has N threads'
+complete -c sel4sim -n '__fish_seen_subcommand_from new' -l endpoints -x -a '' -d 'It has N endpoints'
+complete -c sel4sim -n '__fish_seen_subcommand_from new' -l untyped -x -a '' -d 'It has these untyped regions, with commas between them'
+complete -c sel4sim -n '__fish_seen_subcommand_from new' -s h -l help -d 'Print help'
