@@ -3,4 +3,3 @@ pub mod Names
 pub mod Keys
 pub mod Operations
 pub mod Kinds
-pub mod Private

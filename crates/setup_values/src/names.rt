@@ -4,7 +4,7 @@ ghost use Rattle.std.specs.Str.{bytes_eq};
 ghost use Rattle.std.specs.List.{list_all};
 ghost use Rattle.setup_values.specs.Names.{word_named, names_view};
 ghost use Rattle.setup_values.specs.Kinds as kind;
-ghost use Rattle.setup_values.specs.Private.Words.{AreWordsOf};
+ghost use Rattle.setup_values.specs.Names.{AreWordsOf};
 
 use crate::limits::MAX_NAME_BYTES;
 use std::alloc::{AllocError, Global};
@@ -65,7 +65,7 @@ pub struct KnownNames<'a> {
 impl<'a> Model for KnownNames<'a> {
     ghost use Rattle.std.specs.Prelude.{List, IfSome};
     ghost use Rattle.setup_values.specs.declared.names.Name.{Name};
-    ghost use Rattle.setup_values.specs.Private.Words.{AreWordsOf};
+    ghost use Rattle.setup_values.specs.Names.{AreWordsOf};
 
     ghost Value = { List Name };
 

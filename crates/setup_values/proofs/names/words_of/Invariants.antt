@@ -1,5 +1,5 @@
 use Rattle.std.proofs.Common.{◌-◌, drop, length}
-use Rattle.setup_values.specs.Private.Words.{AreWordsOf}
+use Rattle.setup_values.specs.Names.{AreWordsOf}
 use Rattle.setup_values.proofs.names.words_of.Given as goal
 
 -- the table has the names that are behind
