@@ -10,8 +10,9 @@ import subprocess
 import sys
 import tomllib
 
-# Of each profile: the bits of a slot and of a thread control block.
+# Of each profile: the bits of a slot and of a thread control block. An endpoint has as many bits in both.
 PROFILES = {"wide": (5, 11), "narrow": (4, 10)}
+ENDPOINT_BITS = 4
 REGIONS = ([], [(0x8000, 12)], [(0x8000, 12), (0xA000, 10), (0xFFF0, 4)])
 WRONG = (["--threads", "0"], ["--threads", "65"], ["--threads", "4294967297"], ["--endpoints", "257"], ["--untyped", "32768"],
          ["--untyped", "32768:x"], ["--untyped", ""], ["--untyped", "0:12"], ["--untyped", "32769:12"], ["--untyped", "1048576:12"],
@@ -32,10 +33,21 @@ def names_wanted(profile, radix, threads, endpoints, regions):
     return names | {f"untyped_{i}": 2 + threads + endpoints + i for i in range(len(regions))}
 
 
+def has_room(profile, threads, endpoints, regions):
+    """Whether the objects of the boot end before the regions begin, with the radix that `new` takes."""
+    slot_bits, tcb_bits = PROFILES[profile]
+    slots = 2 * (2 + threads + endpoints + len(regions))
+    radix = next(radix for radix in range(4, 13) if slots <= 1 << radix or radix == 12)
+    first = -(-(1 << (slot_bits + radix)) // (1 << tcb_bits)) << tcb_bits
+    return all(first + (threads << tcb_bits) + (endpoints << ENDPOINT_BITS) <= base for base, _ in regions)
+
+
 def faults(program, profile, threads, endpoints, regions):
     words = ["new", "--profile", profile, "--threads", str(threads), "--endpoints", str(endpoints)]
     words += ["--untyped", ",".join(f"{base}:{bits}" for base, bits in regions)] if regions else []
     made = run(program, words)
+    if not has_room(profile, threads, endpoints, regions):
+        return [] if (made.returncode, made.stdout) == (4, b"") else [f"status {made.returncode}, and there is no room"]
     if made.returncode or made.stderr:
         return [f"status {made.returncode}, {made.stderr}"]
     read = tomllib.loads(made.stdout.decode())
