@@ -136,6 +136,9 @@ def long_texts(stored):
     yield "an operation of 4 MiB", sizes + b'call = [{ thread = 2048, op = "' + b"k" * long + b'" }]\n', 2
     yield "a number of 4 MiB", sizes + b"clients = " + b"1" * long + b"\n", 2
     yield "65,536 calls", sizes + b"call = [\n" + call * 65_536 + b"]\n", 0
+    named = b"".join(b'[[call]]\nthread = "@t"\nop = "nbsend"\ncap = "@n_%d"\n' % i for i in range(65_536))
+    names = b"[names]\nt = 2048\n" + b"".join(b"n_%d = 4\n" % i for i in range(100_000))
+    yield "100,000 names and 65,536 calls by them", sizes.replace(b"format = 1", b"format = 2") + names + named, 0
     yield "65,537 calls", sizes + b"call = [\n" + call * 65_537 + b"]\n", 2
     yield "4 MiB of zeros", bytes(long), 2
     yield "67,108,863 bytes", stored + b"#" * (INPUT_LIMIT - 1 - len(stored)), 0
