@@ -1,5 +1,5 @@
-//! Tests of `engine`, `engine_core`, `engine_trace` and `command_line`: reads and writes that fail, a source
-//! without an end, a text that is cut off at each place, the command line, migrations, whole traces, and the exit statuses.
+//! Tests of `engine`, `engine_core` and `command_line`: reads and writes that fail, a source without an end, a text that is
+//! cut off at each place, the command line, migrations, and the exit statuses.
 #![tactic(auto)]
 
 #[cfg(test)]
@@ -14,5 +14,3 @@ mod fakes;
 mod migrations;
 #[cfg(test)]
 mod stored_run;
-#[cfg(test)]
-mod traces;
