@@ -37,12 +37,27 @@ static struct header *header_of(void *bytes) { return (struct header *)bytes - 1
 
 static size length_of(size class) { return sizeof(struct header) + (1UL << class); }
 
-/* The least k for which 2^k bytes hold what is asked for and what its alignment may take, or CLASSES. */
+/* The least k, from 4 on, for which 2^k bytes hold what is asked for and what its alignment may take; at least CLASSES where
+   that is too much. */
 static size class_of(size bytes, size spare) {
     if (bytes >> (CLASSES - 1) || spare >> (CLASSES - 1)) return CLASSES;
-    size class = 4;
-    while (class < CLASSES && (1UL << class) < bytes + spare) class++;
-    return class;
+    size asked = bytes + spare;
+    return asked <= 16 ? 4 : 64 - (size)__builtin_clzl(asked - 1);
+}
+
+/* Makes the module's memory so many pages longer, and says whether there are so many. */
+static int longer_by(size pages) {
+    /* -1 where there is no more, of 32 bits once the module has 32-bit memory */
+    if ((unsigned)__builtin_wasm_memory_grow(0, pages) == ~0U) return 0;
+    end += pages * PAGE;
+    return 1;
+}
+
+/* The same by a quarter of what there is, where that is more and may be had: a browser takes long each time, however few
+   the pages are. */
+static int longer_by_at_least(size pages) {
+    size quarter = end / PAGE / 4;
+    return (quarter > pages && longer_by(quarter)) || longer_by(pages);
 }
 
 /* A block that was never used, or null. */
@@ -51,12 +66,7 @@ static struct free_block *new_block(size bytes) {
         top = up_to((size)&__heap_base, ALIGNMENT);
         end = __builtin_wasm_memory_size(0) * PAGE;
     }
-    if (bytes > end - top) {
-        size pages = (bytes - (end - top) + PAGE - 1) / PAGE;
-        /* -1 where there is no more, of 32 bits once the module has 32-bit memory */
-        if ((unsigned)__builtin_wasm_memory_grow(0, pages) == ~0U) return 0;
-        end += pages * PAGE;
-    }
+    if (bytes > end - top && !longer_by_at_least((bytes - (end - top) + PAGE - 1) / PAGE)) return 0;
     struct free_block *block = (struct free_block *)top;
     top += bytes;
     return block;
@@ -65,7 +75,7 @@ static struct free_block *new_block(size bytes) {
 static void *take(size bytes, size alignment) {
     if (alignment < ALIGNMENT) alignment = ALIGNMENT;
     size class = class_of(bytes, alignment - ALIGNMENT);
-    if (class == CLASSES) return 0;
+    if (class >= CLASSES) return 0;
     struct free_block *block = free_blocks[class];
     if (block) free_blocks[class] = block->next;
     else block = new_block(length_of(class));
