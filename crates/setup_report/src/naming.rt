@@ -64,7 +64,8 @@ pub fn base_named<P: Profile>(naming: NamedObject, slot: u64, cap: Cap) -> Optio
     }
 }
 
-/// The objects that full slots name with their capabilities.
+/// The objects that full slots name with their capabilities. They are collected first: of all at once a set is made in a
+/// small part of the time that inserting them one by one takes.
 pub fn named<P: Profile>(
     alloc: Global,
     naming: NamedObject,
@@ -72,14 +73,9 @@ pub fn named<P: Profile>(
 ) -> Result<BTreeSet<u64>, AllocError>
     ensures { IfOk result (λ s. s.keys ≡ spec.rising (spec.named P.profile naming (map (derivation_view P.profile) list.now))) }
 {
-    let mut bases = BTreeSet::new(alloc);
-    for derivation in list {
-        let slot = derivation.slot.address::<P>();
-        if let Some(base) = base_named::<P>(naming, slot, derivation.cap) {
-            bases.insert(base)?;
-        }
-    }
-    Ok(bases)
+    list.iter()
+        .filter_map(|d| base_named::<P>(naming, d.slot.address::<P>(), d.cap))
+        .collect(alloc)
 }
 
 /// The addresses of a set that are not of another one, in their order.

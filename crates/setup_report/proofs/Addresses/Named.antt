@@ -1,5 +1,5 @@
 -- The objects that full slots name, one slot more.
-use Rattle.std.proofs.Common.{◌≡◌, ℕ, ◌+◌, ◌<◌, ◌==◌, List, [], ◌∷◌, ◌++◌, map, filter_map, take, length, get_or, Option, None, Some, not, Result, Ok, Err, IfOk, sym, ap, ◌∙◌, append-nil}
+use Rattle.std.proofs.Common.{◌≡◌, ℕ, ◌+◌, ◌<◌, ◌==◌, List, [], ◌∷◌, ◌++◌, map, filter_map, take, length, get_or, Option, None, Some, not, Result, Ok, Err, IfOk, refl, sym, ap, ◌∙◌, append-nil}
 use Rattle.std.specs.List.{filter, cons_option}
 use Rattle.std.specs.BTreeSet.{BTreeSet, difference, insert_key}
 use Rattle.std.specs.Ordering.{nat_cmp}
@@ -33,6 +33,11 @@ pub named_none : {X Y : Type 0} (f : Y → Option ℕ) (g : X → Y) (xs : List 
     before ≡ rising (filter_map f (map g (take i xs))) → f (g (get_or xs i d)) ≡ None → before ≡ rising (filter_map f (map g (take (i + 1) xs)))
 named_none f g xs i d before within is names =
     is ∙ ap rising (sym (more_viewed f g xs i d None within names ∙ append-nil (filter_map f (map g (take i xs)))))
+
+-- of a list that is viewed
+pub filter_map_viewed : {A B C : Type 0} (f : B → Option C) (g : A → B) (xs : List A) → filter_map f (map g xs) ≡ filter_map (λ x. f (g x)) xs
+filter_map_viewed f g [] = refl
+filter_map_viewed f g (x ∷ xs) = ap (cons_option (f (g x))) (filter_map_viewed f g xs)
 
 -- ---- CNodes that only slots of their own name
 

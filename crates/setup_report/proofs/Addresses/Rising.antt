@@ -5,7 +5,7 @@ use Rattle.std.specs.List.Sorted.{IsStrictlySortedBy}
 use Rattle.std.specs.Ordering.{nat_cmp, match_ordering, ordering_reverse}
 use Rattle.std.specs.Cmp.{nat_cmp_total, unsigned_tied}
 use Rattle.std.specs.declared.cmp.Ordering.TheVariants.{Less, Equal, Greater}
-use Rattle.std.specs.BTreeSet.{BTreeSet, contains, insert_key}
+use Rattle.std.specs.BTreeSet.{BTreeSet, IsFromIterResult, contains, insert_key}
 use Rattle.std.specs.FinMap.{nat_cmp-IsAntisymmetric}
 use Rattle.std.proofs.lemmas.Bool.Decides.{eqb_tells}
 use Rattle.std.proofs.lemmas.List.Folds.{list_any-append}
@@ -100,6 +100,12 @@ rising_same xs ys h =
 -- a list that rises is in rising order
 pub rising_sorted : (xs : List ℕ) → IsStrictlySortedBy nat_cmp xs → rising xs ≡ xs
 rising_sorted xs h = same_rising (rising xs) xs (sorted_rising xs) h (λ q. any_rising (λ a. q == a) xs)
+
+-- the addresses of a set that `collect` made of a list
+pub rising_made : (xs : List ℕ) (made : BTreeSet ℕ) → IsFromIterResult nat_cmp xs made → made.keys ≡ rising xs
+rising_made xs made h =
+    same_rising made.keys (rising xs) h.1 (sorted_rising xs)
+    (λ q. sym (tied_in q made.keys) ∙ h.0 q ∙ tied_in q xs ∙ sym (any_rising (λ a. q == a) xs))
 
 -- one address more
 pub rising_push : (xs : List ℕ) (x : ℕ) → rising (xs ++ x ∷ []) ≡ insert_key nat_cmp (rising xs) x
