@@ -27,11 +27,13 @@ pub struct StateRows {
     pub selfheld: Vec<u64>,
 }
 
-/// Puts full slots in the order of their addresses.
+/// Puts full slots in the order of their addresses. A retype's slots come the last one first: turned round, most of them are
+/// in order before the sort, which then moves fewer.
 fn sort_by_address<P: Profile>(slots: &mut [Derivation])
     requires apart { IsDistinct (λ (a b : ℕ). a == b) (map (slot_address P.profile) slots.old) }
     ensures { map (derivation_view P.profile) slots.new ≡ spec.by_address (map (derivation_view P.profile) slots.old) }
 {
+    slots.reverse();
     slots.sort_unstable_by_key(|derivation| derivation.slot.address::<P>());
 }
 

@@ -1,4 +1,4 @@
-use Rattle.std.proofs.Common.{◌≡◌, ◌∙◌, sym, ap, filter_map, map, nat_cmp, rules, tests}
+use Rattle.std.proofs.Common.{◌∙◌, sym, ap, filter_map, nat_cmp, rules, tests}
 use Rattle.std.specs.BTreeSet.{IsFromIterResult}
 use Rattle.std.proofs.lemmas.Iterator.{YieldsList-from_slice}
 use Rattle.std.proofs.lemmas.Iterator.Adapters.{fact_from_collect}
