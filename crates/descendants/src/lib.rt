@@ -7,7 +7,5 @@ mod numbers;
 mod revoked;
 mod run;
 
-pub use index::{DerivationIndex, derivation_index};
-pub use keyed::Keyed;
-pub use numbers::{by_object, is_named};
-pub use revoked::{Revoked, revoked_alone};
+pub use index::{DerivationIndex, NamedObjects};
+pub use revoked::Revoked;

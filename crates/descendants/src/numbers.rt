@@ -1,12 +1,11 @@
 //! The places of derivations by their slots, and by the objects that they name.
 ghost use Rattle.std.specs.Prelude.{◌≡◌, ℕ, ◌^◌, ◌<◌, IfOk, All, map};
-ghost use Rattle.std.specs.List.{list_any};
-ghost use Rattle.derivation.specs.Derivation.{names_same};
 ghost use Rattle.slot_core.specs.Places.{address_of};
 ghost use Rattle.descendants.specs.Keyed.{numbered, AreKeyed};
+ghost use Rattle.descendants.specs.Index.{AreByObject};
 ghost use Rattle.descendants.specs.Objects as spec;
 
-use crate::keyed::{Keyed, at_key, put_in_order};
+use crate::keyed::{Keyed, put_in_order};
 use cap_core::{Cap, Profile};
 use slot_core::Derivation;
 use std::alloc::{AllocError, Global};
@@ -53,19 +52,6 @@ fn numbers(alloc: Global, list: &[Derivation]) -> Result<Vec<Keyed>, AllocError>
     Ok(keyed)
 }
 
-/// Whether one of some derivations names the object, or the untyped region, of a capability. `objects` has their places, as
-/// `by_object` gives them.
-pub fn is_named(list: &[Derivation], objects: &[Keyed], cap: Cap) -> bool
-    requires objects { AreKeyed (map (λ d. spec.object_number d.cap) list.now) objects.now }
-    requires small { All (λ d. spec.size_in d.cap < 2 ^ 32) list.now }
-    ensures { result ≡ list_any (λ d. names_same d.cap cap) list.now }
-{
-    if let Cap::Null = cap {
-        return false;
-    }
-    !at_key(objects, object_number(cap)).is_empty()
-}
-
 /// The places of derivations by rising addresses of their slots.
 ///
 /// # Errors
@@ -85,8 +71,7 @@ pub fn by_address<P: Profile>(alloc: Global, list: &[Derivation]) -> Result<Vec<
 ///
 /// Memory was refused.
 pub fn by_object(alloc: Global, list: &[Derivation]) -> Result<Vec<Keyed>, AllocError>
-    ensures objects { IfOk result (λ keyed. AreKeyed (map (λ d. spec.object_number d.cap) list.now) keyed.items) }
-    ensures small { IfOk result (λ keyed. All (λ d. spec.size_in d.cap < 2 ^ 32) list.now) }
+    ensures { IfOk result (λ keyed. AreByObject list.now keyed.items) }
 {
     let mut keyed = numbers(alloc, list)?;
     put_in_order(&mut keyed)?;

@@ -9,7 +9,6 @@ ghost use Rattle.descendants.specs.Runs.{part};
 ghost use Rattle.descendants.specs.Private.{lies_within, is_within_alone, has_slots as holds_slots, ends_slots as ends_some, AreAscending};
 ghost use Rattle.descendants.specs.Below.{AreTold, IsRevokedAlone};
 
-use crate::index::DerivationIndex;
 use crate::keyed::{Keyed, at_key};
 use crate::numbers::object_number;
 use crate::run::{place_at, run_end};
@@ -92,28 +91,22 @@ fn named_within(
     Ok(caps)
 }
 
-/// What a revoke of the slot at an address clears and ends; `None` where no derivation is of the slot, and where an object
-/// that has slots ends with the revoke: more may be cleared then than what stands below the slot.
-///
-/// Time: it grows with what stands below the slot, each with the logarithm of the full slots.
-///
-/// # Errors
-///
-/// Memory was refused.
+/// What a revoke of the slot at an address clears and ends, of derivations with their places by their slots and by what they
+/// name: `DerivationIndex::revoked_alone`.
 pub fn revoked_alone<P: Profile>(
     alloc: Global,
-    index: &DerivationIndex,
+    list: &[Derivation],
+    places: &[Keyed],
+    objects: &[Keyed],
     slot: u64,
 ) -> Result<Option<Revoked>, AllocError>
-    requires { IsIndex P.profile index.now }
-    ensures { IfOk result (λ found. IfSome found (λ r. (f : Forest Entry) → AreTold P.profile index.now.list.items f → IsRevokedAlone P.profile f slot r)) }
+    requires { IsIndex P.profile list.now places.now objects.now }
+    ensures { IfOk result (λ found. IfSome found (λ r. (f : Forest Entry) → AreTold P.profile list.now f → IsRevokedAlone P.profile f slot r)) }
 {
-    let list = index.list.as_slice();
-    let objects = index.objects.as_slice();
-    let Some(place) = place_at(index.places.as_slice(), slot) else {
+    let Some(place) = place_at(places, slot) else {
         return Ok(None);
     };
-    let end = run_end::<P>(list, index.places.as_slice(), place);
+    let end = run_end::<P>(list, places, place);
     if ends_slots(list, objects, place + 1, end) {
         return Ok(None);
     }

@@ -1,17 +1,15 @@
 //! The objects that end with a revoke.
-ghost use Rattle.std.specs.Prelude.{◌≡◌, ◌++◌, ◌^◌, ◌<◌, IfOk, OnOk, All, flat_map, map, string_bytes};
+ghost use Rattle.std.specs.Prelude.{◌≡◌, ◌++◌, IfOk, OnOk, flat_map, map, string_bytes};
 ghost use Rattle.derivation.specs.Derivation.{names_same as name_one};
 ghost use Rattle.derivation.specs.Entries.{derivations_of};
 ghost use Rattle.slot_core.specs.Calls.{derivation_view};
-ghost use Rattle.descendants.specs.Keyed.{AreKeyed};
-ghost use Rattle.descendants.specs.Objects.{object_number, size_in};
 ghost use Rattle.setup_report.specs.State.{rising};
 ghost use Rattle.setup_values.specs.Names.{names_view};
 ghost use Rattle.setup_audit.specs.Ends as spec;
 
 use crate::names::thread_name;
 use cap_core::{Cap, Profile, same_object};
-use descendants::{Keyed, is_named};
+use descendants::NamedObjects;
 use ipc_core::Waiters;
 use kernel_core::Kernel;
 use setup_values::Name;
@@ -85,24 +83,21 @@ fn names_same(a: Cap, b: Cap) -> bool
 }
 
 /// Adds the capability in a full slot of an earlier state, where no slot of a kernel names its object. `left` has the full
-/// slots of the kernel, and `objects` their places by what they name: what the slot itself holds then is looked at first.
+/// slots of the kernel: what the slot itself holds then is looked at first.
 fn add_ended<P: Profile, S: CapStore<P> + Drop, W: Waiters<P> + Drop>(
     caps: &mut Vec<Cap>,
     derivation: &Derivation,
-    left: &[Derivation],
-    objects: &[Keyed],
+    left: &NamedObjects,
     new: &Kernel<P, S, W>,
 ) -> Result<(), AllocError>
-    requires left { map (derivation_view P.profile) left.now ≡ derivations_of new.now.derivations }
-    requires objects { AreKeyed (map (λ d. object_number d.cap) left.now) objects.now }
-    requires small { All (λ d. size_in d.cap < 2 ^ 32) left.now }
+    requires { map (derivation_view P.profile) left.now ≡ derivations_of new.now.derivations }
     ensures { OnOk result (caps.new.items ≡ caps.old.items ++ spec.where_ended derivation.now.cap (map (derivation_view P.profile) left.now)) }
 {
     let cap = derivation.cap;
     if names_same(new.cap_at(derivation.slot.address::<P>()), cap) {
         return Ok(());
     }
-    if is_named(left, objects, cap) {
+    if left.contains(cap) {
         return Ok(());
     }
     caps.push(cap)?;
@@ -110,7 +105,7 @@ fn add_ended<P: Profile, S: CapStore<P> + Drop, W: Waiters<P> + Drop>(
 }
 
 /// The capabilities in full slots of a state that name objects which no slot of a later one names. `old` has the full slots
-/// before, `left` those of the kernel after, and `objects` the places of these by what they name.
+/// before, and `left` those of the kernel after.
 ///
 /// # Errors
 ///
@@ -118,18 +113,15 @@ fn add_ended<P: Profile, S: CapStore<P> + Drop, W: Waiters<P> + Drop>(
 pub fn ended_caps<P: Profile, S: CapStore<P> + Drop, W: Waiters<P> + Drop>(
     alloc: Global,
     old: &[Derivation],
-    left: &[Derivation],
-    objects: &[Keyed],
+    left: &NamedObjects,
     new: &Kernel<P, S, W>,
 ) -> Result<Vec<Cap>, AllocError>
-    requires left { map (derivation_view P.profile) left.now ≡ derivations_of new.now.derivations }
-    requires objects { AreKeyed (map (λ d. object_number d.cap) left.now) objects.now }
-    requires small { All (λ d. size_in d.cap < 2 ^ 32) left.now }
+    requires { map (derivation_view P.profile) left.now ≡ derivations_of new.now.derivations }
     ensures { IfOk result (λ caps. caps.items ≡ spec.ended (map (derivation_view P.profile) old.now) (map (derivation_view P.profile) left.now)) }
 {
     let mut caps = Vec::new(alloc);
     for derivation in old {
-        add_ended::<P, S, W>(&mut caps, derivation, left, objects, new)?;
+        add_ended::<P, S, W>(&mut caps, derivation, left, new)?;
     }
     Ok(caps)
 }

@@ -7,13 +7,12 @@ ghost use Rattle.abstract_kernel.specs.State.{State, shown};
 ghost use Rattle.setup_report.specs.State.{slot_rows};
 ghost use Rattle.setup_values.specs.Names.{names_view};
 ghost use Rattle.descendants.specs.Below.{AreTold};
-ghost use Rattle.descendants.specs.Index.{IsIndex};
 ghost use Rattle.setup_audit.specs.Revokes as spec;
 
 use crate::ends::{add_ends, ended_caps};
 use crate::text::HeldSlot;
 use cap_core::{Cap, Profile};
-use descendants::{DerivationIndex, by_object, derivation_index, revoked_alone};
+use descendants::{DerivationIndex, NamedObjects};
 use ipc_core::{MakeWaiters, Waiters};
 use kernel_core::Kernel;
 use setup_values::Name;
@@ -97,9 +96,8 @@ pub fn add_revoke<P: Profile, S: DerivationStore<P> + Drop, W: Waiters<P> + Drop
     ensures { OnOk result (string_bytes out.new ≡ string_bytes out.old
         ++ spec.revoke_lines (names_view names.now) old.now new.now slot) }
 {
-    let left = new.derivations(alloc)?;
-    let objects = by_object(alloc, left.as_slice())?;
-    let caps = ended_caps::<P, S, W>(alloc, rows, left.as_slice(), objects.as_slice(), new)?;
+    let left = NamedObjects::new(alloc, new.derivations(alloc)?)?;
+    let caps = ended_caps::<P, S, W>(alloc, rows, &left, new)?;
     let cleared = count_cleared::<P, S, W>(rows, new);
     let slot = HeldSlot {
         slot,
@@ -115,20 +113,19 @@ fn add_revoke_at<P: Profile, S: MakeStore<P> + DerivationStore<P>, W: MakeWaiter
     out: &mut String,
     names: &[Name],
     rows: &[Derivation],
-    index: &DerivationIndex,
+    index: &DerivationIndex<P>,
     slot: u64,
     kernel: &Kernel<P, S, W>,
 ) -> Result<(), AllocError>
     requires rows { map (derivation_view P.profile) rows.now ≡ slot_rows kernel.now }
-    requires index { IsIndex P.profile index.now }
-    requires told { AreTold P.profile index.now.list.items kernel.now.derivations }
+    requires told { AreTold P.profile index.now kernel.now.derivations }
     ensures { OnOk result ((A : State) → IsReached P.profile A → kernel.now ≡ shown A → string_bytes out.new ≡ string_bytes out.old
         ++ spec.revoke_lines_at P.profile (names_view names.now) A slot) }
 {
     if !kernel.has_children(slot) {
         return Ok(());
     }
-    if let Some(alone) = revoked_alone::<P>(alloc, index, slot)? {
+    if let Some(alone) = index.revoked_alone(alloc, slot)? {
         let held = HeldSlot {
             slot,
             cap: kernel.cap_at(slot),
@@ -165,7 +162,7 @@ pub fn add_revokes<P: Profile, S: MakeStore<P> + DerivationStore<P>, W: MakeWait
         ++ flat_map (λ d. spec.revoke_lines_of P.profile (names_view names.now) A (derivation_view P.profile d)) rows.now) }
 {
     let list = kernel.derivations(alloc)?;
-    let index = derivation_index::<P>(alloc, list)?;
+    let index = DerivationIndex::<P>::new(alloc, list)?;
     for row in rows {
         let slot = row.slot.address::<P>();
         add_revoke_at::<P, S, W>(alloc, out, names, rows, &index, slot, kernel)?;

@@ -12,31 +12,31 @@ use Rattle.descendants.proofs.revoked.revoked_alone.Goals as goal
 pub run_end-end-requires-clause-start : goal.run_end-end-requires-clause-start
 run_end-end-requires-clause-start g c =
     let p = g.P.Profile.profile in
-    let list = c.args.index.now.list.items in
-    let here = place_of (map (λ (d : Derivation). address_of p d.slot) list) c.args.index.now.places.items c.args.slot c.in-Some.place c.requires.places
-    (rw c.as_slice.ensures.value at (sym c.place_at.ensures ∙ c.in-Some.is)) in
+    let list = c.args.list.now in
+    let here = place_of (map (λ (d : Derivation). address_of p d.slot) list) c.args.places.now c.args.slot c.in-Some.place c.requires.addresses
+    (sym c.place_at.ensures ∙ c.in-Some.is) in
     let m : length (map (λ (d : Derivation). address_of p d.slot) list) ≡ length list = rw length-map refl in
     let within = slice_get_within (map (λ (d : Derivation). address_of p d.slot) list) c.in-Some.place c.args.slot here in
-    rw c.as_slice-list.ensures.value (omega (arith, m, within))
+    omega (arith, m, within)
 
 pub ends_slots-requires-clause-ascending : goal.ends_slots-requires-clause-ascending
 ends_slots-requires-clause-ascending g c =
-    rw c.as_slice-objects.ensures.value (ascending_at (map (λ (d : Derivation). object_number d.cap) c.args.index.now.list.items) c.args.index.now.objects.items c.requires.objects)
+    (ascending_at (map (λ (d : Derivation). object_number d.cap) c.args.list.now) c.args.objects.now c.requires.named.numbers)
 
 pub named_within-requires-clause-ascending : goal.named_within-requires-clause-ascending
 named_within-requires-clause-ascending g c =
-    rw c.as_slice-objects.ensures.value (ascending_at (map (λ (d : Derivation). object_number d.cap) c.args.index.now.list.items) c.args.index.now.objects.items c.requires.objects)
+    (ascending_at (map (λ (d : Derivation). object_number d.cap) c.args.list.now) c.args.objects.now c.requires.named.numbers)
 
 pub returns : goal.returns
 returns g c f told =
     let p = g.P.Profile.profile in
-    let list = c.args.index.now.list.items in
-    let here = place_of (map (λ (d : Derivation). address_of p d.slot) list) c.args.index.now.places.items c.args.slot c.in-Some.place c.requires.places
-    (rw c.as_slice.ensures.value at (sym c.place_at.ensures ∙ c.in-Some.is)) in
+    let list = c.args.list.now in
+    let here = place_of (map (λ (d : Derivation). address_of p d.slot) list) c.args.places.now c.args.slot c.in-Some.place c.requires.addresses
+    (sym c.place_at.ensures ∙ c.in-Some.is) in
     let once : AreOnce (map (λ (d : Derivation). address_of p d.slot) list) = once_told p list f told in
-    let run = (rw c.as_slice-list.ensures.value at c.run_end-end.ensures.run) once in
-    let high = rw c.as_slice-list.ensures.value at c.run_end-end.ensures.high in
-    let stay = rw (c.as_slice-list.ensures.value, c.as_slice-objects.ensures.value) at (sym c.ends_slots.ensures ∙ c.if-ends_slots.false) in
-    let ended = rw (c.as_slice-list.ensures.value, c.as_slice-objects.ensures.value) at c.in_ok-ended.ensures in
-    revoked p list f c.args.index.now.objects.items c.args.slot c.in-Some.place c.run_end-end.result _ (found p list f c.args.slot c.in-Some.place c.run_end-end.result told once here run)
-    c.requires.small c.requires.objects high refl stay ended
+    let run = c.run_end-end.ensures.run once in
+    let high = c.run_end-end.ensures.high in
+    let stay = sym c.ends_slots.ensures ∙ c.if-ends_slots.false in
+    let ended = c.in_ok-ended.ensures in
+    revoked p list f c.args.objects.now c.args.slot c.in-Some.place c.run_end-end.result _ (found p list f c.args.slot c.in-Some.place c.run_end-end.result told once here run)
+    c.requires.named.small c.requires.named.numbers high refl stay ended

@@ -34,7 +34,7 @@ returns-in-Some g c = λ A reached shows.
     let slot = c.args.slot in
     let old = string_bytes c.args.out.now in
     let own : c.args.kernel.now.derivations ≡ A.derivations = ap (λ (w : Shown). w.derivations) shows ∙ derivations_shown A in
-    let told : AreTold p c.args.index.now.list.items A.derivations = subst (AreTold p c.args.index.now.list.items) own c.requires.told in
+    let told : AreTold p c.args.index.now A.derivations = subst (AreTold p c.args.index.now) own c.requires.told in
     let alone = (rw c.in-Some.is at c.in_ok-alone.ensures) A.derivations told in
     let one : has_child slot A.derivations ≡ true = same_child c.args.kernel.now A slot shows ∙ (sym c.has_children.ensures ∙ c.if-not-has_children.false) in
     c.in_ok-add_lines.ensures
