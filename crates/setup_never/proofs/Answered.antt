@@ -12,7 +12,7 @@ use Rattle.setup_ever.specs.Ever.{AreRightParts}
 use Rattle.setup_never.specs.Waits.{waits}
 use Rattle.setup_never.specs.Never.{are_open, never_between, never}
 use Rattle.setup_never.specs.Kept.{AreThreadsKept}
-use Rattle.setup_never.specs.Open.{never_text, IsNeverOf}
+use Rattle.setup_never.specs.Open.{IsNeverText, IsNeverOf}
 use Rattle.setup_never.proofs.Kept.{kept_ever}
 
 excluded : (open_between : Bool) → cond open_between Possible Excluded ≡ Excluded → open_between ≡ false
@@ -34,7 +34,7 @@ module _ (p : ProfileName) (names : Names) (without : List ℕ) (v : Shown) (by 
   }
 
   pub answered : {A E : Type 0} (r : Result A E) (text : A → List ℕ) (answer : A → Never) →
-      IfOk r (λ a. text a ≡ never_text p names memory uses v by from to) → IfOk r (λ a. answer a ≡ never p memory uses (waits p v) by from to) →
+      IfOk r (λ a. IsNeverText p names memory uses v by from to (text a)) → IfOk r (λ a. answer a ≡ never p memory uses (waits p v) by from to) →
       IfOk r (λ a. IsNeverOf p names without v by from to (text a) (answer a))
   answered (Ok a) text answer told is = record {
     memory = memory;

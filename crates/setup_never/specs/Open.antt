@@ -21,6 +21,7 @@ use Rattle.setup_never.specs.Waits.{waits}
 use Rattle.setup_never.specs.Never.{has_some, is_use_of, is_sender, is_receiver, is_open, endpoints_met, never}
 use Rattle.setup_ever.specs.Ever.{AreRightParts}
 use Rattle.setup_never.specs.Kept.{AreThreadsKept}
+use Rattle.setup_never.specs.Chains.{AreChains}
 
 -- ---- the first line: the threads with their parts, and the answer
 
@@ -98,12 +99,18 @@ never_text p names memory uses v by from to =
     answer_line names memory from to (never p memory uses (waits p v) by from to)
     ++ lines_between p names memory uses v by (part_at memory from) (part_at memory to)
 
+-- that text, with the chains behind it
+pub record IsNeverText (p : ProfileName) (names : Names) (memory : List PartMemory) (uses : List PartUse) (v : Shown) (by : List ℕ) (from to : ℕ) (text : List ℕ) : Type 0 where
+  pub chains : List ℕ
+  pub are_chains : AreChains p names memory uses v by from to chains
+  pub lines : text ≡ never_text p names memory uses v by from to ++ chains
+
 -- the text and the answer, of parts that may be told; and where the answer is that it is excluded, the one thread's part is kept
 -- from the other's
 pub record IsNeverOf (p : ProfileName) (names : Names) (without : List ℕ) (v : Shown) (by : List ℕ) (from to : ℕ) (text : List ℕ) (answer : Never) : Type 0 where
   pub memory : List PartMemory
   pub uses : List PartUse
   pub right : AreRightParts p v without memory uses
-  pub told : text ≡ never_text p names memory uses v by from to
+  pub told : IsNeverText p names memory uses v by from to text
   pub answered : answer ≡ never p memory uses (waits p v) by from to
   pub kept : answer ≡ Excluded → AreThreadsKept p memory uses v by from to

@@ -1,6 +1,7 @@
 //! Whether one thread's part is kept from another's, but for the endpoints that are named, whatever calls threads make.
 #![tactic(auto)]
 
+mod chain_text;
 mod laws;
 mod never;
 mod open;

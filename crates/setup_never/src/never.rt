@@ -60,7 +60,8 @@ fn has_some_of_all(memory: &[PartMemory], part: u64, first: u64, size: u64) -> b
     memory.iter().any(|m| has_some(m, part, first, size))
 }
 
-fn has_bytes<P: Profile>(memory: &[PartMemory], part: u64, endpoint: u64) -> bool
+/// Whether some byte of the endpoint is memory of the part.
+pub fn has_bytes<P: Profile>(memory: &[PartMemory], part: u64, endpoint: u64) -> bool
     ensures { result ≡ spec.has_bytes P.profile memory.now part endpoint }
 {
     has_some_of_all(memory, part, endpoint, endpoint_size::<P>())

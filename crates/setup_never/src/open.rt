@@ -2,12 +2,14 @@
 ghost use Rattle.std.specs.Prelude.{◌≡◌, ◌++◌, IfOk, OnOk, Some, string_bytes};
 ghost use Rattle.std.specs.List.{flat_map};
 ghost use Rattle.abstract_kernel.specs.Waiting.{offer_at};
+ghost use Rattle.reach_core.specs.FullSlots.{AreFullSlots};
 ghost use Rattle.setup_values.specs.Names.{names_view};
 ghost use Rattle.setup_never.specs.Never as answers;
 ghost use Rattle.setup_never.specs.Waits.{waits as waits_of};
 ghost use Rattle.setup_ever.specs.Text as told;
 ghost use Rattle.setup_never.specs.Open as spec;
 
+use crate::chain_text::chains_between;
 use crate::never::{
     Between, Layout, Never, endpoint_size, endpoints_met, has_some, is_open, is_receiver,
     is_sender, is_use_of, never_between,
@@ -17,6 +19,7 @@ use cap_core::Profile;
 use confinement::{PartMemory, PartUse, part_at};
 use ipc_core::Waiters;
 use kernel_core::Kernel;
+use reach_core::{FullSlot, full_slots};
 use setup_ever::{BadgeText, listed, parts_of_callers, thread_name};
 use setup_report::{RightsText, state_rows};
 use setup_values::Name;
@@ -332,7 +335,19 @@ fn add_between<P: Profile, S: CapStore<P> + Drop, W: Waiters<P> + Drop>(
     add_all_open::<P, S, W>(out, names, layout, kernel, &between, endpoints)
 }
 
-/// The text and the answer for parts that are given.
+/// The full slots of a kernel, each with what it holds.
+fn slots_of<P: Profile, S: DerivationStore<P> + Drop, W: Waiters<P> + Drop>(
+    alloc: Global,
+    kernel: &Kernel<P, S, W>,
+) -> Result<Vec<FullSlot>, AllocError>
+    ensures { IfOk result (λ filled. AreFullSlots kernel.now.derivations filled.items) }
+{
+    let derivations = kernel.derivations(alloc)?;
+    let filled = full_slots::<P>(alloc, derivations.as_slice())?;
+    Ok(filled)
+}
+
+/// The text, but for the chains, and the answer for parts that are given.
 #[tactic(auto, unfolding(crate::specs::Open::never_text))]
 fn never_of_parts<P: Profile, S: DerivationStore<P> + Drop, W: Waiters<P> + Drop>(
     alloc: Global,
@@ -342,9 +357,9 @@ fn never_of_parts<P: Profile, S: DerivationStore<P> + Drop, W: Waiters<P> + Drop
     by: &[u64],
     kernel: &Kernel<P, S, W>,
     layout: &Layout<'_>,
-) -> Result<(Vec<u8>, Never), AllocError>
+) -> Result<(String, Never), AllocError>
     requires { layout.now.waits.now ≡ waits_of P.profile kernel.now }
-    ensures text { IfOk result (λ made. made.0.items ≡ spec.never_text P.profile (names_view names.now) layout.now.memory.now layout.now.uses.now kernel.now by.now from to) }
+    ensures text { IfOk result (λ made. string_bytes made.0 ≡ spec.never_text P.profile (names_view names.now) layout.now.memory.now layout.now.uses.now kernel.now by.now from to) }
     ensures answer { IfOk result (λ made. made.1 ≡ answers.never P.profile layout.now.memory.now layout.now.uses.now (waits_of P.profile kernel.now) by.now from to) }
 {
     let endpoints = endpoints_met(alloc, layout)?;
@@ -363,11 +378,35 @@ fn never_of_parts<P: Profile, S: DerivationStore<P> + Drop, W: Waiters<P> + Drop
         first,
         second,
     )?;
-    Ok((out.into_bytes(), answer))
+    Ok((out, answer))
+}
+
+/// The text of an answer for parts that are given, with the chains behind it, and the answer.
+fn never_with_chains<P: Profile, S: DerivationStore<P> + Drop, W: Waiters<P> + Drop>(
+    alloc: Global,
+    names: &[Name],
+    from: u64,
+    to: u64,
+    by: &[u64],
+    kernel: &Kernel<P, S, W>,
+    layout: &Layout<'_>,
+) -> Result<(Vec<u8>, Never), AllocError>
+    requires { layout.now.waits.now ≡ waits_of P.profile kernel.now }
+    ensures text { IfOk result (λ made. spec.IsNeverText P.profile (names_view names.now) layout.now.memory.now layout.now.uses.now kernel.now by.now from to made.0.items) }
+    ensures answer { IfOk result (λ made. made.1 ≡ answers.never P.profile layout.now.memory.now layout.now.uses.now (waits_of P.profile kernel.now) by.now from to) }
+{
+    let (mut text, answer) = never_of_parts::<P, S, W>(alloc, names, from, to, by, kernel, layout)?;
+    let filled = slots_of::<P, S, W>(alloc, kernel)?;
+    let from_in = (from, part_at(layout.memory, from));
+    let to_in = (to, part_at(layout.memory, to));
+    let chains = chains_between::<P>(alloc, names, filled.as_slice(), layout, by, from_in, to_in)?;
+    text.push_str(chains.as_str())?;
+    Ok((text.into_bytes(), answer))
 }
 
 /// Whether a thread's part is kept from another's, but for the endpoints that `by` names, whatever calls the threads make that
-/// `without` does not name; and the text that says so, with the endpoints that are open where it is not.
+/// `without` does not name; and the text that says so, with the endpoints that are open where it is not, and the slots through
+/// which the one thread comes there.
 ///
 /// # Errors
 ///
@@ -392,5 +431,5 @@ pub fn never_gets<P: Profile, S: DerivationStore<P> + Drop, W: Waiters<P> + Drop
         uses: parts.uses.as_slice(),
         waits: waits.as_slice(),
     };
-    never_of_parts::<P, S, W>(alloc, names, from, to, by, kernel, &layout)
+    never_with_chains::<P, S, W>(alloc, names, from, to, by, kernel, &layout)
 }

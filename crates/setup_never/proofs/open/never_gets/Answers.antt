@@ -16,4 +16,4 @@ returns g c =
     (subst (λ (uses : List PartUse). AreRightParts p v c.args.without.now c.in_ok-parts.parts.memory.items uses) (sym c.as_slice-3.ensures.value)
     c.in_ok-parts.ensures) in
     answered p (names_view c.args.names.now) c.args.without.now v c.args.by.now c.args.from c.args.to c.as_slice-2.result.now c.as_slice-3.result.now right
-    c.never_of_parts.result (λ made. made.0.items) (λ made. made.1) c.never_of_parts.ensures.text c.never_of_parts.ensures.answer
+    c.never_with_chains.result (λ made. made.0.items) (λ made. made.1) c.never_with_chains.ensures.text c.never_with_chains.ensures.answer

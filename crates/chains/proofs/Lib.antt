@@ -1,0 +1,5 @@
+mod Filtered
+mod Laid
+mod Back
+pub mod Walked
+pub mod Wide

@@ -1,0 +1,2 @@
+-- These serve the proofs of private functions, no public contract cites them.
+pub mod Layers
