@@ -1,6 +1,6 @@
--- A run has as many replies as calls, and a boot is a state that runs reach.
-use Rattle.std.specs.Prelude.{◌≡◌, suc, List, [], ◌∷◌, length, refl}
-use Rattle.std.proofs.Common.{ap, ◌∙◌}
+-- A run has as many replies as calls, a boot is a state that runs reach, and a text with its count is the program's.
+use Rattle.std.specs.Prelude.{◌≡◌, ℕ, suc, List, [], ◌∷◌, length, refl, Option, Some, None, Result, Ok, Err}
+use Rattle.std.proofs.Common.{ap, ap₂, ◌∙◌}
 use Rattle.std.proofs.lemmas.List.{length-map}
 use Rattle.cap_core.specs.declared.profile.ProfileName.{ProfileName}
 use Rattle.abstract_kernel.specs.declared.call.Call.{Call}
@@ -10,7 +10,11 @@ use Rattle.abstract_kernel.specs.State.{State}
 use Rattle.abstract_kernel.specs.Step.{step, replies_of, state_after}
 use Rattle.abstract_kernel.specs.Reached.{IsReached}
 use Rattle.setup_format.specs.Views.{SetupView, CallView}
-use Rattle.engine.specs.Program.{replies_to, calls_of}
+use Rattle.setup_format.specs.Faults.{Fault}
+use Rattle.setup_format.specs.Setups.{setup_of_bytes}
+use Rattle.setup_report.specs.declared.calls.ExpectationCount.{ExpectationCount}
+use Rattle.engine.specs.Program.{HasCounts, IsTextOfSetup, program, outcome_in, outcome_of, replies_to, calls_of, verdict_in, verdict_of, verdict_on}
+use Rattle.engine.specs.declared.run.CountedText.{CountedText}
 
 pub length-replies_of : (p : ProfileName) (A : State) (calls : List Call) → length (replies_of p A calls) ≡ length calls
 unfolding replies_of
@@ -25,3 +29,19 @@ length_replies_to p setup =
 pub boot_reached : (p : ProfileName) (plan : Plan) → IsPlan p plan → IsReached p (boot p plan)
 unfolding state_after
 boot_reached p plan lawful = record { plan = plan; lawful = lawful; calls = []; is = refl }
+
+counted_verdict : (p : ProfileName) (setup : SetupView) (count : Option ExpectationCount) → HasCounts p setup count
+    → verdict_in count ≡ verdict_of setup.calls (replies_to p setup)
+counted_verdict p setup None has = absurd has
+counted_verdict p setup (Some count) has = ap₂ verdict_on has.0 has.1
+
+counted_outcome : (setup : Result SetupView Fault) (made : CountedText) → IsTextOfSetup setup made
+    → (made.text.items, verdict_in made.count) ≡ outcome_in setup
+unfolding outcome_of
+counted_outcome (Ok setup) made is = ap₂ (λ t v. (t, v)) is.0 (counted_verdict setup.profile setup made.count is.1)
+counted_outcome (Err fault) made is = ap₂ (λ t v. (t, v)) is.0 (ap verdict_in is.1)
+
+pub counted_program : (bytes : List ℕ) (made : CountedText) → IsTextOfSetup (setup_of_bytes bytes) made
+    → (made.text.items, verdict_in made.count) ≡ program bytes
+unfolding program
+counted_program bytes made is = counted_outcome (setup_of_bytes bytes) made is

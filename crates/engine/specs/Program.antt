@@ -1,5 +1,5 @@
 -- What the program writes for the bytes that it reads, and its verdict.
-use Rattle.std.specs.Prelude.{ℕ, ◌==◌, cond, List, map, Result, Ok, Err}
+use Rattle.std.specs.Prelude.{◌≡◌, ℕ, ◌==◌, cond, List, map, Option, Some, None, Result, Ok, Err}
 use Rattle.cap_core.specs.declared.profile.ProfileName.{ProfileName}
 use Rattle.abstract_kernel.specs.declared.call.Call.{Call}
 use Rattle.abstract_kernel.specs.declared.call.Reply.{Reply}
@@ -11,6 +11,8 @@ use Rattle.setup_format.specs.Faults.{Fault}
 use Rattle.setup_format.specs.Setups.{setup_of_bytes}
 use Rattle.setup_format.specs.Refusal.{refusal_line}
 use Rattle.setup_report.specs.Report.{report_of, met_count, expectation_count}
+use Rattle.setup_report.specs.declared.calls.ExpectationCount.{ExpectationCount}
+use Rattle.engine.specs.declared.run.CountedText.{CountedText}
 use Rattle.engine_core.specs.declared.fault.Verdict.{Verdict}
 use Rattle.engine_core.specs.declared.fault.Verdict.TheVariants.{AllMet, NotMet, Refused}
 
@@ -41,6 +43,26 @@ outcome_of p setup =
 abbrev pub outcome_in : Result SetupView Fault → List ℕ × Verdict
 outcome_in (Ok setup) = outcome_of setup.profile setup
 outcome_in (Err fault) = (refusal_line fault, Refused)
+
+-- what is told of a run: the report, and how many of the expectations are met
+abbrev pub HasCounts : ProfileName → SetupView → Option ExpectationCount → Type 0
+HasCounts p setup None = ⊥
+HasCounts p setup (Some count) =
+    (count.met ≡ met_count setup.calls (replies_to p setup)) × (count.expected ≡ expectation_count setup.calls (replies_to p setup))
+
+abbrev pub IsTextIn : ProfileName → SetupView → CountedText → Type 0
+IsTextIn p setup made =
+    (made.text.items ≡ report_of p setup.calls (replies_to p setup) (shown (end_of p setup))) × HasCounts p setup made.count
+
+-- what is told of a set-up: that of its run in the profile that it names, or the line by which it is refused, with no count
+abbrev pub IsTextOfSetup : Result SetupView Fault → CountedText → Type 0
+IsTextOfSetup (Ok setup) made = IsTextIn setup.profile setup made
+IsTextOfSetup (Err fault) made = (made.text.items ≡ refusal_line fault) × (made.count ≡ None)
+
+-- the verdict by the count, where there is one
+abbrev pub verdict_in : Option ExpectationCount → Verdict
+verdict_in None = Refused
+verdict_in (Some count) = verdict_on count.met count.expected
 
 -- the report of the set-up that the bytes are, in the profile that it names, or the line by which it is refused
 unfoldable pub program : List ℕ → List ℕ × Verdict

@@ -1,14 +1,31 @@
 //! The engine that runs a set-up and compares its replies with what it expects.
-ghost use Rattle.std.specs.Prelude.{◌≡◌, ◌≢◌, false};
-ghost use Rattle.engine.specs.Program.{program};
+ghost use Rattle.std.specs.Prelude.{◌≡◌, ◌≢◌, false, IfOk};
+ghost use Rattle.setup_format.specs.Setups.{setup_of_bytes};
+ghost use Rattle.engine.specs.Program.{IsTextOfSetup, program};
 ghost use Rattle.engine_core.specs.Runs.{IsRun};
 
-use crate::run::text_of;
+use crate::run::{CountedText, counted_text_of, text_of};
 use cap_core::{Narrow, Wide};
 use engine_core::{Engine, RunFault, Sink, Source, Verdict, run_engine};
 use ipc_core::LinkedWaiters;
 use slot_core::LinkedStore;
-use std::alloc::Global;
+use std::alloc::{AllocError, Global};
+
+/// The text that is written for the bytes of an input, and the count of the expectations, by the linked forms.
+///
+/// # Errors
+///
+/// Memory was refused.
+pub fn checked_text(alloc: Global, bytes: &[u8]) -> Result<CountedText, AllocError>
+    ensures { IfOk result (IsTextOfSetup (setup_of_bytes bytes.now)) }
+{
+    counted_text_of::<
+        LinkedStore<Wide>,
+        LinkedWaiters<Wide>,
+        LinkedStore<Narrow>,
+        LinkedWaiters<Narrow>,
+    >(alloc, bytes)
+}
 
 /// Makes the report of a set-up's run, by the linked forms.
 struct Checker;

@@ -6,10 +6,10 @@ mod checking;
 mod migrating;
 mod run;
 
-pub use checking::check;
+pub use checking::{check, checked_text};
 pub use engine_core::{
     DeviceFault, Engine, INPUT_LIMIT, ReaderSource, RunFault, Sink, Source, Verdict, WriterSink,
     read_below, run_engine, status_of, write_all,
 };
 pub use migrating::{migrate_run, table_text};
-pub use run::{refusal, text_of, verdict_on};
+pub use run::{CountedText, counted_text_of, refusal, text_of, verdict_on};

@@ -4,7 +4,9 @@ ghost use Rattle.abstract_kernel.specs.Boot.{boot as boot_state};
 ghost use Rattle.abstract_kernel.specs.Plan.{IsPlan};
 ghost use Rattle.abstract_kernel.specs.State.{shown};
 ghost use Rattle.setup_format.specs.Refusal.{setup_fault_text};
-ghost use Rattle.engine.specs.Program.{program, outcome_of, replies_to, end_of, verdict_on as verdict_of_counts};
+ghost use Rattle.setup_format.specs.Setups.{setup_of_bytes};
+ghost use Rattle.setup_report.specs.Report.{report_of, met_count, expectation_count};
+ghost use Rattle.engine.specs.Program.{IsTextIn, IsTextOfSetup, program, replies_to, end_of, verdict_in, verdict_on as verdict_of_counts};
 
 use cap_core::{Narrow, Profile, ProfileName, Wide};
 use engine_core::Verdict;
@@ -14,6 +16,27 @@ use setup_format::{Setup, SetupFault, read_setup};
 use setup_report::{ExpectationCount, counted_report};
 use slot_core::{DerivationStore, MakeStore};
 use std::alloc::{AllocError, Global};
+
+/// The text that is written for an input, and the count of its expectations.
+#[derive(Drop)]
+pub struct CountedText {
+    /// The report, or the line by which the set-up is refused.
+    pub text: Vec<u8>,
+    /// How many calls have an expectation, and how many of these are met; nothing where the set-up is refused.
+    pub count: Option<ExpectationCount>,
+}
+
+impl CountedText {
+    /// Whether all expectations are met, one is not, or the set-up is refused.
+    pub fn verdict(&self) -> Verdict
+        ensures { result ≡ verdict_in self.now.count }
+    {
+        match self.count {
+            Some(count) => verdict_on(count),
+            None => Verdict::Refused,
+        }
+    }
+}
 
 /// Boots a kernel. Out of line, as are the other parts of a run, so that a profile tells them apart.
 #[inline(never)]
@@ -47,17 +70,20 @@ fn run_calls<P: Profile, S: MakeStore<P>, W: MakeWaiters<P>>(
 
 /// Runs the set-up in a profile, and reports on it.
 #[inline(never)]
-#[tactic(auto, unfolding(crate::specs::Program::outcome_of), using(crate::proofs::Runs::length_replies_to))]
+#[tactic(auto, using(crate::proofs::Runs::length_replies_to))]
 fn run_setup<P: Profile, S: MakeStore<P> + DerivationStore<P>, W: MakeWaiters<P>>(
     alloc: Global,
     setup: &Setup,
-) -> Result<(Vec<u8>, Verdict), AllocError>
+) -> Result<CountedText, AllocError>
     requires { IsPlan P.profile setup.now.plan }
-    ensures { IfOk result (λ made. (made.0.items, made.1) ≡ outcome_of P.profile setup.now) }
+    ensures { IfOk result (IsTextIn P.profile setup.now) }
 {
     let (kernel, replies) = run_calls::<P, S, W>(alloc, setup)?;
     let (text, count) = counted_report(alloc, setup, replies.as_slice(), &kernel)?;
-    Ok((text, verdict_on(count)))
+    Ok(CountedText {
+        text,
+        count: Some(count),
+    })
 }
 
 /// Whether all expectations are met.
@@ -79,10 +105,39 @@ pub fn refusal(alloc: Global, fault: &SetupFault) -> Result<Vec<u8>, AllocError>
     Ok(text.into_bytes())
 }
 
-/// The text that the program writes for the bytes of its input, and the verdict. The kernel has the words of the
-/// set-up's profile: `S` and `W` are the stores of a wide kernel, `T` and `V` those of a narrow one. The text is the
+/// The text that the program writes for the bytes of its input, and the count of the expectations. The kernel has the words
+/// of the set-up's profile: `S` and `W` are the stores of a wide kernel, `T` and `V` those of a narrow one. The text is the
 /// same whatever stores it is made of.
-#[tactic(auto, unfolding(crate::specs::Program::program))]
+///
+/// # Errors
+///
+/// Memory was refused.
+pub fn counted_text_of<
+    S: MakeStore<Wide> + DerivationStore<Wide>,
+    W: MakeWaiters<Wide>,
+    T: MakeStore<Narrow> + DerivationStore<Narrow>,
+    V: MakeWaiters<Narrow>,
+>(alloc: Global, bytes: &[u8]) -> Result<CountedText, AllocError>
+    ensures { IfOk result (IsTextOfSetup (setup_of_bytes bytes.now)) }
+{
+    match read_setup(alloc, bytes) {
+        Ok(setup) => match setup.profile() {
+            ProfileName::Wide => run_setup::<Wide, S, W>(alloc, &setup),
+            ProfileName::Narrow => run_setup::<Narrow, T, V>(alloc, &setup),
+        },
+        Err(SetupFault::Memory) => Err(AllocError),
+        Err(fault) => Ok(CountedText {
+            text: refusal(alloc, &fault)?,
+            count: None,
+        }),
+    }
+}
+
+/// The text that the program writes for the bytes of its input, and the verdict, as `counted_text_of` gives them.
+///
+/// # Errors
+///
+/// Memory was refused.
 pub fn text_of<
     S: MakeStore<Wide> + DerivationStore<Wide>,
     W: MakeWaiters<Wide>,
@@ -91,12 +146,7 @@ pub fn text_of<
 >(alloc: Global, bytes: &[u8]) -> Result<(Vec<u8>, Verdict), AllocError>
     ensures { IfOk result (λ made. (made.0.items, made.1) ≡ program bytes.now) }
 {
-    match read_setup(alloc, bytes) {
-        Ok(setup) => match setup.profile() {
-            ProfileName::Wide => run_setup::<Wide, S, W>(alloc, &setup),
-            ProfileName::Narrow => run_setup::<Narrow, T, V>(alloc, &setup),
-        },
-        Err(SetupFault::Memory) => Err(AllocError),
-        Err(fault) => Ok((refusal(alloc, &fault)?, Verdict::Refused)),
-    }
+    let made = counted_text_of::<S, W, T, V>(alloc, bytes)?;
+    let verdict = made.verdict();
+    Ok((made.text, verdict))
 }

@@ -1,11 +1,9 @@
 -- What is reported on is the abstract kernel's: its replies and its end state.
 use Rattle.std.proofs.Common.{◌∙◌, ap, ap₂}
 use Rattle.setup_report.specs.Report.{report_of, met_count, expectation_count}
-use Rattle.engine.specs.Program.{outcome_of, verdict_on}
 use Rattle.engine.proofs.run.run_setup.Goals as goal
 
 pub returns : goal.returns
-unfolding outcome_of
 returns g c =
     let setup = c.args.setup.now in
     let replies = c.as_slice.ensures.value ∙ c.in_ok-kernel.ensures.replies in
@@ -13,4 +11,4 @@ returns g c =
     let text = made.report ∙ ap₂ (λ r k. report_of g.P.Profile.profile setup.calls r k) replies c.in_ok-kernel.ensures.kernel in
     let met = made.met ∙ ap (λ r. met_count setup.calls r) replies in
     let expected = made.expected ∙ ap (λ r. expectation_count setup.calls r) replies in
-    ap₂ (λ t v. (t, v)) text (c.verdict_on.ensures ∙ ap₂ verdict_on met expected)
+    (text, (met, expected))

@@ -1,0 +1,12 @@
+//! The check of several files, from their names and bytes to a line for each and a summary.
+#![tactic(auto)]
+
+mod checking;
+mod inputs;
+mod lines;
+mod reading;
+mod tally;
+
+pub use checking::check_files;
+pub use inputs::{Inputs, Listener, Used};
+pub use tally::{Tally, status_is_the_greatest, status_of_files};
