@@ -7,7 +7,7 @@
 # and completions; make dist-test tries what goes into it, on the program that is built, also where there is no toolchain;
 # make install: the program that make run built, and the same files, below PREFIX (/usr/local) and DESTDIR;
 # make test: the gate, and what it took;
-# make rows: the built program: each worked set-up, as it is, migrated and traced, why its calls are refused, and by
+# make rows: the built program: each worked set-up, as it is, with others in one run, migrated and traced, why its calls are refused, and by
 # the schema for editors; each worked audit, layout and exploration; explorations of random set-ups beside all orders one by one; what --help names beside the completions and the
 # man page; what it says of wrong command lines, files and set-ups, an address used again a thousand times, each
 # request for memory refused in turn, by each subcommand and by calls of the libraries, inputs and outputs that fail,
@@ -65,6 +65,7 @@ rows: rows-needs run
 	python3 rows/schema.py $(program) $(setups) crates/traced_file/data crates/worked_audits/data crates/worked_parts/data \
 		crates/worked_trees/data \
 		crates/worked_explorations/data page/test/setups rows
+	python3 rows/several_files.py $(program) $(setups)
 	python3 rows/migrate.py $(program) $(setups)
 	python3 rows/traces.py $(program) $(setups)
 	python3 rows/why.py $(program) $(setups)

@@ -125,6 +125,7 @@ def main():
             outputs_that_fail(runs, [*job, setup], setup)
             outputs_that_fail(runs, [*job, "/dev/null"], setup)
             errors_that_are_not_told(runs, job, folder)
+        outputs_that_fail(runs, ["check", setup, "-"], setup)
         outputs_that_fail(runs, ["--help"], setup)
         runs.refuse("a line that is refused", ["--cheque"])
         runs.refuse("a word that is no text", [b"\xff"])

@@ -126,9 +126,11 @@ def main():
     with tempfile.TemporaryDirectory() as room:
         library = f"{room}/failing.so"
         subprocess.run(["gcc", "-shared", "-fPIC", "-x", "c", "-o", library, "-", "-ldl"], input=LIBRARY.encode(), check=True)
-        for job in SUBCOMMANDS:
+        # Where standard input is one of several files, a failed read of it does not end the run: several_files.py.
+        several = ["check", "-", setup]
+        for job, kinds in [*((job, KINDS) for job in SUBCOMMANDS), (several, KINDS[1:])]:
             for most in MOST_BYTES:
-                for kind in KINDS:
+                for kind in kinds:
                     calls, wrong = fail_each(library, room, [program, *job], text, most, kind)
                     all_wrong += wrong + (calls == 0)
                     pieces = "one byte at a time" if most else "as asked for"

@@ -1,7 +1,7 @@
 #!/usr/bin/env python3
 """refuse_memory.py PROGRAM CALLS SETUP..: lets each request for memory of a run fail in turn, counting up until a run
-meets none: by each of the program's subcommands with each set-up, from a file and from standard input, of the help
-and of a refused command line. Each set-up has one client, so that `threads` has one answer too. CALLS is the program
+meets none: by each of the program's subcommands with each set-up, from a file and from standard input, of several
+files, of the help and of a refused command line. Each set-up has one client, so that `threads` has one answer too. CALLS is the program
 of `crates/refused_memory`, which says how calls of the libraries end.
 
 Each answer of the program has to be that of a run with ample memory, or exit status 3 with `sel4sim: out of memory`, or
@@ -153,6 +153,7 @@ def runs_of(program, calls, setups):
         for setup in setups:
             yield [program, *job, setup], b""
             yield [program, *job], pathlib.Path(setup).read_bytes()
+    yield [program, "check", setups[0], "-", setups[0]], pathlib.Path(setups[0]).read_bytes()
     yield [program, "--help"], b""
     yield [program, "--cheque"], b""
 

@@ -1,6 +1,9 @@
 -- What the definition of the command says of a parse.
-use Rattle.std.proofs.Common.{◌≡◌, ◌∙◌, List, [], ◌∷◌, Bool, true, false, Option, Some, None, option_map, cond, is_some, find, refl, inl, inr, subst, ap, ap₂}
+use Rattle.std.proofs.Common.{◌≡◌, ◌≢◌, ◌⊎◌, ◌∙◌, codes, map, List, [], ◌∷◌, Bool, true, false, Option, Some, None, option_map, cond, is_some, find, refl, inl, inr, subst, ap, ap₂}
+use Rattle.std.specs.Borrow.{Bor}
 use Rattle.std.specs.Box.{box_value}
+use Rattle.std.specs.Prelude.{unwrap_or, IfErr, OnOk, Result, Ok, Err}
+use Rattle.std.specs.Str.{bytes_eq}
 use Rattle.std.specs.List.{list_all}
 use Rattle.clap.specs.Words.{App, HasMatchesOf, Row, Kinds, IsAmong, HasKind, Shape, Text, app_of, found_of, is_simple, is_simple_and_free, matches_of, rows_of, subcommand_name_of, subcommand_of, subcommand_rows, subcommand_rows_of, takes, fault_of}
 use Rattle.clap.specs.Values.{kind_of}
@@ -14,7 +17,8 @@ use Rattle.clap.specs.declared.parser.matches.ArgMatches.{ArgMatches}
 use Rattle.clap.specs.declared.parser.matches.ArgMatches.TheViews.{out-ArgMatches, out-SubCommand}
 use Rattle.clap.proofs.OnLiterals.{clap_on_literals}
 use Rattle.clap.proofs.WalkLemmas.{both}
-use Rattle.command_line.specs.CommandLine.{command, job_named, job_of, Explains, StandsFor}
+use Rattle.command_line.specs.CommandLine.{command, file_of, files_of, job_named, job_of, more_behind, more_given, several_of, Explains, ExplainsMatches, StandsFor}
+use Rattle.command_line.specs.declared.arguments.Job.TheVariants.{Check}
 use Rattle.command_line.specs.declared.arguments.LineFault.{LineFault}
 use Rattle.command_line.specs.declared.arguments.LineFault.TheVariants.{Help, Refused, Conflict, Memory}
 
@@ -101,3 +105,38 @@ explained words e Refused kinds passes stands =
     (not_taken _ _ passes stands.1, (kind_of e, among _ e kinds stands.1, stands.0))
 explained words e (Conflict text) kinds passes stands = absurd stands
 explained words e Memory kinds passes stands = tt
+
+-- ---- several files
+
+-- the values that clap gives, and none where it gives none
+pub given_values : (given : Option (Bor (List (Bor Text)))) → more_given (option_map (λ v. v.now) given) ≡ unwrap_or (option_map (λ s. map (λ v. v.now) s.now) given) []
+given_values None = refl
+given_values (Some names) = refl
+
+true_or_false : (b : Bool) → (b ≡ true) ⊎ (b ≡ false)
+true_or_false true = inl refl
+true_or_false false = inr refl
+
+-- where several files are named, they are to be checked
+pub several_are_checked : (above : List Row) (met : Option (Text × List Row)) → (files_of above met ≢ []) → job_of met ≡ Some Check
+several_are_checked above None some = refl
+several_are_checked above (Some met) some = go (true_or_false (bytes_eq met.0 (codes "check")))
+  where
+    go : (bytes_eq met.0 (codes "check") ≡ true) ⊎ (bytes_eq met.0 (codes "check") ≡ false) → job_named met.0 ≡ Some Check
+    go (inl is) = rw is refl
+    go (inr is) =
+        let none : more_behind met.0 met.1 ≡ [] = rw is refl in
+        absurd (some (ap (several_of (file_of above (Some met))) none))
+
+pub on_ok : {V E : Type 0} (r : Result V E) (P : Type 0) → P → OnOk r P
+on_ok (Ok v) P p = p
+on_ok (Err e) P p = tt
+
+-- clap takes the words, and what is wrong with them is wrong with its matches
+pub explained_matches : {V : Type 0} (words : List Text) (r : Result V LineFault) → fault_of command words ≡ []
+    → IfErr r (ExplainsMatches (matches_of command words) (subcommand_of command words)) → IfErr r (Explains words)
+explained_matches words (Ok v) taken explains = tt
+explained_matches words (Err (Help text)) taken explains = absurd explains
+explained_matches words (Err Refused) taken explains = absurd explains
+explained_matches words (Err (Conflict text)) taken explains = (taken, explains)
+explained_matches words (Err Memory) taken explains = tt

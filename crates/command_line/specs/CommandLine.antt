@@ -1,10 +1,12 @@
 -- The program's command as clap's definition, and what clap's matches for the words say.
-use Rattle.std.specs.Prelude.{◌≡◌, ◌≢◌, ◌<◌, ◌^◌, ◌&&◌, ◌||◌, ⊤, Bool, true, false, not, codes, ℕ, List, [], Option, Some, None, is_some, option_map, if◌then◌else◌}
+use Rattle.std.specs.Prelude.{◌≡◌, ◌≢◌, ◌<◌, ◌^◌, ◌&&◌, ◌||◌, ⊤, Bool, nat_le, count_by, unwrap_or, true, false, not, codes, ℕ, List, [], ◌∷◌, Option, Some, None, is_some, option_map, if◌then◌else◌}
 use Rattle.std.specs.Str.Parse.{IsNumeral, digits_value, without_leading_plus}
+use Rattle.std.specs.Borrow.{Bor}
 use Rattle.std.specs.Option.{option_or}
 use Rattle.std.specs.Str.{bytes_eq}
-use Rattle.clap.specs.Words.{App, Kinds, Row, Rule, Text, first_of, matches_of, new_app, new_rule, with_rule, with_subcommand, subcommand_of, takes, fault_of, IsAmong}
+use Rattle.clap.specs.Words.{App, Kinds, Row, Rule, Text, all_of, first_of, matches_of, new_app, new_rule, with_rule, with_subcommand, subcommand_of, takes, fault_of, IsAmong}
 use Rattle.clap.specs.Simple.{on_top}
+use Rattle.clap.specs.Walk.{texts}
 use Rattle.clap.specs.declared.builder.action.ArgAction.TheVariants as action
 use Rattle.clap.specs.declared.builder.value_parser.ValueParser.TheVariants.{Unsigned}
 use Rattle.clap.specs.declared.error.kind.ErrorKind.{ErrorKind}
@@ -27,14 +29,19 @@ version_rule = record (new_rule (codes "version")) {
   action = Some action.Help;
 }
 
+-- the argument FILES behind FILE, of which each use takes one more
+abbrev pub more_files_rule : Rule
+more_files_rule = record (new_rule (codes "FILES")) { action = Some action.Append }
+
 -- a subcommand of that name, which has the argument FILE
 abbrev pub with_file : Text → App
 with_file name = with_rule (new_app name) file_rule
 
--- `sel4sim` with FILE and `--version`, without clap's subcommand `help`
+-- `sel4sim` with FILE, FILES and `--version`, without clap's subcommand `help`
 abbrev pub bare_command : App
 bare_command =
-    with_rule (with_rule (on_top (λ s. record s { disable_help_subcommand = true }) (new_app (codes "sel4sim"))) file_rule) version_rule
+    with_rule (with_rule (with_rule (on_top (λ s. record s { disable_help_subcommand = true }) (new_app (codes "sel4sim"))) file_rule)
+    more_files_rule) version_rule
 
 -- a command with one more subcommand
 abbrev pub and_subcommand : App → App → App
@@ -61,6 +68,10 @@ text_rule name = record (new_rule name) {
   long = Some name;
   value_names = 1;
 }
+
+-- the subcommand `check`, which takes several files
+abbrev pub check_command : App
+check_command = with_rule (with_file (codes "check")) more_files_rule
 
 -- the subcommands that have options
 abbrev pub why_command : App
@@ -91,7 +102,7 @@ abbrev pub plain_command : App
 plain_command =
     and_subcommand (with_file (codes "migrate"))
     (and_subcommand (with_file (codes "threads"))
-    (and_subcommand (with_file (codes "trace")) (and_subcommand (with_file (codes "check")) bare_command)))
+    (and_subcommand (with_file (codes "trace")) (and_subcommand check_command bare_command)))
 
 -- `sel4sim`, with all its subcommands
 unfoldable pub command : App
@@ -123,6 +134,33 @@ job_of (Some met) = job_named met.0
 abbrev pub file_of : List Row → Option (Text × List Row) → Option Text
 file_of above None = first_of (codes "FILE") above
 file_of above (Some met) = option_or (first_of (codes "FILE") met.1) (first_of (codes "FILE") above)
+
+-- the files behind the first, in the matches of a command; none, where it takes one file alone
+abbrev pub more_files_in : List Row → List Text
+more_files_in rows = unwrap_or (all_of (codes "FILES") rows) []
+
+abbrev pub more_given : Option (List (Bor Text)) → List Text
+more_given None = []
+more_given (Some names) = texts names
+
+-- the same of a subcommand of that name: `check` alone takes several
+abbrev pub more_behind : Text → List Row → List Text
+more_behind name rows = if bytes_eq name (codes "check") then more_files_in rows else []
+
+-- the names of all files, where there is more than one; else none
+abbrev pub several_of : Option Text → List Text → List Text
+several_of file [] = []
+several_of None (name ∷ more) = name ∷ more
+several_of (Some first) (name ∷ more) = first ∷ name ∷ more
+
+-- the same by the command's own matches and those of the subcommand
+abbrev pub files_of : List Row → Option (Text × List Row) → List Text
+files_of above None = several_of (file_of above None) (more_files_in above)
+files_of above (Some met) = several_of (file_of above (Some met)) (more_behind met.0 met.1)
+
+-- a hyphen, which stands for standard input, is there at most once
+abbrev pub reads_once : List Text → Bool
+reads_once names = nat_le (count_by (λ name. bytes_eq name (codes "-")) names) 1
 
 -- a text of decimal digits, which can begin with a plus, of a number of 64 bits
 abbrev pub IsNumber : Text → Type 0
@@ -181,22 +219,37 @@ job_asked words = job_of (subcommand_of command words)
 abbrev pub file_asked : List Text → Option Text
 file_asked words = file_of (matches_of command words) (subcommand_of command words)
 
+-- the names of all files, where there is more than one
+abbrev pub several_asked : List Text → List Text
+several_asked words = files_of (matches_of command words) (subcommand_of command words)
+
 -- clap has another fault than a call for help for the words
 abbrev pub HasOtherFault : Kinds → Type 0
 HasOtherFault kinds = (kind : ErrorKind) × IsAmong kind kinds × (kind ≢ DisplayHelp)
 
--- clap takes the words, and the options that their matches give do not go together
+-- the options that matches give do not go together, or a hyphen is there twice
+abbrev pub HasConflictIn : List Row → Option (Text × List Row) → Type 0
+HasConflictIn above met =
+    (options : Options) × HasOptions (own_rows met) options × ((agrees options && reads_once (files_of above met)) ≡ false)
+
+-- clap takes the words, and their options do not go together, or a hyphen is there twice
 abbrev pub HasConflict : List Text → Type 0
-HasConflict words = (fault_of command words ≡ [])
-    × (options : Options) × HasOptions (own_rows (subcommand_of command words)) options × (agrees options ≡ false)
+HasConflict words = (fault_of command words ≡ []) × HasConflictIn (matches_of command words) (subcommand_of command words)
 
 -- the command doesn't take the words, and their fault by clap's definition can be a call for help, or can be another; or
--- it takes them, and the options do not go together
+-- it takes them, and the options do not go together, or a hyphen is there twice
 abbrev pub Explains : List Text → LineFault → Type 0
 Explains words (Help text) = (takes command words ≡ false) × IsAmong DisplayHelp (fault_of command words)
 Explains words Refused = (takes command words ≡ false) × HasOtherFault (fault_of command words)
 Explains words (Conflict text) = HasConflict words
 Explains words Memory = ⊤
+
+-- a fault of matches that clap gives: their options do not go together, or a hyphen is there twice; or memory ran out
+abbrev pub ExplainsMatches : List Row → Option (Text × List Row) → LineFault → Type 0
+ExplainsMatches above met (Help text) = ⊥
+ExplainsMatches above met Refused = ⊥
+ExplainsMatches above met (Conflict text) = HasConflictIn above met
+ExplainsMatches above met Memory = ⊤
 
 -- the fault that stands for an error of clap
 abbrev pub StandsFor : ErrorKind → LineFault → Type 0

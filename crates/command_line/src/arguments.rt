@@ -64,16 +64,18 @@ pub struct Options<'a> {
     pub untyped: Option<&'a str>,
 }
 
-/// A command line that was taken: what to do, by which options, and with which file; without a file, with standard
+/// A command line that was taken: what to do, by which options, and with which file or files; without a file, with standard
 /// input.
-#[derive(Clone, Copy, Drop)]
+#[derive(Drop)]
 pub struct Line<'a> {
     /// What to do.
     pub job: Job,
     /// What the options say.
     pub options: Options<'a>,
-    /// The file's name.
+    /// The file's name; the first one's, where there are several.
     pub file: Option<&'a str>,
+    /// The names of all files where there is more than one, which are to be checked; else nothing.
+    pub several: Vec<&'a str>,
 }
 
 /// Why a command line is not taken.
@@ -85,7 +87,7 @@ pub enum LineFault {
     /// It is none that the program takes.
     #[error("command line refused")]
     Refused,
-    /// Options of it do not go together; the text says which.
+    /// Words of it do not go together; the text says which.
     #[error("command line refused")]
     Conflict(&'static str),
     /// Memory ran out.

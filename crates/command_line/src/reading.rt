@@ -1,10 +1,11 @@
 //! The words of the command line.
-ghost use Rattle.std.specs.Prelude.{◌≡◌, [], codes, true, false, not, is_some, option_map, IfOk, IfErr, IsSome, OnOk};
+ghost use Rattle.std.specs.Prelude.{◌≡◌, ◌&&◌, Some, None, [], codes, true, false, not, is_some, option_map, IfOk, IfErr, IsSome, OnOk};
+ghost use Rattle.std.specs.Str.{bytes_eq};
 ghost use Rattle.clap.specs.Words.{app_of, fault_of, first_of, found_of, rows_of, rule_of, subcommand_of, subcommand_rows_of, with_rule};
 ghost use Rattle.clap.specs.declared.builder.command.Command.TheViews.{out-Command};
 ghost use Rattle.clap.specs.Values.{kind_of};
 ghost use Rattle.clap.specs.Walk.{texts};
-ghost use Rattle.command_line.specs.CommandLine.{Explains, HasOptions, Says, StandsFor, agrees, and_subcommand, audit_command, bare_command, command as definition, explore_command, file_asked, file_of, file_rule, flag_rule, is_set, job_asked, job_of, new_command, number_rule, own_rows, plain_command, text_rule, tree_command, version_rule, why_command, with_file as with_file_definition};
+ghost use Rattle.command_line.specs.CommandLine.{Explains, ExplainsMatches, HasOptions, Says, StandsFor, agrees, and_subcommand, audit_command, bare_command, check_command, command as definition, explore_command, file_asked, file_of, file_rule, files_of, flag_rule, is_set, job_asked, job_named, job_of, more_behind as more_behind_definition, more_files_in, more_files_rule, more_given, new_command, number_rule, own_rows, plain_command, reads_once, several_asked, several_of, text_rule, tree_command, version_rule, why_command, with_file as with_file_definition};
 
 use crate::arguments::{Job, Line, LineFault, Options};
 use clap::builder::ValueParser;
@@ -23,6 +24,7 @@ Without a command, FILE is run as by check.
 
 Examples:
   sel4sim layout.toml            the report of a set-up
+  sel4sim a.toml b.toml          a line for each of several, and a summary
   sel4sim trace layout.toml      what each of its calls changed
   sel4sim why layout.toml        why its calls are refused
   sel4sim tree layout.toml       which slot is derived from which
@@ -44,7 +46,7 @@ Exit status:
 
 Pages: docs/first-set-up.md, and below the installation share/doc/sel4sim";
 
-/// What is said of options that do not go together.
+/// What is said of words that do not go together.
 const EVER_WITH_NEVER: &str = "--ever and --never do not go together";
 
 const SLOT_WITH_PARTS: &str = "--slot goes neither with --ever nor with --never";
@@ -52,6 +54,9 @@ const SLOT_WITH_PARTS: &str = "--slot goes neither with --ever nor with --never"
 const WITHOUT_ALONE: &str = "--without goes with --ever or --never alone";
 
 const BY_ALONE: &str = "--by goes with --never alone";
+
+/// What is said where standard input is named twice.
+const TWO_HYPHENS: &str = "- stands for standard input, which can be read once";
 
 /// The base in which the numbers of options are written.
 const DECIMAL: u32 = 10;
@@ -62,6 +67,16 @@ fn file<'a>(alloc: Global) -> Arg<'a>
     ensures local { result.global ≡ false }
 {
     Arg::new(alloc, "FILE").help("The set-up; without it, or where it is -, standard input is read")
+}
+
+/// The argument FILES, behind FILE.
+fn more_files<'a>(alloc: Global) -> Arg<'a>
+    ensures rule { rule_of result ≡ more_files_rule }
+    ensures local { result.global ≡ false }
+{
+    Arg::new(alloc, "FILES").action(ArgAction::Append).help(
+        "More set-ups; of several a line for each is printed in place of the report",
+    )
 }
 
 /// A subcommand, which has the argument FILE.
@@ -94,7 +109,8 @@ fn bare<'a>(alloc: Global) -> Result<Command<'a>, AllocError>
         .after_help(AFTER_HELP)
         .disable_help_subcommand(true)
         .arg(file(alloc))?;
-    let whole = command.arg(version(alloc))?;
+    let with_more = command.arg(more_files(alloc))?;
+    let whole = with_more.arg(version(alloc))?;
     Ok(whole)
 }
 
@@ -293,19 +309,24 @@ fn new<'a>(alloc: Global) -> Result<Command<'a>, AllocError>
     Ok(whole)
 }
 
+/// The subcommand `check`, which takes several files.
+fn check<'a>(alloc: Global) -> Result<Command<'a>, AllocError>
+    ensures app { IfOk result (λ c. app_of c ≡ check_command) }
+    ensures local { IfOk result (λ c. (out-Command c).has_globals ≡ false) }
+{
+    let command = with_file(alloc, "check", "Runs a set-up and prints its report")?;
+    let whole = command.arg(more_files(alloc))?;
+    Ok(whole)
+}
+
 /// The command with the subcommands that have no options.
 fn plain<'a>(alloc: Global) -> Result<Command<'a>, AllocError>
     ensures { IfOk result (λ c. app_of c ≡ plain_command) }
 {
-    let check = and_with_file(
-        alloc,
-        bare(alloc)?,
-        "check",
-        "Runs a set-up and prints its report",
-    )?;
+    let with_check = bare(alloc)?.subcommand(check(alloc)?)?;
     let trace = and_with_file(
         alloc,
-        check,
+        with_check,
         "trace",
         "Runs a set-up and prints what each of its calls changed",
     )?;
@@ -384,45 +405,132 @@ fn options_in<'a>(matches: &ArgMatches<'a>) -> Options<'a>
     }
 }
 
-/// What the matches ask for.
-fn line_in<'a>(matches: &ArgMatches<'a>) -> Line<'a>
-    requires { IsSome (job_of (subcommand_rows_of matches.now)) }
-    ensures job { job_of (subcommand_rows_of matches.now) ≡ Some result.job }
-    ensures options { HasOptions (own_rows (subcommand_rows_of matches.now)) result.options }
-    ensures file { file_of (rows_of (found_of matches.now)) (subcommand_rows_of matches.now)
-        ≡ option_map (λ s. s.now) result.file }
+/// The files behind the first, in the matches of a command that takes several.
+fn more_in<'m, 'a>(matches: &'m ArgMatches<'a>) -> Option<&'m [&'a str]>
+    ensures { more_given (option_map (λ v. v.now) result) ≡ more_files_in (rows_of (found_of matches.now)) }
 {
-    let above = matches.get_str("FILE");
-    match matches.subcommand() {
-        None => Line {
-            job: Job::Check,
-            options: Options {
-                call: None,
-                after: None,
-                slot: None,
-                ever: false,
-                never: None,
-                by: None,
-                without: None,
-                first: None,
-                states: None,
-                witness: None,
-                dot: false,
-                profile: None,
-                threads: None,
-                endpoints: None,
-                untyped: None,
-            },
-            file: above,
+    matches.get_raw("FILES")
+}
+
+/// The names of the first file and of those behind it, where there are any behind it.
+fn with_first<'a>(
+    alloc: Global,
+    file: Option<&'a str>,
+    more: &[&'a str],
+) -> Result<Vec<&'a str>, AllocError>
+    ensures { IfOk result (λ v. texts v.items ≡ several_of (option_map (λ s. s.now) file.entry) (texts more.now)) }
+{
+    let mut several = Vec::new(alloc);
+    if more.is_empty() {
+        return Ok(several);
+    }
+    if let Some(name) = file {
+        several.push(name)?;
+    }
+    several.extend_from_slice(more)?;
+    Ok(several)
+}
+
+/// The same; where no files are behind the first, none.
+fn several_in<'a>(
+    alloc: Global,
+    file: Option<&'a str>,
+    more: Option<&[&'a str]>,
+) -> Result<Vec<&'a str>, AllocError>
+    ensures { IfOk result (λ v. texts v.items ≡ several_of (option_map (λ s. s.now) file.entry) (more_given (option_map (λ v. v.now) more.entry))) }
+{
+    match more {
+        Some(more) => with_first(alloc, file, more),
+        None => Ok(Vec::new(alloc)),
+    }
+}
+
+/// What the matches ask for where they name no subcommand.
+fn bare_line<'a>(alloc: Global, matches: &ArgMatches<'a>) -> Result<Line<'a>, AllocError>
+    ensures job { IfOk result (λ l. job_of None ≡ Some l.job) }
+    ensures options { IfOk result (λ l. HasOptions (own_rows None) l.options) }
+    ensures file { IfOk result (λ l. file_of (rows_of (found_of matches.now)) None ≡ option_map (λ s. s.now) l.file) }
+    ensures several { IfOk result (λ l. files_of (rows_of (found_of matches.now)) None ≡ texts l.several.items) }
+{
+    let file = matches.get_str("FILE");
+    let several = several_in(alloc, file, more_in(matches))?;
+    Ok(Line {
+        job: Job::Check,
+        options: Options {
+            call: None,
+            after: None,
+            slot: None,
+            ever: false,
+            never: None,
+            by: None,
+            without: None,
+            first: None,
+            states: None,
+            witness: None,
+            dot: false,
+            profile: None,
+            threads: None,
+            endpoints: None,
+            untyped: None,
         },
-        Some((name, inner)) => {
-            let Some(job) = Job::named(name) else {
-                unreachable!();
-            };
-            let options = options_in(inner);
-            let file = inner.get_str("FILE").or(above);
-            Line { job, options, file }
-        }
+        file,
+        several,
+    })
+}
+
+/// The files behind the first, in the matches of a subcommand of that name.
+fn more_behind<'m, 'a>(name: &str, matches: &'m ArgMatches<'a>) -> Option<&'m [&'a str]>
+    ensures { more_given (option_map (λ v. v.now) result) ≡ more_behind_definition name.now (rows_of (found_of matches.now)) }
+{
+    if name == "check" {
+        more_in(matches)
+    } else {
+        None
+    }
+}
+
+/// What the matches of the subcommand of that name ask for, behind those of the command.
+fn subcommand_line<'a>(
+    alloc: Global,
+    above: &ArgMatches<'a>,
+    name: &str,
+    matches: &ArgMatches<'a>,
+) -> Result<Line<'a>, AllocError>
+    requires { IsSome (job_named name.now) }
+    ensures job { IfOk result (λ l. job_of (Some (name.now, rows_of (found_of matches.now))) ≡ Some l.job) }
+    ensures options { IfOk result (λ l. HasOptions (own_rows (Some (name.now, rows_of (found_of matches.now)))) l.options) }
+    ensures file { IfOk result (λ l. file_of (rows_of (found_of above.now)) (Some (name.now, rows_of (found_of matches.now)))
+        ≡ option_map (λ s. s.now) l.file) }
+    ensures several { IfOk result (λ l. files_of (rows_of (found_of above.now)) (Some (name.now, rows_of (found_of matches.now)))
+        ≡ texts l.several.items) }
+{
+    let Some(job) = Job::named(name) else {
+        unreachable!();
+    };
+    let first = matches.get_str("FILE");
+    let file = first.or(above.get_str("FILE"));
+    let several = several_in(alloc, file, more_behind(name, matches))?;
+    Ok(Line {
+        job,
+        options: options_in(matches),
+        file,
+        several,
+    })
+}
+
+/// What the matches ask for.
+fn line_in<'a>(alloc: Global, matches: &ArgMatches<'a>) -> Result<Line<'a>, AllocError>
+    requires { IsSome (job_of (subcommand_rows_of matches.now)) }
+    ensures job { IfOk result (λ l. job_of (subcommand_rows_of matches.now) ≡ Some l.job) }
+    ensures options { IfOk result (λ l. HasOptions (own_rows (subcommand_rows_of matches.now)) l.options) }
+    ensures file { IfOk result (λ l. file_of (rows_of (found_of matches.now)) (subcommand_rows_of matches.now)
+        ≡ option_map (λ s. s.now) l.file) }
+    ensures several { IfOk result (λ l. files_of (rows_of (found_of matches.now)) (subcommand_rows_of matches.now)
+        ≡ texts l.several.items) }
+{
+    match matches.subcommand() {
+        None => bare_line(alloc, matches),
+        Some((name, inner)) => subcommand_line(alloc, matches, name, inner),
     }
 }
 
@@ -442,6 +550,31 @@ fn conflict_of(options: &Options) -> Option<&'static str>
     } else {
         None
     }
+}
+
+/// Whether a name stands for standard input.
+fn is_hyphen(name: &str) -> bool
+    ensures { result ≡ bytes_eq name.now (codes "-") }
+{
+    name == "-"
+}
+
+/// Whether the names have standard input at most once.
+fn read_once(names: &[&str]) -> bool
+    ensures { result ≡ reads_once (texts names.now) }
+{
+    names.iter().filter(|name| is_hyphen(**name)).count() <= 1
+}
+
+/// What is said of words that do not go together: of options, or of files.
+fn conflict_in(line: &Line<'_>) -> Option<&'static str>
+    ensures { is_some result ≡ not (agrees line.now.options && reads_once (texts line.now.several.items)) }
+{
+    let conflict = conflict_of(&line.options);
+    if conflict.is_none() && !read_once(line.several.as_slice()) {
+        return Some(TWO_HYPHENS);
+    }
+    conflict
 }
 
 /// The fault that stands for an error of clap.
@@ -476,16 +609,40 @@ pub fn refused_line_words(alloc: Global, words: &[&str]) -> Option<String> {
     format!(in alloc; "{error}").ok()
 }
 
+/// What the matches of words that the command takes ask for.
+fn taken_line<'a>(alloc: Global, matches: &ArgMatches<'a>) -> Result<Line<'a>, LineFault>
+    requires { IsSome (job_of (subcommand_rows_of matches.now)) }
+    ensures job { IfOk result (λ l. job_of (subcommand_rows_of matches.now) ≡ Some l.job) }
+    ensures options { IfOk result (λ l. HasOptions (own_rows (subcommand_rows_of matches.now)) l.options) }
+    ensures agrees { IfOk result (λ l. agrees l.options ≡ true) }
+    ensures file { IfOk result (λ l. file_of (rows_of (found_of matches.now)) (subcommand_rows_of matches.now)
+        ≡ option_map (λ s. s.now) l.file) }
+    ensures several { IfOk result (λ l. files_of (rows_of (found_of matches.now)) (subcommand_rows_of matches.now)
+        ≡ texts l.several.items) }
+    ensures once { IfOk result (λ l. reads_once (texts l.several.items) ≡ true) }
+    ensures fault { IfErr result (ExplainsMatches (rows_of (found_of matches.now)) (subcommand_rows_of matches.now)) }
+{
+    let Ok(line) = line_in(alloc, matches) else {
+        return Err(LineFault::Memory);
+    };
+    match conflict_in(&line) {
+        None => Ok(line),
+        Some(text) => Err(LineFault::Conflict(text)),
+    }
+}
+
 /// Reads the words of a command line, of which the first is the program's name.
 ///
 /// # Errors
 /// `Help` where the words call for help, `Refused` where they are none that the command takes, `Conflict` where it takes
-/// them and the options do not go together, and `Memory` where memory ran out.
+/// them and the options do not go together, or standard input is named twice, and `Memory` where memory ran out.
 pub fn line<'a>(alloc: Global, words: &'a [&'a str]) -> Result<Line<'a>, LineFault>
     ensures job { IfOk result (λ l. job_asked (texts words.now) ≡ Some l.job) }
     ensures options { IfOk result (λ l. HasOptions (own_rows (subcommand_of definition (texts words.now))) l.options) }
     ensures agrees { IfOk result (λ l. agrees l.options ≡ true) }
     ensures file { IfOk result (λ l. file_asked (texts words.now) ≡ option_map (λ s. s.now) l.file) }
+    ensures several { IfOk result (λ l. several_asked (texts words.now) ≡ texts l.several.items) }
+    ensures once { IfOk result (λ l. reads_once (texts l.several.items) ≡ true) }
     ensures taken { OnOk result (fault_of definition (texts words.now) ≡ []) }
     ensures fault { IfErr result (Explains (texts words.now)) }
 {
@@ -493,13 +650,7 @@ pub fn line<'a>(alloc: Global, words: &'a [&'a str]) -> Result<Line<'a>, LineFau
         return Err(LineFault::Memory);
     };
     match command.try_get_matches_from(words) {
-        Ok(matches) => {
-            let line = line_in(&matches);
-            match conflict_of(&line.options) {
-                None => Ok(line),
-                Some(text) => Err(LineFault::Conflict(text)),
-            }
-        }
+        Ok(matches) => taken_line(alloc, &matches),
         Err(error) => Err(fault_for(alloc, &error)),
     }
 }

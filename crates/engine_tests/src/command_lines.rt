@@ -140,6 +140,30 @@ fn lines_are_taken(rt: HostRuntime) {
 }
 
 #[test]
+fn several_files_are_taken(rt: HostRuntime) {
+    let forms: [(&[&str], &[&str]); 8] = [
+        (&["sel4sim", "check", "a"], &[]),
+        (&["sel4sim", "check", "a", "b"], &["a", "b"]),
+        (&["sel4sim", "a", "b", "c"], &["a", "b", "c"]),
+        (&["sel4sim", "a", "b", "check"], &["a", "b", "check"]),
+        (
+            &["sel4sim", "check", "a", "--", "-b", "c"],
+            &["a", "-b", "c"],
+        ),
+        (&["sel4sim", "check", "-", "a"], &["-", "a"]),
+        (&["sel4sim", "a", "check", "b", "c"], &["b", "c"]),
+        (&["sel4sim", "a", "check"], &[]),
+    ];
+    for (words, files) in forms {
+        let is_read = match line(rt.alloc(), words) {
+            Ok(taken) => name_of(taken.job) == "check" && taken.several.as_slice() == files,
+            Err(_) => false,
+        };
+        assert!(rt; is_read, "{words:?}");
+    }
+}
+
+#[test]
 fn numbers_are_read(rt: HostRuntime) {
     let forms: [(&[&str], Option<u64>); 5] = [
         (&["sel4sim", "why"], None),
@@ -269,7 +293,12 @@ fn witnesses_are_asked_for(rt: HostRuntime) {
 
 #[test]
 fn options_that_do_not_go_together_are_refused(rt: HostRuntime) -> Result<(), Fail> {
-    let forms: [(&[&str], &str); 5] = [
+    let forms: [(&[&str], &str); 7] = [
+        (
+            &["sel4sim", "check", "-", "rows.toml", "-"],
+            "standard input",
+        ),
+        (&["sel4sim", "-", "-"], "standard input"),
         (&["sel4sim", "audit", "--ever", "--slot", "160"], "--slot"),
         (
             &["sel4sim", "audit", "--slot", "160", "--ever", "rows.toml"],
@@ -311,10 +340,10 @@ fn help_has_its_text(rt: HostRuntime) {
 #[test]
 fn other_words_are_refused(rt: HostRuntime) -> Result<(), Fail> {
     let forms: [&[&str]; 24] = [
-        &["sel4sim", "chek", "rows.toml"],
+        &["sel4sim", "trace", "rows.toml", "more.toml"],
         &["sel4sim", "migrate", "rows.toml", "more.toml"],
-        &["sel4sim", "rows.toml", "chek"],
-        &["sel4sim", "check", "rows.toml", "more.toml"],
+        &["sel4sim", "rows.toml", "trace", "more.toml", "third.toml"],
+        &["sel4sim", "new", "rows.toml"],
         &["sel4sim", "check", "--version"],
         &["sel4sim", "-x"],
         &["sel4sim", "check", "--file=rows.toml"],

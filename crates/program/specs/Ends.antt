@@ -1,11 +1,11 @@
 -- What the program does with the words of its command line.
-use Rattle.std.specs.Prelude.{◌≡◌, ℕ, List, [], codes, Option, Some, None, Result, Err, true, false, if◌then◌else◌, IfOk, IfErr, OnOk, OnErr}
+use Rattle.std.specs.Prelude.{◌≡◌, ◌≢◌, ℕ, List, [], codes, Option, Some, None, Result, Err, true, false, if◌then◌else◌, IfOk, IfErr, OnOk, OnErr}
 use Rattle.std.specs.Str.{bytes_eq}
 use Rattle.clap.specs.Words.{Text, subcommand_of, takes, fault_of, IsAmong}
 use Rattle.clap.specs.declared.error.kind.ErrorKind.TheVariants.{DisplayHelp}
-use Rattle.command_line.specs.CommandLine.{agrees, command, file_asked, job_asked, own_rows, HasConflict, HasOptions, HasOtherFault}
+use Rattle.command_line.specs.CommandLine.{agrees, command, file_asked, job_asked, own_rows, reads_once, several_asked, HasConflict, HasOptions, HasOtherFault}
 use Rattle.command_line.specs.declared.arguments.Job.{Job}
-use Rattle.command_line.specs.declared.arguments.Job.TheVariants.{New}
+use Rattle.command_line.specs.declared.arguments.Job.TheVariants.{Check, New}
 use Rattle.command_line.specs.declared.arguments.Options.{Options}
 use Rattle.engine_core.specs.Devices.{Took, TookFront}
 use Rattle.engine_core.specs.Runs.{IsRun}
@@ -16,10 +16,11 @@ use Rattle.engine_core.specs.declared.sink.Sink.{Ghosts as SinkGhosts}
 use Rattle.engine_core.specs.declared.source.Source.{Ghosts as SourceGhosts}
 use Rattle.program.specs.Jobs.{meaning}
 use Rattle.program.specs.NewWords.{IsNewOf}
-use Rattle.program_messages.specs.declared.ended.Used.{Used}
-use Rattle.program_messages.specs.declared.ended.Used.TheVariants.{Standard, File, Unopened, Nothing}
+use Rattle.engine_files.specs.Files.{IsCheckOf, IsInput}
+use Rattle.engine_files.specs.declared.inputs.Used.{Used}
+use Rattle.engine_files.specs.declared.inputs.Used.TheVariants.{Standard, File, Unopened, Nothing}
 use Rattle.program_messages.specs.declared.ended.Ended.{Ended}
-use Rattle.program_messages.specs.declared.ended.Ended.TheVariants.{Did, Helped, Refused, Conflict, NoMemory}
+use Rattle.program_messages.specs.declared.ended.Ended.TheVariants.{Did, Checked, Helped, Refused, Conflict, NoMemory}
 
 -- the name of the file that is to be read, where the words name one; a hyphen stands for standard input
 abbrev pub named_input : Option Text → Option Text
@@ -61,9 +62,10 @@ IsWritten to result old new = (text : List ℕ)
     × IfErr result (λ fault. fault ≡ Writing)
     × OnErr result (TookFront to.taken to.written old new text)
 
--- Did: clap takes the words, their options go together, and their job was done with the input that they name. Helped: their
--- fault can be a call for help. Refused: they have another fault, and nothing is written. Conflict: clap takes them, their
--- options do not go together, and nothing is written. NoMemory: nothing is written.
+-- Did: clap takes the words, their options go together, and their job was done with the one input that they name. Checked:
+-- clap takes them, they ask for the check of several files, of which standard input is one at most, and these were checked.
+-- Helped: their fault can be a call for help. Refused: they have another fault, and nothing is written. Conflict: clap takes
+-- them, their options do not go together or standard input is named twice, and nothing is written. NoMemory: nothing is written.
 abbrev pub IsEnd : {S F E K : Type 0} → (S → Type 0) → (Text → F → Type 0) → (Text → E → Type 0)
     → SourceGhosts S → SourceGhosts F → SinkGhosts K → List Text → Ended S F E → K → K → Type 0
 IsEnd is_standard is_file is_fault from_standard from_file to words (Did done) old new =
@@ -71,8 +73,15 @@ IsEnd is_standard is_file is_fault from_standard from_file to words (Did done) o
     × (job_asked words ≡ Some done.line.job)
     × HasOptions (own_rows (subcommand_of command words)) done.line.options
     × (agrees done.line.options ≡ true)
+    × (several_asked words ≡ [])
     × IsDone is_standard is_file is_fault from_standard from_file to
     done.line.job done.line.options (named_input (file_asked words)) done.input done.answer old new
+IsEnd is_standard is_file is_fault from_standard from_file to words (Checked checked) old new =
+    (fault_of command words ≡ [])
+    × (job_asked words ≡ Some Check)
+    × (several_asked words ≢ [])
+    × (reads_once (several_asked words) ≡ true)
+    × IsCheckOf (IsInput is_standard is_file is_fault from_standard from_file) to (several_asked words) old new checked.answer
 IsEnd is_standard is_file is_fault from_standard from_file to words (Helped answer) old new =
     (takes command words ≡ false) × IsAmong DisplayHelp (fault_of command words) × IsWritten to answer old new
 IsEnd is_standard is_file is_fault from_standard from_file to words Refused old new =

@@ -2,11 +2,12 @@
 ghost use Rattle.std.specs.Prelude.{⊤};
 
 use crate::front::FrontWriter;
-use crate::inputs::Inputs;
 use crate::lines::run_words;
 use command_line::LineFault;
+use engine::CountedText;
 use engine_core::{KeptReader, KeptWriter, ReaderSource, WriterSink};
-use program_messages::{Output, complain, tell};
+use engine_files::{Inputs, Listener, Used};
+use program_messages::{Output, complain, tell, tell_of_file};
 use std::env::{self, Env};
 use std::fs::{self, Files};
 use std::io::{self, Eprint, ErrorKind, Input};
@@ -42,6 +43,27 @@ impl<R: Files + Input + AllocGlobal> Inputs for HostInputs<'_, R> {
     }
 }
 
+/// Standard error, where is said of each of several files what there is to say.
+#[derive(Clone, Copy)]
+struct HostListener<'a, R> {
+    rt: &'a R,
+}
+
+impl<R: Eprint + AllocGlobal, S, F> Listener<
+    ReaderSource<KeptReader<S>>,
+    ReaderSource<KeptReader<F>>,
+    io::Error,
+> for HostListener<'_, R> {
+    fn hear(
+        &self,
+        name: &str,
+        input: &Used<ReaderSource<KeptReader<S>>, ReaderSource<KeptReader<F>>, io::Error>,
+        found: Option<&CountedText>,
+    ) {
+        tell_of_file(self.rt, name, input, found);
+    }
+}
+
 /// The words that the program was started with, its name first. A word that is no text is refused.
 fn words_of<R: Env + AllocGlobal>(rt: &R) -> Result<Vec<String>, LineFault> {
     let words = env::args(rt).map_err(|error| {
@@ -67,7 +89,14 @@ fn run_texts<R: Files + Input + Print + Eprint + AllocGlobal + Threads + Wait + 
 ) -> u8 {
     let writer = FrontWriter::new(rt.alloc(), KeptWriter::new(io::writer(rt)));
     let mut sink = WriterSink::new(writer);
-    let ended = run_words(rt, rt.alloc(), &HostInputs { rt }, words, &mut sink);
+    let ended = run_words(
+        rt,
+        rt.alloc(),
+        &HostInputs { rt },
+        &HostListener { rt },
+        words,
+        &mut sink,
+    );
     let writer = sink.writer();
     let output = Output {
         front: writer.front(),

@@ -4,15 +4,14 @@
 mod commas;
 mod front;
 mod host;
-mod inputs;
 mod jobs;
 mod lines;
 mod marks;
 mod new_setup;
 mod witness;
 
+pub use engine_files::{Inputs, Listener, Used};
 pub use host::run;
-pub use inputs::Inputs;
 pub use jobs::run_job;
 pub use lines::run_words;
-pub use program_messages::{Done, Ended, Used};
+pub use program_messages::{CheckedFiles, Done, Ended};

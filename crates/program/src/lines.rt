@@ -1,14 +1,15 @@
 //! A command line, from its words to its end.
 ghost use Rattle.std.specs.Prelude.{◌≡◌, false, Some, None, option_map};
 ghost use Rattle.clap.specs.Walk.{texts};
+ghost use Rattle.engine_files.specs.Files.{IsCheckOf, IsInput};
 ghost use Rattle.program.specs.Ends.{IsDone, IsEnd, IsWriting, named_input};
 ghost use Rattle.program.specs.NewWords.{IsNewOf};
 
-use crate::inputs::Inputs;
 use crate::jobs::{run_job, write_new};
 use command_line::{Job, Line, LineFault, line};
 use engine_core::{ReaderSource, RunFault, Sink, write_all};
-use program_messages::{Done, Ended, Used};
+use engine_files::{Inputs, Listener, Used, check_files};
+use program_messages::{CheckedFiles, Done, Ended};
 use std::alloc::Global;
 use std::sync::Wait;
 use std::thread::Threads;
@@ -130,12 +131,37 @@ fn run_line<'a, R: Threads + Wait + Sync, I: Inputs, K: Sink>(
     }
 }
 
+/// Checks the files of a line that names several.
+fn run_files<'a, I: Inputs, L: Listener<I::Standard, I::File, I::Fault>, K: Sink>(
+    alloc: Global,
+    inputs: &I,
+    listener: &L,
+    line: Line<'a>,
+    sink: &mut K,
+) -> CheckedFiles<'a>
+    requires sink { K.failed sink.old ≡ false }
+    ensures line { result.line ≡ line.entry }
+    ensures checked { IsCheckOf (IsInput (I.is_standard inputs.now) (I.is_file inputs.now) (I.is_fault inputs.now) I.Standard.Source I.File.Source)
+        K.Sink (texts line.entry.several.items) sink.old sink.new result.answer }
+{
+    let answer = check_files(alloc, inputs, listener, line.several.as_slice(), sink);
+    CheckedFiles { line, answer }
+}
+
 /// Does what the words of a command line ask for, of which the first is the program's name: the job, with the file that
-/// they name or with standard input, or the help text. Nothing is written where they are not taken.
-pub fn run_words<'a, R: Threads + Wait + Sync, I: Inputs, K: Sink>(
+/// they name or with standard input, the check of several files, of each of which the listener hears, or the help text.
+/// Nothing is written where they are not taken.
+pub fn run_words<
+    'a,
+    R: Threads + Wait + Sync,
+    I: Inputs,
+    L: Listener<I::Standard, I::File, I::Fault>,
+    K: Sink,
+>(
     rt: &R,
     alloc: Global,
     inputs: &I,
+    listener: &L,
     words: &'a [&'a str],
     sink: &mut K,
 ) -> Ended<'a, I::Standard, I::File, I::Fault>
@@ -144,7 +170,13 @@ pub fn run_words<'a, R: Threads + Wait + Sync, I: Inputs, K: Sink>(
         I.Standard.Source I.File.Source K.Sink (texts words.now) result sink.old sink.new }
 {
     match line(alloc, words) {
-        Ok(line) => Ended::Did(run_line(rt, alloc, inputs, line, sink)),
+        Ok(line) => {
+            if line.several.is_empty() {
+                Ended::Did(run_line(rt, alloc, inputs, line, sink))
+            } else {
+                Ended::Checked(run_files(alloc, inputs, listener, line, sink))
+            }
+        }
         Err(LineFault::Help(text)) => Ended::Helped(write_all(sink, text.as_bytes())),
         Err(LineFault::Refused) => Ended::Refused,
         Err(LineFault::Conflict(text)) => Ended::Conflict(text),

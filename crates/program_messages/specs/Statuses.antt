@@ -4,12 +4,15 @@ use Rattle.engine_core.specs.Statuses.{run_status, run_fault_text}
 use Rattle.engine_core.specs.declared.fault.Verdict.{Verdict}
 use Rattle.engine_core.specs.declared.fault.Verdict.TheVariants.{Absent}
 use Rattle.engine_core.specs.declared.fault.RunFault.{RunFault}
+use Rattle.engine_files.specs.Files.{files_status}
+use Rattle.engine_files.specs.declared.tally.Tally.{Tally}
 use Rattle.program_messages.specs.declared.ended.Ended.{Ended}
-use Rattle.program_messages.specs.declared.ended.Ended.TheVariants.{Did, Helped, Refused, Conflict, NoMemory}
+use Rattle.program_messages.specs.declared.ended.Ended.TheVariants.{Did, Checked, Helped, Refused, Conflict, NoMemory}
 
 -- the exit status
 abbrev pub end_status : {S F E : Type 0} → Ended S F E → ℕ
 end_status (Did done) = run_status done.answer
+end_status (Checked checked) = files_status checked.answer
 end_status (Helped (Ok done)) = 0
 end_status (Helped (Err fault)) = 3
 end_status Refused = 4
@@ -22,9 +25,15 @@ answer_text (Ok Absent) = Some (codes "command line refused")
 answer_text (Ok verdict) = None
 answer_text (Err fault) = Some (run_fault_text fault)
 
--- what is said first on standard error
+-- what is said of a fault that ends the check of several files
+abbrev pub files_text : Result Tally RunFault → Option (List ℕ)
+files_text (Ok tally) = None
+files_text (Err fault) = Some (run_fault_text fault)
+
+-- what is said first on standard error; of several files, after what is said of each
 abbrev pub end_text : {S F E : Type 0} → Ended S F E → Option (List ℕ)
 end_text (Did done) = answer_text done.answer
+end_text (Checked checked) = files_text checked.answer
 end_text (Helped (Ok done)) = None
 end_text (Helped (Err fault)) = Some (run_fault_text fault)
 end_text Refused = Some (codes "command line refused")

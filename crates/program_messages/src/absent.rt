@@ -157,7 +157,7 @@ fn absent_order(alloc: Global, options: Options<'_>) -> Result<Option<String>, A
 /// Which word or number of a line's options the set-up does not have.
 fn absent_in(
     alloc: Global,
-    line: Line<'_>,
+    line: &Line<'_>,
     named: &NamedSetup,
 ) -> Result<Option<String>, AllocError> {
     let calls = named.setup.calls().len() as u64;
@@ -175,7 +175,7 @@ fn absent_in(
 ///
 /// # Errors
 /// Where memory was refused.
-pub fn absence(alloc: Global, line: Line<'_>, bytes: &[u8]) -> Result<Option<String>, AllocError> {
+pub fn absence(alloc: Global, line: &Line<'_>, bytes: &[u8]) -> Result<Option<String>, AllocError> {
     if let Job::New = line.job {
         return Ok(Some(absent_size(alloc, line.options)?));
     }

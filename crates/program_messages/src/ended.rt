@@ -3,22 +3,10 @@ ghost use Rattle.std.specs.Prelude.{◌≡◌, option_map};
 
 use command_line::Line;
 use engine_core::{RunFault, Verdict, status_of};
+use engine_files::{Tally, Used, status_of_files};
 
 /// What is said of a command line that is refused.
 const REFUSED: &str = "command line refused";
-
-/// The input with which a job was done.
-#[derive(Drop)]
-pub enum Used<S, F, E> {
-    /// Standard input.
-    Standard(S),
-    /// The file that the line names.
-    File(F),
-    /// None, since the file that the line names could not be opened.
-    Unopened(E),
-    /// None, since the job reads nothing.
-    Nothing,
-}
 
 /// A line that was taken, and what came of it.
 #[derive(Drop)]
@@ -31,16 +19,27 @@ pub struct Done<'a, S, F, E> {
     pub answer: Result<Verdict, RunFault>,
 }
 
+/// A line whose several files were checked, and what came of it.
+#[derive(Drop)]
+pub struct CheckedFiles<'a> {
+    /// What was asked for.
+    pub line: Line<'a>,
+    /// How many of the files are met, unmet, refused and unread, or why the run ended.
+    pub answer: Result<Tally, RunFault>,
+}
+
 /// How the program ends.
 #[derive(Drop)]
 pub enum Ended<'a, S, F, E> {
     /// The line was taken, and its job done.
     Did(Done<'a, S, F, E>),
+    /// The line was taken, and its several files checked.
+    Checked(CheckedFiles<'a>),
     /// The line calls for help, whose text was written, or a front of it.
     Helped(Result<(), RunFault>),
     /// The line is none that the program takes.
     Refused,
-    /// Options of the line do not go together; the text says which.
+    /// Words of the line do not go together; the text says which.
     Conflict(&'static str),
     /// Memory ran out while the line was read.
     NoMemory,
@@ -49,13 +48,14 @@ pub enum Ended<'a, S, F, E> {
 impl<S, F, E> Ended<'_, S, F, E> {
     ghost use Rattle.program_messages.specs.Statuses.{end_status, end_text};
 
-    /// The exit status: that of the job, 0 after help, 4 after a refusal or a conflict, 3 where a write failed or memory ran out. The
+    /// The exit status: that of the job, or the greatest of those of several files, 0 after help, 4 after a refusal or a conflict, 3 where a write failed or memory ran out. The
     /// job's is 4 too where the options name what the set-up does not have.
     pub fn status(&self) -> u8
         ensures { result ≡ end_status self.now }
     {
         match self {
             Ended::Did(done) => status_of(&done.answer),
+            Ended::Checked(checked) => status_of_files(&checked.answer),
             Ended::Helped(Ok(())) => 0,
             Ended::Helped(Err(_)) => 3,
             Ended::Refused => 4,
@@ -64,7 +64,8 @@ impl<S, F, E> Ended<'_, S, F, E> {
         }
     }
 
-    /// What the first line of standard error says, where there is a fault.
+    /// What the first line of standard error says, where there is a fault. Of several files it says what ended the run; what
+    /// there is to say of each file was said before.
     pub fn fault_text(&self) -> Option<&'static str>
         ensures { option_map (λ s. s.now) result ≡ end_text self.now }
     {
@@ -78,6 +79,13 @@ impl<S, F, E> Ended<'_, S, F, E> {
             Ended::Did(Done { answer: Ok(_), .. }) => None,
             Ended::Did(
                 Done {
+                    answer: Err(fault),
+                    ..
+                },
+            ) => Some(fault.text()),
+            Ended::Checked(CheckedFiles { answer: Ok(_), .. }) => None,
+            Ended::Checked(
+                CheckedFiles {
                     answer: Err(fault),
                     ..
                 },

@@ -9,5 +9,5 @@ mod sizes;
 mod unexpected;
 mod words;
 
-pub use ended::{Done, Ended, Used};
-pub use messages::{Output, complain, tell};
+pub use ended::{CheckedFiles, Done, Ended};
+pub use messages::{Output, complain, tell, tell_of_file};

@@ -1,10 +1,12 @@
 //! What is said on standard error. Where that fails too, nothing more is said.
 use crate::absent::absence;
-use crate::ended::{Done, Ended, Used};
+use crate::ended::{CheckedFiles, Done, Ended};
 use crate::unexpected::unexpected_refusals;
 use crate::words::{is_command, may_be_command, near_command};
 use command_line::{Job, Line, refused_line_words};
+use engine::CountedText;
 use engine_core::{INPUT_LIMIT, KeptReader, ReaderSource, RunFault, Verdict};
+use engine_files::Used;
 use setup_messages::{Formats, refusal_words, unmet_warnings};
 use std::fmt::Display;
 use std::io::{self, Eprint};
@@ -93,6 +95,17 @@ fn note(rt: &impl Eprint, text: &str) {
     }
 }
 
+/// Says the same of one of several files, whose name stands before each line that shows no part of its text.
+fn note_in(rt: &impl Eprint, name: &str, text: &str) {
+    for line in text.lines() {
+        if line.starts_with(' ') {
+            let _ = eprintln!(rt; "{line}");
+        } else {
+            complain(rt, format_args!("{name}: {line}"));
+        }
+    }
+}
+
 /// The words that clap's texts have for an option that is none, and that help nobody: it takes no such word as a value.
 const USELESS_TIP: &str = "  tip: to pass '";
 
@@ -110,10 +123,7 @@ fn note_on_words(rt: &impl Eprint, text: &str) {
 /// Says that one file is read in a run, where more words than one stand behind a command and none is an option.
 fn note_on_files(rt: &impl Eprint, words: &[&str]) {
     if words.len() > 3 && words.iter().all(|word| !word.starts_with("-")) {
-        complain(
-            rt,
-            "one file is read in a run; for more: for f in *.toml; do sel4sim check \"$f\"; done",
-        );
+        complain(rt, "one file is read in a run; check alone takes several");
     }
 }
 
@@ -142,6 +152,22 @@ fn note_on_first_word<R: Eprint + AllocGlobal>(rt: &R, words: &[&str]) {
     }
 }
 
+/// Says of the first of several files, of which one could not be read, where it may be a command that is not spelt right.
+fn note_on_first_file<R: Eprint + AllocGlobal>(rt: &R, words: &[&str]) {
+    let Some(word) = words.get(1) else {
+        return;
+    };
+    if !may_be_command(words, *word) || is_command(*word) {
+        return;
+    }
+    if let Ok(Some(command)) = near_command(rt.alloc(), *word) {
+        complain(
+            rt,
+            format_args!("{word} is no command; did you mean {command}?"),
+        );
+    }
+}
+
 /// What an input is called: the file's name, or standard input.
 fn name_of(file: Option<&str>) -> &str {
     match file {
@@ -163,7 +189,7 @@ fn formats_of(job: Job) -> Formats {
 /// or what the options name and it does not have.
 fn note_on_verdict<R: Eprint + AllocGlobal>(
     rt: &R,
-    line: Line<'_>,
+    line: &Line<'_>,
     verdict: Verdict,
     bytes: &[u8],
 ) {
@@ -202,6 +228,60 @@ fn note_on_refusals<R: Eprint + AllocGlobal>(rt: &R, file: Option<&str>, report:
     }
 }
 
+/// Says of the file of that name, one of several, why its set-up is refused, or which of its expectations no reply can meet.
+fn note_on_file<R: Eprint + AllocGlobal>(rt: &R, name: &str, verdict: Verdict, bytes: &[u8]) {
+    match verdict {
+        Verdict::NotMet => {
+            if let Ok(warnings) = unmet_warnings(rt.alloc(), bytes) {
+                note_in(rt, name, warnings.as_str());
+            }
+        }
+        Verdict::Refused => {
+            if let Ok(words) = refusal_words(rt.alloc(), bytes, Formats::All, name) {
+                note_in(rt, name, words.as_str());
+            }
+        }
+        Verdict::AllMet | Verdict::Absent => {}
+    }
+}
+
+/// Says of the file of that name, one of several, what is said of a file that is checked alone: why it cannot be read, why its
+/// set-up is refused, which of its expectations no reply can meet, and which calls were refused where nothing was expected.
+pub fn tell_of_file<R: Eprint + AllocGlobal, S, F>(
+    rt: &R,
+    name: &str,
+    input: &HostUsed<S, F>,
+    found: Option<&CountedText>,
+) {
+    let said = name_of(Some(name));
+    match found {
+        Some(made) => {
+            if let Some(bytes) = bytes_of(input) {
+                note_on_file(rt, said, made.verdict(), bytes);
+            }
+            note_on_refusals(rt, Some(name), made.text.as_slice());
+        }
+        None => {
+            complain(rt, RunFault::Reading);
+            explain_reading(rt, said, failure_of(input));
+        }
+    }
+}
+
+/// Says what there is to say of a line whose several files were checked, but for what was said of each.
+fn tell_of_files<R: Eprint + AllocGlobal>(
+    rt: &R,
+    words: &[&str],
+    checked: &CheckedFiles<'_>,
+    output: Output<'_>,
+) {
+    match checked.answer {
+        Ok(tally) if tally.unread > 0 => note_on_first_file(rt, words),
+        Err(RunFault::Writing) => explain_writing(rt, output.failure),
+        _ => {}
+    }
+}
+
 /// Says what there is to say of a line that was done.
 fn tell_of_line<R: Eprint + AllocGlobal, S, F>(
     rt: &R,
@@ -212,7 +292,7 @@ fn tell_of_line<R: Eprint + AllocGlobal, S, F>(
     match done.answer {
         Ok(verdict) => {
             if let Some(bytes) = bytes_of(&done.input) {
-                note_on_verdict(rt, done.line, verdict, bytes);
+                note_on_verdict(rt, &done.line, verdict, bytes);
             }
             if matches!(done.line.job, Job::Check) {
                 note_on_refusals(rt, done.line.file, output.front);
@@ -243,6 +323,7 @@ pub fn tell<R: Eprint + AllocGlobal, S, F>(
     }
     match ended {
         Ended::Did(done) => tell_of_line(rt, words, done, output),
+        Ended::Checked(checked) => tell_of_files(rt, words, checked, output),
         Ended::Helped(Err(_)) => explain_writing(rt, output.failure),
         Ended::Refused => {
             if let Some(text) = refused_line_words(rt.alloc(), words) {

@@ -1,8 +1,8 @@
 //! Whole command lines over inputs that a test made: what is written, the exit status and the text of a fault.
 ghost use Rattle.std.specs.Prelude.{⊤};
 
-use engine::{DeviceFault, ReaderSource, WriterSink};
-use program::{Inputs, run_words};
+use engine::{CountedText, DeviceFault, ReaderSource, WriterSink};
+use program::{Inputs, Listener, Used, run_words};
 use std::sync::Wait;
 use std::thread::Threads;
 
@@ -47,6 +47,14 @@ impl<'a> Inputs for TwoInputs<'a> {
     }
 }
 
+/// Who hears of each of several files and says nothing.
+#[derive(Clone, Copy)]
+struct Silence;
+
+impl<S, F, E> Listener<S, F, E> for Silence {
+    fn hear(&self, _name: &str, _input: &Used<S, F, E>, _found: Option<&CountedText>) {}
+}
+
 /// How a line is to end.
 #[derive(Clone, Copy)]
 struct Wanted<'a> {
@@ -69,7 +77,7 @@ fn ends<R: AllocGlobal + Threads + Wait + Sync>(
     };
     let mut out = Vec::new(rt.alloc());
     let mut sink = WriterSink::new(&mut out);
-    let ended = run_words(rt, rt.alloc(), &inputs, words, &mut sink);
+    let ended = run_words(rt, rt.alloc(), &inputs, &Silence, words, &mut sink);
     let is_told = ended.status() == wanted.status && ended.fault_text() == wanted.fault;
     let Ok(text) = str::from_utf8(out.as_slice()) else {
         return false;
@@ -261,6 +269,43 @@ fn orders_are_told(rt: HostRuntime) {
             &["sel4sim", "explore", "none.toml"],
             fault(3, "reading failed"),
         ),
+    ];
+    for (words, wanted) in forms {
+        assert!(rt; ends(&rt, words, wanted), "{words:?}");
+    }
+}
+
+#[test]
+fn several_files_are_checked(rt: HostRuntime) {
+    let forms: [(&[&str], Wanted<'_>); 7] = [
+        (
+            &["sel4sim", "check", "-", "text.toml"],
+            done(
+                2,
+                "-: expected 1 of 1\ntext.toml: set-up refused 200 at text\nfiles 2 met 1 unmet 0 refused 1 unread 0\n",
+            ),
+        ),
+        (
+            &["sel4sim", "none.toml", "-", "text.toml"],
+            done(
+                3,
+                "none.toml: cannot be read\n-: expected 1 of 1\ntext.toml: set-up refused 200 at text\nfiles 3 met 1 unmet 0 refused 1 unread 1\n",
+            ),
+        ),
+        (
+            &["sel4sim", "text.toml", "check"],
+            done(2, "set-up refused 200 at text\n"),
+        ),
+        (
+            &["sel4sim", "check", "--", "-", "--help"],
+            done(
+                3,
+                "-: expected 1 of 1\n--help: cannot be read\nfiles 2 met 1 unmet 0 refused 0 unread 1\n",
+            ),
+        ),
+        (&["sel4sim", "check", "-", "-"], fault(4, REFUSED)),
+        (&["sel4sim", "-", "text.toml", "-"], fault(4, REFUSED)),
+        (&["sel4sim", "trace", "-", "text.toml"], fault(4, REFUSED)),
     ];
     for (words, wanted) in forms {
         assert!(rt; ends(&rt, words, wanted), "{words:?}");

@@ -10,4 +10,5 @@ returns c =
     let plain = ap app_of_fields c.disable_help_subcommand.ensures ∙ ap (λ r. on_top no_help (app_of_fields r)) c.after_help.ensures
     ∙ ap (λ r. on_top no_help (app_of_fields r)) c.about.ensures ∙ ap (on_top no_help) c.new.ensures.app in
     let with_file = c.in_ok-command.ensures.shape c.file.ensures.local ∙ ap₂ with_rule plain c.file.ensures.rule in
-    c.in_ok-whole.ensures.shape c.version.ensures.local ∙ ap₂ with_rule with_file c.version.ensures.rule
+    let with_more = c.in_ok-with_more.ensures.shape c.more_files.ensures.local ∙ ap₂ with_rule with_file c.more_files.ensures.rule in
+    c.in_ok-whole.ensures.shape c.version.ensures.local ∙ ap₂ with_rule with_more c.version.ensures.rule
