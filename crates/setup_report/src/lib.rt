@@ -17,7 +17,7 @@ use ipc_core::Waiters;
 use kernel_core::{Kernel, Reply};
 pub use lines::{EndpointLine, SlotLine, ThreadLine};
 pub use memory::{add_state, first_sends, waiting_threads};
-pub use naming::{NamedObject, base_named};
+pub use naming::{NamedObject, base_named, named, selfheld};
 use setup_format::Setup;
 use slot_core::DerivationStore;
 pub use state::{StateRows, state_rows};

@@ -1,11 +1,8 @@
 pub mod Differences
 pub mod Listed
 pub mod Views
+pub mod Alike
+pub mod Ends
+pub mod Kept
 pub mod Steps
-pub mod Applied
-pub mod Replays
-pub mod Children
-pub mod Reported
-pub mod Backwards
 pub mod Walks
-pub mod Orders

@@ -1,14 +1,14 @@
 -- The lines of what stands at some addresses.
-use Rattle.std.proofs.Common.{◌≡◌, ℕ, ◌+◌, ◌<◌, ◌==◌, length, take, get_or, true, false, cond, List, [], ◌∷◌, ◌++◌, map, filter_map, None, Some, option_map, refl, sym, ap, ◌∙◌, append-nil}
+use Rattle.std.proofs.Common.{◌≡◌, ℕ, ◌+◌, ◌<◌, ◌==◌, length, take, get_or, true, false, cond, List, [], ◌∷◌, ◌++◌, map, Some, refl, sym, ap, ◌∙◌, append-nil}
 use Rattle.std.proofs.lemmas.Bool.{eqb-true}
-use Rattle.std.specs.List.{flat_map, find, cons_option}
+use Rattle.std.specs.List.{flat_map, find}
 use Rattle.std.proofs.lemmas.List.{map-append, take_more}
 use Rattle.std.proofs.lemmas.List.Concat.{flat_map-append}
 use Rattle.cap_core.specs.declared.profile.ProfileName.{ProfileName}
 use Rattle.slot_core.specs.declared.derivations.Derivation.{Derivation}
 use Rattle.slot_core.specs.Calls.{derivation_view}
-use Rattle.setup_report.specs.State.{Derived, slot_of, found, by_address, rising}
-use Rattle.trace_lines.specs.Lines.{slot_text, slot_at, line_of, line_at, slot_lines}
+use Rattle.setup_report.specs.State.{Derived, slot_of, found}
+use Rattle.trace_lines.specs.Lines.{slot_text}
 use Rattle.trace_lines.specs.Private.Listed.{derivation_line}
 
 -- lines of one more address
@@ -37,21 +37,9 @@ found_is (e ∷ list) slot d is =
       | false ↦ λ other there. found_is list slot d there
     ] refl is
 
-abbrev row_line : Derived → ℕ × List ℕ
+abbrev pub row_line : Derived → ℕ × List ℕ
 row_line d = (slot_of d, slot_text d)
 
-found_lines : (list : List Derived) (xs : List ℕ) → map row_line (filter_map (found list) xs) ≡ flat_map (line_at (slot_at list)) xs
-found_lines list [] = refl
-found_lines list (x ∷ xs) =
-    elim (found list x) as (λ o. found list x ≡ o → map row_line (cons_option o (filter_map (found list) xs)) ≡ line_of x (option_map slot_text o) ++ flat_map (line_at (slot_at list)) xs) [
-      | None ↦ λ is. found_lines list xs
-      | Some d ↦ λ is. λ i. (found_is list x d is i, slot_text d) ∷ found_lines list xs i
-    ] refl
-
-rows_viewed : (p : ProfileName) (slots : List Derivation) → map (derivation_line p) slots ≡ map row_line (map (derivation_view p) slots)
+pub rows_viewed : (p : ProfileName) (slots : List Derivation) → map (derivation_line p) slots ≡ map row_line (map (derivation_view p) slots)
 rows_viewed p [] = refl
 rows_viewed p (d ∷ slots) = ap (λ l. derivation_line p d ∷ l) (rows_viewed p slots)
-
--- the lines of the slots that are told of a state
-pub rows_told : (p : ProfileName) (slots : List Derivation) (list : List Derived) → map (derivation_view p) slots ≡ by_address list → map (derivation_line p) slots ≡ slot_lines list
-rows_told p slots list is = rows_viewed p slots ∙ ap (map row_line) is ∙ found_lines list (rising (map slot_of list))

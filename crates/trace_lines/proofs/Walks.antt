@@ -1,4 +1,2 @@
 pub mod Rows
 pub mod Walked
-pub mod Sorted
-pub mod Told

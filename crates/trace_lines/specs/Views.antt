@@ -1,15 +1,20 @@
 -- What the code keeps of a state, and when that is what is told of it.
-use Rattle.std.specs.Prelude.{◌≡◌, ℕ, List, map, string_bytes, ⊤}
+use Rattle.std.specs.Prelude.{◌≡◌, ℕ, ◌==◌, List, map, None, string_bytes, ⊤}
+use Rattle.std.specs.List.{IsDistinct}
 use Rattle.cap_core.specs.declared.profile.ProfileName.{ProfileName}
-use Rattle.derivation.specs.Entries.{derivations_of}
+use Rattle.derivation.specs.Entries.{derivations_of, slots as slots_in}
+use Rattle.slot_core.specs.Calls.{derivation_view}
 use Rattle.abstract_kernel.specs.declared.call.Reply.{Reply}
 use Rattle.abstract_kernel.specs.declared.call.Reply.TheVariants.{Done, Delivered, Waiting, Dropped, Empty, Refused}
 use Rattle.abstract_kernel.specs.Shown.{Shown}
 use Rattle.setup_report.specs.State.{threads as live_threads, endpoints as live_endpoints}
-use Rattle.trace_lines.specs.Lines.{Lines, thread_lines, inbox_lines, endpoint_lines, slot_lines, selfheld_lines}
-use Rattle.trace_lines.specs.Siblings.{sibling_lines}
-use Rattle.trace_lines.specs.Changes.{StateLines}
-use Rattle.trace_lines.specs.Told.{ToldLines}
+use Rattle.setup_report.specs.Report.{endpoint_text}
+use Rattle.trace_lines.specs.Lines.{Lines, thread_text, thread_lines, inbox_text, inbox_lines, endpoint_lines, selfheld_lines}
+use Rattle.trace_lines.specs.Siblings.{siblings}
+use Rattle.trace_lines.specs.Private.Path.{row_view}
+use Rattle.trace_lines.specs.declared.text.ThreadText.{ThreadText}
+use Rattle.trace_lines.specs.declared.text.InboxText.{InboxText}
+use Rattle.trace_lines.specs.declared.messages.EndpointRow.{EndpointRow}
 use Rattle.trace_lines.specs.declared.changes.StateLine.{StateLine}
 use Rattle.trace_lines.specs.declared.state.Memory.{Memory}
 use Rattle.trace_lines.specs.declared.state.Messages.{Messages}
@@ -22,29 +27,27 @@ line_view line = (line.address, string_bytes line.text)
 abbrev pub seen : List StateLine → Lines
 seen lines = map line_view lines
 
-abbrev pub view_lines : View → StateLines
-view_lines view =
-    record {
-      threads = seen view.messages.threads.items;
-      inboxes = seen view.messages.inboxes.items;
-      endpoints = seen view.messages.endpoints.items;
-      slots = seen view.memory.slots.items;
-      selfheld = seen view.memory.selfheld.items;
-    }
+abbrev pub thread_line : ThreadText → ℕ × List ℕ
+thread_line t = (t.address, thread_text t.address t.state t.offer)
 
-abbrev pub told_view : Told → ToldLines
-told_view told = record { state = view_lines told.view; siblings = seen told.siblings.items }
+abbrev pub inbox_line : InboxText → ℕ × List ℕ
+inbox_line i = (i.address, inbox_text i.address i.inbox)
 
+abbrev pub endpoint_line : EndpointRow → ℕ × List ℕ
+endpoint_line e = (e.address, endpoint_text e.address e.sending e.threads.items)
+
+-- the live threads and endpoints, the full slots in the kernel's order, and the lines of selfheld CNodes
 pub record ShowsMemory (p : ProfileName) (v : Shown) (m : Memory) : Type 0 where
   pub threads : m.threads.keys ≡ live_threads p v
   pub endpoints : m.endpoints.keys ≡ live_endpoints p v
-  pub slots : seen m.slots.items ≡ slot_lines (derivations_of v.derivations)
+  pub slots : map (derivation_view p) m.slots.items ≡ derivations_of v.derivations
+  pub apart : IsDistinct (λ (a b : ℕ). a == b) (slots_in v.derivations)
   pub selfheld : seen m.selfheld.items ≡ selfheld_lines p (derivations_of v.derivations)
 
 pub record ShowsMessages (p : ProfileName) (v : Shown) (m : Messages) : Type 0 where
-  pub threads : seen m.threads.items ≡ thread_lines p v
-  pub inboxes : seen m.inboxes.items ≡ inbox_lines p v
-  pub endpoints : seen m.endpoints.items ≡ endpoint_lines p v
+  pub threads : map thread_line m.threads.items ≡ thread_lines p v
+  pub inboxes : map inbox_line m.inboxes.items ≡ inbox_lines p v
+  pub endpoints : map endpoint_line m.endpoints.items ≡ endpoint_lines p v
 
 pub record IsViewOf (p : ProfileName) (v : Shown) (view : View) : Type 0 where
   pub memory : ShowsMemory p v view.memory
@@ -53,7 +56,7 @@ pub record IsViewOf (p : ProfileName) (v : Shown) (view : View) : Type 0 where
 -- what is kept is all that is told of a state
 pub record IsTold (p : ProfileName) (v : Shown) (told : Told) : Type 0 where
   pub view : IsViewOf p v told.view
-  pub siblings : seen told.siblings.items ≡ sibling_lines v.derivations
+  pub siblings : map row_view told.siblings.items ≡ siblings None v.derivations
 
 -- what a reply says of what is shown before and after
 abbrev pub Follows : Reply → Shown → Shown → Type 0

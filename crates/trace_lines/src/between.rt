@@ -3,7 +3,7 @@ ghost use Rattle.std.specs.Prelude.{◌≡◌, ◌++◌, IfOk, OnOk, string_byte
 ghost use Rattle.trace_lines.specs.Changes.{changes, state_lines};
 ghost use Rattle.trace_lines.specs.Views.{IsViewOf};
 
-use crate::state::{View, memory_of, messages_of, retell};
+use crate::state::{View, add_view_changes, view_of};
 use cap_core::Profile;
 use ipc_core::Waiters;
 use kernel_core::Kernel;
@@ -11,15 +11,14 @@ use slot_core::DerivationStore;
 use std::alloc::{AllocError, Global};
 
 /// What is told of a kernel's state.
-fn view_of<P: Profile, S: DerivationStore<P> + Drop, W: Waiters<P> + Drop>(
+fn view_of_kernel<P: Profile, S: DerivationStore<P> + Drop, W: Waiters<P> + Drop>(
     alloc: Global,
     kernel: &Kernel<P, S, W>,
 ) -> Result<View, AllocError>
     ensures { IfOk result (IsViewOf P.profile kernel.now) }
 {
-    let memory = memory_of::<P, S, W>(alloc, kernel)?;
-    let messages = messages_of::<P, S, W>(alloc, &memory, kernel)?;
-    Ok(View { memory, messages })
+    let slots = kernel.derivations(alloc)?;
+    view_of::<P, S, W>(alloc, slots, kernel)
 }
 
 /// Adds how the state of a kernel differs from that of another one, as a trace tells what a call changed: each line of the
@@ -37,7 +36,7 @@ pub fn add_changes_between<P: Profile, S: DerivationStore<P> + Drop, W: Waiters<
     ensures { OnOk result (string_bytes out.new ≡ string_bytes out.old
         ++ changes (state_lines P.profile old.now) (state_lines P.profile new.now)) }
 {
-    let told = view_of::<P, S, W>(alloc, old)?;
-    let _ = retell::<P, S, W>(alloc, out, &told, new)?;
-    Ok(())
+    let before = view_of_kernel::<P, S, W>(alloc, old)?;
+    let after = view_of_kernel::<P, S, W>(alloc, new)?;
+    add_view_changes::<P>(alloc, out, &before, &after)
 }

@@ -1,17 +1,13 @@
 //! The order of siblings: of the slots that are derived from one slot, or from none.
-ghost use Rattle.std.specs.Prelude.{◌≡◌, ◌==◌, ◌++◌, [], ℕ, IfOk, OnOk, map};
-ghost use Rattle.std.specs.List.{IsDistinct, flat_map, position};
+ghost use Rattle.std.specs.Prelude.{◌≡◌, ◌==◌, [], IfOk, OnOk, map};
+ghost use Rattle.std.specs.List.{position};
 ghost use Rattle.slot_core.specs.Calls.{derivation_view};
-ghost use Rattle.trace_lines.specs.Lines.{lines_at};
-ghost use Rattle.trace_lines.specs.Siblings as spec;
-ghost use Rattle.trace_lines.specs.Views.{line_view};
 ghost use Rattle.trace_lines.specs.Private.Path.{cut, path_to, row_view, sibling_behind, sibling_line, walked};
 
 use crate::changes::StateLine;
+use crate::rows::Row;
 use cap_core::Profile;
-use ipc_core::Waiters;
-use kernel_core::Kernel;
-use slot_core::{Derivation, DerivationStore};
+use slot_core::Derivation;
 use std::alloc::{AllocError, Global};
 
 /// A full slot, and the sibling right in front of it, where there is one.
@@ -68,7 +64,7 @@ fn sibling_next<P: Profile>(
 }
 
 /// The full slots, in the kernel's order, each with the sibling in front of it.
-fn siblings<P: Profile>(
+pub fn siblings<P: Profile>(
     alloc: Global,
     derivations: &[Derivation],
 ) -> Result<Vec<SiblingRow>, AllocError>
@@ -83,57 +79,22 @@ fn siblings<P: Profile>(
     Ok(rows)
 }
 
-/// Puts full slots in the order of their addresses: their lines are in that order then.
-fn sort_by_address(rows: &mut [SiblingRow])
-    requires apart { IsDistinct (λ (a b : ℕ). a == b) (map (λ r. r.slot) rows.old) }
-    ensures { flat_map sibling_line (map row_view rows.new)
-        ≡ lines_at (spec.sibling_at (map row_view rows.old)) (map (λ r. r.slot) rows.old) }
-{
-    rows.sort_unstable_by_key(|row| row.slot);
-}
+impl<P: Profile> Row<P> for SiblingRow {
+    ghost lines = { λ r. sibling_line (row_view r) };
 
-fn add_sibling(alloc: Global, lines: &mut Vec<StateLine>, row: SiblingRow) -> Result<(), AllocError>
-    ensures { OnOk result (map line_view lines.new.items ≡ map line_view lines.old.items ++ sibling_line (row_view row)) }
-{
-    let address = row.slot;
-    match row.before {
-        None => Ok(()),
-        Some(before) => {
-            let text = format!(in alloc; "sibling {address} after {before}")?;
-            lines.push(StateLine { address, text })?;
-            Ok(())
+    fn is_same(&self, other: &SiblingRow) -> bool {
+        self.slot == other.slot && self.before == other.before
+    }
+
+    fn add_line(&self, alloc: Global, out: &mut Vec<StateLine>) -> Result<(), AllocError> {
+        let address = self.slot;
+        match self.before {
+            None => Ok(()),
+            Some(before) => {
+                let text = format!(in alloc; "sibling {address} after {before}")?;
+                out.push(StateLine { address, text })?;
+                Ok(())
+            }
         }
     }
-}
-
-fn lines_of(alloc: Global, rows: &[SiblingRow]) -> Result<Vec<StateLine>, AllocError>
-    ensures { IfOk result (λ v. map line_view v.items ≡ flat_map sibling_line (map row_view rows.now)) }
-{
-    let mut lines = Vec::new(alloc);
-    for row in rows {
-        add_sibling(alloc, &mut lines, *row)?;
-    }
-    Ok(lines)
-}
-
-/// The lines of some full slots, by rising address.
-fn sorted_lines(alloc: Global, rows: &mut [SiblingRow]) -> Result<Vec<StateLine>, AllocError>
-    requires apart { IsDistinct (λ (a b : ℕ). a == b) (map (λ r. r.slot) rows.old) }
-    ensures { IfOk result (λ v. map line_view v.items
-        ≡ lines_at (spec.sibling_at (map row_view rows.old)) (map (λ r. r.slot) rows.old)) }
-{
-    sort_by_address(rows);
-    lines_of(alloc, rows)
-}
-
-/// A line for each full slot of a kernel that has a sibling in front of it, by rising address.
-pub fn sibling_lines<P: Profile, S: DerivationStore<P> + Drop, W: Waiters<P> + Drop>(
-    alloc: Global,
-    kernel: &Kernel<P, S, W>,
-) -> Result<Vec<StateLine>, AllocError>
-    ensures { IfOk result (λ v. map line_view v.items ≡ spec.sibling_lines kernel.now.derivations) }
-{
-    let derivations = kernel.derivations(alloc)?;
-    let mut rows = siblings::<P>(alloc, derivations.as_slice())?;
-    sorted_lines(alloc, rows.as_mut_slice())
 }

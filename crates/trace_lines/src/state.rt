@@ -1,60 +1,60 @@
-//! What a trace tells of a kernel's state, kept to be compared with the next state.
-ghost use Rattle.std.specs.Prelude.{◌≡◌, ◌++◌, IfOk, OnOk, string_bytes};
+//! What a trace keeps of a kernel's state, to be compared with the next state.
+ghost use Rattle.std.specs.Prelude.{◌≡◌, ◌==◌, ◌++◌, ℕ, IfOk, OnOk, map, string_bytes};
+ghost use Rattle.std.specs.List.{IsDistinct};
+ghost use Rattle.derivation.specs.Entries.{derivations_of, slots as slots_in};
+ghost use Rattle.slot_core.specs.Calls.{derivation_view};
 ghost use Rattle.abstract_kernel.specs.Shown.{Shown};
-ghost use Rattle.trace_lines.specs.Changes.{changes, state_lines, no_lines};
-ghost use Rattle.trace_lines.specs.Views.{view_lines, ShowsMemory, ShowsMessages, IsViewOf, Follows};
-ghost use Rattle.trace_lines.specs.Private.Kept.{memory_changes, message_changes, HasRisingMemory, HasRisingMessages};
+ghost use Rattle.trace_lines.specs.Changes.{changes};
+ghost use Rattle.trace_lines.specs.Views.{IsViewOf, ShowsMemory, ShowsMessages};
+ghost use Rattle.trace_lines.specs.Private.Kept.{IsApartMemory, IsApartMessages, IsApartView, memory_changes, message_changes, view_rows};
 
 use crate::changes::{StateLine, add_changes};
-use crate::messages::{endpoint_lines, inbox_lines, thread_lines};
-use crate::slots::{selfheld_lines, slot_lines};
+use crate::messages::{EndpointRow, endpoint_rows, inbox_rows, thread_rows};
+use crate::rows::add_row_changes;
+use crate::slots::selfheld_lines;
+use crate::text::{InboxText, ThreadText};
 use cap_core::Profile;
 use ipc_core::Waiters;
-use kernel_core::{Kernel, Reply};
-use setup_report::{StateRows, state_rows};
-use slot_core::DerivationStore;
+use kernel_core::Kernel;
+use setup_report::{NamedObject, named, selfheld};
+use slot_core::{Derivation, DerivationStore};
 use std::alloc::{AllocError, Global};
 use std::collections::BTreeSet;
 
-/// What the capabilities show: the live threads and endpoints, the lines of full slots and of selfheld CNodes.
+/// What the capabilities show: the live threads and endpoints, the full slots in the kernel's order, and the lines of
+/// selfheld CNodes.
 #[derive(Drop)]
 pub struct Memory {
     pub threads: BTreeSet<u64>,
     pub endpoints: BTreeSet<u64>,
-    pub slots: Vec<StateLine>,
+    pub slots: Vec<Derivation>,
     pub selfheld: Vec<StateLine>,
 }
 
-/// What the messages show: the lines of threads, of what was delivered to them, and of endpoints.
+/// What the messages show, by rising address: the threads, what was delivered to them, and the endpoints.
 #[derive(Drop)]
 pub struct Messages {
-    pub threads: Vec<StateLine>,
-    pub inboxes: Vec<StateLine>,
-    pub endpoints: Vec<StateLine>,
+    pub threads: Vec<ThreadText>,
+    pub inboxes: Vec<InboxText>,
+    pub endpoints: Vec<EndpointRow>,
 }
 
-/// All that a trace tells of a state.
+/// All that a trace tells of a state, but the order of siblings.
 #[derive(Drop)]
 pub struct View {
     pub memory: Memory,
     pub messages: Messages,
 }
 
-/// What a kernel's capabilities show.
-pub fn memory_of<P: Profile, S: DerivationStore<P> + Drop, W: Waiters<P> + Drop>(
-    alloc: Global,
-    kernel: &Kernel<P, S, W>,
-) -> Result<Memory, AllocError>
-    ensures { IfOk result (ShowsMemory P.profile kernel.now) }
+/// What the capabilities in some full slots show.
+pub fn memory_of<P: Profile>(alloc: Global, slots: Vec<Derivation>) -> Result<Memory, AllocError>
+    ensures { IfOk result (λ m. (v : Shown) → map (derivation_view P.profile) slots.items ≡ derivations_of v.derivations
+        → IsDistinct (λ (a b : ℕ). a == b) (slots_in v.derivations) → ShowsMemory P.profile v m) }
 {
-    let rows = state_rows::<P, S, W>(alloc, kernel)?;
-    let slots = slot_lines::<P>(alloc, rows.slots.as_slice())?;
-    let selfheld = selfheld_lines(alloc, rows.selfheld.as_slice())?;
-    let StateRows {
-        threads,
-        endpoints,
-        ..
-    } = rows;
+    let threads = named::<P>(alloc, NamedObject::Thread, slots.as_slice())?;
+    let endpoints = named::<P>(alloc, NamedObject::Endpoint, slots.as_slice())?;
+    let nodes = selfheld::<P>(alloc, slots.as_slice())?;
+    let selfheld = selfheld_lines(alloc, nodes.as_slice())?;
     Ok(Memory {
         threads,
         endpoints,
@@ -72,111 +72,78 @@ pub fn messages_of<P: Profile, S: DerivationStore<P> + Drop, W: Waiters<P> + Dro
     ensures { IfOk result (λ m. ShowsMemory P.profile kernel.now memory.now → ShowsMessages P.profile kernel.now m) }
 {
     Ok(Messages {
-        threads: thread_lines::<P, S, W>(alloc, &memory.threads, kernel)?,
-        inboxes: inbox_lines::<P, S, W>(alloc, &memory.threads, kernel)?,
-        endpoints: endpoint_lines::<P, S, W>(alloc, &memory.endpoints, kernel)?,
+        threads: thread_rows::<P, S, W>(alloc, &memory.threads, kernel)?,
+        inboxes: inbox_rows::<P, S, W>(alloc, &memory.threads, kernel)?,
+        endpoints: endpoint_rows::<P, S, W>(alloc, &memory.endpoints, kernel)?,
     })
 }
 
-fn add_memory_changes(out: &mut String, old: &Memory, new: &Memory) -> Result<(), AllocError>
-    requires old { HasRisingMemory old.now }
-    requires new { HasRisingMemory new.now }
-    ensures { OnOk result (string_bytes out.new ≡ string_bytes out.old ++ memory_changes old.now new.now) }
-{
-    add_changes(out, old.slots.as_slice(), new.slots.as_slice())?;
-    add_changes(out, old.selfheld.as_slice(), new.selfheld.as_slice())
-}
-
-fn add_message_changes(out: &mut String, old: &Messages, new: &Messages) -> Result<(), AllocError>
-    requires old { HasRisingMessages old.now }
-    requires new { HasRisingMessages new.now }
-    ensures { OnOk result (string_bytes out.new ≡ string_bytes out.old ++ message_changes old.now new.now) }
-{
-    add_changes(out, old.threads.as_slice(), new.threads.as_slice())?;
-    add_changes(out, old.inboxes.as_slice(), new.inboxes.as_slice())?;
-    add_changes(out, old.endpoints.as_slice(), new.endpoints.as_slice())
-}
-
-/// A state of which nothing is told.
-pub fn nothing(alloc: Global) -> View
-    ensures { view_lines result ≡ no_lines }
-{
-    View {
-        memory: Memory {
-            threads: BTreeSet::new(alloc),
-            endpoints: BTreeSet::new(alloc),
-            slots: Vec::new(alloc),
-            selfheld: Vec::new(alloc),
-        },
-        messages: Messages {
-            threads: Vec::new(alloc),
-            inboxes: Vec::new(alloc),
-            endpoints: Vec::new(alloc),
-        },
-    }
-}
-
-/// All of a kernel's state is told anew: adds how that differs from what was told before.
-pub fn retell<P: Profile, S: DerivationStore<P> + Drop, W: Waiters<P> + Drop>(
+/// What a kernel shows, by its full slots.
+pub fn view_of<P: Profile, S: DerivationStore<P> + Drop, W: Waiters<P> + Drop>(
     alloc: Global,
-    out: &mut String,
-    old: &View,
+    slots: Vec<Derivation>,
     kernel: &Kernel<P, S, W>,
 ) -> Result<View, AllocError>
-    requires memory { HasRisingMemory old.now.memory }
-    requires messages { HasRisingMessages old.now.messages }
-    ensures text { OnOk result (string_bytes out.new ≡ string_bytes out.old
-        ++ changes (view_lines old.now) (state_lines P.profile kernel.now)) }
-    ensures view { IfOk result (IsViewOf P.profile kernel.now) }
+    requires list { map (derivation_view P.profile) slots.items ≡ derivations_of kernel.now.derivations }
+    requires apart { IsDistinct (λ (a b : ℕ). a == b) (slots_in kernel.now.derivations) }
+    ensures { IfOk result (IsViewOf P.profile kernel.now) }
 {
-    let memory = memory_of::<P, S, W>(alloc, kernel)?;
+    let memory = memory_of::<P>(alloc, slots)?;
     let messages = messages_of::<P, S, W>(alloc, &memory, kernel)?;
-    add_message_changes(out, &old.messages, &messages)?;
-    add_memory_changes(out, &old.memory, &memory)?;
     Ok(View { memory, messages })
 }
 
-/// The messages of a kernel's state are told anew: adds how they differ from what was told before, where the
-/// capabilities are the same.
-fn retell_messages<P: Profile, S: DerivationStore<P> + Drop, W: Waiters<P> + Drop>(
+fn add_memory_changes<P: Profile>(
     alloc: Global,
     out: &mut String,
-    old: View,
-    kernel: &Kernel<P, S, W>,
-) -> Result<View, AllocError>
-    requires { (v : Shown) × IsViewOf P.profile v old × (kernel.now.derivations ≡ v.derivations) }
-    ensures text { OnOk result (string_bytes out.new ≡ string_bytes out.old
-        ++ changes (view_lines old) (state_lines P.profile kernel.now)) }
-    ensures view { IfOk result (IsViewOf P.profile kernel.now) }
+    old: &Memory,
+    new: &Memory,
+) -> Result<(), AllocError>
+    requires old { IsApartMemory P.profile old.now }
+    requires new { IsApartMemory P.profile new.now }
+    ensures { OnOk result (string_bytes out.new ≡ string_bytes out.old ++ memory_changes P.profile old.now new.now) }
 {
-    let View { memory, messages } = old;
-    let new = messages_of::<P, S, W>(alloc, &memory, kernel)?;
-    add_message_changes(out, &messages, &new)?;
-    Ok(View {
-        memory,
-        messages: new,
-    })
+    add_row_changes::<P, Derivation>(alloc, out, old.slots.as_slice(), new.slots.as_slice())?;
+    add_changes(out, old.selfheld.as_slice(), new.selfheld.as_slice())
 }
 
-/// Adds what a call changed, by its reply: a call that is refused, dropped or finds nothing changes nothing, and a send
-/// or a receive changes no capability.
-pub fn after_call<P: Profile, S: DerivationStore<P> + Drop, W: Waiters<P> + Drop>(
+/// Adds how messages differ.
+pub fn add_message_changes<P: Profile>(
     alloc: Global,
     out: &mut String,
-    old: View,
-    kernel: &Kernel<P, S, W>,
-    reply: Reply,
-) -> Result<View, AllocError>
-    requires { (v : Shown) × IsViewOf P.profile v old × Follows reply v kernel.now }
-    ensures text { OnOk result (string_bytes out.new ≡ string_bytes out.old
-        ++ changes (view_lines old) (state_lines P.profile kernel.now)) }
-    ensures view { IfOk result (IsViewOf P.profile kernel.now) }
+    old: &Messages,
+    new: &Messages,
+) -> Result<(), AllocError>
+    requires old { IsApartMessages old.now }
+    requires new { IsApartMessages new.now }
+    ensures { OnOk result (string_bytes out.new ≡ string_bytes out.old ++ message_changes old.now new.now) }
 {
-    match reply {
-        Reply::Done => retell::<P, S, W>(alloc, out, &old, kernel),
-        Reply::Waiting | Reply::Delivered { .. } => {
-            retell_messages::<P, S, W>(alloc, out, old, kernel)
-        }
-        Reply::Dropped | Reply::Empty | Reply::Refused(_) => Ok(old),
-    }
+    add_row_changes::<P, ThreadText>(alloc, out, old.threads.as_slice(), new.threads.as_slice())?;
+    add_row_changes::<P, InboxText>(alloc, out, old.inboxes.as_slice(), new.inboxes.as_slice())?;
+    add_row_changes::<P, EndpointRow>(
+        alloc,
+        out,
+        old.endpoints.as_slice(),
+        new.endpoints.as_slice(),
+    )
+}
+
+/// Adds how two states differ.
+///
+/// # Errors
+///
+/// Memory was refused.
+pub fn add_view_changes<P: Profile>(
+    alloc: Global,
+    out: &mut String,
+    old: &View,
+    new: &View,
+) -> Result<(), AllocError>
+    requires old { IsApartView P.profile old.now }
+    requires new { IsApartView P.profile new.now }
+    ensures { OnOk result (string_bytes out.new ≡ string_bytes out.old
+        ++ changes (view_rows P.profile old.now) (view_rows P.profile new.now)) }
+{
+    add_message_changes::<P>(alloc, out, &old.messages, &new.messages)?;
+    add_memory_changes::<P>(alloc, out, &old.memory, &new.memory)
 }

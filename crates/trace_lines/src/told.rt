@@ -1,44 +1,77 @@
 //! All that a trace tells of a kernel's state: its lines, and then the order of siblings.
-ghost use Rattle.std.specs.Prelude.{◌≡◌, ◌++◌, IfOk, OnOk, string_bytes};
+ghost use Rattle.std.specs.Prelude.{◌≡◌, ◌==◌, ◌++◌, ℕ, IfOk, OnOk, map, string_bytes};
+ghost use Rattle.std.specs.List.{IsDistinct};
+ghost use Rattle.cap_core.specs.declared.profile.ProfileName.{ProfileName};
+ghost use Rattle.derivation.specs.Entries.{derivations_of, slots as slots_in};
+ghost use Rattle.slot_core.specs.Calls.{derivation_view};
 ghost use Rattle.abstract_kernel.specs.Shown.{Shown};
-ghost use Rattle.std.specs.List.Sorted.{IsStrictlySortedBy};
-ghost use Rattle.std.specs.Ordering.{nat_cmp};
-ghost use Rattle.trace_lines.specs.Changes.{addresses, line_changes};
-ghost use Rattle.trace_lines.specs.Siblings as order;
 ghost use Rattle.trace_lines.specs.Told.{nothing_told, told_changes, told_lines};
-ghost use Rattle.trace_lines.specs.Views.{seen, told_view, Follows, IsTold};
+ghost use Rattle.trace_lines.specs.Views.{Follows, IsTold};
+ghost use Rattle.trace_lines.specs.Private.Kept.{HaveSameSlots, IsApartTold, told_rows};
 
-use crate::changes::{StateLine, add_changes};
-use crate::siblings::sibling_lines;
-use crate::state::{View, after_call, nothing, retell};
+use crate::rows::add_row_changes;
+use crate::siblings::{SiblingRow, siblings};
+use crate::slots::are_same_slots;
+use crate::state::{
+    Memory, Messages, View, add_message_changes, add_view_changes, messages_of, view_of,
+};
 use cap_core::Profile;
 use ipc_core::Waiters;
 use kernel_core::{Kernel, Reply};
-use slot_core::DerivationStore;
+use slot_core::{Derivation, DerivationStore};
 use std::alloc::{AllocError, Global};
+use std::collections::BTreeSet;
 
-/// What was told of a state, kept to be compared with the next one.
+/// What was told of a state, kept to be compared with the next one: the full slots are in the kernel's order, each with
+/// the sibling in front of it.
 #[derive(Drop)]
 pub struct Told {
     pub view: View,
-    pub siblings: Vec<StateLine>,
+    pub siblings: Vec<SiblingRow>,
 }
 
-/// The order of a kernel's siblings is told anew: adds how it differs from what was told before.
-fn retell_siblings<P: Profile, S: DerivationStore<P> + Drop, W: Waiters<P> + Drop>(
+/// A state of which nothing is told.
+fn nothing(alloc: Global) -> Told
+    ensures { (p : ProfileName) → told_rows p result ≡ nothing_told }
+{
+    Told {
+        view: View {
+            memory: Memory {
+                threads: BTreeSet::new(alloc),
+                endpoints: BTreeSet::new(alloc),
+                slots: Vec::new(alloc),
+                selfheld: Vec::new(alloc),
+            },
+            messages: Messages {
+                threads: Vec::new(alloc),
+                inboxes: Vec::new(alloc),
+                endpoints: Vec::new(alloc),
+            },
+        },
+        siblings: Vec::new(alloc),
+    }
+}
+
+/// Tells a kernel's state anew, by its full slots: adds how it differs from what was told before.
+fn tell_anew<P: Profile, S: DerivationStore<P> + Drop, W: Waiters<P> + Drop>(
     alloc: Global,
     out: &mut String,
-    old: &[StateLine],
+    old: &Told,
+    slots: Vec<Derivation>,
     kernel: &Kernel<P, S, W>,
-) -> Result<Vec<StateLine>, AllocError>
-    requires { IsStrictlySortedBy nat_cmp (addresses (seen old.now)) }
-    ensures text { OnOk result (string_bytes out.new ≡ string_bytes out.old
-        ++ line_changes (seen old.now) (order.sibling_lines kernel.now.derivations)) }
-    ensures siblings { IfOk result (λ v. seen v.items ≡ order.sibling_lines kernel.now.derivations) }
+) -> Result<Told, AllocError>
+    requires old { IsApartTold P.profile old.now }
+    requires list { map (derivation_view P.profile) slots.items ≡ derivations_of kernel.now.derivations }
+    requires apart { IsDistinct (λ (a b : ℕ). a == b) (slots_in kernel.now.derivations) }
+    ensures text { IfOk result (λ told. string_bytes out.new ≡ string_bytes out.old
+        ++ told_changes (told_rows P.profile old.now) (told_rows P.profile told)) }
+    ensures told { IfOk result (IsTold P.profile kernel.now) }
 {
-    let siblings = sibling_lines::<P, S, W>(alloc, kernel)?;
-    add_changes(out, old, siblings.as_slice())?;
-    Ok(siblings)
+    let siblings = siblings::<P>(alloc, slots.as_slice())?;
+    let view = view_of::<P, S, W>(alloc, slots, kernel)?;
+    add_view_changes::<P>(alloc, out, &old.view, &view)?;
+    add_row_changes::<P, SiblingRow>(alloc, out, old.siblings.as_slice(), siblings.as_slice())?;
+    Ok(Told { view, siblings })
 }
 
 /// Tells a kernel's state where nothing was told before: adds all of its lines.
@@ -55,34 +88,59 @@ pub fn tell<P: Profile, S: DerivationStore<P> + Drop, W: Waiters<P> + Drop>(
         ++ told_changes nothing_told (told_lines P.profile kernel.now)) }
     ensures told { IfOk result (IsTold P.profile kernel.now) }
 {
-    let view = retell::<P, S, W>(alloc, out, &nothing(alloc), kernel)?;
-    let siblings = retell_siblings::<P, S, W>(alloc, out, &[], kernel)?;
+    let slots = kernel.derivations(alloc)?;
+    tell_anew::<P, S, W>(alloc, out, &nothing(alloc), slots, kernel)
+}
+
+/// Tells the messages of a kernel's state anew: adds how they differ from what was told of a state with the same full
+/// slots.
+fn tell_messages<P: Profile, S: DerivationStore<P> + Drop, W: Waiters<P> + Drop>(
+    alloc: Global,
+    out: &mut String,
+    old: Told,
+    kernel: &Kernel<P, S, W>,
+) -> Result<Told, AllocError>
+    requires { (v : Shown) × IsTold P.profile v old × HaveSameSlots v kernel.now }
+    ensures text { OnOk result ((v : Shown) → IsTold P.profile v old → HaveSameSlots v kernel.now
+        → string_bytes out.new ≡ string_bytes out.old
+        ++ told_changes (told_lines P.profile v) (told_lines P.profile kernel.now)) }
+    ensures told { IfOk result (IsTold P.profile kernel.now) }
+{
+    let Told {
+        view: View { memory, messages },
+        siblings,
+    } = old;
+    let new = messages_of::<P, S, W>(alloc, &memory, kernel)?;
+    add_message_changes::<P>(alloc, out, &messages, &new)?;
+    let view = View {
+        memory,
+        messages: new,
+    };
     Ok(Told { view, siblings })
 }
 
-/// Adds how a call changed the order of siblings, by its reply: a call that is answered otherwise than *done* changes no
-/// capability.
-fn siblings_after<P: Profile, S: DerivationStore<P> + Drop, W: Waiters<P> + Drop>(
+/// Adds what a call changed that was done: where the full slots are the same, the messages alone.
+fn tell_done<P: Profile, S: DerivationStore<P> + Drop, W: Waiters<P> + Drop>(
     alloc: Global,
     out: &mut String,
-    old: Vec<StateLine>,
+    old: Told,
     kernel: &Kernel<P, S, W>,
-    reply: Reply,
-) -> Result<Vec<StateLine>, AllocError>
-    requires { (v : Shown) × (seen old.items ≡ order.sibling_lines v.derivations) × Follows reply v kernel.now }
-    ensures text { OnOk result (string_bytes out.new ≡ string_bytes out.old
-        ++ line_changes (seen old.items) (order.sibling_lines kernel.now.derivations)) }
-    ensures siblings { IfOk result (λ v. seen v.items ≡ order.sibling_lines kernel.now.derivations) }
+) -> Result<Told, AllocError>
+    requires { (v : Shown) × IsTold P.profile v old }
+    ensures text { OnOk result ((v : Shown) → IsTold P.profile v old → string_bytes out.new ≡ string_bytes out.old
+        ++ told_changes (told_lines P.profile v) (told_lines P.profile kernel.now)) }
+    ensures told { IfOk result (IsTold P.profile kernel.now) }
 {
-    match reply {
-        Reply::Done => retell_siblings::<P, S, W>(alloc, out, old.as_slice(), kernel),
-        Reply::Waiting | Reply::Delivered { .. } => Ok(old),
-        Reply::Dropped | Reply::Empty | Reply::Refused(_) => Ok(old),
+    let slots = kernel.derivations(alloc)?;
+    if are_same_slots::<P>(old.view.memory.slots.as_slice(), slots.as_slice()) {
+        return tell_messages::<P, S, W>(alloc, out, old, kernel);
     }
+    tell_anew::<P, S, W>(alloc, out, &old, slots, kernel)
 }
 
 /// Tells a kernel's state after a call, by the call's reply: adds what the call changed of a state of which `old` is what
-/// was told.
+/// was told. A call that is refused, dropped or finds nothing changes nothing, and a send or a receive changes no
+/// capability.
 ///
 /// # Errors
 ///
@@ -95,12 +153,16 @@ pub fn tell_call<P: Profile, S: DerivationStore<P> + Drop, W: Waiters<P> + Drop>
     reply: Reply,
 ) -> Result<Told, AllocError>
     requires { (v : Shown) × IsTold P.profile v old × Follows reply v kernel.now }
-    ensures text { OnOk result (string_bytes out.new ≡ string_bytes out.old
-        ++ told_changes (told_view old) (told_lines P.profile kernel.now)) }
+    ensures text { OnOk result ((v : Shown) → IsTold P.profile v old → Follows reply v kernel.now
+        → string_bytes out.new ≡ string_bytes out.old
+        ++ told_changes (told_lines P.profile v) (told_lines P.profile kernel.now)) }
     ensures told { IfOk result (IsTold P.profile kernel.now) }
 {
-    let Told { view, siblings } = old;
-    let view = after_call::<P, S, W>(alloc, out, view, kernel, reply)?;
-    let siblings = siblings_after::<P, S, W>(alloc, out, siblings, kernel, reply)?;
-    Ok(Told { view, siblings })
+    match reply {
+        Reply::Done => tell_done::<P, S, W>(alloc, out, old, kernel),
+        Reply::Waiting | Reply::Delivered { .. } => {
+            tell_messages::<P, S, W>(alloc, out, old, kernel)
+        }
+        Reply::Dropped | Reply::Empty | Reply::Refused(_) => Ok(old),
+    }
 }

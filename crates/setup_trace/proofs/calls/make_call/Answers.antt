@@ -4,7 +4,6 @@ use Rattle.setup_report.specs.Report.{terminated, call_text}
 use Rattle.trace_lines.specs.Told.{told_lines, told_changes}
 use Rattle.setup_why.specs.Why.{explained}
 use Rattle.setup_trace.specs.Trace.{words_line, why_text}
-use Rattle.trace_lines.proofs.Views.{told_whole}
 use Rattle.trace_lines.proofs.Steps.{follows, call_is, expected_is}
 use Rattle.setup_trace.proofs.Steps.{four_parts}
 use Rattle.setup_trace.proofs.calls.make_call.Goals as goal
@@ -29,13 +28,15 @@ returns-clause-text g c = λ call there.
     let made = call_is c.args.setup.now.calls c.calls.result.now c.args.i _ call c.calls.ensures there in
     let expected = expected_is c.args.setup.now.calls c.args.i (option_copied c.expect.result) call c.expect.ensures there in
     let told = told_lines p c.step-reply.new.self in
+    let before = c.requires.reached in
+    let after = follows p before.0 _ c.step-reply.result c.args.kernel.now c.step-reply.new.self before.2 (c.step-reply.ensures.stands before.0 before.1 before.2) in
     four_parts (string_bytes c.args.out.now) (string_bytes c.add_call.new.out) (string_bytes c.add_words.new.out) (string_bytes c.add_why.new.out) (string_bytes c.tell_call.new.out) _ _ _ _
-    c.in_ok-add_call.ensures.line c.in_ok-add_words.ensures c.in_ok-add_why.ensures c.in_ok-told.ensures.text
+    c.in_ok-add_call.ensures.line c.in_ok-add_words.ensures c.in_ok-add_why.ensures (c.in_ok-told.ensures.text c.args.kernel.now c.requires.told after)
     ∙ (λ k. string_bytes c.args.out.now
     ++ (terminated (call_text (c.args.i + 1) (made k) c.step-reply.result (expected k))
     ++ (words_line (made k).op
     ++ (why_text (c.in_ok-why.ensures k)
-    ++ told_changes (told_whole p c.args.kernel.now c.args.told c.requires.told k) told))))
+    ++ told_changes (told_lines p c.args.kernel.now) told))))
     ∙ (λ k. string_bytes c.args.out.now
     ++ (terminated (call_text (c.args.i + 1) call.call c.step-reply.result call.expect)
     ++ (words_line call.call.op

@@ -1,27 +1,19 @@
-use Rattle.std.proofs.Common.{◌++◌, [], string_bytes, ap, ◌∙◌, append_assoc}
-use Rattle.std.specs.List.Sorted.{IsStrictlySortedBy}
-use Rattle.trace_lines.specs.Changes.{changes, line_changes, state_lines, no_lines}
-use Rattle.trace_lines.specs.Siblings.{sibling_lines}
-use Rattle.trace_lines.proofs.Views.{nothing_rises}
+use Rattle.std.proofs.Common.{◌++◌, string_bytes, ap, ◌∙◌}
+use Rattle.trace_lines.proofs.Kept.{first_changes, nothing_apart}
+use Rattle.trace_lines.proofs.Ends.{on_both}
 use Rattle.trace_lines.proofs.told.tell.Goals as goal
 
-pub retell-requires-clause-memory : goal.retell-requires-clause-memory
-retell-requires-clause-memory g c = (nothing_rises c.nothing.result c.nothing.ensures).0
-
-pub retell-requires-clause-messages : goal.retell-requires-clause-messages
-retell-requires-clause-messages g c = (nothing_rises c.nothing.result c.nothing.ensures).1
-
-pub retell_siblings-requires : goal.retell_siblings-requires
-unfolding IsStrictlySortedBy
-retell_siblings-requires g c = tt
+pub tell_anew-requires : goal.tell_anew-requires
+tell_anew-requires g c =
+    record {
+      old = nothing_apart g.P.Profile.profile c.nothing.result (c.nothing.ensures g.P.Profile.profile);
+      list = c.in_ok-slots.ensures.list;
+      apart = c.in_ok-slots.ensures.apart;
+    }
 
 pub returns-clause-text : goal.returns-clause-text
 returns-clause-text g c =
-    let told = state_lines g.P.Profile.profile c.args.kernel.now in
-    let order = line_changes [] (sibling_lines c.args.kernel.now.derivations) in
-    c.in_ok-siblings.ensures.text
-    ∙ ap (λ l. l ++ order) (c.in_ok-view.ensures.text ∙ ap (λ l. string_bytes c.args.out.now ++ changes l told) c.nothing.ensures)
-    ∙ append_assoc (string_bytes c.args.out.now) (changes no_lines told) order
-
-pub returns-clause-told : goal.returns-clause-told
-returns-clause-told g c = record { view = c.in_ok-view.ensures.view; siblings = c.in_ok-siblings.ensures.siblings }
+    let p = g.P.Profile.profile in
+    on_both _ _ _
+    (λ told is shows. is ∙ ap (λ t. string_bytes c.args.out.now ++ t) (first_changes p c.args.kernel.now c.nothing.result told (c.nothing.ensures p) shows))
+    c.tell_anew.result c.tell_anew.ensures.text c.tell_anew.ensures.told

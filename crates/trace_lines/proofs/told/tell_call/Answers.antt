@@ -1,22 +1,33 @@
-use Rattle.std.proofs.Common.{◌++◌, string_bytes, ap, ◌∙◌, append_assoc}
-use Rattle.trace_lines.specs.Changes.{changes, line_changes, state_lines}
-use Rattle.trace_lines.specs.Siblings.{sibling_lines}
-use Rattle.trace_lines.specs.Views.{seen, view_lines}
+use Rattle.std.proofs.Common.{◌≡◌, ◌++◌, inl, inr, string_bytes, sym, ap, subst, ◌∙◌, append-nil}
+use Rattle.abstract_kernel.specs.declared.call.Reply.{Reply}
+use Rattle.trace_lines.specs.Told.{told_lines}
+use Rattle.trace_lines.specs.Views.{Follows}
+use Rattle.trace_lines.proofs.Views.{nothing_differs}
+use Rattle.trace_lines.proofs.Kept.{same_forest}
 use Rattle.trace_lines.proofs.told.tell_call.Goals as goal
 
-pub after_call-requires : goal.after_call-requires
-after_call-requires g c = (c.requires.0, c.requires.1.view, c.requires.2)
+pub tell_messages-requires : goal.tell_messages-requires
+tell_messages-requires g c =
+    let w = c.args.kernel.now in
+    let follows = λ (r : Reply). Follows r c.requires.0 w in (
+      c.requires.0,
+      c.requires.1,
+      same_forest c.requires.0 w (elim c.in-Waiting.is [
+        | inl is ↦ subst follows is c.requires.2
+        | inr x ↦ subst follows x.5 c.requires.2
+      ]),
+    )
 
-pub siblings_after-requires : goal.siblings_after-requires
-siblings_after-requires g c = (c.requires.0, c.requires.1.siblings, c.requires.2)
-
-pub returns-clause-text : goal.returns-clause-text
-returns-clause-text g c =
-    let told = changes (view_lines c.args.old.view) (state_lines g.P.Profile.profile c.args.kernel.now) in
-    let order = line_changes (seen c.args.old.siblings.items) (sibling_lines c.args.kernel.now.derivations) in
-    c.in_ok-siblings.ensures.text
-    ∙ ap (λ l. l ++ order) c.in_ok-view.ensures.text
-    ∙ append_assoc (string_bytes c.args.out.now) told order
-
-pub returns-clause-told : goal.returns-clause-told
-returns-clause-told g c = record { view = c.in_ok-view.ensures.view; siblings = c.in_ok-siblings.ensures.siblings }
+pub returns-in-Dropped-clause-text : goal.returns-in-Dropped-clause-text
+returns-in-Dropped-clause-text g c = λ v told after.
+    let p = g.P.Profile.profile in
+    let w = c.args.kernel.now in
+    let follows = λ (r : Reply). Follows r v w in
+    let same : w ≡ v = elim c.in-Dropped.is [
+      | inl is ↦ subst follows is after
+      | inr x ↦ elim x [
+        | inl is ↦ subst follows is after
+        | inr y ↦ subst follows y.1 after
+      ]
+    ] in
+    sym (ap (λ l. string_bytes c.args.out.now ++ l) (nothing_differs (told_lines p v) (told_lines p w) (ap (told_lines p) (sym same))) ∙ append-nil (string_bytes c.args.out.now))
