@@ -15,12 +15,12 @@ use Rattle.setup_report.specs.declared.naming.NamedObject.{NamedObject}
 use Rattle.setup_report.specs.State.{Derived, slot_of, found, is_in, named, holding_themselves, rising}
 use Rattle.setup_report.proofs.Addresses.Slots.{slots_are as derived_slots}
 use Rattle.trace_lines.specs.Lines.{Lines, line_of, slot_text, slot_at, slot_lines, thread_at, inbox_line_at, endpoint_at, selfheld_at, selfheld_lines}
-use Rattle.trace_lines.specs.Siblings.{Sibling, siblings, in_front, sibling_text, sibling_at, sibling_lines}
+use Rattle.trace_lines.specs.Siblings.{Sibling, siblings, in_front, sibling_text, sibling_at, sibling_lines, row_view}
 use Rattle.trace_lines.specs.Changes.{StateLines, state_lines, addresses, text_at, line_changes, changes}
 use Rattle.trace_lines.specs.Told.{ToldLines, told_lines, nothing_told, told_changes}
 use Rattle.trace_lines.specs.Views.{seen, thread_line, inbox_line, endpoint_line, ShowsMemory, ShowsMessages, IsViewOf, IsTold}
 use Rattle.trace_lines.specs.Private.Listed.{derivation_line}
-use Rattle.trace_lines.specs.Private.Path.{row_view, sibling_line, walked}
+use Rattle.trace_lines.specs.Private.Path.{sibling_line, walked}
 use Rattle.trace_lines.specs.Private.Rows.{Apart}
 use Rattle.trace_lines.specs.Private.Kept.{thread_rows, inbox_rows, endpoint_rows, slot_rows, sibling_rows, message_changes, view_rows, told_rows, IsApartMemory, IsApartMessages, IsApartView, IsApartTold, HaveSameSlots}
 use Rattle.trace_lines.specs.declared.siblings.SiblingRow.{SiblingRow}

@@ -7,10 +7,14 @@ use Rattle.derivation.specs.Forest.{Forest}
 use Rattle.derivation.specs.Forest.Forest.{none, tree}
 use Rattle.derivation.specs.Entries.{Entry, slots}
 use Rattle.trace_lines.specs.Lines.{Lines, lines_at}
+use Rattle.trace_lines.specs.declared.siblings.SiblingRow.{SiblingRow}
 
 -- a full slot, and the sibling right in front of it, where there is one
 abbrev pub Sibling : Type 0
 Sibling = ℕ × Option ℕ
+
+abbrev pub row_view : SiblingRow → Sibling
+row_view row = (row.slot, row.before)
 
 -- each full slot, before those below it; `before` stands right in front of the first tree
 abbrev pub siblings : Option ℕ → Forest Entry → List Sibling

@@ -10,8 +10,7 @@ use Rattle.abstract_kernel.specs.Shown.{Shown}
 use Rattle.setup_report.specs.State.{threads as live_threads, endpoints as live_endpoints}
 use Rattle.setup_report.specs.Report.{endpoint_text}
 use Rattle.trace_lines.specs.Lines.{Lines, thread_text, thread_lines, inbox_text, inbox_lines, endpoint_lines, selfheld_lines}
-use Rattle.trace_lines.specs.Siblings.{siblings}
-use Rattle.trace_lines.specs.Private.Path.{row_view}
+use Rattle.trace_lines.specs.Siblings.{siblings, row_view}
 use Rattle.trace_lines.specs.declared.text.ThreadText.{ThreadText}
 use Rattle.trace_lines.specs.declared.text.InboxText.{InboxText}
 use Rattle.trace_lines.specs.declared.messages.EndpointRow.{EndpointRow}

@@ -2,7 +2,8 @@
 ghost use Rattle.std.specs.Prelude.{◌≡◌, ◌==◌, [], IfOk, OnOk, map};
 ghost use Rattle.std.specs.List.{position};
 ghost use Rattle.slot_core.specs.Calls.{derivation_view};
-ghost use Rattle.trace_lines.specs.Private.Path.{cut, path_to, row_view, sibling_behind, sibling_line, walked};
+ghost use Rattle.trace_lines.specs.Siblings.{row_view};
+ghost use Rattle.trace_lines.specs.Private.Path.{cut, path_to, sibling_behind, sibling_line, walked};
 
 use crate::changes::StateLine;
 use crate::rows::Row;

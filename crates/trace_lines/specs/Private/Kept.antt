@@ -8,12 +8,12 @@ use Rattle.derivation.specs.Entries.{derivations_of}
 use Rattle.slot_core.specs.declared.derivations.Derivation.{Derivation}
 use Rattle.abstract_kernel.specs.Shown.{Shown}
 use Rattle.trace_lines.specs.Lines.{Lines}
-use Rattle.trace_lines.specs.Siblings.{siblings}
+use Rattle.trace_lines.specs.Siblings.{siblings, row_view}
 use Rattle.trace_lines.specs.Changes.{StateLines, addresses, line_changes}
 use Rattle.trace_lines.specs.Told.{ToldLines}
 use Rattle.trace_lines.specs.Views.{seen, thread_line, inbox_line, endpoint_line}
 use Rattle.trace_lines.specs.Private.Listed.{derivation_line}
-use Rattle.trace_lines.specs.Private.Path.{row_view, sibling_line}
+use Rattle.trace_lines.specs.Private.Path.{sibling_line}
 use Rattle.trace_lines.specs.Private.Rows.{Apart}
 use Rattle.trace_lines.specs.declared.text.ThreadText.{ThreadText}
 use Rattle.trace_lines.specs.declared.text.InboxText.{InboxText}

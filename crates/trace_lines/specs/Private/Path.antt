@@ -4,10 +4,6 @@ use Rattle.std.specs.List.{position}
 use Rattle.setup_report.specs.State.{Derived, slot_of}
 use Rattle.trace_lines.specs.Lines.{Lines, line_of}
 use Rattle.trace_lines.specs.Siblings.{Sibling, sibling_text}
-use Rattle.trace_lines.specs.declared.siblings.SiblingRow.{SiblingRow}
-
-abbrev pub row_view : SiblingRow → Sibling
-row_view row = (row.slot, row.before)
 
 -- how many of the first slots of a path lead down to a slot; none where no slot is given
 abbrev pub up_to : Option ℕ → ℕ

@@ -1,7 +1,7 @@
 use Rattle.std.proofs.Common.{sym, ◌∙◌, arith}
 use Rattle.std.proofs.Math.ListN.{drop_of_length-le}
 use Rattle.slot_core.specs.Calls.{derivation_view}
-use Rattle.trace_lines.specs.Private.Path.{row_view}
+use Rattle.trace_lines.specs.Siblings.{row_view}
 use Rattle.trace_lines.proofs.Walks.Rows.{next, last}
 use Rattle.trace_lines.proofs.siblings.siblings.Goals as goal
 

@@ -1,6 +1,7 @@
 use Rattle.std.proofs.Common.{◌≡◌, ◌++◌, [], map, drop}
 use Rattle.slot_core.specs.Calls.{derivation_view}
-use Rattle.trace_lines.specs.Private.Path.{row_view, walked}
+use Rattle.trace_lines.specs.Siblings.{row_view}
+use Rattle.trace_lines.specs.Private.Path.{walked}
 use Rattle.trace_lines.proofs.siblings.siblings.Given as goal
 
 -- the rows that are found, with those of the full slots that are left, are all that have to be found

@@ -2,7 +2,8 @@ use Rattle.std.proofs.Common.{ℕ, ◌++◌, List, map, string_bytes, sym, ap, s
 use Rattle.std.specs.List.{flat_map}
 use Rattle.slot_core.specs.Calls.{derivation_view}
 use Rattle.trace_lines.specs.Changes.{changes, line_changes}
-use Rattle.trace_lines.specs.Private.Path.{row_view, sibling_line}
+use Rattle.trace_lines.specs.Siblings.{row_view}
+use Rattle.trace_lines.specs.Private.Path.{sibling_line}
 use Rattle.trace_lines.specs.Private.Rows.{Apart}
 use Rattle.trace_lines.specs.Private.Kept.{view_rows}
 use Rattle.trace_lines.specs.declared.siblings.SiblingRow.{SiblingRow}
