@@ -5,7 +5,7 @@ ghost use Rattle.abstract_kernel.specs.declared.call.Call.{Call};
 ghost use Rattle.abstract_kernel.specs.declared.invocation.Invocation.TheVariants.{Revoke};
 ghost use Rattle.abstract_kernel.specs.Decode.{decoded_call};
 ghost use Rattle.abstract_kernel.specs.State.{State, shown};
-ghost use Rattle.trace_lines.specs.Laws.{call_changes};
+ghost use Rattle.trace_lines.specs.Calls.{call_changes};
 ghost use Rattle.setup_audit.specs.Audit.{slot_changes};
 
 /// Where a thread's call passes its checks and is a revoke that names a slot, a trace tells of it the changes that an audit

@@ -12,7 +12,7 @@ use lib.Pointwise.{pointwise}
 use Rattle.setup_report.specs.State.{rising}
 use Rattle.trace_lines.specs.Lines.{Lines}
 use Rattle.trace_lines.specs.Changes.{text_at, removed, added, change, change_at, addresses, line_changes}
-use Rattle.trace_lines.specs.Laws.{Difference, difference_at, is_difference, differences, told, without, with_line, apply, applied, Rise}
+use Rattle.trace_laws.specs.Laws.{Difference, difference_at, is_difference, differences, told, without, with_line, apply, applied, Rise}
 use Rattle.trace_lines.proofs.Differences.{Below, below_both, below_rising, below_trans, least_left, least_right, least_twice, equal_self, greater_than, reversed, different, found_here, found_past, not_found}
 
 -- ---- their text is what is told

@@ -15,7 +15,8 @@ use Rattle.setup_report.specs.State.{is_in, rising}
 use Rattle.setup_report.proofs.Addresses.Rising.{rising_same}
 use Rattle.trace_lines.specs.Lines.{Lines}
 use Rattle.trace_lines.specs.Changes.{StateLines, addresses, text_at, state_lines, no_lines}
-use Rattle.trace_lines.specs.Laws.{Difference, StateDifferences, difference_at, is_same, is_difference, differences, applied, Rise, state_differences, state_applied, lines_in, call_differences, boot_differences, run_differences, replayed, flipped, state_flipped, backwards}
+use Rattle.trace_laws.specs.Laws.{Difference, StateDifferences, difference_at, is_same, is_difference, differences, applied, Rise, state_differences, state_applied, call_differences, boot_differences, run_differences, replayed, flipped, state_flipped, backwards}
+use Rattle.trace_lines.specs.Calls.{lines_in}
 use Rattle.trace_laws.proofs.Applied.{all_applied}
 use Rattle.trace_laws.proofs.Replays.{AllRise, lines_rise, none_rise, rising_applied}
 

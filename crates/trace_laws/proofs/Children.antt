@@ -12,7 +12,7 @@ use Rattle.derivation.proofs.Trees.Lines.{once-left_part}
 use Rattle.derivation.proofs.Slots.Distinct.{once_at}
 use Rattle.abstract_kernel.specs.Shown.{has_child}
 use Rattle.setup_report.specs.State.{Derived, slot_of, found}
-use Rattle.trace_lines.specs.Laws.{is_under, has_slot_under}
+use Rattle.trace_laws.specs.Laws.{is_under, has_slot_under}
 
 abbrev viewed : Entry × Option Entry → Derived
 viewed x = (x.0, option_map entry_slot x.1)

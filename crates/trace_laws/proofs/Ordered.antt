@@ -13,7 +13,7 @@ use Rattle.abstract_kernel.specs.Reached.{IsReached}
 use Rattle.abstract_kernel.specs.State.{State, shown}
 use Rattle.abstract_kernel.proofs.Reached.Simulation.{reached_is}
 use Rattle.trace_lines.specs.Siblings.{Sibling, siblings, in_front}
-use Rattle.trace_lines.specs.Laws.{in_a_row, TellsTheOrder}
+use Rattle.trace_laws.specs.Laws.{in_a_row, TellsTheOrder}
 use Rattle.trace_lines.proofs.Walks.Walked.{slots_are}
 
 -- ---- in front of each stands what the list has there

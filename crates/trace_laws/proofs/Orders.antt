@@ -11,7 +11,7 @@ use Rattle.abstract_kernel.specs.Step.{step, state_after}
 use Rattle.trace_lines.specs.Lines.{Lines}
 use Rattle.trace_lines.specs.Siblings.{siblings, sibling_at, sibling_lines}
 use Rattle.trace_lines.specs.Told.{told_lines}
-use Rattle.trace_lines.specs.Laws.{Difference, Rise, apply, applied, differences, flipped, order_in, run_order, order_differences, all_changes}
+use Rattle.trace_laws.specs.Laws.{Difference, Rise, apply, applied, differences, flipped, order_in, run_order, order_differences, all_changes}
 use Rattle.trace_laws.proofs.Applied.{all_applied}
 use Rattle.trace_laws.proofs.Backwards.{lead_back}
 use Rattle.trace_laws.proofs.Replays.{none_rise}

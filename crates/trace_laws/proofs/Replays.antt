@@ -14,7 +14,8 @@ use Rattle.setup_report.specs.declared.naming.NamedObject.{NamedObject}
 use Rattle.setup_report.specs.State.{slot_of, named, holding_themselves}
 use Rattle.trace_lines.specs.Lines.{thread_at, inbox_line_at, endpoint_at, slot_at, selfheld_at}
 use Rattle.trace_lines.specs.Changes.{StateLines, state_lines, no_lines, changes}
-use Rattle.trace_lines.specs.Laws.{Rise, state_differences, state_told, state_applied, lines_in, call_changes, boot_differences, run_differences, replayed}
+use Rattle.trace_laws.specs.Laws.{Rise, state_differences, state_told, state_applied, boot_differences, run_differences, replayed}
+use Rattle.trace_lines.specs.Calls.{lines_in, call_changes}
 use Rattle.trace_lines.specs.Views.{Follows}
 use Rattle.trace_laws.proofs.Applied.{all_told, all_applied}
 use Rattle.trace_lines.proofs.Views.{rises_at, nothing_changes}

@@ -22,7 +22,7 @@ use Rattle.setup_report.proofs.Addresses.Rising.{all_rising}
 use Rattle.setup_report.proofs.Addresses.Slots.{slots_are}
 use Rattle.trace_lines.specs.Lines.{slot_text, slot_at, slot_lines, line_of, line_at, thread_at, thread_text, endpoint_at, selfheld_at}
 use Rattle.trace_lines.specs.Changes.{addresses}
-use Rattle.trace_lines.specs.Laws.{lines_text, TellsTheThreads, TellsTheEndpoints, TellsTheSlots, TellsTheSlotLines, TellsTheCapabilities, TellsTheSelfheld, slot_line_of, report_slot_line, held_slot_line}
+use Rattle.trace_laws.specs.Laws.{lines_text, TellsTheThreads, TellsTheEndpoints, TellsTheSlots, TellsTheSlotLines, TellsTheCapabilities, TellsTheSelfheld, slot_line_of, report_slot_line, held_slot_line}
 use Rattle.trace_laws.proofs.Children.{child_is_under, held_there}
 use Rattle.trace_lines.proofs.Listed.{found_is}
 

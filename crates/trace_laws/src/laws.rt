@@ -16,7 +16,8 @@ ghost use Rattle.derivation.specs.Entries.{Entry, is_at, slot_of};
 ghost use Rattle.trace_lines.specs.Lines.{Lines};
 ghost use Rattle.trace_lines.specs.Siblings.{sibling_lines};
 ghost use Rattle.trace_lines.specs.Changes.{StateLines, changes, line_changes, no_lines, state_lines};
-ghost use Rattle.trace_lines.specs.Laws.{Rise, all_changes, applied, backwards, boot_differences, call_changes, differences, flipped, lines_in, order_differences, order_in, replayed, run_differences, state_applied, state_differences, state_flipped, state_told, told, TellsTheOrder, TellsTheThreads, TellsTheEndpoints, TellsTheSlots, TellsTheSlotLines, TellsTheCapabilities, TellsTheSelfheld};
+ghost use Rattle.trace_laws.specs.Laws.{Rise, all_changes, applied, backwards, boot_differences, differences, flipped, order_differences, order_in, replayed, run_differences, state_applied, state_differences, state_flipped, state_told, told, TellsTheOrder, TellsTheThreads, TellsTheEndpoints, TellsTheSlots, TellsTheSlotLines, TellsTheCapabilities, TellsTheSelfheld};
+ghost use Rattle.trace_lines.specs.Calls.{call_changes, lines_in};
 
 /// The changes that are told of lines, applied to the old ones, give the new ones; and so with all lines of two states.
 /// The changes of boot and of any calls behind it, applied one after another to nothing, give the lines of the state

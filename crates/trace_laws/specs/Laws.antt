@@ -20,8 +20,9 @@ use Rattle.setup_report.specs.Report.{terminated, thread_line}
 use Rattle.setup_report.specs.Report as report
 use Rattle.trace_lines.specs.Lines.{Lines, thread_lines, endpoint_lines, slot_lines, selfheld_lines}
 use Rattle.trace_lines.specs.Siblings.{Sibling, siblings, in_front, sibling_lines}
-use Rattle.trace_lines.specs.Changes.{StateLines, state_lines, no_lines, addresses, text_at, removed, added, changes}
+use Rattle.trace_lines.specs.Changes.{StateLines, state_lines, no_lines, addresses, text_at, removed, added}
 use Rattle.trace_lines.specs.Told.{told_lines, told_changes}
+use Rattle.trace_lines.specs.Calls.{lines_in, lines_after}
 
 -- ---- how lines differ
 
@@ -126,17 +127,7 @@ state_flipped d =
 
 -- ---- runs
 
--- what is told of a state, and of the state after a call
-abbrev pub lines_in : ProfileName → State → StateLines
-lines_in p A = state_lines p (shown A)
-
-abbrev pub lines_after : ProfileName → State → Call → StateLines
-lines_after p A call = lines_in p (step p A call).state
-
--- what a call changes: its text, and as data
-abbrev pub call_changes : ProfileName → State → Call → List ℕ
-call_changes p A call = changes (lines_in p A) (lines_after p A call)
-
+-- what a call changes, as data
 abbrev pub call_differences : ProfileName → State → Call → StateDifferences
 call_differences p A call = state_differences (lines_in p A) (lines_after p A call)
 

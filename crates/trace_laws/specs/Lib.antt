@@ -1,0 +1,2 @@
+-- What the laws of a trace's lines say.
+pub mod Laws
