@@ -301,7 +301,7 @@ fn tell_of_line<R: Eprint + AllocGlobal, S, F>(
         Err(RunFault::Reading) => {
             let name = name_of(done.line.file);
             explain_reading(rt, name, failure_of(&done.input));
-            if may_be_command(words, name) {
+            if may_be_command(words, name) && !is_command(name) {
                 note_on_command(rt, name, "is no command either");
             }
         }
