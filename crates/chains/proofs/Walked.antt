@@ -1,17 +1,17 @@
 -- A chain through layers, and why no chain is shorter.
-use Rattle.std.proofs.Common.{◌≡◌, ◌≤◌, ◌<◌, ◌==◌, ◌⊎◌, inl, inr, ℕ, zero, suc, ◌+◌, Bool, true, false, not, List, [], ◌∷◌, length, refl, sym, ap, ◌∙◌, subst, arith, eqb-true}
-use Rattle.std.specs.List.{list_any, filter, slice_get}
+use Rattle.std.proofs.Common.{◌≡◌, ◌≤◌, ◌<◌, ◌==◌, ◌⊎◌, inl, inr, ℕ, suc, ◌+◌, true, not, List, [], ◌∷◌, length, sym, ap, ◌∙◌, subst, arith, eqb-true}
+use Rattle.std.specs.List.{filter}
 use Rattle.std.proofs.lemmas.Bool.{cases_lt, false≢true, eq-eqb}
 use Rattle.cap_core.specs.declared.profile.ProfileName.{ProfileName}
 use Rattle.cap_core.specs.declared.capability.Cap.{Cap}
 use Rattle.derivation.specs.Forest.{Forest}
-use Rattle.derivation.specs.Entries.{Entry, cap_at, is_full}
+use Rattle.derivation.specs.Entries.{Entry, cap_at}
 use Rattle.reach_core.specs.declared.filled.FullSlot.{FullSlot}
 use Rattle.chains.specs.declared.chain.Target.{Target}
 use Rattle.reach_core.specs.FullSlots.{AreFullSlots}
-use Rattle.chains.specs.Chain.{is_sought, gives, IsFullSlot, LeadsOn, IsChain, IsShortest}
+use Rattle.chains.specs.Chain.{IsFullSlot, LeadsOn, IsChain, IsShortest}
 use Rattle.clearing.specs.Members.{In}
-use Rattle.chains.specs.Private.Layers.{leads, IsLaid, layer_at, is_sought_at, is_sought_in, HasNone, IsFirst, IsLaidOut, IsRun, IsRunFrom}
+use Rattle.chains.specs.Private.Layers.{IsLaid, layer_at, is_sought_at, is_sought_in, HasNone, IsFirst, IsLaidOut, IsRun, IsRunFrom}
 use Rattle.clearing.proofs.Members.{any_in, tells}
 use Rattle.chains.proofs.Filtered.{in_filter, of_filter, get_in, in_get}
 use Rattle.chains.proofs.Laid.{UpTo, up_to_at, layer_within, in_first, one_more, laid_first, laid_in}

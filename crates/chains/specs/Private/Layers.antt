@@ -1,5 +1,5 @@
 -- The full slots that a slot leads to, in layers: in each those to which some slot of the layer before leads, and that are in none of the layers before.
-use Rattle.std.specs.Prelude.{◌≡◌, ◌<◌, ◌⊎◌, ℕ, zero, suc, ◌+◌, Bool, true, false, not, List, [], ◌∷◌, length, reverse, unwrap_or, slice_get}
+use Rattle.std.specs.Prelude.{◌≡◌, ◌<◌, ℕ, suc, ◌+◌, Bool, true, false, not, List, [], ◌∷◌, length, reverse, unwrap_or, slice_get}
 use Rattle.std.specs.List.{filter, list_any}
 use Rattle.clearing.specs.Members.{In}
 use Rattle.cap_core.specs.declared.profile.ProfileName.{ProfileName}

@@ -1,5 +1,5 @@
 -- The proof of `shortest_chain`: the goals that a search leaves open.
-use Rattle.std.proofs.Common.{◌≡◌, ◌==◌, not, true, ℕ, List, [], length, map, subst, sym, ◌∙◌, Vec, Global}
+use Rattle.std.proofs.Common.{◌≡◌, ◌==◌, not, true, List, length, map, subst, sym, ◌∙◌, Vec, Global}
 use Rattle.std.specs.List.{filter}
 use Rattle.std.proofs.lemmas.List.{length-map}
 use Rattle.std.proofs.lemmas.Result.{IfOk-weaker}

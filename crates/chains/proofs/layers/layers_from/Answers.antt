@@ -1,5 +1,5 @@
 -- The proof of `layers_from`: the goals that a search leaves open.
-use Rattle.std.proofs.Common.{◌≡◌, ◌<◌, ℕ, List, [], length, map, refl, sym, ◌∙◌, Vec, Global, arith, vec_len}
+use Rattle.std.proofs.Common.{◌≡◌, ◌<◌, List, length, refl, sym, Vec, Global, arith, vec_len}
 use Rattle.std.proofs.lemmas.Bool.{eqb-true, eqb-false}
 use Rattle.reach_core.specs.declared.filled.FullSlot.{FullSlot}
 use Rattle.chains.specs.Private.Layers.{next_of, others_of}

@@ -1,4 +1,4 @@
-use Rattle.std.proofs.Common.{ℕ, ◌+◌, List, ◌++◌, length, map}
+use Rattle.std.proofs.Common.{◌+◌, List, ◌++◌, length, map}
 use Rattle.reach_core.specs.declared.filled.FullSlot.{FullSlot}
 use Rattle.chains.specs.Private.Layers.{IsLaid}
 use Rattle.chains.proofs.layers.layers_from.Given as goal
