@@ -1,5 +1,5 @@
 -- The proof of `never_with_chains`: the goals that a search leaves open.
-use Rattle.std.proofs.Common.{◌++◌, ℕ, List, Option, rules, string_bytes, subst, sym, ap, ◌∙◌, Vec, Global}
+use Rattle.std.proofs.Common.{◌++◌, ℕ, List, Option, string_bytes, subst, sym, ap, ◌∙◌, Vec, Global}
 use Rattle.confinement.specs.Listed.{part_at}
 use Rattle.reach_core.specs.declared.filled.FullSlot.{FullSlot}
 use Rattle.reach_core.specs.FullSlots.{AreFullSlots}
