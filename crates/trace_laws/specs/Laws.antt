@@ -20,7 +20,7 @@ use Rattle.setup_report.specs.Report.{terminated, thread_line}
 use Rattle.setup_report.specs.Report as report
 use Rattle.trace_lines.specs.Lines.{Lines, thread_lines, endpoint_lines, slot_lines, selfheld_lines}
 use Rattle.trace_lines.specs.Siblings.{Sibling, siblings, in_front, sibling_lines}
-use Rattle.trace_lines.specs.Changes.{StateLines, state_lines, no_lines, addresses, text_at, removed, added}
+use Rattle.trace_lines.specs.Changes.{StateLines, no_lines, addresses, text_at, removed, added}
 use Rattle.trace_lines.specs.Told.{told_lines, told_changes}
 use Rattle.trace_lines.specs.Calls.{lines_in, lines_after}
 
