@@ -6,10 +6,10 @@ use Rattle.setup_format.specs.Faults.{Fault}
 use Rattle.setup_format.specs.Setups.{setup_of_bytes}
 use Rattle.setup_format.specs.Views.{SetupView}
 use Rattle.setup_report.specs.declared.calls.ExpectationCount.{ExpectationCount}
-use Rattle.engine.specs.Program.{HasCounts, IsTextOfSetup, replies_to}
+use Rattle.engine.specs.Program.{HasCounts, IsTextOfSetup}
 use Rattle.engine.specs.declared.run.CountedText.{CountedText}
-use Rattle.engine_files.specs.Files.{Each, contents_line, file_line, file_lines, setup_line, status_alone, tally_of}
-use Rattle.engine_files.specs.Private.{IsFound, count_text, found_line, found_status, line_with, named_line, tally_size, with_status}
+use Rattle.engine_files.specs.Files.{Each, contents_line, file_line, file_lines, setup_line, tally_of}
+use Rattle.engine_files.specs.Private.{IsFound, found_line, found_status, line_with, named_line, tally_size, with_status}
 use Rattle.engine_files.specs.declared.tally.Tally.{Tally}
 use Rattle.engine_files.proofs.Tallies.{found_status_is, size_more, tally_more}
 

@@ -1,5 +1,5 @@
 -- What is known of a file while its line is written. No public clause cites it.
-use Rattle.std.specs.Prelude.{◌≡◌, ◌+◌, ◌==◌, ⊤, ℕ, cond, codes, List, ◌++◌, Option, Some, None, Ok}
+use Rattle.std.specs.Prelude.{◌+◌, ◌==◌, ⊤, ℕ, cond, codes, List, ◌++◌, Option, Some, None, Ok}
 use Rattle.std.specs.Fmt.{decimal}
 use Rattle.setup_format.specs.Setups.{setup_of_bytes}
 use Rattle.setup_report.specs.Report.{terminated}

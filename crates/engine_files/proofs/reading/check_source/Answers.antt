@@ -1,5 +1,5 @@
 -- What the source gave to its end are the contents, and their text was made.
-use Rattle.std.proofs.Common.{Some, List, ℕ, arith, subst}
+use Rattle.std.proofs.Common.{Some, arith, subst}
 use Rattle.setup_format.specs.Setups.{setup_of_bytes}
 use Rattle.engine.specs.Program.{IsTextOfSetup}
 use Rattle.engine_files.proofs.reading.check_source.Goals as goal
