@@ -11,9 +11,7 @@ use Rattle.cap_core.specs.declared.profile.ProfileName.{ProfileName}
 use Rattle.abstract_kernel.specs.declared.call.Call.{Call}
 use Rattle.abstract_kernel.specs.Shown.{Shown}
 use Rattle.abstract_kernel.specs.State.{State, shown}
-use Rattle.abstract_kernel.specs.Step.{state_after}
 use Rattle.abstract_kernel.specs.Reached.{IsReached}
-use Rattle.abstract_kernel.proofs.Reached.Runs.{state_after-nil}
 use Rattle.kinds.specs.Kinds.{IsKindTest, firsts, with_firsts, with_counts_up_to, each_times, weight}
 use Rattle.kinds.proofs.Merging.{with_firsts-append}
 use Rattle.kinds.proofs.Counting.{up_to, key_of, all_up_to, keys_all, keys_followers, followers_up_to, flat_map_keys, weight-counted_followers, sum_by-followers}
@@ -28,7 +26,7 @@ use Rattle.orders.specs.Orders.{clients, longer, orders, is_end, is_stuck}
 use Rattle.orders.specs.Answers.{Answered, same_answer, call_answers, first_answers, answers_behind, answers_before}
 use Rattle.orders.specs.Ends.{StuckEnd, same_stuck, stuck_behind, stuck_before, orders_before}
 use Rattle.explore_core.specs.declared.node.Node.{Node}
-use Rattle.explore_core.specs.declared.answers.FoundAnswer.{FoundAnswer}
+use Rattle.explore_core.specs.declared.found.FoundAnswer.{FoundAnswer}
 use Rattle.explore_core.specs.declared.exploration.Explored.{Explored}
 use Rattle.explore_core.specs.Nodes.{state_words, lead_alike, layer, IsNode, AreNodes, entries_of}
 use Rattle.explore_core.specs.Counts.{saturated, saturated_sum, counted, states_before, ends_before}
@@ -112,11 +110,11 @@ module _ (p : ProfileName) (own : List (List Call)) (w : World) (reached : IsRea
 -- ---- how orders begin
 
 module _ (p : ProfileName) (own : List (List Call)) where
-  pub begins : (n : Node) (A : State) (v : Shown) (count : ℕ) → v ≡ shown A → length own ≡ count → n.order.items ≡ [] → n.calls.items ≡ [] → n.made.items ≡ replicate count 0 → n.waits.items ≡ [] →
+  pub begins : (n : Node) (A : State) (v : Shown) (count : ℕ) → v ≡ shown A → length own ≡ count → n.order ≡ [] → n.made.items ≡ replicate count 0 → n.waits.items ≡ [] →
       n.words.items ≡ state_words n.made.items n.waits.items v → IsNode p own (start own A) n
-  begins n A v count shows is_count order calls made waits words =
+  begins n A v count shows is_count order made waits words =
       let w = start own A in
-      let after : world_after p own w n.order.items ≡ w = ap (world_after p own w) order in
+      let after : world_after p own w n.order ≡ w = ap (world_after p own w) order in
       let made_is : n.made.items ≡ w.made = made ∙ ap (λ k. replicate k 0) (sym is_count) in
       record {
         made_is = made_is ∙ sym (ap (λ (x : World). x.made) after);
@@ -124,26 +122,24 @@ module _ (p : ProfileName) (own : List (List Call)) where
         words_are =
             words ∙ ap (λ (l : List ℕ). state_words l n.waits.items v) made_is ∙ ap (λ (l : List WaitingCall). state_words w.made l v) waits ∙ ap (λ (x : Shown). state_words w.made w.waits x) shows
             ∙ sym (ap (λ (x : World). state_words x.made x.waits (shown x.kernel)) after);
-        calls_are = ap (state_after p A) calls ∙ state_after-nil p A ∙ sym (ap (λ (x : World). x.kernel) after);
       }
 
   -- a client without a call left makes none
   pub none_made : (w : World) (same : Answer → Answer → Bool) (n m : Node) (client : ℕ) (c : Option Call) (found : List FoundAnswer) (v : Shown) → IsNode p own w n → c ≡ next_call own n.made.items client → c ≡ None →
-      m.order.items ≡ n.order.items ++ client ∷ [] → m.calls.items ≡ n.calls.items → m.made.items ≡ n.made.items → m.waits.items ≡ n.waits.items → m.words.items ≡ n.words.items → IsKernelOf p own w n v →
+      m.order ≡ n.order ++ client ∷ [] → m.made.items ≡ n.made.items → m.waits.items ≡ n.waits.items → m.words.items ≡ n.words.items → IsKernelOf p own w n v →
       IsMade p own w n m client same found found × IsKernelOf p own w m v
-  none_made w same n m client c found v node is none order calls made waits words at =
-      let x = world_after p own w n.order.items in
+  none_made w same n m client c found v node is none order made waits words at =
+      let x = world_after p own w n.order in
       let no_call : next_call own x.made client ≡ None = ap (λ (l : List ℕ). next_call own l client) (sym node.made_is) ∙ sym is ∙ none in
-      let after : world_after p own w m.order.items ≡ x = ap (world_after p own w) order ∙ world_after-append p own w n.order.items (client ∷ []) ∙ ap (with_call p x client) no_call in (
+      let after : world_after p own w m.order ≡ x = ap (world_after p own w) order ∙ world_after-append p own w n.order (client ∷ []) ∙ ap (with_call p x client) no_call in (
         record {
           is = record {
             made_is = made ∙ node.made_is ∙ sym (ap (λ (y : World). y.made) after);
             waits_are = waits ∙ node.waits_are ∙ sym (ap (λ (y : World). y.waits) after);
             words_are = words ∙ node.words_are ∙ sym (ap (λ (y : World). state_words y.made y.waits (shown y.kernel)) after);
-            calls_are = ap (state_after p w.kernel) calls ∙ node.calls_are ∙ sym (ap (λ (y : World). y.kernel) after);
           };
           order_is = order;
-          told_are = sym (ap (λ (o : Option Call). with_firsts (same_answer same) (answers_of found) (call_answers p x n.order.items client o)) no_call);
+          told_are = sym (ap (λ (o : Option Call). with_firsts (same_answer same) (answers_of found) (call_answers p x n.order client o)) no_call);
         },
         at ∙ sym (ap (λ (y : World). shown y.kernel) after),
       )
@@ -161,7 +157,7 @@ module _ (p : ProfileName) (own : List (List Call)) where
       ∙ sym (append_assoc now (first_answers p own v (made ++ c ∷ []) order) (call_answers p u (made ++ c ∷ order) client (next_call own u.made client)))
 
   module _ (A : State) (first : List ℕ) (same : Answer → Answer → Bool) where
-    pub begun_none : (n : Node) (found : List FoundAnswer) → IsNode p own (start own A) n → n.order.items ≡ [] → n.weight ≡ 1 → IsBegun p own A [] n same found found
+    pub begun_none : (n : Node) (found : List FoundAnswer) → IsNode p own (start own A) n → n.order ≡ [] → n.weight ≡ 1 → IsBegun p own A [] n same found found
     begun_none n found is order weighs = record { is = is; order_is = order; weight_is = weighs; told_are = refl }
 
     pub begun_more : (i client : ℕ) (n m : Node) (found found' found'' : List FoundAnswer) → i < length first → client ≡ get_or first i 0 →
@@ -202,7 +198,7 @@ module _ (p : ProfileName) (own : List (List Call)) (A : State) (first : List �
   abbrev w : World
   w = start own A
 
-  pub progress_none : (e : Explored) (n : Node) (none : List FoundAnswer) → IsBegun p own A first n answer_eq.ghosts.eq none e.found.answers.items → none ≡ [] → e.layer ≡ with_node [] n →
+  pub progress_none : (e : Explored) (n : Node) (none : List FoundAnswer) → IsBegun p own A first n answer_eq.ghosts.eq none e.found.answers → none ≡ [] → e.layer ≡ with_node [] n →
       e.found.stuck.items ≡ [] → e.found.ends ≡ 0 → e.found.orders ≡ 0 → e.found.stuck_orders ≡ 0 → e.states ≡ saturated (length first) → e.calls ≡ 0 →
       IsProgress p own A first answer_eq.ghosts.eq e
   progress_none e n none b empty nodes stuck ends orders_none stuck_none states calls =
@@ -212,7 +208,7 @@ module _ (p : ProfileName) (own : List (List Call)) (A : State) (first : List �
             ap entries_of nodes ∙ ap (λ (o : List ℕ). (o, n.weight) ∷ []) b.order_is ∙ ap (λ k. (first, k) ∷ []) b.weight_is
             ∙ ap (λ k. map (up_to most) (counted p own w first k)) (sym calls);
         to = record {
-          layer_is = ap (map (λ (m : Node). m.order.items)) nodes ∙ ap (λ (o : List ℕ). o ∷ []) b.order_is ∙ ap (layer p own w first) (sym calls);
+          layer_is = ap (map (λ (m : Node). m.order)) nodes ∙ ap (λ (o : List ℕ). o ∷ []) b.order_is ∙ ap (layer p own w first) (sym calls);
           answers_are =
               b.told_are ∙ ap (λ (l : List FoundAnswer). with_firsts (same_answer answer_eq.ghosts.eq) (answers_of l) (first_answers p own w [] first)) empty
               ∙ ap (answers_before answer_eq.ghosts.eq (firsts (same_answer answer_eq.ghosts.eq) (first_answers p own w [] first)) p own w first) (sym calls);
@@ -268,7 +264,7 @@ module _ (p : ProfileName) (own : List (List Call)) (A : State) (first : List �
         now.entries_are ∙ ap (λ l. with_counts_up_to most (lead_alike p own w) [] (flat_map followers l)) so_far.entries_are
         ∙ ap (with_counts_up_to most (lead_alike p own w) []) (sym (followers_up_to (longer p own w) most C))
         ∙ sym (all_up_to most (lead_alike p own w) (flat_map followers C) []) in
-        let same_order : (l : List Node) → map (λ (m : Node). m.order.items) l ≡ map key_of (entries_of l) = orders_keys in
+        let same_order : (l : List Node) → map (λ (m : Node). m.order) l ≡ map key_of (entries_of l) = orders_keys in
         let f = now.found_are in
         let before = so_far.to in
         record {
@@ -280,7 +276,7 @@ module _ (p : ProfileName) (own : List (List Call)) (A : State) (first : List �
                 ∙ ap (layer p own w first) next;
             answers_are =
                 f.answers_are
-                ∙ ap (with_firsts (same_answer answer_eq.ghosts.eq) (answers_of e.found.answers.items)) (flat_map_keys (answers_behind p own w) (entries_of e.layer) ∙ ap (flat_map (answers_behind p own w)) keys)
+                ∙ ap (with_firsts (same_answer answer_eq.ghosts.eq) (answers_of e.found.answers)) (flat_map_keys (answers_behind p own w) (entries_of e.layer) ∙ ap (flat_map (answers_behind p own w)) keys)
                 ∙ ap (λ (l : List Answered). with_firsts (same_answer answer_eq.ghosts.eq) l (flat_map (answers_behind p own w) (layer p own w first n))) before.answers_are
                 ∙ layer_answers answer_eq.ghosts.eq same_answers p own w reached (answers_before answer_eq.ghosts.eq (firsts (same_answer answer_eq.ghosts.eq) (first_answers p own w [] first)) p own w first n) first n
                 ∙ ap (answers_before answer_eq.ghosts.eq (firsts (same_answer answer_eq.ghosts.eq) (first_answers p own w [] first)) p own w first) next;
@@ -292,7 +288,7 @@ module _ (p : ProfileName) (own : List (List Call)) (A : State) (first : List �
                 ∙ ap (stuck_before same_left p own w first) next;
             states_are =
                 states ∙ ap (λ k. min (k + length e.layer) most) before.states_are ∙ sum_twice (states_before p own w first n) (length e.layer)
-                ∙ ap (λ k. min (states_before p own w first n + k) most) (sym (length-map e.layer (λ (m : Node). m.order.items)) ∙ ap (λ (l : List (List ℕ)). length l) before.layer_is)
+                ∙ ap (λ k. min (states_before p own w first n + k) most) (sym (length-map e.layer (λ (m : Node). m.order)) ∙ ap (λ (l : List (List ℕ)). length l) before.layer_is)
                 ∙ ap (λ k. saturated (states_before p own w first k)) next;
             ends_are =
                 f.ends_are ∙ ends_sum (λ (o : List ℕ). is_end own (world_after p own w o)) (entries_of e.layer) e.found.ends (ends_before p own w first n) before.ends_are
@@ -309,16 +305,16 @@ module _ (p : ProfileName) (own : List (List Call)) (A : State) (first : List �
           };
         }
       where
-        orders_keys : (l : List Node) → map (λ (m : Node). m.order.items) l ≡ map key_of (entries_of l)
+        orders_keys : (l : List Node) → map (λ (m : Node). m.order) l ≡ map key_of (entries_of l)
         orders_keys [] = refl
-        orders_keys (m ∷ l) = ap (λ k. m.order.items ∷ k) (orders_keys l)
+        orders_keys (m ∷ l) = ap (λ k. m.order ∷ k) (orders_keys l)
 
   -- ---- how far it goes
 
   last_is : (limit : ℕ) (e : Explored) → IsExploredTo p own w first answer_eq.ghosts.eq e → is_last limit e.states (length e.layer) ≡ is_last_layer p own w first limit e.calls
   last_is limit e to =
       ap (λ k. is_last limit k (length e.layer)) to.states_are
-      ∙ ap (λ k. is_last limit (saturated (states_before p own w first e.calls)) k) (sym (length-map e.layer (λ (m : Node). m.order.items)) ∙ ap (λ (l : List (List ℕ)). length l) to.layer_is)
+      ∙ ap (λ k. is_last limit (saturated (states_before p own w first e.calls)) k) (sym (length-map e.layer (λ (m : Node). m.order)) ∙ ap (λ (l : List (List ℕ)). length l) to.layer_is)
 
   depth_last : (limit further n : ℕ) → is_last_layer p own w first limit n ≡ true → depth_from p own w first limit further n ≡ n
   depth_last limit zero n h = refl

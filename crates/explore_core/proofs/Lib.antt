@@ -6,3 +6,5 @@ pub mod Loops
 pub mod Explorations
 pub mod Places
 pub mod Kept
+pub mod Replays
+pub mod Known

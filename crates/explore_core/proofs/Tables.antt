@@ -12,9 +12,8 @@ use Rattle.abstract_kernel.specs.declared.call.Call.{Call}
 use Rattle.abstract_kernel.specs.declared.call.Reply.{Reply}
 use Rattle.abstract_kernel.specs.Shown.{Shown}
 use Rattle.abstract_kernel.specs.State.{State, shown}
-use Rattle.abstract_kernel.specs.Step.{step, state_after}
+use Rattle.abstract_kernel.specs.Step.{step}
 use Rattle.abstract_kernel.specs.Reached.{StepsTo}
-use Rattle.abstract_kernel.proofs.Reached.Runs.{state_after-snoc}
 use Rattle.kinds.specs.Kinds.{has_kind_of, with_first, with_firsts, with_count_up_to, with_counts_up_to, each_times}
 use Rattle.kinds.proofs.Merging.{with_firsts-append}
 use Rattle.kinds.proofs.Counting.{counts_up_to-append}
@@ -28,7 +27,7 @@ use Rattle.orders.specs.Answers.{Answered, answered, replied, waits_ended, call_
 use Rattle.orders.specs.contracts.left.LeftCallPartialEq.TheImpl as left_eq
 use Rattle.orders.specs.Ends.{StuckEnd, stuck_end, stuck_behind, same_stuck, left_call, left_calls}
 use Rattle.explore_core.specs.declared.node.Node.{Node}
-use Rattle.explore_core.specs.declared.answers.FoundAnswer.{FoundAnswer}
+use Rattle.explore_core.specs.declared.found.FoundAnswer.{FoundAnswer}
 use Rattle.explore_core.specs.declared.stuck.Findings.{Findings}
 use Rattle.explore_core.specs.declared.stuck.FoundStuck.{FoundStuck}
 use Rattle.explore_core.specs.Nodes.{state_words, world_words, lead_alike, one_longer, IsNode, AreNodes, entry_of, entries_of}
@@ -82,9 +81,9 @@ any_stuck [] order left = refl
 any_stuck (s ∷ found) order left = ap (λ b. pointwise left_eq.ghosts.eq s.left.items left || b) (any_stuck found order left)
 
 pub stuck_pushed : (r : Bool) (list old new : List FoundStuck) (s : FoundStuck) (order : List ℕ) (left left' : List LeftCall) → list ≡ old → left' ≡ left → r ≡ list_any (λ (s : FoundStuck). pointwise left_eq.ghosts.eq s.left.items left') list → r ≡ false →
-    stuck_end s.order.items s.left.items ≡ stuck_end order left → new ≡ old ++ s ∷ [] → stuck_of new ≡ with_first (same_stuck same_left) (stuck_of old) (stuck_end order left)
+    stuck_end s.order s.left.items ≡ stuck_end order left → new ≡ old ++ s ∷ [] → stuck_of new ≡ with_first (same_stuck same_left) (stuck_of old) (stuck_end order left)
 stuck_pushed r list old new s order left left' is is_left any not is_end pushed =
-    ap stuck_of pushed ∙ map-append (λ (s : FoundStuck). stuck_end s.order.items s.left.items) old (s ∷ []) ∙ ap (λ (x : StuckEnd). stuck_of old ++ x ∷ []) is_end
+    ap stuck_of pushed ∙ map-append (λ (s : FoundStuck). stuck_end s.order s.left.items) old (s ∷ []) ∙ ap (λ (x : StuckEnd). stuck_of old ++ x ∷ []) is_end
     ∙ ap (λ b. cond b (stuck_of old) (stuck_of old ++ stuck_end order left ∷ []))
     (sym not ∙ any ∙ ap (λ (l : List FoundStuck). list_any (λ (s : FoundStuck). pointwise left_eq.ghosts.eq s.left.items left') l) is ∙ ap (λ (k : List LeftCall). list_any (λ (s : FoundStuck). pointwise left_eq.ghosts.eq s.left.items k) old) is_left ∙ any_stuck old order left)
 
@@ -145,13 +144,13 @@ if_ok (Ok x) h f = f x h
 if_ok (Err e) h f = tt
 
 module _ (p : ProfileName) (own : List (List Call)) (w : World) where
-  words_alike : (n m : Node) → IsNode p own w n → IsNode p own w m → by_words n m ≡ lead_alike p own w n.order.items m.order.items
+  words_alike : (n m : Node) → IsNode p own w n → IsNode p own w m → by_words n m ≡ lead_alike p own w n.order m.order
   words_alike n m x y =
       ap (λ (l : List ℕ). pointwise nat_eq l m.words.items) x.words_are
-      ∙ ap (λ (l : List ℕ). pointwise nat_eq (world_words (world_after p own w n.order.items)) l) y.words_are
+      ∙ ap (λ (l : List ℕ). pointwise nat_eq (world_words (world_after p own w n.order)) l) y.words_are
 
   heavier_is : (more : ℕ) (n : Node) → IsNode p own w n → IsNode p own w (heavier more n)
-  heavier_is more n is = record { made_is = is.made_is; waits_are = is.waits_are; words_are = is.words_are; calls_are = is.calls_are }
+  heavier_is more n is = record { made_is = is.made_is; waits_are = is.waits_are; words_are = is.words_are }
 
   pub noted_is : (nodes : List Node) (n : Node) → AreNodes p own w nodes → IsNode p own w n →
       AreNodes p own w (with_node nodes n) × (entries_of (with_node nodes n) ≡ with_count_up_to (2 ^ 64 - 1) (lead_alike p own w) (entries_of nodes) (entry_of n))
@@ -160,73 +159,73 @@ module _ (p : ProfileName) (own : List (List Call)) (w : World) where
       elim (by_words m n) as (λ b. by_words m n ≡ b → AreNodes p own w (cond b (heavier n.weight m ∷ ms) (m ∷ with_node ms n)) × (entries_of (cond b (heavier n.weight m ∷ ms) (m ∷ with_node ms n)) ≡ with_count_up_to (2 ^ 64 - 1) (lead_alike p own w) (entries_of (m ∷ ms)) (entry_of n))) [
         | true ↦ λ h. (
           (heavier_is n.weight m all.0, all.1),
-          ap (λ b. cond b ((m.order.items, min (m.weight + n.weight) (2 ^ 64 - 1)) ∷ entries_of ms) (entry_of m ∷ with_count_up_to (2 ^ 64 - 1) (lead_alike p own w) (entries_of ms) (entry_of n))) (sym h ∙ words_alike m n all.0 one),
+          ap (λ b. cond b ((m.order, min (m.weight + n.weight) (2 ^ 64 - 1)) ∷ entries_of ms) (entry_of m ∷ with_count_up_to (2 ^ 64 - 1) (lead_alike p own w) (entries_of ms) (entry_of n))) (sym h ∙ words_alike m n all.0 one),
         )
         | false ↦ λ h.
             (let r = noted_is ms n all.1 one in (
               (all.0, r.0),
               ap (λ l. entry_of m ∷ l) r.1
-                  ∙ ap (λ b. cond b ((m.order.items, min (m.weight + n.weight) (2 ^ 64 - 1)) ∷ entries_of ms) (entry_of m ∷ with_count_up_to (2 ^ 64 - 1) (lead_alike p own w) (entries_of ms) (entry_of n))) (sym h ∙ words_alike m n all.0 one),
+                  ∙ ap (λ b. cond b ((m.order, min (m.weight + n.weight) (2 ^ 64 - 1)) ∷ entries_of ms) (entry_of m ∷ with_count_up_to (2 ^ 64 - 1) (lead_alike p own w) (entries_of ms) (entry_of n))) (sym h ∙ words_alike m n all.0 one),
             ))
       ] refl
 
   -- ---- one call more
 
-  pub may_is : (n : Node) (v : Shown) (client : ℕ) → IsNode p own w n → v ≡ shown (world_after p own w n.order.items).kernel → can_be_made v (next_call own n.made.items client) ≡ may_call own (world_after p own w n.order.items) client
+  pub may_is : (n : Node) (v : Shown) (client : ℕ) → IsNode p own w n → v ≡ shown (world_after p own w n.order).kernel → can_be_made v (next_call own n.made.items client) ≡ may_call own (world_after p own w n.order) client
   may_is n v client node at =
       ap (λ (x : Shown). can_be_made x (next_call own n.made.items client)) at
-      ∙ ap (λ (l : List ℕ). can_be_made (shown (world_after p own w n.order.items).kernel) (next_call own l client)) node.made_is
+      ∙ ap (λ (l : List ℕ). can_be_made (shown (world_after p own w n.order).kernel) (next_call own l client)) node.made_is
 
   -- where it cannot be made, nothing stands behind
-  pub none_longer : (n : Node) (client : ℕ) → may_call own (world_after p own w n.order.items) client ≡ false → one_longer p own w n.order.items client ≡ []
-  none_longer n client h = ap (λ b. map (λ c. n.order.items ++ c ∷ []) (cond b (client ∷ []) [])) h
+  pub none_longer : (n : Node) (client : ℕ) → may_call own (world_after p own w n.order) client ≡ false → one_longer p own w n.order client ≡ []
+  none_longer n client h = ap (λ b. map (λ c. n.order ++ c ∷ []) (cond b (client ∷ []) [])) h
 
-  pub none_told : (n : Node) (client : ℕ) → may_call own (world_after p own w n.order.items) client ≡ false → one_told p own w n.order.items client ≡ []
-  none_told n client h = ap (λ b. flat_map (λ c. call_answers p (world_after p own w n.order.items) n.order.items c (next_call own (world_after p own w n.order.items).made c)) (cond b (client ∷ []) [])) h
+  pub none_told : (n : Node) (client : ℕ) → may_call own (world_after p own w n.order) client ≡ false → one_told p own w n.order client ≡ []
+  none_told n client h = ap (λ b. flat_map (λ c. call_answers p (world_after p own w n.order) n.order c (next_call own (world_after p own w n.order).made c)) (cond b (client ∷ []) [])) h
 
-  one_told_is : (n : Node) (client : ℕ) → may_call own (world_after p own w n.order.items) client ≡ true →
-      one_told p own w n.order.items client ≡ call_answers p (world_after p own w n.order.items) n.order.items client (next_call own (world_after p own w n.order.items).made client)
+  one_told_is : (n : Node) (client : ℕ) → may_call own (world_after p own w n.order) client ≡ true →
+      one_told p own w n.order client ≡ call_answers p (world_after p own w n.order) n.order client (next_call own (world_after p own w n.order).made client)
   one_told_is n client h =
-      let f = λ (c : ℕ). call_answers p (world_after p own w n.order.items) n.order.items c (next_call own (world_after p own w n.order.items).made c) in
+      let f = λ (c : ℕ). call_answers p (world_after p own w n.order) n.order c (next_call own (world_after p own w n.order).made c) in
       ap (λ b. flat_map f (cond b (client ∷ []) [])) h ∙ flat_map-cons f client [] ∙ append-nil (f client)
 
-  pub one_is : (n : Node) (client : ℕ) → may_call own (world_after p own w n.order.items) client ≡ true → one_longer p own w n.order.items client ≡ (n.order.items ++ client ∷ []) ∷ []
-  one_is n client h = ap (λ b. map (λ c. n.order.items ++ c ∷ []) (cond b (client ∷ []) [])) h
+  pub one_is : (n : Node) (client : ℕ) → may_call own (world_after p own w n.order) client ≡ true → one_longer p own w n.order client ≡ (n.order ++ client ∷ []) ∷ []
+  one_is n client h = ap (λ b. map (λ c. n.order ++ c ∷ []) (cond b (client ∷ []) [])) h
 
   module _ (n : Node) (node : IsNode p own w n) (client : ℕ) (call : Call) (next : next_call own n.made.items client ≡ Some call) (reply : Reply) (v : Shown)
-      (steps : StepsTo p (world_after p own w n.order.items).kernel call reply v) where
+      (steps : StepsTo p (world_after p own w n.order).kernel call reply v) where
     abbrev before : World
-    before = world_after p own w n.order.items
+    before = world_after p own w n.order
 
     next_is : next_call own before.made client ≡ Some call
     next_is = ap (λ (l : List ℕ). next_call own l client) (sym node.made_is) ∙ next
 
     -- what is told is that of the call
     pub told_is :
-        replied (n.order.items ++ client ∷ []) client (place_of n.made.items client) reply ++ waits_ended (n.order.items ++ client ∷ []) v n.waits.items reply ≡ call_answers p before n.order.items client (next_call own before.made client)
+        replied (n.order ++ client ∷ []) client (place_of n.made.items client) reply ++ waits_ended (n.order ++ client ∷ []) v n.waits.items reply ≡ call_answers p before n.order client (next_call own before.made client)
     told_is =
-        let longer = n.order.items ++ client ∷ [] in
+        let longer = n.order ++ client ∷ [] in
         let whole = λ (place : ℕ) (r : Reply) (x : Shown) (l : List WaitingCall). replied longer client place r ++ waits_ended longer x l r in
         ap (λ (l : List ℕ). whole (place_of l client) reply v n.waits.items) node.made_is
         ∙ ap (λ (r : Reply). whole (place_of before.made client) r v n.waits.items) steps.reply_is
         ∙ ap (λ (x : Shown). whole (place_of before.made client) (step p before.kernel call).reply x n.waits.items) steps.shows
         ∙ ap (λ (l : List WaitingCall). whole (place_of before.made client) (step p before.kernel call).reply (shown (step p before.kernel call).state) l) node.waits_are
-        ∙ ap (λ (c : Option Call). call_answers p before n.order.items client c) (sym next_is)
+        ∙ ap (λ (c : Option Call). call_answers p before n.order client c) (sym next_is)
 
-    after_is : (m : Node) → m.order.items ≡ n.order.items ++ client ∷ [] → world_after p own w m.order.items ≡ with_call p before client (Some call)
-    after_is m order = ap (world_after p own w) order ∙ world_after-append p own w n.order.items (client ∷ []) ∙ ap (with_call p before client) next_is
+    after_is : (m : Node) → m.order ≡ n.order ++ client ∷ [] → world_after p own w m.order ≡ with_call p before client (Some call)
+    after_is m order = ap (world_after p own w) order ∙ world_after-append p own w n.order (client ∷ []) ∙ ap (with_call p before client) next_is
 
-    pub kernel_is : (m : Node) → m.order.items ≡ n.order.items ++ client ∷ [] → IsKernelOf p own w m v
+    pub kernel_is : (m : Node) → m.order ≡ n.order ++ client ∷ [] → IsKernelOf p own w m v
     kernel_is m order = steps.shows ∙ sym (ap (λ (y : World). shown y.kernel) (after_is m order))
 
-    pub followed_is : (m : Node) → m.order.items ≡ n.order.items ++ client ∷ [] → m.calls.items ≡ n.calls.items ++ call ∷ [] → m.made.items ≡ one_more client (slice_get n.made.items client) n.made.items →
+    pub followed_is : (m : Node) → m.order ≡ n.order ++ client ∷ [] → m.made.items ≡ one_more client (slice_get n.made.items client) n.made.items →
         m.waits.items ≡ waits_after v n.waits.items (waiting_call call.thread client (place_of n.made.items client)) reply → m.words.items ≡ state_words m.made.items m.waits.items v → IsNode p own w m
-    followed_is m order calls made waits words =
+    followed_is m order made waits words =
         let after = after_is m order in
-        let made_is : m.made.items ≡ (world_after p own w m.order.items).made =
+        let made_is : m.made.items ≡ (world_after p own w m.order).made =
         made ∙ ap (λ (l : List ℕ). one_more client (slice_get l client) l) node.made_is ∙ sym (ap (λ (y : World). y.made) after) in
         let by = λ (x : Shown) (l : List WaitingCall) (made : List ℕ) (r : Reply). waits_after x l (waiting_call call.thread client (place_of made client)) r in
-        let waits_are : m.waits.items ≡ (world_after p own w m.order.items).waits =
+        let waits_are : m.waits.items ≡ (world_after p own w m.order).waits =
         waits
         ∙ ap (λ (x : Shown). by x n.waits.items n.made.items reply) steps.shows
         ∙ ap (λ (l : List WaitingCall). by (shown (step p before.kernel call).state) l n.made.items reply) node.waits_are
@@ -237,8 +236,7 @@ module _ (p : ProfileName) (own : List (List Call)) (w : World) where
         record {
           made_is = made_is;
           waits_are = waits_are;
-          words_are = words ∙ ap (λ (l : List ℕ). state_words l m.waits.items v) made_is ∙ ap (λ (l : List WaitingCall). state_words (world_after p own w m.order.items).made l v) waits_are ∙ ap (λ (x : Shown). state_words (world_after p own w m.order.items).made (world_after p own w m.order.items).waits x) shows;
-          calls_are = ap (state_after p w.kernel) calls ∙ state_after-snoc p w.kernel n.calls.items call ∙ ap (λ (A : State). (step p A call).state) node.calls_are ∙ sym (ap (λ (y : World). y.kernel) after);
+          words_are = words ∙ ap (λ (l : List ℕ). state_words l m.waits.items v) made_is ∙ ap (λ (l : List WaitingCall). state_words (world_after p own w m.order).made l v) waits_are ∙ ap (λ (x : Shown). state_words (world_after p own w m.order).made (world_after p own w m.order).waits x) shows;
         }
 
   -- ---- what the loops have done so far
@@ -261,34 +259,34 @@ module _ (p : ProfileName) (own : List (List Call)) (w : World) where
 
   -- ---- where an order ends
 
-  ended_is : (n : Node) (v : Shown) (count : ℕ) (ends : Bool) → IsNode p own w n → v ≡ shown (world_after p own w n.order.items).kernel → count ≡ length own →
-      ends ≡ not (list_any (λ client. can_be_made v (next_call own n.made.items client)) (below count)) → ends ≡ is_end own (world_after p own w n.order.items)
+  ended_is : (n : Node) (v : Shown) (count : ℕ) (ends : Bool) → IsNode p own w n → v ≡ shown (world_after p own w n.order).kernel → count ≡ length own →
+      ends ≡ not (list_any (λ client. can_be_made v (next_call own n.made.items client)) (below count)) → ends ≡ is_end own (world_after p own w n.order)
   ended_is n v count ends node at is_count is_ends =
       is_ends ∙ ap (λ k. not (list_any (λ client. can_be_made v (next_call own n.made.items client)) (below k))) is_count
-      ∙ ap not (any_agree (λ client. can_be_made v (next_call own n.made.items client)) (may_call own (world_after p own w n.order.items)) (clients own) (λ client. may_is n v client node at))
+      ∙ ap not (any_agree (λ client. can_be_made v (next_call own n.made.items client)) (may_call own (world_after p own w n.order)) (clients own) (λ client. may_is n v client node at))
 
   -- the answers behind its order
-  behind_is : (same : Answer → Answer → Bool) (n : Node) (count : ℕ) (ends : Bool) → IsNode p own w n → count ≡ length own → ends ≡ is_end own (world_after p own w n.order.items) →
-      (found found' found'' : List FoundAnswer) → answers_of found' ≡ with_firsts (same_answer same) (answers_of found) (calls_told p own w n.order.items) →
-      answers_of found'' ≡ with_firsts (same_answer same) (answers_of found') (cond ends (end_told own count n.made.items n.waits.items n.order.items) []) →
-      answers_of found'' ≡ with_firsts (same_answer same) (answers_of found) (answers_behind p own w n.order.items)
+  behind_is : (same : Answer → Answer → Bool) (n : Node) (count : ℕ) (ends : Bool) → IsNode p own w n → count ≡ length own → ends ≡ is_end own (world_after p own w n.order) →
+      (found found' found'' : List FoundAnswer) → answers_of found' ≡ with_firsts (same_answer same) (answers_of found) (calls_told p own w n.order) →
+      answers_of found'' ≡ with_firsts (same_answer same) (answers_of found') (cond ends (end_told own count n.made.items n.waits.items n.order) []) →
+      answers_of found'' ≡ with_firsts (same_answer same) (answers_of found) (answers_behind p own w n.order)
   behind_is same n count ends node is_count ended found found' found'' visited told =
-      let x = world_after p own w n.order.items in
-      let all : end_told own count n.made.items n.waits.items n.order.items ≡ end_answers own x n.order.items =
-      ap (λ k. end_told own k n.made.items n.waits.items n.order.items) is_count
-      ∙ ap (λ (l : List ℕ). end_told own (length own) l n.waits.items n.order.items) node.made_is
-      ∙ ap (λ (l : List WaitingCall). end_told own (length own) x.made l n.order.items) node.waits_are in
+      let x = world_after p own w n.order in
+      let all : end_told own count n.made.items n.waits.items n.order ≡ end_answers own x n.order =
+      ap (λ k. end_told own k n.made.items n.waits.items n.order) is_count
+      ∙ ap (λ (l : List ℕ). end_told own (length own) l n.waits.items n.order) node.made_is
+      ∙ ap (λ (l : List WaitingCall). end_told own (length own) x.made l n.order) node.waits_are in
       told
-      ∙ ap (λ b. with_firsts (same_answer same) (answers_of found') (cond b (end_told own count n.made.items n.waits.items n.order.items) [])) ended
+      ∙ ap (λ b. with_firsts (same_answer same) (answers_of found') (cond b (end_told own count n.made.items n.waits.items n.order) [])) ended
       ∙ ap (λ (l : List Answered). with_firsts (same_answer same) (answers_of found') (cond (is_end own x) l [])) all
-      ∙ ap (λ (l : List Answered). with_firsts (same_answer same) l (cond (is_end own x) (end_answers own x n.order.items) [])) visited
-      ∙ sym (with_firsts-append (same_answer same) (calls_told p own w n.order.items) (cond (is_end own x) (end_answers own x n.order.items) []) (answers_of found))
+      ∙ ap (λ (l : List Answered). with_firsts (same_answer same) l (cond (is_end own x) (end_answers own x n.order) [])) visited
+      ∙ sym (with_firsts-append (same_answer same) (calls_told p own w n.order) (cond (is_end own x) (end_answers own x n.order) []) (answers_of found))
 
   -- ---- how it ends
 
-  left_is : (n : Node) (v : Shown) → IsNode p own w n → v ≡ shown (world_after p own w n.order.items).kernel →
-      left_calls own n.made.items v ≡ left_calls own (world_after p own w n.order.items).made (shown (world_after p own w n.order.items).kernel)
-  left_is n v node at = ap (λ (l : List ℕ). left_calls own l v) node.made_is ∙ ap (λ (x : Shown). left_calls own (world_after p own w n.order.items).made x) at
+  left_is : (n : Node) (v : Shown) → IsNode p own w n → v ≡ shown (world_after p own w n.order).kernel →
+      left_calls own n.made.items v ≡ left_calls own (world_after p own w n.order).made (shown (world_after p own w n.order).kernel)
+  left_is n v node at = ap (λ (l : List ℕ). left_calls own l v) node.made_is ∙ ap (λ (x : Shown). left_calls own (world_after p own w n.order).made x) at
 
   some_more : (n : ℕ) → nat_lt 0 (suc n) ≡ true
   some_more n = grind (arith, nat_tests)
@@ -303,34 +301,34 @@ module _ (p : ProfileName) (own : List (List Call)) (w : World) where
       let f : ℕ → List LeftCall = λ client. left_call v made client (next_call own made client) in
       ap (λ (l : List LeftCall). nat_lt 0 (length l)) (flat_map-cons f k ns) ∙ one_left v made k (next_call own made k) (flat_map f ns) ∙ ap (λ b. is_some (next_call own made k) || b) (some_left v made ns)
 
-  stuck_is : (n : Node) (v : Shown) (ends : Bool) → IsNode p own w n → v ≡ shown (world_after p own w n.order.items).kernel → ends ≡ is_end own (world_after p own w n.order.items) →
-      (ends && nat_lt 0 (length (left_calls own n.made.items v))) ≡ is_stuck own (world_after p own w n.order.items)
+  stuck_is : (n : Node) (v : Shown) (ends : Bool) → IsNode p own w n → v ≡ shown (world_after p own w n.order).kernel → ends ≡ is_end own (world_after p own w n.order) →
+      (ends && nat_lt 0 (length (left_calls own n.made.items v))) ≡ is_stuck own (world_after p own w n.order)
   stuck_is n v ends node at ended =
-      let x = world_after p own w n.order.items in
+      let x = world_after p own w n.order in
       ap (λ b. b && nat_lt 0 (length (left_calls own n.made.items v))) ended
       ∙ ap (λ (l : List LeftCall). is_end own x && nat_lt 0 (length l)) (left_is n v node at)
       ∙ ap (λ b. is_end own x && b) (some_left (shown x.kernel) x.made (clients own))
 
-  stuck_told_is : (n : Node) (v : Shown) (ends : Bool) → IsNode p own w n → v ≡ shown (world_after p own w n.order.items).kernel → ends ≡ is_end own (world_after p own w n.order.items) →
-      stuck_told ends n.order.items (left_calls own n.made.items v) ≡ stuck_behind p own w n.order.items
+  stuck_told_is : (n : Node) (v : Shown) (ends : Bool) → IsNode p own w n → v ≡ shown (world_after p own w n.order).kernel → ends ≡ is_end own (world_after p own w n.order) →
+      stuck_told ends n.order (left_calls own n.made.items v) ≡ stuck_behind p own w n.order
   stuck_told_is n v ends node at ended =
-      let x = world_after p own w n.order.items in
-      ap (λ b. cond b (stuck_end n.order.items (left_calls own n.made.items v) ∷ []) []) (stuck_is n v ends node at ended)
-      ∙ ap (λ (l : List LeftCall). cond (is_stuck own x) (stuck_end n.order.items l ∷ []) []) (left_is n v node at)
+      let x = world_after p own w n.order in
+      ap (λ b. cond b (stuck_end n.order (left_calls own n.made.items v) ∷ []) []) (stuck_is n v ends node at ended)
+      ∙ ap (λ (l : List LeftCall). cond (is_stuck own x) (stuck_end n.order l ∷ []) []) (left_is n v node at)
 
   -- one node of a layer
-  pub expanded_is : (same : Answer → Answer → Bool) (n : Node) (v : Shown) (count : ℕ) (ends : Bool) → IsNode p own w n → v ≡ shown (world_after p own w n.order.items).kernel → count ≡ length own →
+  pub expanded_is : (same : Answer → Answer → Bool) (n : Node) (v : Shown) (count : ℕ) (ends : Bool) → IsNode p own w n → v ≡ shown (world_after p own w n.order).kernel → count ≡ length own →
       ends ≡ not (list_any (λ client. can_be_made v (next_call own n.made.items client)) (below count)) → (nodes nodes' : List Node) (found found' : Findings) (answers answers' : List FoundAnswer) →
-      IsVisited p own w nodes nodes' (each_times n.weight (longer p own w n.order.items)) same found.answers.items answers (calls_told p own w n.order.items) →
-      answers_of answers' ≡ with_firsts (same_answer same) (answers_of answers) (cond ends (end_told own count n.made.items n.waits.items n.order.items) []) →
-      found'.answers.items ≡ answers' →
-      stuck_of found'.stuck.items ≡ with_firsts (same_stuck same_left) (stuck_of found.stuck.items) (stuck_told ends n.order.items (left_calls own n.made.items v)) →
+      IsVisited p own w nodes nodes' (each_times n.weight (longer p own w n.order)) same found.answers answers (calls_told p own w n.order) →
+      answers_of answers' ≡ with_firsts (same_answer same) (answers_of answers) (cond ends (end_told own count n.made.items n.waits.items n.order) []) →
+      found'.answers ≡ answers' →
+      stuck_of found'.stuck.items ≡ with_firsts (same_stuck same_left) (stuck_of found.stuck.items) (stuck_told ends n.order (left_calls own n.made.items v)) →
       found'.ends ≡ saturated (found.ends + cond ends 1 0) →
       found'.orders ≡ saturated (found.orders + cond ends n.weight 0) →
       found'.stuck_orders ≡ saturated (found.stuck_orders + cond (ends && nat_lt 0 (length (left_calls own n.made.items v))) n.weight 0) →
       IsExpanded p own w nodes nodes' same found found' (entry_of n ∷ [])
   expanded_is same n v count ends node at is_count is_ends nodes nodes' found found' answers answers' visited told answers_same stuck ends_are orders_are stuck_orders_are =
-      let x = world_after p own w n.order.items in
+      let x = world_after p own w n.order in
       let ended = ended_is n v count ends node at is_count is_ends in
       let followers = λ (e : List ℕ × ℕ). each_times e.1 (longer p own w e.0) in
       let behind = λ (e : List ℕ × ℕ). answers_behind p own w e.0 in
@@ -340,8 +338,8 @@ module _ (p : ProfileName) (own : List (List Call)) (w : World) where
         entries_are = visited.entries_are ∙ ap (with_counts_up_to (2 ^ 64 - 1) (lead_alike p own w) (entries_of nodes)) (sym (flat_map-cons followers (entry_of n) [] ∙ append-nil (followers (entry_of n))));
         found_are = record {
           answers_are =
-              ap answers_of answers_same ∙ behind_is same n count ends node is_count ended found.answers.items answers answers' visited.told_are told
-              ∙ ap (with_firsts (same_answer same) (answers_of found.answers.items)) (sym (flat_map-cons behind (entry_of n) [] ∙ append-nil (behind (entry_of n))));
+              ap answers_of answers_same ∙ behind_is same n count ends node is_count ended found.answers answers answers' visited.told_are told
+              ∙ ap (with_firsts (same_answer same) (answers_of found.answers)) (sym (flat_map-cons behind (entry_of n) [] ∙ append-nil (behind (entry_of n))));
           stuck_are =
               stuck ∙ ap (with_firsts (same_stuck same_left) (stuck_of found.stuck.items)) (stuck_told_is n v ends node at ended ∙ sym (flat_map-cons stuck_after (entry_of n) [] ∙ append-nil (stuck_after (entry_of n))));
           ends_are = ends_are ∙ ap (λ b. saturated (found.ends + cond b 1 0)) ended;
@@ -367,8 +365,8 @@ module _ (p : ProfileName) (own : List (List Call)) (w : World) where
       record {
         answers_are =
             now.answers_are ∙ ap (λ l. with_firsts (same_answer same) l (flat_map behind fs)) so_far.answers_are
-            ∙ sym (with_firsts-append (same_answer same) (flat_map behind es) (flat_map behind fs) (answers_of found.answers.items))
-            ∙ ap (with_firsts (same_answer same) (answers_of found.answers.items)) (sym (flat_map-append behind es fs));
+            ∙ sym (with_firsts-append (same_answer same) (flat_map behind es) (flat_map behind fs) (answers_of found.answers))
+            ∙ ap (with_firsts (same_answer same) (answers_of found.answers)) (sym (flat_map-append behind es fs));
         stuck_are =
             now.stuck_are ∙ ap (λ l. with_firsts (same_stuck same_left) l (flat_map stuck_after fs)) so_far.stuck_are
             ∙ sym (with_firsts-append (same_stuck same_left) (flat_map stuck_after es) (flat_map stuck_after fs) (stuck_of found.stuck.items))
@@ -397,37 +395,33 @@ module _ (p : ProfileName) (own : List (List Call)) (w : World) where
         found_are = found_more same found found' found'' es (entry_of n ∷ []) so_far.found_are now.found_are;
       })
 
-  -- the kernel of a node
-  pub at_is : (n : Node) (v : Shown) → IsNode p own w n → v ≡ shown (state_after p w.kernel n.calls.items) → v ≡ shown (world_after p own w n.order.items).kernel
-  at_is n v node e = e ∙ ap (λ (A : State). shown A) node.calls_are
-
   -- ---- a client's next call, where it can make one and where it cannot
 
   pub made_is : (same : Answer → Answer → Bool) (n : Node) (client : ℕ) (call : Call) (found found' : List FoundAnswer) (reply : Reply) (next : Shown) (order : List ℕ) (place : ℕ) (m : Node) →
-      IsNode p own w n → StepsTo p (world_after p own w n.order.items).kernel call reply next → next_call own n.made.items client ≡ Some call →
-      order ≡ n.order.items ++ client ∷ [] → place ≡ place_of n.made.items client →
+      IsNode p own w n → StepsTo p (world_after p own w n.order).kernel call reply next → next_call own n.made.items client ≡ Some call →
+      order ≡ n.order ++ client ∷ [] → place ≡ place_of n.made.items client →
       answers_of found' ≡ with_firsts (same_answer same) (answers_of found) (replied order client place reply ++ waits_ended order next n.waits.items reply) →
-      m.order.items ≡ order → m.calls.items ≡ n.calls.items ++ call ∷ [] → m.made.items ≡ one_more client (slice_get n.made.items client) n.made.items →
+      m.order ≡ order → m.made.items ≡ one_more client (slice_get n.made.items client) n.made.items →
       m.waits.items ≡ waits_after next n.waits.items (waiting_call call.thread client (place_of n.made.items client)) reply → m.words.items ≡ state_words m.made.items m.waits.items next →
       IsMade p own w n m client same found found' × IsKernelOf p own w m next
-  made_is same n client call found found' reply next order place m node step_is is order_is place_is told o c k t d = (
+  made_is same n client call found found' reply next order place m node step_is is order_is place_is told o k t d = (
     record {
-      is = followed_is n node client call is reply next step_is m (o ∙ order_is) c k t d;
+      is = followed_is n node client call is reply next step_is m (o ∙ order_is) k t d;
       order_is = o ∙ order_is;
       told_are =
           told
           ∙ ap (λ (l : List ℕ). with_firsts (same_answer same) (answers_of found) (replied l client place reply ++ waits_ended l next n.waits.items reply)) order_is
-          ∙ ap (λ (i : ℕ). with_firsts (same_answer same) (answers_of found) (replied (n.order.items ++ client ∷ []) client i reply ++ waits_ended (n.order.items ++ client ∷ []) next n.waits.items reply)) place_is
+          ∙ ap (λ (i : ℕ). with_firsts (same_answer same) (answers_of found) (replied (n.order ++ client ∷ []) client i reply ++ waits_ended (n.order ++ client ∷ []) next n.waits.items reply)) place_is
           ∙ ap (with_firsts (same_answer same) (answers_of found)) (told_is n node client call is reply next step_is);
     },
     kernel_is n node client call is reply next step_is m (o ∙ order_is),
   )
 
-  pub visited_not : (same : Answer → Answer → Bool) (n : Node) (v : Shown) (client : ℕ) (got : Option Call) (nodes : List Node) (found : List FoundAnswer) → IsNode p own w n → v ≡ shown (world_after p own w n.order.items).kernel → AreNodes p own w nodes →
+  pub visited_not : (same : Answer → Answer → Bool) (n : Node) (v : Shown) (client : ℕ) (got : Option Call) (nodes : List Node) (found : List FoundAnswer) → IsNode p own w n → v ≡ shown (world_after p own w n.order).kernel → AreNodes p own w nodes →
       got ≡ None → is_some got ≡ can_be_made v (next_call own n.made.items client) →
-      IsVisited p own w nodes nodes (each_times n.weight (one_longer p own w n.order.items client)) same found found (one_told p own w n.order.items client)
+      IsVisited p own w nodes nodes (each_times n.weight (one_longer p own w n.order client)) same found found (one_told p own w n.order client)
   visited_not same n v client got nodes found node at all none may =
-      let cannot : may_call own (world_after p own w n.order.items) client ≡ false = sym (ap (λ (o : Option Call). is_some o) (sym none) ∙ may ∙ may_is n v client node at) in
+      let cannot : may_call own (world_after p own w n.order) client ≡ false = sym (ap (λ (o : Option Call). is_some o) (sym none) ∙ may ∙ may_is n v client node at) in
       record {
         are = all;
         entries_are = ap (λ l. with_counts_up_to (2 ^ 64 - 1) (lead_alike p own w) (entries_of nodes) (each_times n.weight l)) (sym (none_longer n client cannot));
@@ -435,18 +429,18 @@ module _ (p : ProfileName) (own : List (List Call)) (w : World) where
       }
 
   pub visited_call : (same : Answer → Answer → Bool) (n : Node) (v : Shown) (client : ℕ) (got : Option Call) (call : Call) (nodes nodes' : List Node) (found found' : List FoundAnswer) (m : Node) →
-      IsNode p own w n → v ≡ shown (world_after p own w n.order.items).kernel → AreNodes p own w nodes →
+      IsNode p own w n → v ≡ shown (world_after p own w n.order).kernel → AreNodes p own w nodes →
       got ≡ Some call → is_some got ≡ can_be_made v (next_call own n.made.items client) →
       IsMade p own w n m client same found found' → m.weight ≡ n.weight → nodes' ≡ with_node nodes m →
-      IsVisited p own w nodes nodes' (each_times n.weight (one_longer p own w n.order.items client)) same found found' (one_told p own w n.order.items client)
+      IsVisited p own w nodes nodes' (each_times n.weight (one_longer p own w n.order client)) same found found' (one_told p own w n.order client)
   visited_call same n v client got call nodes nodes' found found' m node at all some may made weighs noted =
-      let can : may_call own (world_after p own w n.order.items) client ≡ true = sym (ap (λ (o : Option Call). is_some o) (sym some) ∙ may ∙ may_is n v client node at) in
+      let can : may_call own (world_after p own w n.order) client ≡ true = sym (ap (λ (o : Option Call). is_some o) (sym some) ∙ may ∙ may_is n v client node at) in
       let r = noted_is nodes m all made.is in
       let one = λ (o : List ℕ) (k : ℕ). with_count_up_to (2 ^ 64 - 1) (lead_alike p own w) (entries_of nodes) (o, k) in
       record {
         are = subst (AreNodes p own w) (sym noted) r.0;
         entries_are =
-            ap entries_of noted ∙ r.1 ∙ ap (λ (o : List ℕ). one o m.weight) made.order_is ∙ ap (one (n.order.items ++ client ∷ [])) weighs
+            ap entries_of noted ∙ r.1 ∙ ap (λ (o : List ℕ). one o m.weight) made.order_is ∙ ap (one (n.order ++ client ∷ [])) weighs
             ∙ ap (λ l. with_counts_up_to (2 ^ 64 - 1) (lead_alike p own w) (entries_of nodes) (each_times n.weight l)) (sym (one_is n client can));
         told_are = made.told_are ∙ ap (with_firsts (same_answer same) (answers_of found)) (sym (one_told_is n client can));
       }

@@ -10,7 +10,7 @@ use Rattle.orders.specs.Orders.{is_end, is_stuck}
 use Rattle.orders.specs.Answers.{first_answers, answers_before, same_answer}
 use Rattle.orders.specs.Ends.{stuck_before, orders_before}
 use Rattle.explore_core.specs.declared.node.Node.{Node}
-use Rattle.explore_core.specs.declared.answers.FoundAnswer.{FoundAnswer}
+use Rattle.explore_core.specs.declared.found.FoundAnswer.{FoundAnswer}
 use Rattle.explore_core.specs.declared.exploration.Explored.{Explored}
 use Rattle.explore_core.specs.Nodes.{IsNode, layer}
 use Rattle.explore_core.specs.Counts.{saturated, states_before, ends_before}
@@ -38,7 +38,7 @@ depth p own w first limit count = depth_from p own w first limit count 0
 -- the first calls were made, and what they tell was noted
 pub record IsBegun (p : ProfileName) (own : List (List Call)) (A : State) (first : List ℕ) (n : Node) (same : Answer → Answer → Bool) (found found' : List FoundAnswer) : Type 0 where
   pub is : IsNode p own (start own A) n
-  pub order_is : n.order.items ≡ first
+  pub order_is : n.order ≡ first
   pub weight_is : n.weight ≡ 1
   pub told_are : answers_of found' ≡ with_firsts (same_answer same) (answers_of found) (first_answers p own (start own A) [] first)
 
@@ -47,9 +47,9 @@ pub record IsBegun (p : ProfileName) (own : List (List Call)) (A : State) (first
 -- all orders are explored that begin in one way and have fewer calls more than `e.calls`
 pub record IsExploredTo (p : ProfileName) (own : List (List Call)) (w : World) (first : List ℕ) (same : Answer → Answer → Bool) (e : Explored) : Type 0 where
   -- the states that orders of just so many calls more lead to, each with the first order to it
-  pub layer_is : map (λ (n : Node). n.order.items) e.layer ≡ layer p own w first e.calls
+  pub layer_is : map (λ (n : Node). n.order) e.layer ≡ layer p own w first e.calls
   -- of the answers behind the orders, the first of each kind, each with the first order that tells it
-  pub answers_are : answers_of e.found.answers.items ≡ answers_before same (firsts (same_answer same) (first_answers p own w [] first)) p own w first e.calls
+  pub answers_are : answers_of e.found.answers ≡ answers_before same (firsts (same_answer same) (first_answers p own w [] first)) p own w first e.calls
   pub stuck_are : stuck_of e.found.stuck.items ≡ stuck_before same_left p own w first e.calls
   pub states_are : e.states ≡ saturated (states_before p own w first e.calls)
   pub ends_are : e.found.ends ≡ saturated (ends_before p own w first e.calls)

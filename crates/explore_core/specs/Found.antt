@@ -15,7 +15,7 @@ use Rattle.orders.specs.Orders.{below, clients, longer, is_end, is_stuck}
 use Rattle.orders.specs.Answers.{Answered, answered, call_answers, answers_behind, places_left, same_answer}
 use Rattle.orders.specs.Ends.{StuckEnd, stuck_end, stuck_behind, same_stuck}
 use Rattle.explore_core.specs.declared.node.Node.{Node}
-use Rattle.explore_core.specs.declared.answers.FoundAnswer.{FoundAnswer}
+use Rattle.explore_core.specs.declared.found.FoundAnswer.{FoundAnswer}
 use Rattle.explore_core.specs.declared.stuck.FoundStuck.{FoundStuck}
 use Rattle.explore_core.specs.declared.stuck.Findings.{Findings}
 use Rattle.explore_core.specs.Nodes.{IsNode, AreNodes, lead_alike, entries_of}
@@ -23,7 +23,7 @@ use Rattle.explore_core.specs.Counts.{saturated_sum}
 
 -- an answer that is found
 abbrev pub answer_of : FoundAnswer → Answered
-answer_of found = answered found.order.items found.client found.place found.answer
+answer_of found = answered found.order found.client found.place found.answer
 
 abbrev pub answers_of : List FoundAnswer → List Answered
 answers_of found = map answer_of found
@@ -56,7 +56,7 @@ abbrev pub same_left : List LeftCall → List LeftCall → Bool
 same_left a b = pointwise left_eq.ghosts.eq a b
 
 abbrev pub stuck_of : List FoundStuck → List StuckEnd
-stuck_of found = map (λ (s : FoundStuck). stuck_end s.order.items s.left.items) found
+stuck_of found = map (λ (s : FoundStuck). stuck_end s.order s.left.items) found
 
 -- an order that ends is stuck where calls are left
 abbrev pub stuck_told : Bool → List ℕ → List LeftCall → List StuckEnd
@@ -67,9 +67,9 @@ stuck_told ends order left = cond (ends && nat_lt 0 (length left)) (stuck_end or
 -- by the next call of a client, a node has become another, and what it tells was noted
 pub record IsMade (p : ProfileName) (own : List (List Call)) (w : World) (n m : Node) (client : ℕ) (same : Answer → Answer → Bool) (found found' : List FoundAnswer) : Type 0 where
   pub is : IsNode p own w m
-  pub order_is : m.order.items ≡ n.order.items ++ client ∷ []
+  pub order_is : m.order ≡ n.order ++ client ∷ []
   pub told_are : answers_of found' ≡ with_firsts (same_answer same) (answers_of found)
-      (call_answers p (world_after p own w n.order.items) n.order.items client (next_call own (world_after p own w n.order.items).made client))
+      (call_answers p (world_after p own w n.order) n.order client (next_call own (world_after p own w n.order).made client))
 
 -- to nodes and to what is found there have come these orders, each with a count, and the first of each kind of these answers
 pub record IsVisited (p : ProfileName) (own : List (List Call)) (w : World) (nodes nodes' : List Node) (orders : List (List ℕ × ℕ))
@@ -88,7 +88,7 @@ ends_of p own w entries = map (λ (e : List ℕ × ℕ). cond (is_end own (world
 
 -- what stands behind these orders was found beside what was found before
 pub record IsFound (p : ProfileName) (own : List (List Call)) (w : World) (same : Answer → Answer → Bool) (found found' : Findings) (entries : List (List ℕ × ℕ)) : Type 0 where
-  pub answers_are : answers_of found'.answers.items ≡ with_firsts (same_answer same) (answers_of found.answers.items) (flat_map (λ (e : List ℕ × ℕ). answers_behind p own w e.0) entries)
+  pub answers_are : answers_of found'.answers ≡ with_firsts (same_answer same) (answers_of found.answers) (flat_map (λ (e : List ℕ × ℕ). answers_behind p own w e.0) entries)
   pub stuck_are : stuck_of found'.stuck.items ≡ with_firsts (same_stuck same_left) (stuck_of found.stuck.items) (flat_map (λ (e : List ℕ × ℕ). stuck_behind p own w e.0) entries)
   pub ends_are : found'.ends ≡ saturated_sum found.ends (ends_of p own w entries)
   pub orders_are : found'.orders ≡ saturated_sum found.orders (counts_of (is_end own) p own w entries)

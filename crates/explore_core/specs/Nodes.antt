@@ -7,7 +7,6 @@ use Rattle.cap_core.specs.declared.profile.ProfileName.{ProfileName}
 use Rattle.abstract_kernel.specs.declared.call.Call.{Call}
 use Rattle.abstract_kernel.specs.Shown.{Shown}
 use Rattle.abstract_kernel.specs.State.{shown}
-use Rattle.abstract_kernel.specs.Step.{state_after}
 use Rattle.kinds.specs.Kinds.{firsts}
 use Rattle.shown_words.specs.Words.{listed, words_of}
 use Rattle.orders.specs.declared.answer.WaitingCall.{WaitingCall}
@@ -44,17 +43,16 @@ one_longer p own w order client = map (λ c. order ++ c ∷ []) (filter (may_cal
 
 -- a node's parts are those of the world after its order
 pub record IsNode (p : ProfileName) (own : List (List Call)) (w : World) (n : Node) : Type 0 where
-  pub made_is : n.made.items ≡ (world_after p own w n.order.items).made
-  pub waits_are : n.waits.items ≡ (world_after p own w n.order.items).waits
-  pub words_are : n.words.items ≡ world_words (world_after p own w n.order.items)
-  pub calls_are : state_after p w.kernel n.calls.items ≡ (world_after p own w n.order.items).kernel
+  pub made_is : n.made.items ≡ (world_after p own w n.order).made
+  pub waits_are : n.waits.items ≡ (world_after p own w n.order).waits
+  pub words_are : n.words.items ≡ world_words (world_after p own w n.order)
 
 abbrev pub AreNodes : ProfileName → List (List Call) → World → List Node → Type 0
 AreNodes p own w nodes = Each (IsNode p own w) nodes
 
 -- the order of a node, with how many orders lead to its state
 abbrev pub entry_of : Node → List ℕ × ℕ
-entry_of n = (n.order.items, n.weight)
+entry_of n = (n.order, n.weight)
 
 abbrev pub entries_of : List Node → List (List ℕ × ℕ)
 entries_of nodes = map entry_of nodes

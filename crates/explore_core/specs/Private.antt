@@ -1,3 +1,5 @@
+pub mod Links
+pub mod Known
 pub mod Tables
 pub mod Kernels
 pub mod Progress

@@ -8,14 +8,16 @@ ghost use Rattle.orders.specs.Answers.{answered, same_answer, numbers_from};
 ghost use Rattle.explore_core.specs.Nodes.{own_calls};
 ghost use Rattle.explore_core.specs.Found.{answers_of, not_made_told, end_told};
 
-use crate::answers::{FoundAnswer, note_answer, note_waits};
+use crate::answers::{note_answer, note_waits};
+use crate::found::FoundAnswers;
 use crate::node::{Node, callable, place_of};
+use crate::order::Order;
 use cap_core::Profile;
 use ipc_core::Waiters;
 use kernel_core::{Call, Kernel};
 use orders::Answer;
 use slot_core::CapStore;
-use std::alloc::{AllocError, Global};
+use std::alloc::AllocError;
 
 /// Whether an order ends where a node stands, whose kernel is `at`: no client can make a call.
 pub fn is_end<P: Profile, S: CapStore<P> + Drop, W: Waiters<P> + Drop>(
@@ -36,18 +38,17 @@ pub fn is_end<P: Profile, S: CapStore<P> + Drop, W: Waiters<P> + Drop>(
 
 /// Notes that the calls of a client at the places from `first` to `end` are not made in an order that ends.
 fn note_not_made(
-    alloc: Global,
-    found: &mut Vec<FoundAnswer>,
-    order: &[usize],
+    found: &mut FoundAnswers,
+    order: &Order,
     client: usize,
     first: usize,
     end: usize,
 ) -> Result<(), AllocError>
-    ensures { OnOk result (answers_of found.new.items ≡ with_firsts (same_answer ⟦<Answer as PartialEq>⟧.eq)
-        (answers_of found.old.items) (map (λ place. answered order.now client place Answer.NotMade) (numbers_from first (end - first)))) }
+    ensures { OnOk result (answers_of found.new ≡ with_firsts (same_answer ⟦<Answer as PartialEq>⟧.eq)
+        (answers_of found.old) (map (λ place. answered order.now client place Answer.NotMade) (numbers_from first (end - first)))) }
 {
     for place in first..end {
-        note_answer(alloc, found, order, client, place, Answer::NotMade)?;
+        note_answer(found, order, client, place, Answer::NotMade)?;
     }
     Ok(())
 }
@@ -64,37 +65,30 @@ fn count_of(calls: &[Vec<Call>], client: usize) -> usize
 
 /// Notes what the calls come to that wait, or are left, where an order ends: at a node, with whether it ends there.
 pub fn note_end(
-    alloc: Global,
     calls: &[Vec<Call>],
     node: &Node,
     ends: bool,
-    found: &mut Vec<FoundAnswer>,
+    found: &mut FoundAnswers,
 ) -> Result<(), AllocError>
-    ensures { OnOk result (answers_of found.new.items ≡ with_firsts (same_answer ⟦<Answer as PartialEq>⟧.eq) (answers_of found.old.items)
-        (cond ends (end_told (own_calls calls.now) (length calls.now) node.now.made.items node.now.waits.items node.now.order.items) [])) }
+    ensures { OnOk result (answers_of found.new ≡ with_firsts (same_answer ⟦<Answer as PartialEq>⟧.eq) (answers_of found.old)
+        (cond ends (end_told (own_calls calls.now) (length calls.now) node.now.made.items node.now.waits.items node.now.order) [])) }
 {
     if ends {
-        let order = node.order.as_slice();
-        note_waits(alloc, found, node.waits.as_slice(), order)?;
-        note_left(alloc, calls, node, found)?;
+        note_waits(found, node.waits.as_slice(), &node.order)?;
+        note_left(calls, node, found)?;
     }
     Ok(())
 }
 
 /// Notes the calls of all clients that are not made in an order that ends.
-fn note_left(
-    alloc: Global,
-    calls: &[Vec<Call>],
-    node: &Node,
-    found: &mut Vec<FoundAnswer>,
-) -> Result<(), AllocError>
-    ensures { OnOk result (answers_of found.new.items ≡ with_firsts (same_answer ⟦<Answer as PartialEq>⟧.eq) (answers_of found.old.items)
-        (flat_map (not_made_told (own_calls calls.now) node.now.made.items node.now.order.items) (below (length calls.now)))) }
+fn note_left(calls: &[Vec<Call>], node: &Node, found: &mut FoundAnswers) -> Result<(), AllocError>
+    ensures { OnOk result (answers_of found.new ≡ with_firsts (same_answer ⟦<Answer as PartialEq>⟧.eq) (answers_of found.old)
+        (flat_map (not_made_told (own_calls calls.now) node.now.made.items node.now.order) (below (length calls.now)))) }
 {
     for client in 0..calls.len() {
         let first = place_of(node.made.as_slice(), client);
         let end = count_of(calls, client);
-        note_not_made(alloc, found, node.order.as_slice(), client, first, end)?;
+        note_not_made(found, &node.order, client, first, end)?;
     }
     Ok(())
 }

@@ -13,11 +13,12 @@ ghost use Rattle.explore_core.specs.Explorations.{IsExplored, IsBegun, is_last};
 ghost use Rattle.explore_core.specs.Private.Kernels.{IsKernelOf, AreKernels};
 ghost use Rattle.explore_core.specs.Private.Progress.{IsProgress};
 
-use crate::answers::FoundAnswer;
+use crate::found::FoundAnswers;
 use crate::kernels::KeptLayer;
 use crate::layer::Layer;
 use crate::layers::{next_layer, note_call};
 use crate::node::{Node, next_call};
+use crate::order::Order;
 use crate::stuck::Findings;
 use crate::words::state_words;
 use cap_core::Profile;
@@ -47,17 +48,14 @@ fn first_node<P: Profile, S: MakeStore<P> + DerivationStore<P>, W: MakeWaiters<P
 ) -> Result<Node, AllocError>
     ensures node { IfOk result (λ node. (own : List (List CallOf)) (A : State) → kernel.now ≡ shown A → length own ≡ clients
         → IsNode P.profile own (start own A) node) }
-    ensures order { IfOk result (λ node. node.order.items ≡ []) }
+    ensures order { IfOk result (λ node. node.order ≡ []) }
     ensures weight { IfOk result (λ node. node.weight ≡ 1) }
 {
-    let order = Vec::new(alloc);
-    let calls = Vec::new(alloc);
     let made = vec![in alloc; 0; clients]?;
     let waits = Vec::new(alloc);
     let words = state_words(alloc, made.as_slice(), waits.as_slice(), kernel)?;
     Ok(Node {
-        order,
-        calls,
+        order: Order::new(),
         made,
         waits,
         words,
@@ -66,13 +64,13 @@ fn first_node<P: Profile, S: MakeStore<P> + DerivationStore<P>, W: MakeWaiters<P
 }
 
 /// The node behind a client that has no call left.
-fn uncalled(node: Node, client: usize) -> Result<Node, AllocError>
-    ensures rest { IfOk result (λ new. (new.order.items ≡ node.order.items ++ client ∷ []) × ((new.calls.items ≡ node.calls.items)
-        × ((new.made.items ≡ node.made.items) × ((new.waits.items ≡ node.waits.items) × (new.words.items ≡ node.words.items))))) }
+fn uncalled(alloc: Global, node: Node, client: usize) -> Result<Node, AllocError>
+    ensures rest { IfOk result (λ new. (new.order ≡ node.order ++ client ∷ []) × ((new.made.items ≡ node.made.items)
+        × ((new.waits.items ≡ node.waits.items) × (new.words.items ≡ node.words.items)))) }
     ensures weight { IfOk result (λ new. new.weight ≡ node.weight) }
 {
     let mut node = node;
-    node.order.push(client)?;
+    node.order = node.order.longer(alloc, client)?;
     Ok(node)
 }
 
@@ -84,11 +82,11 @@ fn first_call<P: Profile, S: MakeStore<P> + DerivationStore<P>, W: MakeWaiters<P
     at: &mut Kernel<P, S, W>,
     node: Node,
     client: usize,
-    found: &mut Vec<FoundAnswer>,
+    found: &mut FoundAnswers,
 ) -> Result<Node, AllocError>
     ensures made { IfOk result (λ new. (w : World) → IsReached P.profile w.kernel → IsNode P.profile (own_calls calls.now) w node
         → IsKernelOf P.profile (own_calls calls.now) w node at.old
-        → IsMade P.profile (own_calls calls.now) w node new client ⟦<Answer as PartialEq>⟧.eq found.old.items found.new.items
+        → IsMade P.profile (own_calls calls.now) w node new client ⟦<Answer as PartialEq>⟧.eq found.old found.new
         × IsKernelOf P.profile (own_calls calls.now) w new at.new) }
     ensures weight { IfOk result (λ new. new.weight ≡ node.weight) }
 {
@@ -97,7 +95,7 @@ fn first_call<P: Profile, S: MakeStore<P> + DerivationStore<P>, W: MakeWaiters<P
             let reply = at.step(call);
             note_call(alloc, &node, client, call, at, reply, found)
         }
-        None => uncalled(node, client),
+        None => uncalled(alloc, node, client),
     }
 }
 
@@ -108,10 +106,10 @@ fn begin<P: Profile, S: MakeStore<P> + DerivationStore<P>, W: MakeWaiters<P>>(
     calls: &[Vec<Call>],
     at: &mut Kernel<P, S, W>,
     first: &[usize],
-    found: &mut Vec<FoundAnswer>,
+    found: &mut FoundAnswers,
 ) -> Result<Node, AllocError>
     ensures { IfOk result (λ node. (A : State) → IsReached P.profile A → at.old ≡ shown A
-        → IsBegun P.profile (own_calls calls.now) A first.now node ⟦<Answer as PartialEq>⟧.eq found.old.items found.new.items
+        → IsBegun P.profile (own_calls calls.now) A first.now node ⟦<Answer as PartialEq>⟧.eq found.old found.new
         × IsKernelOf P.profile (own_calls calls.now) (start (own_calls calls.now) A) node at.new) }
 {
     let mut node = first_node(alloc, calls.len(), at)?;

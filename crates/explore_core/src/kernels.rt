@@ -1,19 +1,19 @@
 //! The kernels of nodes. Those of a layer's first nodes are kept while the layer grows.
-ghost use Rattle.std.specs.Prelude.{◌≡◌, List, IfOk, IfSome, OnOk, length, true};
+ghost use Rattle.std.specs.Prelude.{◌≡◌, List, IfOk, IfSome, OnOk, length, replicate, true};
 ghost use Rattle.cap_core.specs.declared.profile.ProfileName.{ProfileName};
 ghost use Rattle.abstract_kernel.specs.declared.call.Call.{Call as CallOf};
 ghost use Rattle.abstract_kernel.specs.State.{shown};
 ghost use Rattle.abstract_kernel.specs.Reached.{IsReached};
-ghost use Rattle.orders.specs.World.{World};
-ghost use Rattle.explore_core.specs.Nodes.{IsNode};
+ghost use Rattle.orders.specs.World.{World, after_call, world_after};
+ghost use Rattle.explore_core.specs.Nodes.{own_calls};
 ghost use Rattle.explore_core.specs.Private.Tables.{with_node};
 ghost use Rattle.explore_core.specs.Private.Kernels.{IsKernelOf, AreKernels};
 
 use crate::layer::Layer;
-use crate::node::{Node, kernel_after};
+use crate::node::{Node, count, next_call};
 use cap_core::Profile;
 use ipc_core::{MakeWaiters, Waiters};
-use kernel_core::Kernel;
+use kernel_core::{Call, Kernel};
 use slot_core::{CapStore, MakeStore};
 use std::alloc::{AllocError, Global};
 use std::collections::VecDeque;
@@ -30,19 +30,57 @@ pub struct KeptLayer<P: Profile, S: CapStore<P> + Drop, W: Waiters<P> + Drop> {
     pub kernels: VecDeque<Kernel<P, S, W>>,
 }
 
-/// The kernel of a node: the one that is kept of it, or one that makes the node's calls, from where the orders begin.
+/// Makes the next call of a client, where it has one, be its thread ready or not. `made` counts the calls of each client.
+fn make_next<P: Profile, S: CapStore<P> + Drop, W: Waiters<P> + Drop>(
+    calls: &[Vec<Call>],
+    at: &mut Kernel<P, S, W>,
+    made: &mut Vec<usize>,
+    client: usize,
+)
+    ensures { (w : World) → IsReached P.profile w.kernel → at.old ≡ shown w.kernel → made.old.items ≡ w.made
+        → (at.new ≡ shown (after_call P.profile (own_calls calls.now) w client).kernel) × (made.new.items ≡ (after_call P.profile (own_calls calls.now) w client).made) }
+{
+    if let Some(call) = next_call(calls, made.as_slice(), client) {
+        at.step(call);
+        count(made, client);
+    }
+}
+
+/// A kernel after the calls of an order, from where no client has made one; the one that it is of stays.
+fn kernel_after<P: Profile, S: MakeStore<P>, W: MakeWaiters<P>>(
+    alloc: Global,
+    calls: &[Vec<Call>],
+    kernel: &Kernel<P, S, W>,
+    order: &[usize],
+) -> Result<Kernel<P, S, W>, AllocError>
+    ensures { IfOk result (λ at. (w : World) → IsReached P.profile w.kernel → kernel.now ≡ shown w.kernel → w.made ≡ replicate (length calls.now) 0
+        → at ≡ shown (world_after P.profile (own_calls calls.now) w order.now).kernel) }
+{
+    let mut at = kernel.copy(alloc)?;
+    let mut made = vec![in alloc; 0; calls.len()]?;
+    for i in 0..order.len() {
+        make_next(calls, &mut at, &mut made, order[i]);
+    }
+    Ok(at)
+}
+
+/// The kernel of a node: the one that is kept of it, or one that makes the calls of its order, from where the orders begin.
 pub fn kernel_of<P: Profile, S: MakeStore<P>, W: MakeWaiters<P>>(
     alloc: Global,
+    calls: &[Vec<Call>],
     kernel: &Kernel<P, S, W>,
     kept: Option<Kernel<P, S, W>>,
     node: &Node,
 ) -> Result<Kernel<P, S, W>, AllocError>
-    ensures { IfOk result (λ at. (own : List (List CallOf)) (w : World) → IsReached P.profile w.kernel → kernel.now ≡ shown w.kernel → IsNode P.profile own w node.now
-        → IfSome kept (IsKernelOf P.profile own w node.now) → IsKernelOf P.profile own w node.now at) }
+    ensures { IfOk result (λ at. (w : World) → IsReached P.profile w.kernel → kernel.now ≡ shown w.kernel → w.made ≡ replicate (length calls.now) 0
+        → IfSome kept (IsKernelOf P.profile (own_calls calls.now) w node.now) → IsKernelOf P.profile (own_calls calls.now) w node.now at) }
 {
     match kept {
         Some(at) => Ok(at),
-        None => kernel_after(alloc, kernel, node.calls.as_slice()),
+        None => {
+            let order = node.order.clients(alloc)?;
+            kernel_after(alloc, calls, kernel, order.as_slice())
+        }
     }
 }
 

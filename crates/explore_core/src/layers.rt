@@ -1,5 +1,5 @@
 //! From layer to layer: for each number of calls, the states that orders of so many calls lead to.
-ghost use Rattle.std.specs.Prelude.{◌≡◌, ◌++◌, ◌∷◌, ◌+◌, ◌≤◌, [], ℕ, List, Some, IfOk, IfSome, OnOk, slice_get};
+ghost use Rattle.std.specs.Prelude.{◌≡◌, ◌++◌, ◌∷◌, ◌+◌, ◌≤◌, [], ℕ, List, Some, IfOk, IfSome, OnOk, length, replicate, slice_get};
 ghost use Rattle.abstract_kernel.specs.declared.call.Call.{Call as CallOf};
 ghost use Rattle.abstract_kernel.specs.State.{shown};
 ghost use Rattle.abstract_kernel.specs.Reached.{IsReached, StepsTo};
@@ -10,13 +10,13 @@ ghost use Rattle.explore_core.specs.Nodes.{own_calls, state_words, one_longer, I
 ghost use Rattle.explore_core.specs.Found.{IsMade, IsVisited, IsExpanded, one_told, calls_told};
 ghost use Rattle.explore_core.specs.Private.Kernels.{IsKernelOf, AreKernels};
 
-use crate::answers::{FoundAnswer, note_outcome};
+use crate::answers::note_outcome;
 use crate::ends::{is_end, note_end};
+use crate::found::FoundAnswers;
 use crate::kernels::{KeptLayer, kernel_of, note_node};
 use crate::layer::Layer;
-use crate::node::{
-    Node, Stepped, callable, counted, longer_calls, longer_order, place_of, step_copy,
-};
+use crate::node::{Node, Stepped, callable, counted, place_of, step_copy};
+use crate::order::Order;
 use crate::stuck::{Findings, note_stuck_end};
 use crate::waits::waits_after;
 use crate::words::state_words;
@@ -32,15 +32,14 @@ use std::collections::VecDeque;
 fn followed<P: Profile, S: MakeStore<P> + DerivationStore<P>, W: MakeWaiters<P>>(
     alloc: Global,
     node: &Node,
-    order: Vec<usize>,
+    order: Order,
     client: usize,
     call: Call,
     after: &Kernel<P, S, W>,
     reply: Reply,
 ) -> Result<Node, AllocError>
     requires { IfSome (slice_get node.now.made.items client) (λ (n : ℕ). n + 1 ≤ usize.MAX) }
-    ensures order { IfOk result (λ n. n.order.items ≡ order.items) }
-    ensures calls { IfOk result (λ n. n.calls.items ≡ node.now.calls.items ++ call ∷ []) }
+    ensures order { IfOk result (λ n. n.order ≡ order) }
     ensures made { IfOk result (λ n. n.made.items ≡ one_more client (slice_get node.now.made.items client) node.now.made.items) }
     ensures waits { IfOk result (λ n. n.waits.items
         ≡ waits_after after.now node.now.waits.items (waiting_call call.thread client (place_of node.now.made.items client)) reply) }
@@ -53,13 +52,11 @@ fn followed<P: Profile, S: MakeStore<P> + DerivationStore<P>, W: MakeWaiters<P>>
         client,
         place,
     };
-    let calls = longer_calls(alloc, node.calls.as_slice(), call)?;
     let made = counted(alloc, node.made.as_slice(), client)?;
     let waits = waits_after(alloc, after, node.waits.as_slice(), new, reply)?;
     let words = state_words(alloc, made.as_slice(), waits.as_slice(), after)?;
     Ok(Node {
         order,
-        calls,
         made,
         waits,
         words,
@@ -75,26 +72,18 @@ pub fn note_call<P: Profile, S: MakeStore<P> + DerivationStore<P>, W: MakeWaiter
     call: Call,
     after: &Kernel<P, S, W>,
     reply: Reply,
-    found: &mut Vec<FoundAnswer>,
+    found: &mut FoundAnswers,
 ) -> Result<Node, AllocError>
     requires { IfSome (slice_get node.now.made.items client) (λ (n : ℕ). n + 1 ≤ usize.MAX) }
     ensures made { IfOk result (λ new. (own : List (List CallOf)) (w : World) → IsReached P.profile w.kernel → IsNode P.profile own w node.now
-        → StepsTo P.profile (world_after P.profile own w node.now.order.items).kernel call reply after.now → next_call_of own node.now.made.items client ≡ Some call
-        → IsMade P.profile own w node.now new client ⟦<Answer as PartialEq>⟧.eq found.old.items found.new.items × IsKernelOf P.profile own w new after.now) }
+        → StepsTo P.profile (world_after P.profile own w node.now.order).kernel call reply after.now → next_call_of own node.now.made.items client ≡ Some call
+        → IsMade P.profile own w node.now new client ⟦<Answer as PartialEq>⟧.eq found.old found.new × IsKernelOf P.profile own w new after.now) }
     ensures weight { IfOk result (λ new. new.weight ≡ node.now.weight) }
 {
-    let order = longer_order(alloc, node.order.as_slice(), client)?;
+    let order = node.order.longer(alloc, client)?;
     let place = place_of(node.made.as_slice(), client);
-    note_outcome(
-        alloc,
-        found,
-        after,
-        node.waits.as_slice(),
-        order.as_slice(),
-        client,
-        place,
-        reply,
-    )?;
+    let waits = node.waits.as_slice();
+    note_outcome(found, after, waits, &order, client, place, reply)?;
     let new = followed(alloc, node, order, client, call, after, reply)?;
     Ok(new)
 }
@@ -107,13 +96,13 @@ fn visit<P: Profile, S: MakeStore<P> + DerivationStore<P>, W: MakeWaiters<P>>(
     node: &Node,
     client: usize,
     nodes: &mut KeptLayer<P, S, W>,
-    found: &mut Vec<FoundAnswer>,
+    found: &mut FoundAnswers,
 ) -> Result<(), AllocError>
     ensures visited { OnOk result ((w : World) → IsReached P.profile w.kernel → IsNode P.profile (own_calls calls.now) w node.now
         → IsKernelOf P.profile (own_calls calls.now) w node.now at.now → AreNodes P.profile (own_calls calls.now) w nodes.old.layer
         → IsVisited P.profile (own_calls calls.now) w nodes.old.layer nodes.new.layer
-        (each_times node.now.weight (one_longer P.profile (own_calls calls.now) w node.now.order.items client))
-        ⟦<Answer as PartialEq>⟧.eq found.old.items found.new.items (one_told P.profile (own_calls calls.now) w node.now.order.items client)) }
+        (each_times node.now.weight (one_longer P.profile (own_calls calls.now) w node.now.order client))
+        ⟦<Answer as PartialEq>⟧.eq found.old found.new (one_told P.profile (own_calls calls.now) w node.now.order client)) }
     ensures kernels { OnOk result ((w : World) → IsReached P.profile w.kernel → IsNode P.profile (own_calls calls.now) w node.now
         → IsKernelOf P.profile (own_calls calls.now) w node.now at.now → AreKernels P.profile (own_calls calls.now) w nodes.old.kernels.items nodes.old.layer
         → AreKernels P.profile (own_calls calls.now) w nodes.new.kernels.items nodes.new.layer) }
@@ -133,13 +122,13 @@ fn visit_clients<P: Profile, S: MakeStore<P> + DerivationStore<P>, W: MakeWaiter
     at: &Kernel<P, S, W>,
     node: &Node,
     nodes: &mut KeptLayer<P, S, W>,
-    found: &mut Vec<FoundAnswer>,
+    found: &mut FoundAnswers,
 ) -> Result<(), AllocError>
     ensures visited { OnOk result ((w : World) → IsReached P.profile w.kernel → IsNode P.profile (own_calls calls.now) w node.now
         → IsKernelOf P.profile (own_calls calls.now) w node.now at.now → AreNodes P.profile (own_calls calls.now) w nodes.old.layer
         → IsVisited P.profile (own_calls calls.now) w nodes.old.layer nodes.new.layer
-        (each_times node.now.weight (longer P.profile (own_calls calls.now) w node.now.order.items))
-        ⟦<Answer as PartialEq>⟧.eq found.old.items found.new.items (calls_told P.profile (own_calls calls.now) w node.now.order.items)) }
+        (each_times node.now.weight (longer P.profile (own_calls calls.now) w node.now.order))
+        ⟦<Answer as PartialEq>⟧.eq found.old found.new (calls_told P.profile (own_calls calls.now) w node.now.order)) }
     ensures kernels { OnOk result ((w : World) → IsReached P.profile w.kernel → IsNode P.profile (own_calls calls.now) w node.now
         → IsKernelOf P.profile (own_calls calls.now) w node.now at.now → AreKernels P.profile (own_calls calls.now) w nodes.old.kernels.items nodes.old.layer
         → AreKernels P.profile (own_calls calls.now) w nodes.new.kernels.items nodes.new.layer) }
@@ -168,7 +157,7 @@ fn expand<P: Profile, S: MakeStore<P> + DerivationStore<P>, W: MakeWaiters<P>>(
 {
     visit_clients(alloc, calls, at, node, nodes, &mut found.answers)?;
     let ends = is_end(calls, at, node);
-    note_end(alloc, calls, node, ends, &mut found.answers)?;
+    note_end(calls, node, ends, &mut found.answers)?;
     note_stuck_end(alloc, calls, at, node, ends, found)?;
     Ok(())
 }
@@ -183,7 +172,7 @@ pub fn next_layer<P: Profile, S: MakeStore<P> + DerivationStore<P>, W: MakeWaite
     kept: &mut VecDeque<Kernel<P, S, W>>,
     found: &mut Findings,
 ) -> Result<KeptLayer<P, S, W>, AllocError>
-    ensures { IfOk result (λ next. (w : World) → IsReached P.profile w.kernel → kernel.now ≡ shown w.kernel → AreNodes P.profile (own_calls calls.now) w layer.now
+    ensures { IfOk result (λ next. (w : World) → IsReached P.profile w.kernel → kernel.now ≡ shown w.kernel → w.made ≡ replicate (length calls.now) 0 → AreNodes P.profile (own_calls calls.now) w layer.now
         → AreKernels P.profile (own_calls calls.now) w kept.old.items layer.now
         → IsExpanded P.profile (own_calls calls.now) w [] next.layer ⟦<Answer as PartialEq>⟧.eq found.old found.new (entries_of layer.now)
         × AreKernels P.profile (own_calls calls.now) w next.kernels.items next.layer) }
@@ -193,7 +182,7 @@ pub fn next_layer<P: Profile, S: MakeStore<P> + DerivationStore<P>, W: MakeWaite
         kernels: VecDeque::new(alloc),
     };
     for node in layer {
-        let at = kernel_of(alloc, kernel, kept.pop_front(), node)?;
+        let at = kernel_of(alloc, calls, kernel, kept.pop_front(), node)?;
         expand(alloc, calls, &at, node, &mut next, found)?;
     }
     Ok(next)

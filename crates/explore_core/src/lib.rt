@@ -5,15 +5,18 @@
 mod answers;
 mod ends;
 mod exploration;
+mod found;
 mod kernels;
 mod layer;
 mod layers;
 mod node;
+mod order;
 mod stuck;
 mod waits;
 mod words;
 
-pub use answers::FoundAnswer;
 pub use exploration::{Explored, empty_layers_are_the_last, explore};
+pub use found::{FoundAnswer, FoundAnswers};
 pub use node::Node;
+pub use order::Order;
 pub use stuck::FoundStuck;

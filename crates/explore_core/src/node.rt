@@ -8,6 +8,7 @@ ghost use Rattle.abstract_kernel.specs.Step.{state_after};
 ghost use Rattle.orders.specs.World.{next_call, is_ready, can_be_made, one_more, place_of};
 ghost use Rattle.explore_core.specs.Nodes.{own_calls};
 
+use crate::order::Order;
 use cap_core::Profile;
 use ipc_core::{MakeWaiters, Waiters};
 use kernel_core::{Call, Kernel, Reply, ThreadState};
@@ -15,12 +16,11 @@ use orders::WaitingCall;
 use slot_core::{CapStore, MakeStore};
 use std::alloc::{AllocError, Global};
 
-/// A state: the first order of clients that leads to it, the calls that they make, how many calls each client has made then,
-/// which of these wait, and the words of all that, with what the kernel shows; and how many orders lead to it, up to 2^64 - 1.
+/// A state: the first order of clients that leads to it, how many calls each client has made then, which of these wait, and
+/// the words of all that, with what the kernel shows; and how many orders lead to it, up to 2^64 - 1.
 #[derive(Drop)]
 pub struct Node {
-    pub order: Vec<usize>,
-    pub calls: Vec<Call>,
+    pub order: Order,
     pub made: Vec<usize>,
     pub waits: Vec<WaitingCall>,
     pub words: Vec<u64>,
@@ -85,29 +85,23 @@ pub fn step_copy<P: Profile, S: MakeStore<P>, W: MakeWaiters<P>>(
     Ok(Stepped { kernel, reply })
 }
 
-/// A kernel after calls; the one that it is of stays.
-pub fn kernel_after<P: Profile, S: MakeStore<P>, W: MakeWaiters<P>>(
-    alloc: Global,
-    kernel: &Kernel<P, S, W>,
-    calls: &[Call],
-) -> Result<Kernel<P, S, W>, AllocError>
-    ensures { IfOk result (λ after. (A : State) → IsReached P.profile A → kernel.now ≡ shown A → after ≡ shown (state_after P.profile A calls.now)) }
+/// One call more of a client.
+pub fn count(made: &mut Vec<usize>, client: usize)
+    requires { IfSome (slice_get made.old.items client) (λ (n : ℕ). n + 1 ≤ usize.MAX) }
+    ensures { made.new.items ≡ one_more client (slice_get made.old.items client) made.old.items }
 {
-    let mut after = kernel.copy(alloc)?;
-    let mut replies = Vec::with_capacity(alloc, calls.len())?;
-    after.run(calls, &mut replies);
-    Ok(after)
+    if let Some(place) = made.get_mut(client) {
+        *place += 1;
+    }
 }
 
-/// One call more of a client.
+/// How many calls each client has made after one call more of a client.
 pub fn counted(alloc: Global, made: &[usize], client: usize) -> Result<Vec<usize>, AllocError>
     requires { IfSome (slice_get made.now client) (λ (n : ℕ). n + 1 ≤ usize.MAX) }
     ensures { IfOk result (λ more. more.items ≡ one_more client (slice_get made.now client) made.now) }
 {
     let mut more = Vec::from_slice(alloc, made)?;
-    if let Some(place) = more.get_mut(client) {
-        *place += 1;
-    }
+    count(&mut more, client);
     Ok(more)
 }
 
@@ -116,22 +110,4 @@ pub fn place_of(made: &[usize], client: usize) -> usize
     ensures { result ≡ place_of made.now client }
 {
     made.get(client).copied().unwrap_or(0)
-}
-
-/// An order with one more client.
-pub fn longer_order(alloc: Global, order: &[usize], client: usize) -> Result<Vec<usize>, AllocError>
-    ensures { IfOk result (λ longer. longer.items ≡ order.now ++ client ∷ []) }
-{
-    let mut longer = Vec::from_slice(alloc, order)?;
-    longer.push(client)?;
-    Ok(longer)
-}
-
-/// Calls with one more.
-pub fn longer_calls(alloc: Global, calls: &[Call], call: Call) -> Result<Vec<Call>, AllocError>
-    ensures { IfOk result (λ longer. longer.items ≡ calls.now ++ call ∷ []) }
-{
-    let mut longer = Vec::from_slice(alloc, calls)?;
-    longer.push(call)?;
-    Ok(longer)
 }

@@ -8,8 +8,9 @@ ghost use Rattle.explore_core.specs.Nodes.{own_calls};
 ghost use Rattle.explore_core.specs.Found.{stuck_of, same_left, stuck_told};
 ghost use Rattle.explore_core.specs.Counts.{saturated};
 
-use crate::answers::FoundAnswer;
+use crate::found::FoundAnswers;
 use crate::node::{Node, next_call, place_of};
+use crate::order::Order;
 use cap_core::Profile;
 use ipc_core::Waiters;
 use kernel_core::{Call, Kernel};
@@ -21,7 +22,7 @@ use std::alloc::{AllocError, Global};
 /// same.
 #[derive(Drop)]
 pub struct FoundStuck {
-    pub order: Vec<usize>,
+    pub order: Order,
     pub left: Vec<LeftCall>,
 }
 
@@ -29,7 +30,7 @@ pub struct FoundStuck {
 /// orders end, and how many of these end stuck. Counts go up to 2^64 - 1.
 #[derive(Drop)]
 pub struct Findings {
-    pub answers: Vec<FoundAnswer>,
+    pub answers: FoundAnswers,
     pub stuck: Vec<FoundStuck>,
     pub ends: u64,
     pub orders: u64,
@@ -41,14 +42,14 @@ impl Findings {
 
     /// Nothing is found.
     pub fn new(alloc: Global) -> Findings
-        ensures answers { result.answers.items ≡ [] }
+        ensures answers { result.answers ≡ [] }
         ensures stuck { result.stuck.items ≡ [] }
         ensures ends { result.ends ≡ 0 }
         ensures orders { result.orders ≡ 0 }
         ensures stuck_orders { result.stuck_orders ≡ 0 }
     {
         Findings {
-            answers: Vec::new(alloc),
+            answers: FoundAnswers::new(alloc),
             stuck: Vec::new(alloc),
             ends: 0,
             orders: 0,
@@ -89,15 +90,14 @@ fn is_known_stuck(stuck: &[FoundStuck], left: &[LeftCall]) -> bool
 
 /// Notes an order that ends stuck, unless one that leaves the same calls is known.
 fn note_stuck(
-    alloc: Global,
     stuck: &mut Vec<FoundStuck>,
-    order: &[usize],
+    order: &Order,
     left: Vec<LeftCall>,
 ) -> Result<(), AllocError>
     ensures { OnOk result (stuck_of stuck.new.items ≡ with_first (same_stuck same_left) (stuck_of stuck.old.items) (stuck_end order.now left.items)) }
 {
     if !is_known_stuck(stuck.as_slice(), left.as_slice()) {
-        let order = Vec::from_slice(alloc, order)?;
+        let order = order.share()?;
         stuck.push(FoundStuck { order, left })?;
     }
     Ok(())
@@ -129,7 +129,7 @@ pub fn note_stuck_end<P: Profile, S: CapStore<P> + Drop, W: Waiters<P> + Drop>(
 ) -> Result<(), AllocError>
     ensures answers { OnOk result (found.new.answers ≡ found.old.answers) }
     ensures stuck { OnOk result (stuck_of found.new.stuck.items ≡ with_firsts (same_stuck same_left) (stuck_of found.old.stuck.items)
-        (stuck_told ends node.now.order.items (left_calls (own_calls calls.now) node.now.made.items at.now))) }
+        (stuck_told ends node.now.order (left_calls (own_calls calls.now) node.now.made.items at.now))) }
     ensures ends { OnOk result (found.new.ends ≡ saturated (found.old.ends + cond ends 1 0)) }
     ensures orders { OnOk result (found.new.orders ≡ saturated (found.old.orders + cond ends node.now.weight 0)) }
     ensures stuck_orders { OnOk result (found.new.stuck_orders ≡ saturated (found.old.stuck_orders
@@ -139,7 +139,7 @@ pub fn note_stuck_end<P: Profile, S: CapStore<P> + Drop, W: Waiters<P> + Drop>(
     let is_stuck = ends && left.len() > 0;
     count_end(found, node.weight, ends, is_stuck);
     if is_stuck {
-        note_stuck(alloc, &mut found.stuck, node.order.as_slice(), left)?;
+        note_stuck(&mut found.stuck, &node.order, left)?;
     }
     Ok(())
 }

@@ -66,16 +66,23 @@ fn has_counts(rt: &impl Abort, explored: &Explored, wanted: [u64; 4]) {
 /// The call of a client at a place comes to an answer, and this order is the first to tell it.
 fn comes_to(
     rt: &impl Abort,
+    alloc: Global,
     explored: &Explored,
     client: usize,
     place: usize,
     answer: Answer,
     order: &[usize],
-) {
-    let is_told = explored.found.answers.iter().any(|a| {
-        a.client == client && a.place == place && a.answer == answer && a.order.as_slice() == order
-    });
+) -> Result<(), Fail> {
+    let answers = explored.found.answers.answers();
+    let told = answers.iter().find(|a| a.client == client
+        && a.place == place
+        && a.answer == answer);
+    let is_told = match told {
+        Some(found) => found.order.clients(alloc)?.as_slice() == order,
+        None => false,
+    };
     assert!(rt; is_told);
+    Ok(())
 }
 
 #[test]
@@ -93,13 +100,13 @@ fn message_is_delivered_whoever_comes_first(rt: HostRuntime) -> Result<(), Fail>
         badge: Badge(0),
         message: message(7),
     };
-    assert_eq!(rt; explored.found.answers.len(), 4);
+    assert_eq!(rt; explored.found.answers.answers().len(), 4);
     has_counts(&rt, &explored, [4, 1, 2, 0]);
     assert_eq!(rt; explored.layer.nodes().len(), 0);
-    comes_to(&rt, &explored, 0, 0, Answer::Served(reply), &[0, 1]);
-    comes_to(&rt, &explored, 0, 0, Answer::Replied(reply), &[1, 0]);
-    comes_to(&rt, &explored, 1, 0, Answer::Replied(reply), &[0, 1]);
-    comes_to(&rt, &explored, 1, 0, Answer::Served(reply), &[1, 0]);
+    comes_to(&rt, alloc, &explored, 0, 0, Answer::Served(reply), &[0, 1])?;
+    comes_to(&rt, alloc, &explored, 0, 0, Answer::Replied(reply), &[1, 0])?;
+    comes_to(&rt, alloc, &explored, 1, 0, Answer::Replied(reply), &[0, 1])?;
+    comes_to(&rt, alloc, &explored, 1, 0, Answer::Served(reply), &[1, 0])?;
     Ok(())
 }
 
@@ -111,13 +118,13 @@ fn sends_to_each_other_wait_in_every_order(rt: HostRuntime) -> Result<(), Fail> 
     calls.push(Vec::from_slice(alloc, &[send(first, 6, 1), recv(first, 7)])?)?;
     calls.push(Vec::from_slice(alloc, &[send(second, 7, 2), recv(second, 6)])?)?;
     let explored = explored(&rt, alloc, calls.as_slice(), &[], 100, 5)?;
-    assert_eq!(rt; explored.found.answers.len(), 4);
+    assert_eq!(rt; explored.found.answers.answers().len(), 4);
     assert_eq!(rt; explored.found.stuck.len(), 1);
     has_counts(&rt, &explored, [4, 1, 2, 2]);
-    comes_to(&rt, &explored, 0, 0, Answer::Waits, &[0, 1]);
-    comes_to(&rt, &explored, 0, 1, Answer::NotMade, &[0, 1]);
-    comes_to(&rt, &explored, 1, 0, Answer::Waits, &[0, 1]);
-    comes_to(&rt, &explored, 1, 1, Answer::NotMade, &[0, 1]);
+    comes_to(&rt, alloc, &explored, 0, 0, Answer::Waits, &[0, 1])?;
+    comes_to(&rt, alloc, &explored, 0, 1, Answer::NotMade, &[0, 1])?;
+    comes_to(&rt, alloc, &explored, 1, 0, Answer::Waits, &[0, 1])?;
+    comes_to(&rt, alloc, &explored, 1, 1, Answer::NotMade, &[0, 1])?;
     Ok(())
 }
 
@@ -150,12 +157,12 @@ fn two_locks_end_in_a_deadlock_in_some_orders(rt: HostRuntime) -> Result<(), Fai
     let calls = two_locks(alloc)?;
     let all = explored(&rt, alloc, calls.as_slice(), &[], 1000, 17)?;
     assert_eq!(rt; all.layer.nodes().len(), 0);
-    assert_eq!(rt; all.found.answers.len(), 60);
+    assert_eq!(rt; all.found.answers.answers().len(), 60);
     has_counts(&rt, &all, [158, 2, 106144, 896]);
     let shortest = [0, 1, 2, 0, 3, 1, 2, 3];
-    comes_to(&rt, &all, 0, 1, Answer::Waits, &shortest);
-    comes_to(&rt, &all, 0, 2, Answer::NotMade, &shortest);
-    comes_to(&rt, &all, 3, 1, Answer::Waits, &shortest);
+    comes_to(&rt, alloc, &all, 0, 1, Answer::Waits, &shortest)?;
+    comes_to(&rt, alloc, &all, 0, 2, Answer::NotMade, &shortest)?;
+    comes_to(&rt, alloc, &all, 3, 1, Answer::Waits, &shortest)?;
     assert_eq!(rt; all.found.stuck.len(), 1);
     assert_eq!(rt; all.found.stuck[0].left.len(), 4);
     let cut = explored(&rt, alloc, calls.as_slice(), &[], 60, 17)?;

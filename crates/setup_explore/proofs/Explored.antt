@@ -42,8 +42,8 @@ module _ (p : ProfileName) (own : List (List Call)) (A : State) (begin : List �
       let w = start own A in
       let t = is.to in
       let n = e.calls in
-      let whole = sym (length-map e.layer (λ (m : Node). m.order.items)) ∙ ap (λ (l : List (List ℕ)). length l) t.layer_is in
-      ap (λ (k : ℕ). view (k == 0) n (answers_of e.found.answers.items) (stuck_of e.found.stuck.items) e.states e.found.ends e.found.orders e.found.stuck_orders) whole
+      let whole = sym (length-map e.layer (λ (m : Node). m.order)) ∙ ap (λ (l : List (List ℕ)). length l) t.layer_is in
+      ap (λ (k : ℕ). view (k == 0) n (answers_of e.found.answers) (stuck_of e.found.stuck.items) e.states e.found.ends e.found.orders e.found.stuck_orders) whole
       ∙ ap (λ (l : List Answered). view (length (layer p own w begin n) == 0) n l (stuck_of e.found.stuck.items) e.states e.found.ends e.found.orders e.found.stuck_orders) t.answers_are
       ∙ ap (λ (l : List StuckEnd). view (length (layer p own w begin n) == 0) n (at n).answers l e.states e.found.ends e.found.orders e.found.stuck_orders) t.stuck_are
       ∙ ap (λ (k : ℕ). view (length (layer p own w begin n) == 0) n (at n).answers (at n).stuck k e.found.ends e.found.orders e.found.stuck_orders) t.states_are

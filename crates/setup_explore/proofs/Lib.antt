@@ -1,4 +1,5 @@
 pub mod Places
 pub mod Explored
 pub mod Lines
+pub mod CallAnswers
 pub mod Entries

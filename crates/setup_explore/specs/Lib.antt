@@ -4,3 +4,4 @@ pub mod Text
 pub mod Views
 pub mod Report
 pub mod Witnesses
+pub mod Rows

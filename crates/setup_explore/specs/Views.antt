@@ -22,7 +22,7 @@ explored_view e =
     record {
       whole = length e.layer == 0;
       calls = e.calls;
-      answers = answers_of e.found.answers.items;
+      answers = answers_of e.found.answers;
       stuck = stuck_of e.found.stuck.items;
       states = e.states;
       ends = e.found.ends;

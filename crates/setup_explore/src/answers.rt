@@ -138,7 +138,7 @@ fn add_answer(
     write!(out, "  {number}.{place} {text}")?;
     if misses(alloc, answer.answer, expected)? {
         write!(out, " [not met] by")?;
-        add_order(alloc, out, numbers, answer.order.as_slice())?;
+        add_order(alloc, out, numbers, &answer.order)?;
     }
     writeln!(out)
 }

@@ -7,6 +7,7 @@ ghost use Rattle.setup_explore.specs.Text as spec;
 
 use crate::answers::{add_answers, judge};
 use crate::marks::MarkText;
+use crate::rows::{answer_rows, row_of};
 use explore_core::FoundAnswer;
 use kernel_core::Call;
 use setup_format::{Setup, op_name};
@@ -58,7 +59,8 @@ fn add_mark(
     })
 }
 
-/// Adds the line of the call at place `i`, 0 the first, with its number, and one for each of its answers.
+/// Adds the line of the call at place `i`, 0 the first, with its number, and one for each of its answers. Answers of other calls
+/// may stand between these.
 fn add_call(
     alloc: Global,
     out: &mut String,
@@ -98,10 +100,12 @@ pub fn add_calls(
     ensures met { IfOk result (λ e. e.met ≡ spec.met_count (numbers_in numbers.now) 1 is_whole (answers_of answers.now) setup.now.calls) }
     ensures expected { IfOk result (λ e. e.expected ≡ spec.expectation_count setup.now.calls) }
 {
+    let rows = answer_rows(alloc, numbers, setup.calls().len() + 1, answers)?;
     let mut met = 0;
     let mut expected = 0;
     for i in 0..setup.calls().len() {
-        let one = add_call(alloc, out, setup, i, i + 1, numbers, is_whole, answers)?;
+        let row = row_of(rows.as_slice(), i + 1, answers);
+        let one = add_call(alloc, out, setup, i, i + 1, numbers, is_whole, row)?;
         met += one.met;
         expected += one.expected;
     }

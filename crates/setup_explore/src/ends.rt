@@ -54,10 +54,10 @@ fn add_stuck_end(
     stuck: &FoundStuck,
 ) -> Result<(), AllocError>
     ensures { OnOk result (string_bytes out.new ≡ string_bytes out.old
-        ++ spec.stuck_block (numbers_in numbers.now) place (stuck_end stuck.now.order.items stuck.now.left.items)) }
+        ++ spec.stuck_block (numbers_in numbers.now) place (stuck_end stuck.now.order stuck.now.left.items)) }
 {
     write!(out, "stuck.{place} by")?;
-    add_order(alloc, out, numbers, stuck.order.as_slice())?;
+    add_order(alloc, out, numbers, &stuck.order)?;
     writeln!(out)?;
     add_left(out, numbers, stuck.left.as_slice())
 }

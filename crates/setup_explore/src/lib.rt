@@ -9,6 +9,7 @@ mod ends;
 mod making;
 mod marks;
 mod numbers;
+mod rows;
 mod run;
 mod tables;
 mod witness;

@@ -2,6 +2,7 @@
 ghost use Rattle.std.specs.Prelude.{◌≡◌, ◌++◌, ◌==◌, List, ℕ, IfOk, OnOk, [], count_by, string_bytes};
 ghost use Rattle.setup_explore.specs.Numbers.{client_numbers, numbers_of, numbers_in, number_in, order_numbers as numbers_of_order, order_text};
 
+use explore_core::Order;
 use setup_format::Setup;
 use std::alloc::{AllocError, Global};
 use std::fmt::Write;
@@ -57,12 +58,13 @@ pub fn add_order(
     alloc: Global,
     out: &mut String,
     numbers: &[Vec<usize>],
-    order: &[usize],
+    order: &Order,
 ) -> Result<(), AllocError>
     ensures { OnOk result (string_bytes out.new ≡ string_bytes out.old ++ order_text (numbers_in numbers.now) [] order.now) }
 {
+    let clients = order.clients(alloc)?;
     let mut made = Vec::new(alloc);
-    let mut rest = order;
+    let mut rest = clients.as_slice();
     while let Some((client, later)) = rest.split_first() {
         let place = times_in(made.as_slice(), *client);
         let number = number_at(numbers, *client, place);
@@ -77,13 +79,14 @@ pub fn add_order(
 pub fn order_numbers(
     alloc: Global,
     numbers: &[Vec<usize>],
-    order: &[usize],
+    order: &Order,
 ) -> Result<Vec<usize>, AllocError>
     ensures { IfOk result (λ own. own.items ≡ numbers_of_order (numbers_in numbers.now) [] order.now) }
 {
+    let clients = order.clients(alloc)?;
     let mut own = Vec::new(alloc);
     let mut made = Vec::new(alloc);
-    let mut rest = order;
+    let mut rest = clients.as_slice();
     while let Some((client, later)) = rest.split_first() {
         let place = times_in(made.as_slice(), *client);
         own.push(number_at(numbers, *client, place))?;

@@ -106,7 +106,7 @@ fn explored_text(
 {
     let lists = numbers_of_clients(alloc, setup)?;
     let numbers = lists.as_slice();
-    let answers = explored.found.answers.as_slice();
+    let answers = explored.found.answers.answers();
     let stuck = explored.found.stuck.as_slice();
     let is_whole = explored.layer.nodes().is_empty();
     let mut out = String::new(alloc);

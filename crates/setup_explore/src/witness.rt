@@ -7,7 +7,7 @@ ghost use Rattle.setup_explore.specs.Views.{explored_view};
 ghost use Rattle.setup_explore.specs.Witnesses as spec;
 
 use crate::answers::is_of;
-use explore_core::{Explored, FoundAnswer, FoundStuck};
+use explore_core::{Explored, FoundAnswer, FoundStuck, Order};
 
 /// What an order is a witness of.
 #[derive(Clone, Copy, Drop)]
@@ -42,7 +42,7 @@ fn answer_numbered<'a>(
 
 /// The way to end stuck at a place among these ways, from 1 on.
 fn stuck_numbered(wanted: usize, stuck: &[FoundStuck]) -> Option<&FoundStuck>
-    ensures { option_map (λ s. stuck_end s.now.order.items s.now.left.items) result ≡ spec.stuck_numbered wanted 1 (stuck_of stuck.now) }
+    ensures { option_map (λ s. stuck_end s.now.order s.now.left.items) result ≡ spec.stuck_numbered wanted 1 (stuck_of stuck.now) }
 {
     for (i, end) in stuck.iter().enumerate() {
         if i + 1 == wanted {
@@ -57,18 +57,18 @@ pub fn named_order<'a>(
     numbers: &[Vec<usize>],
     explored: &'a Explored,
     witness: Witness,
-) -> Option<&'a [usize]>
+) -> Option<&'a Order>
     ensures { option_copied result ≡ spec.named_order (numbers_in numbers.now) (explored_view explored.now) witness }
 {
     match witness {
         Witness::Answer { call, place } => {
-            let answers = explored.found.answers.as_slice();
+            let answers = explored.found.answers.answers();
             let answer = answer_numbered(numbers, call, place, answers)?;
-            Some(answer.order.as_slice())
+            Some(&answer.order)
         }
         Witness::Stuck { place } => {
             let end = stuck_numbered(place, explored.found.stuck.as_slice())?;
-            Some(end.order.as_slice())
+            Some(&end.order)
         }
     }
 }

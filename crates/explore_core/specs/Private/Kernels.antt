@@ -9,7 +9,7 @@ use Rattle.explore_core.specs.declared.node.Node.{Node}
 
 -- a kernel that shows the state after the order of a node
 abbrev pub IsKernelOf : ProfileName → List (List Call) → World → Node → Shown → Type 0
-IsKernelOf p own w n v = v ≡ shown (world_after p own w n.order.items).kernel
+IsKernelOf p own w n v = v ≡ shown (world_after p own w n.order).kernel
 
 -- kernels of the first of some nodes, of each in turn
 abbrev pub AreKernels : ProfileName → List (List Call) → World → List Shown → List Node → Type 0

@@ -12,7 +12,7 @@ by_words n m = pointwise nat_eq n.words.items m.words.items
 
 -- a node to whose state more orders lead
 abbrev pub heavier : ℕ → Node → Node
-heavier more n = record { order = n.order; calls = n.calls; made = n.made; waits = n.waits; words = n.words; weight = saturated (n.weight + more) }
+heavier more n = record { order = n.order; made = n.made; waits = n.waits; words = n.words; weight = saturated (n.weight + more) }
 
 -- the nodes, with this one at the end, or with its orders at the first of its state
 abbrev pub with_node : List Node → Node → List Node

@@ -7,8 +7,8 @@ use Rattle.explore_core.proofs.answers.note_ended.Given as goal
 
 abbrev pub invariant-loop-call : goal.invariant-loop-call
 invariant-loop-call g l =
-    with_firsts (same_answer answer_eq.ghosts.eq) (answers_of l.found.items) (waits_ended l.order l.kernel l.rest l.reply)
-    ≡ with_firsts (same_answer answer_eq.ghosts.eq) (answers_of l.fn.found.items) (waits_ended l.order l.kernel l.waits l.reply)
+    with_firsts (same_answer answer_eq.ghosts.eq) (answers_of l.found) (waits_ended l.order l.kernel l.rest l.reply)
+    ≡ with_firsts (same_answer answer_eq.ghosts.eq) (answers_of l.fn.found) (waits_ended l.order l.kernel l.waits l.reply)
 
 abbrev pub decreases-loop-call : goal.decreases-loop-call
 decreases-loop-call g l = length l.rest

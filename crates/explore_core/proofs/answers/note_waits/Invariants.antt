@@ -9,8 +9,8 @@ use Rattle.explore_core.proofs.answers.note_waits.Given as goal
 
 abbrev pub invariant-loop-call : goal.invariant-loop-call
 invariant-loop-call l =
-    with_firsts (same_answer answer_eq.ghosts.eq) (answers_of l.found.items) (map (λ (call : WaitingCall). answered l.order call.client call.place Waits) l.rest)
-    ≡ with_firsts (same_answer answer_eq.ghosts.eq) (answers_of l.fn.found.items) (map (λ (call : WaitingCall). answered l.order call.client call.place Waits) l.waits)
+    with_firsts (same_answer answer_eq.ghosts.eq) (answers_of l.found) (map (λ (call : WaitingCall). answered l.order call.client call.place Waits) l.rest)
+    ≡ with_firsts (same_answer answer_eq.ghosts.eq) (answers_of l.fn.found) (map (λ (call : WaitingCall). answered l.order call.client call.place Waits) l.waits)
 
 abbrev pub decreases-loop-call : goal.decreases-loop-call
 decreases-loop-call l = length l.rest

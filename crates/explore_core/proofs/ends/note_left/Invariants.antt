@@ -10,4 +10,4 @@ use Rattle.explore_core.proofs.ends.note_left.Given as goal
 
 abbrev pub invariant-loop-client : goal.invariant-loop-client
 invariant-loop-client l =
-    answers_of l.found.items ≡ with_firsts (same_answer answer_eq.ghosts.eq) (answers_of l.fn.found.items) (flat_map (not_made_told (own_calls l.calls) l.node.made.items l.node.order.items) (below l.client))
+    answers_of l.found ≡ with_firsts (same_answer answer_eq.ghosts.eq) (answers_of l.fn.found) (flat_map (not_made_told (own_calls l.calls) l.node.made.items l.node.order) (below l.client))

@@ -12,7 +12,7 @@ loop-place-preserved c =
     let one_less : c.args.end - place ≡ suc (c.args.end - (place + 1)) = omega arith in
     let told = λ (n : ℕ). answered c.args.order.now c.args.client n NotMade in
     ap (λ l. with_firsts (same_answer answer_eq.ghosts.eq) l (map told (numbers_from (place + 1) (c.args.end - (place + 1))))) c.in_ok-note_answer.ensures
-    ∙ ap (λ n. with_firsts (same_answer answer_eq.ghosts.eq) (answers_of c.loop-place.found.items) (map told (numbers_from place n))) (sym one_less)
+    ∙ ap (λ n. with_firsts (same_answer answer_eq.ghosts.eq) (answers_of c.loop-place.found) (map told (numbers_from place n))) (sym one_less)
     ∙ c.loop-place.invariant
 
 pub returns : goal.returns
@@ -20,5 +20,5 @@ returns c =
     let place = c.loop-place.place in
     let none : c.args.end - place ≡ 0 = omega arith in
     let told = λ (n : ℕ). answered c.args.order.now c.args.client n NotMade in
-    ap (λ n. with_firsts (same_answer answer_eq.ghosts.eq) (answers_of c.loop-place.found.items) (map told (numbers_from place n))) (sym none)
+    ap (λ n. with_firsts (same_answer answer_eq.ghosts.eq) (answers_of c.loop-place.found) (map told (numbers_from place n))) (sym none)
     ∙ c.loop-place.invariant

@@ -8,5 +8,5 @@ use Rattle.explore_core.proofs.ends.note_not_made.Given as goal
 
 abbrev pub invariant-loop-place : goal.invariant-loop-place
 invariant-loop-place l =
-    with_firsts (same_answer answer_eq.ghosts.eq) (answers_of l.found.items) (map (λ place. answered l.order l.client place NotMade) (numbers_from l.place (l.end - l.place)))
-    ≡ with_firsts (same_answer answer_eq.ghosts.eq) (answers_of l.fn.found.items) (map (λ place. answered l.order l.client place NotMade) (numbers_from l.first (l.end - l.first)))
+    with_firsts (same_answer answer_eq.ghosts.eq) (answers_of l.found) (map (λ place. answered l.order l.client place NotMade) (numbers_from l.place (l.end - l.place)))
+    ≡ with_firsts (same_answer answer_eq.ghosts.eq) (answers_of l.fn.found) (map (λ place. answered l.order l.client place NotMade) (numbers_from l.first (l.end - l.first)))

@@ -1,4 +1,5 @@
-use Rattle.std.proofs.Common.{[], List, sym, subst, refl}
+use Rattle.std.proofs.Common.{[], List, replicate, ap, sym, subst, refl}
+use Rattle.std.proofs.lemmas.List.{length-map}
 use Rattle.orders.specs.World.{start}
 use Rattle.orders.specs.contracts.answer.AnswerPartialEq.TheImpl as answer_eq
 use Rattle.explore_core.specs.declared.node.Node.{Node}
@@ -14,7 +15,7 @@ returns-clause-progress g c A first r k before kernels =
     let own = own_calls c.args.calls.now in
     let w = start own A in
     let is = c.nodes-nodes.ensures in
-    let now = c.in_ok-next.ensures w r k (subst (AreNodes p own w) (sym is) before.are) (subst (λ (l : List Node). AreKernels p own w c.args.kept.now.items l) (sym is) kernels) in (
+    let now = c.in_ok-next.ensures w r k (ap (λ n. replicate n 0) (length-map c.args.calls.now _)) (subst (AreNodes p own w) (sym is) before.are) (subst (λ (l : List Node). AreKernels p own w c.args.kept.now.items l) (sym is) kernels) in (
       progress_more p own A first r c.args.explored.now _ before
           (subst (λ (l : List Node). IsExpanded p own w [] c.in_ok-next.next.layer answer_eq.ghosts.eq c.args.explored.now.found c.next_layer.new.found (entries_of l)) is now.0) c.states_after-states.ensures refl,
       now.1,

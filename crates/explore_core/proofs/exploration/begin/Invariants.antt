@@ -11,5 +11,5 @@ use Rattle.explore_core.proofs.exploration.begin.Given as goal
 abbrev pub invariant-loop-i : goal.invariant-loop-i
 invariant-loop-i g l =
     (A : State) → IsReached g.P.Profile.profile A → l.fn.at ≡ shown A
-    → IsBegun g.P.Profile.profile (own_calls l.calls) A (take l.i l.first) l.node answer_eq.ghosts.eq l.fn.found.items l.found.items
+    → IsBegun g.P.Profile.profile (own_calls l.calls) A (take l.i l.first) l.node answer_eq.ghosts.eq l.fn.found l.found
     × IsKernelOf g.P.Profile.profile (own_calls l.calls) (start (own_calls l.calls) A) l.node l.at

@@ -17,7 +17,7 @@ returns g c A r k =
     let begun = c.in_ok-node.ensures A r (c.in_ok-at.ensures ∙ k) in
     let one : c.note.new.self ≡ with_node [] c.in_ok-node.node = c.in_ok-note.ensures ∙ ap (λ l. with_node l c.in_ok-node.node) c.new-layer.ensures in
     let kernels = c.in_ok-push_back.ensures.items ∙ ap (λ (l : List Shown). l ++ c.begin.new.at ∷ []) c.requires in (
-      progress_none p own A c.args.first.now e c.in_ok-node.node c.new-found.result.answers.items begun.0 c.new-found.ensures.answers
+      progress_none p own A c.args.first.now e c.in_ok-node.node c.new-found.result.answers begun.0 c.new-found.ensures.answers
           one c.new-found.ensures.stuck c.new-found.ensures.ends c.new-found.ensures.orders c.new-found.ensures.stuck_orders c.states_through-states.ensures refl,
       (
         refl,

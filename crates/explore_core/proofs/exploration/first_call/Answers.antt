@@ -14,7 +14,7 @@ returns-in-Some-clause-made g c =
     if_ok c.note_call.result c.note_call.ensures.made
     (λ new h w r node at.
     (let next_is : next_call own c.args.node.made.items c.args.client ≡ Some c.in-Some.call = sym (c.next_call.ensures.call ∙ ap (λ (l : List ℕ). next_call own l c.args.client) c.as_slice.ensures.value) ∙ c.in-Some.is in
-    h own w r node (c.step-reply.ensures.stands (world_after p own w c.args.node.order.items).kernel (world_reached p own w c.args.node.order.items r) at) next_is))
+    h own w r node (c.step-reply.ensures.stands (world_after p own w c.args.node.order).kernel (world_reached p own w c.args.node.order r) at) next_is))
 
 pub returns-in-None-clause-made : goal.returns-in-None-clause-made
 returns-in-None-clause-made g c =
@@ -24,5 +24,4 @@ returns-in-None-clause-made g c =
     (λ new h w r node at.
     (let a = h.1 in
     let b = a.1 in
-    let d = b.1 in
-    none_made p own w answer_eq.ghosts.eq c.args.node new c.args.client c.next_call.result c.args.found.now.items c.args.at.now node (c.next_call.ensures.call ∙ ap (λ (l : List ℕ). next_call own l c.args.client) c.as_slice.ensures.value) c.in-None.is h.0 a.0 b.0 d.0 d.1 at))
+    none_made p own w answer_eq.ghosts.eq c.args.node new c.args.client c.next_call.result c.args.found.now c.args.at.now node (c.next_call.ensures.call ∙ ap (λ (l : List ℕ). next_call own l c.args.client) c.as_slice.ensures.value) c.in-None.is h.0 a.0 b.0 b.1 at))

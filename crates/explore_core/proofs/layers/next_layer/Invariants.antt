@@ -1,4 +1,4 @@
-use Rattle.std.proofs.Common.{◌≡◌, [], take, drop}
+use Rattle.std.proofs.Common.{◌≡◌, [], length, take, drop, replicate}
 use Rattle.abstract_kernel.specs.State.{shown}
 use Rattle.abstract_kernel.specs.Reached.{IsReached}
 use Rattle.orders.specs.World.{World}
@@ -12,6 +12,6 @@ abbrev pub invariant-loop-node : goal.invariant-loop-node
 invariant-loop-node g l =
     let p = g.P.Profile.profile in
     let own = own_calls l.calls in
-    (w : World) → IsReached p w.kernel → l.kernel ≡ shown w.kernel → AreNodes p own w l.layer → AreKernels p own w l.fn.kept.items l.layer
+    (w : World) → IsReached p w.kernel → l.kernel ≡ shown w.kernel → w.made ≡ replicate (length l.calls) 0 → AreNodes p own w l.layer → AreKernels p own w l.fn.kept.items l.layer
     → IsExpanded p own w [] l.next.layer answer_eq.ghosts.eq l.fn.found l.found (entries_of (take l.node-index l.layer))
     × (AreKernels p own w l.next.kernels.items l.next.layer × AreKernels p own w l.kept.items (drop l.node-index l.layer))

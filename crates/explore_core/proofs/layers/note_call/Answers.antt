@@ -15,14 +15,13 @@ returns-clause-made g c own w r node steps next_is =
     let client = c.args.client in
     let after = c.args.after.now in
     let reply = c.args.reply in
-    let order = c.in_ok-order.order.items in
+    let order = c.in_ok-order.order in
     let place = c.place_of-place.result in
     let told =
     c.in_ok-note_outcome.ensures
-    ∙ ap (λ (o : List ℕ). with_firsts (same_answer answer_eq.ghosts.eq) (answers_of c.args.found.now.items) (replied o client place reply ++ waits_ended o after c.as_slice-3.result.now reply)) c.as_slice-4.ensures.value
-    ∙ ap (λ (l : List WaitingCall). with_firsts (same_answer answer_eq.ghosts.eq) (answers_of c.args.found.now.items) (replied order client place reply ++ waits_ended order after l reply)) c.as_slice-3.ensures.value in
-    made_is p own w answer_eq.ghosts.eq n client c.args.call c.args.found.now.items c.note_outcome.new.found.items reply after order place c.in_ok-new.new
+    ∙ ap (λ (l : List WaitingCall). with_firsts (same_answer answer_eq.ghosts.eq) (answers_of c.args.found.now) (replied order client place reply ++ waits_ended order after l reply)) c.as_slice-waits.ensures.value in
+    made_is p own w answer_eq.ghosts.eq n client c.args.call c.args.found.now c.note_outcome.new.found reply after order place c.in_ok-new.new
     node steps next_is
-    (c.in_ok-order.ensures ∙ ap (λ (l : List ℕ). l ++ client ∷ []) c.as_slice.ensures.value)
-    (c.place_of-place.ensures ∙ ap (λ (l : List ℕ). place_of l client) c.as_slice-2.ensures.value)
-    told c.in_ok-new.ensures.order c.in_ok-new.ensures.calls c.in_ok-new.ensures.made c.in_ok-new.ensures.waits c.in_ok-new.ensures.words
+    c.in_ok-order.ensures
+    (c.place_of-place.ensures ∙ ap (λ (l : List ℕ). place_of l client) c.as_slice.ensures.value)
+    told c.in_ok-new.ensures.order c.in_ok-new.ensures.made c.in_ok-new.ensures.waits c.in_ok-new.ensures.words

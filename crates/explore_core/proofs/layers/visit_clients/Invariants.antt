@@ -16,8 +16,8 @@ invariant-loop-client g l =
     let p = g.P.Profile.profile in
     let own = own_calls l.calls in
     ((w : World) → IsReached p w.kernel → IsNode p own w l.node → IsKernelOf p own w l.node l.at → AreNodes p own w l.fn.nodes.layer
-    → IsVisited p own w l.fn.nodes.layer l.nodes.layer (each_times l.node.weight (map (λ c. l.node.order.items ++ c ∷ []) (filter (may_call own (world_after p own w l.node.order.items)) (below l.client))))
-    answer_eq.ghosts.eq l.fn.found.items l.found.items
-    (flat_map (λ c. call_answers p (world_after p own w l.node.order.items) l.node.order.items c (next_call own (world_after p own w l.node.order.items).made c)) (filter (may_call own (world_after p own w l.node.order.items)) (below l.client))))
+    → IsVisited p own w l.fn.nodes.layer l.nodes.layer (each_times l.node.weight (map (λ c. l.node.order ++ c ∷ []) (filter (may_call own (world_after p own w l.node.order)) (below l.client))))
+    answer_eq.ghosts.eq l.fn.found l.found
+    (flat_map (λ c. call_answers p (world_after p own w l.node.order) l.node.order c (next_call own (world_after p own w l.node.order).made c)) (filter (may_call own (world_after p own w l.node.order)) (below l.client))))
     × ((w : World) → IsReached p w.kernel → IsNode p own w l.node → IsKernelOf p own w l.node l.at → AreKernels p own w l.fn.nodes.kernels.items l.fn.nodes.layer
     → AreKernels p own w l.nodes.kernels.items l.nodes.layer)

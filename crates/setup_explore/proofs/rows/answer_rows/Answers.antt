@@ -1,0 +1,12 @@
+use Rattle.std.proofs.Common.{◌≡◌, ℕ, List, ◌++◌, filter, slice_get, ap}
+use Rattle.explore_core.specs.declared.found.FoundAnswer.{FoundAnswer}
+use Rattle.explore_core.specs.Found.{answers_of}
+use Rattle.setup_explore.specs.Numbers.{numbers_in}
+use Rattle.setup_explore.specs.Text.{is_of}
+use Rattle.setup_explore.proofs.CallAnswers.{if_some}
+use Rattle.setup_explore.proofs.rows.answer_rows.Goals as goal
+
+pub loop-answer-init : goal.loop-answer-init
+loop-answer-init c n =
+    let left = filter (is_of (numbers_in c.args.numbers.now) n) (answers_of c.args.answers.now) in
+    if_some (slice_get c.in_ok-rows.rows.items n) (c.in_ok-rows.ensures n) (λ row e. ap (λ (l : List FoundAnswer). answers_of l ++ left) e)
