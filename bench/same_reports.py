@@ -1,5 +1,6 @@
-"""same_reports.py PLAIN FOLDER: runs each set-up in the folders of FOLDER through the plain program, which has to write
-the report that stands beside it, byte for byte; set-ups of a format or a profile that it does not take are left out."""
+"""same_reports.py PLAIN FOLDER: runs each set-up in the folders of FOLDER that has a report beside it through the plain
+program, which has to write that report, byte for byte; set-ups of a format or a profile that it does not take are left
+out."""
 
 import pathlib
 import subprocess
@@ -11,11 +12,12 @@ NOT_TAKEN = 5
 def main():
     plain, folder = sys.argv[1:]
     same = left_out = 0
-    for setup in sorted(pathlib.Path(folder).glob("*/*.toml")):
+    for report in sorted(pathlib.Path(folder).glob("*/*.report")):
+        setup = report.with_suffix(".toml")
         ran = subprocess.run([plain, "check", setup], stdout=subprocess.PIPE)
         if ran.returncode == NOT_TAKEN:
             left_out += 1
-        elif ran.stdout != setup.with_suffix(".report").read_bytes():
+        elif ran.stdout != report.read_bytes():
             sys.exit(f"{setup}: another report")
         else:
             same += 1
