@@ -14,8 +14,8 @@ import set_ups
 import shared
 from measures import counts_of_functions, instructions, least_seconds, output, peak_kib
 
-# The functions whose instructions are those of a part; the C compiler puts `text_of` into its only caller.
-WHOLE = ["engine::run::text_of", "engine::checking::CheckerEngine::make"]
+# The functions whose instructions are those of a part; the C compiler puts the first of these into its callers, or does not.
+WHOLE = ["engine::run::counted_text_of", "engine::run::text_of", "engine::checking::CheckerEngine::make"]
 BOOT = "engine::run::boot"
 AUDITS = ["engine_audit::auditing::Auditor::text_of", "engine_audit::auditing::AuditorEngine::make"]
 READ = "setup_format::read::read_named_setup"
