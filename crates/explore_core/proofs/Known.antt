@@ -6,7 +6,7 @@ use Rattle.std.specs.HashSet.{HashSet, contains}
 use Rattle.explore_core.specs.declared.found.FoundAnswer.{FoundAnswer}
 use Rattle.explore_core.specs.declared.found.CallAnswer.{CallAnswer}
 use Rattle.explore_core.specs.contracts.found.CallAnswerPartialEq.TheImpl as call_answer_eq
-use Rattle.explore_core.specs.Private.Known.{call_answer, AreKnown}
+use Rattle.explore_core.specs.Known.{call_answer, AreKnown}
 
 swap : (a b m : Bool) → (a || cond b true m) ≡ cond b true (a || m)
 swap true true m = refl

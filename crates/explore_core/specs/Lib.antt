@@ -1,5 +1,7 @@
 pub mod Nodes
 pub mod Counts
 pub mod Found
+pub mod Known
+pub mod Links
 pub mod Explorations
 pub mod Private

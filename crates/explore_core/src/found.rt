@@ -3,7 +3,7 @@ ghost use Rattle.std.specs.Prelude.{◌≡◌, ◌++◌, ◌∷◌, [], IfOk, On
 ghost use Rattle.std.specs.HashSet.{contains};
 ghost use Rattle.explore_core.specs.declared.found.CallAnswer.{CallAnswer as CallAnswerOf};
 ghost use Rattle.explore_core.specs.contracts.found.CallAnswerPartialEq.TheImpl as call_answer_eq;
-ghost use Rattle.explore_core.specs.Private.Known.{call_answer};
+ghost use Rattle.explore_core.specs.Known.{call_answer};
 
 use crate::order::Order;
 use orders::Answer;
@@ -61,7 +61,7 @@ pub struct FoundAnswers {
 impl Model for FoundAnswers {
     ghost use Rattle.std.specs.Prelude.{List};
     ghost use Rattle.explore_core.specs.declared.found.FoundAnswer.{FoundAnswer};
-    ghost use Rattle.explore_core.specs.Private.Known.{AreKnown};
+    ghost use Rattle.explore_core.specs.Known.{AreKnown};
 
     ghost Value = { List FoundAnswer };
 

@@ -23,7 +23,7 @@ impl Model for Order {
 
     ghost Value = { List ℕ };
 
-    ghost use Rattle.explore_core.specs.Private.Links.{clients_to};
+    ghost use Rattle.explore_core.specs.Links.{clients_to};
 
     ghost view = { λ o. clients_to o.last };
 
@@ -36,7 +36,7 @@ impl Model for Order {
 
 impl Order {
     ghost use Rattle.std.specs.Prelude.{◌≡◌, ◌++◌, ◌∷◌, [], IfNone, IfOk, IfSome};
-    ghost use Rattle.explore_core.specs.Private.Links.{clients_to};
+    ghost use Rattle.explore_core.specs.Links.{clients_to};
 
     /// The order of no clients.
     pub fn new() -> Order
