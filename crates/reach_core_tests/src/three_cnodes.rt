@@ -1,18 +1,24 @@
 //! A client whose space has three CNodes, one in the other: A, B with a guard, and C. In C lies the capability of a fourth,
 //! D, and in D that of F: what lies in these the client names by an index and a depth alone.
-ghost use Rattle.std.specs.Prelude.{ℕ, IfOk};
+ghost use Rattle.std.specs.Prelude.{ℕ, IfOk, IfSome};
+ghost use Rattle.cap_core.specs.declared.profile.ProfileName.TheVariants as Name;
+ghost use Rattle.abstract_kernel.specs.Plan.{IsPlan};
 ghost use Rattle.abstract_kernel.specs.Memory.{IsInMemory};
+ghost use Rattle.reach_core.specs.FullSlots.{AreLawful, AreRising};
 
-use cap_core::{Profile, Rights, Wide};
+use cap_core::{Rights, Wide};
 use ipc_core::LinkedWaiters;
 use kernel_core::{BootPlan, Call, Kernel, Op};
 use kernel_reach::kernel_slots;
 use reach_core::{
-    Held, Reached, channels, endpoint_words, held_slots, reached_slots, receivers_without_sender,
+    Channel, EndpointWord, FullSlot, Held, Reached, channels, endpoint_words, held_slots,
+    reached_slots, receivers_without_sender,
 };
 use slot_core::LinkedStore;
-use std::alloc::Global;
+use std::alloc::{AllocError, Global};
 use std::test::Fail;
+
+type LinkedKernel = Kernel<Wide, LinkedStore<Wide>, LinkedWaiters<Wide>>;
 
 const LOADER: u64 = 2048;
 
@@ -87,26 +93,19 @@ fn building() -> [Op; 12] {
     ]
 }
 
-fn reached(word: u64, slot: u64) -> Reached {
-    Reached { word, slot }
-}
-
-/// What is named from the word 88, which leads to D.
-fn held(depth: u32, index: u64, slot: u64) -> Held {
-    Held {
-        word: 88,
-        depth,
-        index,
-        slot,
-    }
-}
-
-/// The kernel behind those calls, and one of the client.
-fn kernel<P: Profile>(alloc: Global) -> Result<Kernel<P, LinkedStore<P>, LinkedWaiters<P>>, Fail>
-    ensures { IfOk result (λ kernel. (memory : ℕ) × IsInMemory P.profile memory kernel) }
+/// The layout: two threads, one endpoint, whose capability is in slot 4, and an untyped region.
+fn plan(alloc: Global) -> Option<BootPlan>
+    ensures { IfSome result (λ plan. IsPlan Name.Wide plan) }
 {
-    let plan = BootPlan::new::<P>(16, 4, 2, 1, vec![in alloc; (16384, 12)]?)?;
-    let mut kernel = Kernel::<P, LinkedStore<P>, LinkedWaiters<P>>::boot(alloc, &plan)?;
+    let untypeds = vec![in alloc; (16384, 12)].ok()?;
+    BootPlan::new::<Wide>(16, 4, 2, 1, untypeds).ok()
+}
+
+/// Makes those calls, and one of the client.
+fn build(kernel: &mut LinkedKernel)
+    requires { (memory : ℕ) × IsInMemory Name.Wide memory kernel.old }
+    ensures { (memory : ℕ) × IsInMemory Name.Wide memory kernel.new }
+{
     for op in building() {
         kernel.step(Call { thread: LOADER, op });
     }
@@ -120,52 +119,137 @@ fn kernel<P: Profile>(alloc: Global) -> Result<Kernel<P, LinkedStore<P>, LinkedW
         rights: ALL,
     };
     kernel.step(Call { thread: CLIENT, op });
-    Ok(kernel)
 }
 
-#[test]
-fn a_client_reaches_and_holds(rt: HostRuntime) -> Result<(), Fail> {
-    let alloc = rt.alloc();
-    let kernel = kernel::<Wide>(alloc)?;
-    let filled = kernel_slots::<Wide, LinkedStore<Wide>, LinkedWaiters<Wide>>(alloc, &kernel)?;
-    let found = reached_slots::<Wide>(alloc, filled.as_slice(), CLIENT)?;
-    let wanted = [
-        reached(0, 16384),
-        reached(80, 16512),
-        reached(88, 16640),
-        reached(91, 16736),
-    ];
-    assert_eq!(rt; found.as_slice(), wanted.as_slice());
-    let found = held_slots::<Wide>(alloc, filled.as_slice(), found.as_slice())?;
-    let wanted = [
-        held(3, 4, 16768),
-        held(3, 6, 16832),
-        held(3, 7, 16864),
-        held(4, 15, 16928),
-    ];
-    assert_eq!(rt; found.as_slice(), wanted.as_slice());
-    Ok(())
+/// The full slots of a kernel behind those calls.
+fn filled(alloc: Global, plan: &BootPlan) -> Result<Vec<FullSlot>, AllocError>
+    requires { IsPlan Name.Wide plan.now }
+    ensures lawful { IfOk result (λ filled. AreLawful Name.Wide filled.items) }
+    ensures rising { IfOk result (λ filled. AreRising filled.items) }
+{
+    let mut kernel = LinkedKernel::boot(alloc, plan)?;
+    build(&mut kernel);
+    kernel_slots::<Wide, LinkedStore<Wide>, LinkedWaiters<Wide>>(alloc, &kernel)
 }
 
-#[test]
-fn loader_and_client_send_to_each_other(rt: HostRuntime) -> Result<(), Fail> {
-    let alloc = rt.alloc();
-    let kernel = kernel::<Wide>(alloc)?;
-    let filled = kernel_slots::<Wide, LinkedStore<Wide>, LinkedWaiters<Wide>>(alloc, &kernel)?;
+/// What the client reaches, and by which words.
+const REACHED: [Reached; 4] = [
+    Reached {
+        word: 0,
+        slot: 16384,
+    },
+    Reached {
+        word: 80,
+        slot: 16512,
+    },
+    Reached {
+        word: 88,
+        slot: 16640,
+    },
+    Reached {
+        word: 91,
+        slot: 16736,
+    },
+];
+
+/// What it names besides by an index and a depth, all from the word 88, which leads to D.
+const HELD: [Held; 4] = [
+    Held {
+        word: 88,
+        depth: 3,
+        index: 4,
+        slot: 16768,
+    },
+    Held {
+        word: 88,
+        depth: 3,
+        index: 6,
+        slot: 16832,
+    },
+    Held {
+        word: 88,
+        depth: 3,
+        index: 7,
+        slot: 16864,
+    },
+    Held {
+        word: 88,
+        depth: 4,
+        index: 15,
+        slot: 16928,
+    },
+];
+
+/// Whether the client reaches and holds what it should.
+fn reaches_and_holds(alloc: Global, filled: &[FullSlot]) -> Result<bool, AllocError>
+    requires lawful { AreLawful Name.Wide filled.now }
+    requires rising { AreRising filled.now }
+{
+    let found = reached_slots::<Wide>(alloc, filled, CLIENT)?;
+    let besides = held_slots::<Wide>(alloc, filled, found.as_slice())?;
+    Ok(found.as_slice() == REACHED.as_slice() && besides.as_slice() == HELD.as_slice())
+}
+
+/// Adds the words by which a thread names endpoints.
+fn add_words(
+    alloc: Global,
+    filled: &[FullSlot],
+    thread: u64,
+    words: &mut Vec<EndpointWord>,
+) -> Result<(), AllocError>
+    requires lawful { AreLawful Name.Wide filled.now }
+    requires rising { AreRising filled.now }
+{
+    let found = reached_slots::<Wide>(alloc, filled, thread)?;
+    let named = endpoint_words(alloc, filled, thread, found.as_slice())?;
+    words.extend_from_slice(named.as_slice())
+}
+
+/// The words by which the loader and the client name endpoints.
+fn endpoint_words_of_both(
+    alloc: Global,
+    filled: &[FullSlot],
+) -> Result<Vec<EndpointWord>, AllocError>
+    requires lawful { AreLawful Name.Wide filled.now }
+    requires rising { AreRising filled.now }
+{
     let mut words = Vec::new(alloc);
-    for thread in [LOADER, CLIENT] {
-        let found = reached_slots::<Wide>(alloc, filled.as_slice(), thread)?;
-        for word in &endpoint_words(alloc, filled.as_slice(), thread, found.as_slice())? {
-            words.push(*word)?;
-        }
-    }
-    let list = channels(alloc, words.as_slice())?;
-    let ends: Vec<(u64, u64, Option<u64>)> = list
-        .iter()
-        .map(|c| (c.sender.thread, c.sender.word, c.receiver.map(|r| r.word)))
-        .collect(alloc)?;
-    let wanted = [(LOADER, 4, Some(0)), (CLIENT, 91, Some(4))];
-    assert_eq!(rt; ends.as_slice(), wanted.as_slice());
-    assert!(rt; receivers_without_sender(alloc, words.as_slice(), 6144)?.is_empty());
+    add_words(alloc, filled, LOADER, &mut words)?;
+    add_words(alloc, filled, CLIENT, &mut words)?;
+    Ok(words)
+}
+
+/// Who sends, by which word, and the word of who receives.
+fn ends(channel: &Channel) -> (u64, u64, Option<u64>) {
+    let Channel { sender, receiver } = channel;
+    (
+        sender.thread,
+        sender.word,
+        receiver.as_ref().map(|receiver| receiver.word),
+    )
+}
+
+/// Whether loader and client send to each other, and nobody waits for a message that nobody can send.
+fn send_to_each_other(alloc: Global, words: &[EndpointWord]) -> Result<bool, AllocError> {
+    let list = channels(alloc, words)?;
+    let unserved = receivers_without_sender(alloc, words, 6144)?;
+    Ok(
+        unserved.is_empty()
+            && match list.as_slice() {
+                [first, second] => {
+                    ends(first) == (LOADER, 4, Some(0)) && ends(second) == (CLIENT, 91, Some(4))
+                }
+                _ => false,
+            },
+    )
+}
+
+#[test]
+fn a_client_reaches_holds_and_sends(rt: HostRuntime) -> Result<(), Fail> {
+    let plan = plan(rt.alloc()).expect(&rt, "no defect");
+    let filled = filled(rt.alloc(), &plan)?;
+    assert!(rt; reaches_and_holds(rt.alloc(), filled.as_slice())?);
+    let words = endpoint_words_of_both(rt.alloc(), filled.as_slice())?;
+    assert!(rt; send_to_each_other(rt.alloc(), words.as_slice())?);
     Ok(())
 }

@@ -5,3 +5,5 @@
 mod names;
 #[cfg(test)]
 mod refusals;
+#[cfg(test)]
+mod tables;

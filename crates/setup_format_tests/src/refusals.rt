@@ -1,29 +1,28 @@
 //! What is accepted, and the line by which each other set-up is refused.
-use setup_format::read_setup;
-use std::alloc::Global;
-use std::test::Fail;
+use crate::tables::Table;
 
 /// A set-up with no untyped region and no call.
 const SIZES: &str = "format = 1\nmemory_bits = 16\nroot_radix = 4\nthreads = 2\nendpoints = 1\n";
 
-/// The code of the fault and the line of the refusal, or `accepted`.
-fn answer(alloc: Global, text: &[u8]) -> Result<String, Fail> {
-    let Err(fault) = read_setup(alloc, text) else {
-        return Ok(String::from_str(alloc, "accepted")?);
-    };
-    let code = fault.code();
-    Ok(format!(in alloc; "{code}: {fault}")?)
-}
+/// The tables, from the top of a set-up down to its calls.
+pub const TABLES: &[Table] = &[
+    TOP_TABLE,
+    OTHER_TOP_KEYS,
+    UNTYPED_TABLES,
+    LAYOUT,
+    CALLS,
+    RETYPES_AND_COPIES,
+    OPERATIONS_ON_A_SLOT,
+    OPERATIONS_ON_A_THREAD,
+];
 
-/// What is answered where lines stand below the sizes.
-fn below_sizes(alloc: Global, lines: &str) -> Result<String, Fail> {
-    let text = format!(in alloc; "{SIZES}{lines}")?;
-    answer(alloc, text.as_bytes())
-}
-
-#[test]
-fn first_fault_of_the_top_table(rt: HostRuntime) -> Result<(), Fail> {
-    for (text, want) in [
+/// The faults of the top table, each the first of its text.
+const TOP_TABLE: Table = Table {
+    name: "the first fault of the top table",
+    sizes: "",
+    before: "",
+    behind: "",
+    cases: &[
         ("", "202: set-up refused 202 at top key format"),
         (
             "format = 1\nmemory_bits = 16\nroot_rad\n",
@@ -74,18 +73,16 @@ fn first_fault_of_the_top_table(rt: HostRuntime) -> Result<(), Fail> {
             "format = 1\nmemory_bits = 16.0\n",
             "203: set-up refused 203 at top key memory_bits",
         ),
-    ] {
-        let got = answer(rt.alloc(), text.as_bytes())?;
-        assert_eq!(rt; got.as_str(), want, "of {text}");
-    }
-    let got = answer(rt.alloc(), b"\xff")?;
-    assert_eq!(rt; got.as_str(), "200: set-up refused 200 at text");
-    Ok(())
-}
+    ],
+};
 
-#[test]
-fn edges_of_the_other_top_keys(rt: HostRuntime) -> Result<(), Fail> {
-    for (lines, want) in [
+/// The least and greatest values of the other keys of the top table, and those past them.
+const OTHER_TOP_KEYS: Table = Table {
+    name: "edges of the other top keys",
+    sizes: SIZES,
+    before: "",
+    behind: "",
+    cases: &[
         ("", "accepted"),
         ("limit = 0", "204: set-up refused 204 at top key limit"),
         ("limit = 65536", "accepted"),
@@ -102,16 +99,16 @@ fn edges_of_the_other_top_keys(rt: HostRuntime) -> Result<(), Fail> {
             "call = [{}, 1]\nuntyped = [{}]",
             "203: set-up refused 203 at top key call",
         ),
-    ] {
-        let got = below_sizes(rt.alloc(), lines)?;
-        assert_eq!(rt; got.as_str(), want, "of {lines}");
-    }
-    Ok(())
-}
+    ],
+};
 
-#[test]
-fn untyped_tables_and_the_plan(rt: HostRuntime) -> Result<(), Fail> {
-    for (lines, want) in [
+/// Tables of untyped regions, and which of them the plan refuses.
+const UNTYPED_TABLES: Table = Table {
+    name: "untyped tables and the plan",
+    sizes: SIZES,
+    before: "",
+    behind: "",
+    cases: &[
         ("untyped = [{ base = 16384, bits = 12 }]", "accepted"),
         ("untyped = [{ base = \"0x4000\", bits = 12 }]", "accepted"),
         (
@@ -166,16 +163,16 @@ fn untyped_tables_and_the_plan(rt: HostRuntime) -> Result<(), Fail> {
             "untyped = [{ base = 0, bits = 12 }]\ncall = [{}]",
             "205: set-up refused 205 at untyped 1 overlap",
         ),
-    ] {
-        let got = below_sizes(rt.alloc(), lines)?;
-        assert_eq!(rt; got.as_str(), want, "of {lines}");
-    }
-    Ok(())
-}
+    ],
+};
 
-#[test]
-fn layout_of_the_boot_objects(rt: HostRuntime) -> Result<(), Fail> {
-    for (sizes, want) in [
+/// Sizes for which the boot objects do not fit, and that just fit.
+const LAYOUT: Table = Table {
+    name: "layout of the boot objects",
+    sizes: "format = 1\n",
+    before: "",
+    behind: "",
+    cases: &[
         (
             "memory_bits = 12\nroot_radix = 4\nthreads = 64\nendpoints = 1\n",
             "205: set-up refused 205 at layout outside",
@@ -200,17 +197,16 @@ fn layout_of_the_boot_objects(rt: HostRuntime) -> Result<(), Fail> {
             "memory_bits = 16\nroot_radix = 4\nthreads = 2\nendpoints = 257\n",
             "204: set-up refused 204 at top key endpoints",
         ),
-    ] {
-        let text = format!(in rt.alloc(); "format = 1\n{sizes}")?;
-        let got = answer(rt.alloc(), text.as_bytes())?;
-        assert_eq!(rt; got.as_str(), want, "of {sizes}");
-    }
-    Ok(())
-}
+    ],
+};
 
-#[test]
-fn edges_of_the_keys_of_a_call(rt: HostRuntime) -> Result<(), Fail> {
-    for (call, want) in [
+/// The keys that each call has, and those of sends and receives.
+const CALLS: Table = Table {
+    name: "edges of the keys of a call",
+    sizes: SIZES,
+    before: "call = [{",
+    behind: "}]",
+    cases: &[
         ("", "202: set-up refused 202 at call 1 key op"),
         ("op = 1", "203: set-up refused 203 at call 1 key op"),
         ("op = \"call\"", "204: set-up refused 204 at call 1 key op"),
@@ -302,17 +298,16 @@ fn edges_of_the_keys_of_a_call(rt: HostRuntime) -> Result<(), Fail> {
             "op = \"send\", thread = 2048, cap = 4, words = 0",
             "203: set-up refused 203 at call 1 key words",
         ),
-    ] {
-        let lines = format!(in rt.alloc(); "call = [{{{call}}}]")?;
-        let got = below_sizes(rt.alloc(), lines.as_str())?;
-        assert_eq!(rt; got.as_str(), want, "of {call}");
-    }
-    Ok(())
-}
+    ],
+};
 
-#[test]
-fn edges_of_the_keys_of_a_retype_and_a_copy(rt: HostRuntime) -> Result<(), Fail> {
-    for (call, want) in [
+/// The keys of a retype, and of the operations that take a capability from another slot.
+const RETYPES_AND_COPIES: Table = Table {
+    name: "edges of the keys of a retype and a copy",
+    sizes: SIZES,
+    before: "call = [{",
+    behind: "}]",
+    cases: &[
         (
             "op = \"retype\", thread = 2048",
             "202: set-up refused 202 at call 1 key cap",
@@ -389,18 +384,16 @@ fn edges_of_the_keys_of_a_retype_and_a_copy(rt: HostRuntime) -> Result<(), Fail>
             "op = \"mutate\", thread = 2048, cap = 1, index = 8, src_index = 4",
             "202: set-up refused 202 at call 1 key word",
         ),
-    ] {
-        let lines = format!(in rt.alloc(); "call = [{{{call}}}]")?;
-        let got = below_sizes(rt.alloc(), lines.as_str())?;
-        assert_eq!(rt; got.as_str(), want, "of {call}");
-    }
-    Ok(())
-}
+    ],
+};
 
 /// Each key missing where it is required, of another type and of another value, and a key that the operation lacks.
-#[test]
-fn edges_of_the_keys_of_operations_on_a_slot(rt: HostRuntime) -> Result<(), Fail> {
-    for (call, want) in [
+const OPERATIONS_ON_A_SLOT: Table = Table {
+    name: "edges of the keys of operations on a slot",
+    sizes: SIZES,
+    before: "call = [{",
+    behind: "}]",
+    cases: &[
         (
             "op = \"delete\"",
             "202: set-up refused 202 at call 1 key thread",
@@ -521,18 +514,16 @@ fn edges_of_the_keys_of_operations_on_a_slot(rt: HostRuntime) -> Result<(), Fail
             "op = \"cancel_badged\", thread = 2048, cap = 1, index = 1, depth = -1",
             "204: set-up refused 204 at call 1 key depth",
         ),
-    ] {
-        let lines = format!(in rt.alloc(); "call = [{{{call}}}]")?;
-        let got = below_sizes(rt.alloc(), lines.as_str())?;
-        assert_eq!(rt; got.as_str(), want, "of {call}");
-    }
-    Ok(())
-}
+    ],
+};
 
 /// Each key missing where it is required, of another type and of another value, and a key that the operation lacks.
-#[test]
-fn edges_of_the_keys_of_operations_on_a_thread(rt: HostRuntime) -> Result<(), Fail> {
-    for (call, want) in [
+const OPERATIONS_ON_A_THREAD: Table = Table {
+    name: "edges of the keys of operations on a thread",
+    sizes: SIZES,
+    before: "call = [{",
+    behind: "}]",
+    cases: &[
         (
             "op = \"set_space\"",
             "202: set-up refused 202 at call 1 key thread",
@@ -613,10 +604,5 @@ fn edges_of_the_keys_of_operations_on_a_thread(rt: HostRuntime) -> Result<(), Fa
             "op = \"resume\", thread = 2048, cap = -1",
             "204: set-up refused 204 at call 1 key cap",
         ),
-    ] {
-        let lines = format!(in rt.alloc(); "call = [{{{call}}}]")?;
-        let got = below_sizes(rt.alloc(), lines.as_str())?;
-        assert_eq!(rt; got.as_str(), want, "of {call}");
-    }
-    Ok(())
-}
+    ],
+};

@@ -8,7 +8,6 @@ use crate::calls::{
 use cap_core::{Cap, Narrow, Profile, Wide};
 use slot_core::{CapStore, LinkedStore, MakeStore, RowStore, Slot};
 use std::alloc::{AllocError, Global};
-use std::process::Abort;
 use std::test::Fail;
 
 // Whether a slot stands at an address, and tells it.
@@ -19,19 +18,21 @@ fn stands_at<P: Profile>(address: u64) -> bool {
     }
 }
 
+// Whether slots stand at the multiples of 32, or of 16 with narrow words, and at no other address.
+fn stand_at_multiples_of_their_size() -> bool {
+    stands_at::<Wide>(96)
+        && !stands_at::<Wide>(80)
+        && !stands_at::<Wide>(88)
+        && stands_at::<Narrow>(96)
+        && stands_at::<Narrow>(80)
+        && !stands_at::<Narrow>(88)
+}
+
 #[test]
-fn slots_stand_at_multiples_of_their_size(rt: HostRuntime) -> Result<(), Fail> {
-    for (address, wide, narrow) in [(96, true, true), (80, false, true), (88, false, false)] {
-        assert_eq!(rt; stands_at::<Wide>(address), wide, "wide words at {address}");
-        assert_eq!(rt;
-            stands_at::<Narrow>(address),
-            narrow,
-            "narrow words at {address}"
-        );
-    }
+fn slots_stand_at_multiples_of_their_size(rt: HostRuntime) {
+    assert!(rt; stand_at_multiples_of_their_size());
     assert!(rt; Slot::at::<Wide>(64) == Some(Slot::of_node::<Wide>(32, 1)));
     assert!(rt; Slot::of_node::<Narrow>(4096, 3).address::<Narrow>() == 4144);
-    Ok(())
 }
 
 // What a slot holds.
@@ -79,18 +80,13 @@ fn family<P: Profile, S: MakeStore<P>>(alloc: Global) -> Result<S, AllocError> {
     Ok(store)
 }
 
-fn holds_its_family<P: Profile, S: MakeStore<P>>(
-    rt: &impl Abort,
-    alloc: Global,
-) -> Result<(), Fail> {
-    let store = family::<P, S>(alloc)?;
-    assert!(rt; answers::<P, S>(&store, 0, Held::Badge(0), Some(slot::<P>(2))));
-    assert!(rt; answers::<P, S>(&store, 1, Held::Badge(7), None));
-    assert!(rt; answers::<P, S>(&store, 2, Held::Badge(0), None));
-    assert!(rt; answers::<P, S>(&store, 3, Held::Badge(0), None));
-    assert!(rt; answers::<P, S>(&store, 4, Held::Nothing, None));
-    assert!(rt; held_by(store.get(Slot::of_node::<P>(4096, 0))) == Held::Nothing);
-    Ok(())
+fn holds_a_family<P: Profile, S: MakeStore<P>>(store: &S) -> bool {
+    answers::<P, S>(store, 0, Held::Badge(0), Some(slot::<P>(2)))
+        && answers::<P, S>(store, 1, Held::Badge(7), None)
+        && answers::<P, S>(store, 2, Held::Badge(0), None)
+        && answers::<P, S>(store, 3, Held::Badge(0), None)
+        && answers::<P, S>(store, 4, Held::Nothing, None)
+        && held_by(store.get(Slot::of_node::<P>(4096, 0))) == Held::Nothing
 }
 
 // An untyped region in slot 0, of whose first bytes an endpoint is made in slot 1; a badged capability of that is
@@ -115,44 +111,60 @@ fn holds_a_region<P: Profile, S: MakeStore<P>>(store: &S) -> bool {
         && answers::<P, S>(store, 3, Held::Badge(7), None)
 }
 
-// Where slot 1 is emptied, its child takes its place, and a copy of the store stays as it was.
-fn answers_every_call<P: Profile, S: MakeStore<P>>(
-    rt: &impl Abort,
-    alloc: Global,
-) -> Result<(), Fail> {
-    let mut store = region::<P, S>(alloc)?;
-    assert!(rt; holds_a_region::<P, S>(&store));
-    let copied = store.copy(alloc)?;
-    assert!(rt; is_last::<P, S>(&store, slot::<P>(0)));
-    assert!(rt; !is_last::<P, S>(&store, slot::<P>(1)) && !is_last::<P, S>(&store, slot::<P>(3)));
+// Whether of those slots the region's alone is the last of its object.
+fn tells_which_is_last<P: Profile, S: MakeStore<P>>(store: &S) -> bool {
+    is_last::<P, S>(store, slot::<P>(0))
+        && !is_last::<P, S>(store, slot::<P>(1))
+        && !is_last::<P, S>(store, slot::<P>(3))
+}
+
+// Whether slot 1 is empty, and its child stands in its place.
+fn holds_a_region_without_slot_1<P: Profile, S: MakeStore<P>>(store: &S) -> bool {
+    answers::<P, S>(store, 0, Held::Region(16), Some(slot::<P>(3)))
+        && answers::<P, S>(store, 1, Held::Nothing, None)
+        && is_last::<P, S>(store, slot::<P>(3))
+}
+
+// Whether it stands so once slot 1 is emptied, and a copy of the store stays as it was.
+fn answers_a_removal<P: Profile, S: MakeStore<P>>(mut store: S, copied: &S) -> bool
+    requires memory { S.memory_bits store ≡ 12 }
+    requires forest { IsTestForest P.profile (S.forest store) }
+{
     remove::<P, S>(&mut store, 1);
-    assert!(rt; answers::<P, S>(&store, 0, Held::Region(16), Some(slot::<P>(3))));
-    assert!(rt; answers::<P, S>(&store, 1, Held::Nothing, None));
-    assert!(rt; is_last::<P, S>(&store, slot::<P>(3)));
-    assert!(rt; holds_a_region::<P, S>(&copied));
+    holds_a_region_without_slot_1::<P, S>(&store) && holds_a_region::<P, S>(copied)
+}
+
+// Whether a store with the region answers, before slot 1 is emptied and after.
+fn answers_every_call<P: Profile, S: MakeStore<P>>(alloc: Global) -> Result<bool, AllocError> {
+    let store = region::<P, S>(alloc)?;
+    let copied = store.copy(alloc)?;
+    let is_right = holds_a_region::<P, S>(&store) && tells_which_is_last::<P, S>(&store);
+    Ok(is_right && answers_a_removal::<P, S>(store, &copied))
+}
+
+// Whether a form of store answers as it should.
+fn answers_all<P: Profile, S: MakeStore<P>>(alloc: Global) -> Result<bool, AllocError> {
+    Ok(holds_a_family::<P, S>(&family::<P, S>(alloc)?) && answers_every_call::<P, S>(alloc)?)
+}
+
+#[test]
+fn stores_answer_every_call(rt: HostRuntime) -> Result<(), Fail> {
+    let alloc = rt.alloc();
+    assert!(rt;
+        answers_all::<Wide, RowStore<Wide>>(alloc)?,
+        "rows, wide words"
+    );
+    assert!(rt;
+        answers_all::<Narrow, RowStore<Narrow>>(alloc)?,
+        "rows, narrow words"
+    );
+    assert!(rt;
+        answers_all::<Wide, LinkedStore<Wide>>(alloc)?,
+        "links, wide words"
+    );
+    assert!(rt;
+        answers_all::<Narrow, LinkedStore<Narrow>>(alloc)?,
+        "links, narrow words"
+    );
     Ok(())
-}
-
-#[test]
-fn rows_hold_a_family(rt: HostRuntime) -> Result<(), Fail> {
-    holds_its_family::<Wide, RowStore<Wide>>(&rt, rt.alloc())?;
-    holds_its_family::<Narrow, RowStore<Narrow>>(&rt, rt.alloc())
-}
-
-#[test]
-fn rows_answer_every_call(rt: HostRuntime) -> Result<(), Fail> {
-    answers_every_call::<Wide, RowStore<Wide>>(&rt, rt.alloc())?;
-    answers_every_call::<Narrow, RowStore<Narrow>>(&rt, rt.alloc())
-}
-
-#[test]
-fn links_hold_a_family(rt: HostRuntime) -> Result<(), Fail> {
-    holds_its_family::<Wide, LinkedStore<Wide>>(&rt, rt.alloc())?;
-    holds_its_family::<Narrow, LinkedStore<Narrow>>(&rt, rt.alloc())
-}
-
-#[test]
-fn links_answer_every_call(rt: HostRuntime) -> Result<(), Fail> {
-    answers_every_call::<Wide, LinkedStore<Wide>>(&rt, rt.alloc())?;
-    answers_every_call::<Narrow, LinkedStore<Narrow>>(&rt, rt.alloc())
 }

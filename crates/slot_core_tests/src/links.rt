@@ -2,6 +2,7 @@
 use crate::calls::{derive, new_store, object, put_root, remove, slot};
 use cap_core::{Cap, Wide};
 use slot_core::{Link, LinkedStore, Slot};
+use std::alloc::{AllocError, Global};
 use std::test::Fail;
 
 // Whether a row is an empty slot's. Each field is named and bound at its type, so a field more would not compile.
@@ -21,23 +22,31 @@ fn is_blank(link: Link) -> bool {
     cap == Cap::Null && previous.is_none() && next.is_none() && !revocable && !first_badged
 }
 
-#[test]
-fn a_store_holds_links_and_the_ends_of_its_list(rt: HostRuntime) -> Result<(), Fail> {
-    let store: LinkedStore<Wide> = new_store(rt.alloc())?;
-    assert!(rt; is_blank(store.link(slot::<Wide>(4))));
-    Ok(())
-}
-
-#[test]
-fn the_next_slot_is_first_badged_after_a_removal(rt: HostRuntime) -> Result<(), Fail> {
-    let mut store: LinkedStore<Wide> = new_store(rt.alloc())?;
+// An endpoint's capability in slot 4, and below it, once the first of three with a badge is removed, the other two in slots 9
+// and 10.
+fn store_after_a_removal(alloc: Global) -> Result<LinkedStore<Wide>, AllocError> {
+    let mut store: LinkedStore<Wide> = new_store(alloc)?;
     put_root(&mut store, 4, object::<Wide>(512, 4));
     derive(&mut store, 4, 8, 5);
     derive(&mut store, 4, 9, 5);
     derive(&mut store, 8, 10, 5);
     remove(&mut store, 8);
-    let link = store.link(slot::<Wide>(10));
-    assert!(rt; link.previous == Some(slot::<Wide>(9)) && link.next == None);
-    assert!(rt; !link.revocable && link.first_badged);
+    Ok(store)
+}
+
+// Whether slot 10, the next one of the removed slot, is first badged, and is the last of the list.
+fn next_is_first_badged(link: Link) -> bool {
+    link.previous == Some(slot::<Wide>(9))
+        && link.next == None
+        && !link.revocable
+        && link.first_badged
+}
+
+#[test]
+fn rows_of_the_list_are_as_they_should_be(rt: HostRuntime) -> Result<(), Fail> {
+    let store: LinkedStore<Wide> = new_store(rt.alloc())?;
+    assert!(rt; is_blank(store.link(slot::<Wide>(4))), "an empty slot");
+    let link = store_after_a_removal(rt.alloc())?.link(slot::<Wide>(10));
+    assert!(rt; next_is_first_badged(link), "the next slot after a removal");
     Ok(())
 }

@@ -6,9 +6,8 @@ use crate::calls::{
     derive, is_last, new_store, object, put_new, put_root, relocate, remove, set_free, slot,
 };
 use cap_core::{Narrow, Profile, Wide};
-use slot_core::{CapStore, LinkedStore, MakeStore, RowStore, Slot};
-use std::alloc::Global;
-use std::process::Abort;
+use slot_core::{CapStore, LinkedStore, RowStore, Slot};
+use std::alloc::{AllocError, Global};
 use std::test::Fail;
 
 // A call that a number chooses: what is done, with which two of sixteen slots, and how.
@@ -53,29 +52,38 @@ fn agree<P: Profile, R: CapStore<P>, L: CapStore<P>>(rows: &R, links: &L) -> boo
     true
 }
 
-// Goes through one sequence of calls on both stores, and compares every slot after each call.
-fn agree_after_each_call<P: Profile, R: MakeStore<P>, L: MakeStore<P>>(
-    rt: &impl Abort,
-    alloc: Global,
-) -> Result<(), Fail> {
-    let mut rows = new_store::<P, R>(alloc)?;
-    let mut links = new_store::<P, L>(alloc)?;
+// Goes through one sequence of calls on both stores, and compares every slot after each call: whether all agree.
+fn agree_through_calls<P: Profile, R: CapStore<P>, L: CapStore<P>>(
+    rows: &mut R,
+    links: &mut L,
+) -> bool
+    requires rows_memory { R.memory_bits rows.old ≡ 12 }
+    requires rows { IsTestForest P.profile (R.forest rows.old) }
+    requires links_memory { L.memory_bits links.old ≡ 12 }
+    requires links { IsTestForest P.profile (L.forest links.old) }
+{
     let mut seed: u64 = 1;
     for _ in 0..6000 {
         seed = seed % 2147483648 * 1103515245 + 12345;
-        call::<P, R>(&mut rows, seed / 65536);
-        call::<P, L>(&mut links, seed / 65536);
-        assert!(rt; agree::<P, R, L>(&rows, &links));
+        call::<P, R>(rows, seed / 65536);
+        call::<P, L>(links, seed / 65536);
+        if !agree::<P, R, L>(rows, links) {
+            return false;
+        }
     }
+    true
+}
+
+// Whether both forms agree after each call.
+fn forms_agree<P: Profile>(alloc: Global) -> Result<bool, AllocError> {
+    let mut rows = new_store::<P, RowStore<P>>(alloc)?;
+    let mut links = new_store::<P, LinkedStore<P>>(alloc)?;
+    Ok(agree_through_calls::<P, RowStore<P>, LinkedStore<P>>(&mut rows, &mut links))
+}
+
+#[test]
+fn rows_and_links_agree(rt: HostRuntime) -> Result<(), Fail> {
+    assert!(rt; forms_agree::<Wide>(rt.alloc())?, "wide words");
+    assert!(rt; forms_agree::<Narrow>(rt.alloc())?, "narrow words");
     Ok(())
-}
-
-#[test]
-fn rows_and_links_agree_of_wide_words(rt: HostRuntime) -> Result<(), Fail> {
-    agree_after_each_call::<Wide, RowStore<Wide>, LinkedStore<Wide>>(&rt, rt.alloc())
-}
-
-#[test]
-fn rows_and_links_agree_of_narrow_words(rt: HostRuntime) -> Result<(), Fail> {
-    agree_after_each_call::<Narrow, RowStore<Narrow>, LinkedStore<Narrow>>(&rt, rt.alloc())
 }

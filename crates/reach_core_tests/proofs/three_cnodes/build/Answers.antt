@@ -1,4 +1,4 @@
-use Rattle.reach_core_tests.proofs.three_cnodes.kernel.Goals as goal
+use Rattle.reach_core_tests.proofs.three_cnodes.build.Goals as goal
 
 pub loop-op-preserved : goal.loop-op-preserved
 loop-op-preserved g c = (c.loop-op.invariant.0, c.step.ensures.within c.loop-op.invariant.0 c.loop-op.invariant.1)
