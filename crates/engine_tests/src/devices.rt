@@ -36,28 +36,16 @@ fn reads<R: Read + Drop>(
     Ok(bytes.as_slice() == text)
 }
 
-#[test]
-fn each_read_fails_in_turn(rt: HostRuntime) -> Result<(), Fail> {
-    for k in 0..5 {
-        let bytes = read(rt.alloc(), reader(TEXT, 16, k), 4096)?;
-        assert!(rt; bytes.is_none(), "at read {k}");
-    }
-    assert!(rt; reads(rt.alloc(), reader(TEXT, 16, 5), 4096, TEXT)?);
-    Ok(())
+/// Whether reading fails where the read behind so many others fails.
+fn fails_at(alloc: Global, reads: usize) -> Result<bool, RunFault> {
+    Ok(read(alloc, reader(TEXT, 16, reads), 4096)?.is_none())
 }
 
-#[test]
-fn input_stays_below_the_limit(rt: HostRuntime) -> Result<(), Fail> {
-    let length = TEXT.len();
-    assert!(rt; reads(rt.alloc(), reader(TEXT, 16, 9), length + 1, TEXT)?);
-
-    // The source is not asked for more than the limit.
+/// Whether a text as long as the limit is a failed read, and the source is not asked for more than that.
+fn stops_at_the_limit(alloc: Global) -> Result<bool, RunFault> {
     let mut whole = reader(TEXT, 4096, 9);
-    assert!(rt; read(rt.alloc(), &mut whole, length - 1)?.is_none());
-    assert!(rt; whole.rest == b"\n".as_slice());
-
-    assert!(rt; read(rt.alloc(), EndlessReader, 10_000)?.is_none());
-    Ok(())
+    let is_none = read(alloc, &mut whole, TEXT.len() - 1)?.is_none();
+    Ok(is_none && whole.rest == b"\n".as_slice())
 }
 
 /// Whether a check of a source without an end is a failed read, below `INPUT_LIMIT` bytes, and writes nothing.
@@ -69,16 +57,27 @@ fn is_cut_off(alloc: Global) -> bool {
 }
 
 #[test]
+fn reads_fail_and_stay_below_the_limit(rt: HostRuntime) -> Result<(), Fail> {
+    for reads in 0..5 {
+        assert!(rt; fails_at(rt.alloc(), reads)?, "behind {reads} reads");
+    }
+    assert!(rt; reads(rt.alloc(), reader(TEXT, 16, 5), 4096, TEXT)?);
+    assert!(rt; reads(rt.alloc(), reader(TEXT, 16, 9), TEXT.len() + 1, TEXT)?);
+    assert!(rt; stops_at_the_limit(rt.alloc())?, "at the limit");
+    assert!(rt; read(rt.alloc(), EndlessReader, 10_000)?.is_none());
+    Ok(())
+}
+
+#[test]
 fn source_without_an_end_is_a_failed_read(rt: HostRuntime) {
     assert!(rt; is_cut_off(rt.alloc()), "below {INPUT_LIMIT} bytes");
 }
 
-#[test]
-fn text_is_written_a_byte_at_a_time(rt: HostRuntime) -> Result<(), Fail> {
-    let mut out = writer(rt.alloc(), 1, 4096, false);
-    write_all(&mut WriterSink::new(&mut out), TEXT)?;
-    assert!(rt; out.taken.as_slice() == TEXT);
-    Ok(())
+/// Whether the whole text is written, a byte at a time.
+fn is_written_whole(alloc: Global) -> bool {
+    let mut out = writer(alloc, 1, 4096, false);
+    let answer = write_all(&mut WriterSink::new(&mut out), TEXT);
+    answer.is_ok() && out.taken.as_slice() == TEXT
 }
 
 /// Whether a writer with this room fails, once it has taken so much of the text.
@@ -87,14 +86,6 @@ fn fails_after(alloc: Global, room: usize, shy: bool) -> bool {
     let answer = write_all(&mut WriterSink::new(&mut out), TEXT);
     let is_writing = matches!(answer, Err(RunFault::Writing));
     is_writing && out.taken.len() == room && TEXT.starts_with(out.taken.as_slice())
-}
-
-#[test]
-fn each_write_fails_in_turn(rt: HostRuntime) {
-    for room in 0..TEXT.len() {
-        assert!(rt; fails_after(rt.alloc(), room, false), "at byte {room}");
-        assert!(rt; fails_after(rt.alloc(), room, true), "shy at byte {room}");
-    }
 }
 
 /// What a source gives for one read into 8 bytes, through the trait.
@@ -118,13 +109,19 @@ fn taken(out: &mut PieceWriter) -> Option<usize> {
     first_write(&mut WriterSink::new(out)).ok()
 }
 
+/// Whether a shy writer with room for 4 bytes takes 3, then 1, and then fails.
+fn counts_what_it_takes(alloc: Global) -> bool {
+    let mut out = writer(alloc, 3, 4, true);
+    taken(&mut out) == Some(3) && taken(&mut out) == Some(1) && taken(&mut out) == None
+}
+
 #[test]
-fn devices_count_and_fail(rt: HostRuntime) {
-    for (reads, wanted) in [(1, Some(8)), (0, None)] {
-        assert!(rt; given(reads) == wanted, "{reads} reads");
+fn writes_fail_and_devices_count(rt: HostRuntime) {
+    for room in 0..TEXT.len() {
+        assert!(rt; fails_after(rt.alloc(), room, false), "at byte {room}");
+        assert!(rt; fails_after(rt.alloc(), room, true), "shy at byte {room}");
     }
-    let mut out = writer(rt.alloc(), 3, 4, true);
-    for wanted in [Some(3), Some(1), None] {
-        assert!(rt; taken(&mut out) == wanted, "{wanted:?}");
-    }
+    assert!(rt; is_written_whole(rt.alloc()), "a byte at a time");
+    assert!(rt; given(1) == Some(8) && given(0) == None, "one read");
+    assert!(rt; counts_what_it_takes(rt.alloc()), "writes of 4 bytes");
 }

@@ -2,7 +2,6 @@
 use crate::fakes::{PieceWriter, reader, writer};
 use engine::{ReaderSource, RunFault, Verdict, WriterSink, check};
 use std::alloc::Global;
-use std::test::Fail;
 
 /// The set-up of the stored run.
 pub const STORED: &[u8] =
@@ -33,21 +32,10 @@ fn is_met_after(alloc: Global, piece: usize, reads: usize) -> bool {
     matches!(answer, Ok(Verdict::AllMet))
 }
 
-#[test]
-fn each_read_of_the_stored_run_fails_in_turn(rt: HostRuntime) {
-    for (piece, reads) in [
-        (1, STORED.len() + 1),
-        (16, STORED.len() / 16 + 2),
-        (4096, 2),
-    ] {
-        for k in 0..reads {
-            assert!(rt;
-                fails_reading(rt.alloc(), piece, k),
-                "at read {k} of {piece} bytes"
-            );
-        }
-        assert!(rt; is_met_after(rt.alloc(), piece, reads), "{piece} bytes");
-    }
+/// Whether each read of so many bytes can fail in turn, and all expectations are met where none does.
+fn reads_fail_in_turn(alloc: Global, piece: usize, reads: usize) -> bool {
+    (0..reads).all(|failing| fails_reading(alloc, piece, failing))
+        && is_met_after(alloc, piece, reads)
 }
 
 /// Whether a beginning of the report of just that length is written where a write fails there.
@@ -58,21 +46,28 @@ fn fails_writing(alloc: Global, room: usize, shy: bool, whole: &[u8]) -> bool {
     is_writing && out.taken.len() == room && whole.starts_with(out.taken.as_slice())
 }
 
+/// The report, as it is written a byte at a time where no write fails.
+fn report(alloc: Global) -> Option<Vec<u8>> {
+    let mut whole = writer(alloc, 1, usize::MAX, false);
+    let answer = run(alloc, 4096, usize::MAX, &mut whole);
+    matches!(answer, Ok(Verdict::AllMet)).then_some(whole.taken)
+}
+
 #[test]
-fn each_write_of_the_stored_run_fails_in_turn(rt: HostRuntime) -> Result<(), Fail> {
-    let mut whole = writer(rt.alloc(), 1, usize::MAX, false);
-    let answer = run(rt.alloc(), 4096, usize::MAX, &mut whole);
-    assert!(rt; matches!(answer, Ok(Verdict::AllMet)), "a byte at a time");
-    let report = whole.taken.as_slice();
+fn each_read_of_the_stored_run_fails_in_turn(rt: HostRuntime) {
+    let alloc = rt.alloc();
+    assert!(rt; reads_fail_in_turn(alloc, 1, STORED.len() + 1), "a byte");
+    assert!(rt; reads_fail_in_turn(alloc, 16, STORED.len() / 16 + 2), "16 bytes");
+    assert!(rt; reads_fail_in_turn(alloc, 4096, 2), "4096 bytes");
+}
+
+#[test]
+fn each_write_of_the_stored_run_fails_in_turn(rt: HostRuntime) {
+    let alloc = rt.alloc();
+    let report = report(alloc).expect(&rt, "a byte at a time");
     for room in 0..report.len() {
-        assert!(rt;
-            fails_writing(rt.alloc(), room, false, report),
-            "at byte {room}"
-        );
-        assert!(rt;
-            fails_writing(rt.alloc(), room, true, report),
-            "shy at byte {room}"
-        );
+        let is_beginning = fails_writing(alloc, room, false, report.as_slice())
+            && fails_writing(alloc, room, true, report.as_slice());
+        assert!(rt; is_beginning, "at byte {room}");
     }
-    Ok(())
 }

@@ -1,11 +1,11 @@
 //! Tables of set-ups with what is told of each, and the test that reads them.
 use crate::{names, refusals};
-use setup_format::read_setup;
+use setup_format::{SetupFault, read_setup};
 use std::alloc::{AllocError, Global};
+use std::process::Abort;
 use std::test::Fail;
 
-/// Set-ups that differ in some of their lines alone, each with what is told of it: `accepted`, or the code of the fault and
-/// the line of the refusal. The name says what they show.
+/// Set-ups that differ in some of their lines alone. The name says what they show.
 #[derive(Clone, Copy)]
 pub struct Table {
     pub name: &'static str,
@@ -14,50 +14,76 @@ pub struct Table {
     /// What stands in front of the lines in which they differ, and behind them.
     pub before: &'static str,
     pub behind: &'static str,
-    pub cases: &'static [(&'static str, &'static str)],
+    /// Those lines, and the code and the place of the refusal; 0 and nothing where the set-up is accepted.
+    pub cases: &'static [(&'static str, u32, &'static str)],
 }
 
-/// What is told of a set-up.
-fn told(alloc: Global, text: &[u8]) -> Result<String, AllocError> {
+/// Whether a fault has this code, and the line of a refusal with it and with this place.
+fn is_refusal(
+    alloc: Global,
+    fault: SetupFault,
+    code: u32,
+    place: &str,
+) -> Result<bool, AllocError> {
+    let line = format!(in alloc; "{fault}")?;
+    let rest = line.as_str().strip_prefix("set-up refused ");
+    let wanted = format!(in alloc; "{code} at {place}")?;
+    Ok(fault.code() == code && rest == Some(wanted.as_str()))
+}
+
+/// Whether a set-up is accepted, where the code is 0, or refused with this code at this place.
+fn is_told(alloc: Global, text: &[u8], code: u32, place: &str) -> Result<bool, AllocError> {
     match read_setup(alloc, text) {
-        Ok(_) => String::from_str(alloc, "accepted"),
-        Err(fault) => {
-            let code = fault.code();
-            format!(in alloc; "{code}: {fault}")
-        }
+        Ok(_) => Ok(code == 0),
+        Err(fault) => is_refusal(alloc, fault, code, place),
     }
 }
 
-/// Whether a set-up of a table is told as it should be.
-fn is_told(alloc: Global, table: &Table, lines: &str, want: &str) -> Result<bool, AllocError> {
+/// Whether each set-up of a table is told as it should be.
+fn are_told(rt: &impl Abort, alloc: Global, table: &Table) -> Result<(), AllocError> {
     let Table {
+        name,
         sizes,
         before,
         behind,
         ..
     } = *table;
-    let text = format!(in alloc; "{sizes}{before}{lines}{behind}")?;
-    Ok(told(alloc, text.as_bytes())?.as_str() == want)
+    for (lines, code, place) in table.cases {
+        let text = format!(in alloc; "{sizes}{before}{lines}{behind}")?;
+        let is_right = is_told(alloc, text.as_bytes(), *code, place)?;
+        assert!(rt; is_right, "{name}: {lines}");
+    }
+    Ok(())
 }
 
-/// The lines of the first set-up of a table that is told otherwise.
-fn first_told_otherwise(alloc: Global, table: &Table) -> Result<Option<&'static str>, AllocError> {
-    for (lines, want) in table.cases {
-        if !is_told(alloc, table, lines, want)? {
-            return Ok(Some(lines));
-        }
-    }
-    Ok(None)
+/// The tables of a set-up's top and of its regions.
+fn tops_are_told(rt: &impl Abort, alloc: Global) -> Result<(), AllocError> {
+    are_told(rt, alloc, &refusals::TOP_TABLE)?;
+    are_told(rt, alloc, &refusals::OTHER_TOP_KEYS)?;
+    are_told(rt, alloc, &refusals::UNTYPED_TABLES)?;
+    are_told(rt, alloc, &refusals::LAYOUT)
+}
+
+/// The tables of calls.
+fn calls_are_told(rt: &impl Abort, alloc: Global) -> Result<(), AllocError> {
+    are_told(rt, alloc, &refusals::CALLS)?;
+    are_told(rt, alloc, &refusals::RETYPES_AND_COPIES)?;
+    are_told(rt, alloc, &refusals::OPERATIONS_ON_A_SLOT)?;
+    are_told(rt, alloc, &refusals::OPERATIONS_ON_A_THREAD)
+}
+
+/// The tables of names.
+fn names_are_told(rt: &impl Abort, alloc: Global) -> Result<(), AllocError> {
+    are_told(rt, alloc, &names::NAMES_TAKEN)?;
+    are_told(rt, alloc, &names::PLACES_OF_NAMES)?;
+    are_told(rt, alloc, &names::NAMES_OF_THE_FIRST_FORMAT)
 }
 
 #[test]
 fn set_ups_are_accepted_or_refused(rt: HostRuntime) -> Result<(), Fail> {
-    for tables in [refusals::TABLES, names::TABLES] {
-        for table in tables {
-            let otherwise = first_told_otherwise(rt.alloc(), table)?;
-            assert_eq!(rt; otherwise, None, "{}", table.name);
-        }
-    }
-    assert!(rt; told(rt.alloc(), b"\xff")?.as_str() == "200: set-up refused 200 at text");
+    tops_are_told(&rt, rt.alloc())?;
+    calls_are_told(&rt, rt.alloc())?;
+    names_are_told(&rt, rt.alloc())?;
+    assert!(rt; is_told(rt.alloc(), b"\xff", 200, "text")?);
     Ok(())
 }

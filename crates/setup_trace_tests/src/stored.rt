@@ -188,15 +188,15 @@ endpoints = 1
 base = 16384
 bits = 12
 [names]
-a = 2048
 ep = 4
+a = 2048
 [[call]]
 thread = \"@a\"
 op = \"nbsend\"
 cap = \"@ep\"
 ";
 
-/// The names come first, the numbers in the calls. A dropped message changes nothing.
+/// The names come first, by their letters, and the numbers in the calls. A dropped message changes nothing.
 pub const NAMED_TRACE: &str = "trace 2 wide memory_bits 16 calls 1
 name a 2048
 name ep 4
@@ -253,3 +253,89 @@ pub const NARROW_TRACE: &str = "trace 2 narrow memory_bits 16 calls 0
   + sibling 1024 after 2048
 expected 0 of 0
 ";
+
+/// Boot alone.
+pub const BOOT: &str = "format = 1
+memory_bits = 16
+root_radix = 4
+threads = 2
+endpoints = 1
+[[untyped]]
+base = 16384
+bits = 12
+";
+
+/// All of what boot makes is new.
+pub const BOOT_TRACE: &str = "trace 2 wide memory_bits 16 calls 0
+0 boot
+  + thread 2048 ready
+  + thread 4096 ready
+  + endpoint 6144 idle
+  + slot 32 cnode 0 radix 4 guard 0 size 60 original
+  + slot 64 tcb 2048 original
+  + slot 96 tcb 4096 original
+  + slot 128 endpoint 6144 badge 0 rights wrgp original
+  + slot 160 untyped 16384 bits 12 free 0 original
+  + slot 2048 cnode 0 radix 4 guard 0 size 60 under 32
+  + slot 4096 cnode 0 radix 4 guard 0 size 60 under 32
+  + sibling 64 after 32
+  + sibling 96 after 64
+  + sibling 128 after 96
+  + sibling 160 after 128
+  + sibling 2048 after 4096
+expected 0 of 0
+";
+
+/// A reply that is not the wanted one.
+pub const NOT_MET: &str = "format = 1
+memory_bits = 16
+root_radix = 4
+threads = 2
+endpoints = 1
+[[untyped]]
+base = 16384
+bits = 12
+[[call]]
+thread = 2048
+op = \"nbrecv\"
+cap = 4
+expect = \"waiting\"
+";
+
+/// The wanted reply is told.
+pub const NOT_MET_TRACE: &str = "trace 2 wide memory_bits 16 calls 1
+0 boot
+  + thread 2048 ready
+  + thread 4096 ready
+  + endpoint 6144 idle
+  + slot 32 cnode 0 radix 4 guard 0 size 60 original
+  + slot 64 tcb 2048 original
+  + slot 96 tcb 4096 original
+  + slot 128 endpoint 6144 badge 0 rights wrgp original
+  + slot 160 untyped 16384 bits 12 free 0 original
+  + slot 2048 cnode 0 radix 4 guard 0 size 60 under 32
+  + slot 4096 cnode 0 radix 4 guard 0 size 60 under 32
+  + sibling 64 after 32
+  + sibling 96 after 64
+  + sibling 128 after 96
+  + sibling 160 after 128
+  + sibling 2048 after 4096
+1 2048 nbrecv: empty [not met: waiting]
+  with cap 4
+expected 0 of 1
+";
+
+/// A key that no table of a region has.
+pub const REFUSED: &str = "format = 1
+memory_bits = 16
+root_radix = 4
+threads = 2
+endpoints = 1
+[[untyped]]
+base = 16384
+bits = 12
+zeta = 1
+";
+
+/// The line of the refusal, and nothing else.
+pub const REFUSED_TRACE: &str = "set-up refused 201 at untyped 1 key zeta\n";

@@ -7,7 +7,6 @@ use setup_trace::trace;
 use slot_core::{DerivationStore, LinkedStore, MakeStore, RowStore};
 use std::alloc::Global;
 use std::process::Abort;
-use std::test::Fail;
 
 /// The trace of a set-up, over these stores where it is wide. A set-up that is refused has none.
 fn trace_of<S: MakeStore<Wide> + DerivationStore<Wide>, W: MakeWaiters<Wide>>(
@@ -31,43 +30,40 @@ fn trace_of<S: MakeStore<Wide> + DerivationStore<Wide>, W: MakeWaiters<Wide>>(
     }
 }
 
-/// A set-up has exactly this trace.
+/// Whether a set-up has exactly this trace.
 fn gives<S: MakeStore<Wide> + DerivationStore<Wide>, W: MakeWaiters<Wide>>(
-    rt: &(impl Abort + AllocGlobal),
+    alloc: Global,
     text: &str,
     want: &str,
-) -> Result<(), Fail> {
-    let Ok(bytes) = trace_of::<S, W>(rt.alloc(), text) else {
-        return Err("a trace was wanted")?;
-    };
-    assert_eq!(rt; std::str::from_utf8(bytes.as_slice())?, want);
-    Ok(())
-}
-
-/// Each stored set-up has exactly its stored trace.
-fn gives_all<S: MakeStore<Wide> + DerivationStore<Wide>, W: MakeWaiters<Wide>>(
-    rt: &(impl Abort + AllocGlobal),
-) -> Result<(), Fail> {
-    for (text, want) in [
-        (wanted::MESSAGE, wanted::MESSAGE_TRACE),
-        (wanted::LAST_COPY, wanted::LAST_COPY_TRACE),
-        (wanted::ENDED_THREAD, wanted::ENDED_THREAD_TRACE),
-        (wanted::NAMED, wanted::NAMED_TRACE),
-        (wanted::NARROW, wanted::NARROW_TRACE),
-    ] {
-        gives::<S, W>(rt, text, want)?;
+) -> bool {
+    match trace_of::<S, W>(alloc, text) {
+        Ok(bytes) => bytes.as_slice() == want.as_bytes(),
+        Err(_) => false,
     }
-    Ok(())
+}
+
+/// The stored set-ups, each with its trace.
+const TRACES: [(&str, &str); 5] = [
+    (wanted::MESSAGE, wanted::MESSAGE_TRACE),
+    (wanted::LAST_COPY, wanted::LAST_COPY_TRACE),
+    (wanted::ENDED_THREAD, wanted::ENDED_THREAD_TRACE),
+    (wanted::NAMED, wanted::NAMED_TRACE),
+    (wanted::NARROW, wanted::NARROW_TRACE),
+];
+
+/// Whether each set-up has its trace, over links and over rows.
+fn are_given(rt: &impl Abort, alloc: Global, traces: &[(&str, &str)]) {
+    for (text, want) in traces {
+        let is_over_links = gives::<LinkedStore<Wide>, LinkedWaiters<Wide>>(alloc, text, want);
+        assert!(rt; is_over_links, "over links: {text}");
+        let is_over_rows = gives::<RowStore<Wide>, RowWaiters<Wide>>(alloc, text, want);
+        assert!(rt; is_over_rows, "over rows: {text}");
+    }
 }
 
 #[test]
-fn traces_over_links(rt: HostRuntime) -> Result<(), Fail> {
-    gives_all::<LinkedStore<Wide>, LinkedWaiters<Wide>>(&rt)
-}
-
-#[test]
-fn traces_over_rows(rt: HostRuntime) -> Result<(), Fail> {
-    gives_all::<RowStore<Wide>, RowWaiters<Wide>>(&rt)
+fn traces_over_links_and_rows(rt: HostRuntime) {
+    are_given(&rt, rt.alloc(), TRACES.as_slice());
 }
 
 /// The answer is the trace or `Memory`, and nothing else, whichever request for memory is refused.
