@@ -336,11 +336,7 @@ fn says(alloc: Global, fault: RunFault, said: &str) -> Result<bool, AllocError> 
 }
 
 /// Whether of each line that is told which should be.
-fn are_told(
-    rt: &impl Abort,
-    alloc: Global,
-    lines: &[(&[&str], Told)],
-) -> Result<(), AllocError> {
+fn are_told(rt: &impl Abort, alloc: Global, lines: &[(&[&str], Told)]) -> Result<(), AllocError> {
     for (words, wanted) in lines {
         let is_right = is_told(alloc, words, *wanted)?;
         assert!(rt; is_right, "{words:?}");

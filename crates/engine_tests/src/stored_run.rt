@@ -57,7 +57,10 @@ fn report(alloc: Global) -> Option<Vec<u8>> {
 fn each_read_of_the_stored_run_fails_in_turn(rt: HostRuntime) {
     let alloc = rt.alloc();
     assert!(rt; reads_fail_in_turn(alloc, 1, STORED.len() + 1), "a byte");
-    assert!(rt; reads_fail_in_turn(alloc, 16, STORED.len() / 16 + 2), "16 bytes");
+    assert!(rt;
+        reads_fail_in_turn(alloc, 16, STORED.len() / 16 + 2),
+        "16 bytes"
+    );
     assert!(rt; reads_fail_in_turn(alloc, 4096, 2), "4096 bytes");
 }
 

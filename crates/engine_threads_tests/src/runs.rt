@@ -2,7 +2,8 @@
 use engine::{ReaderSource, WriterSink, status_of};
 use engine_threads::{OpenGate, threads_run, threads_run_open};
 use kernel_shared::Gate;
-use std::alloc::Global;
+use std::alloc::{AllocError, Global};
+use std::process::Abort;
 use std::sync::Wait;
 use std::test::Fail;
 use std::thread::Threads;
@@ -10,7 +11,7 @@ use std::thread::Threads;
 /// Two threads, at 2048 and 4096, and one endpoint, at 6144, whose capability is in slot 4.
 const BASE: &str = "format = 1\nmemory_bits = 16\nroot_radix = 4\nthreads = 2\nendpoints = 1\n";
 
-/// What every run here leaves in the slots.
+/// What every run here with wide words leaves in the slots.
 const SLOTS: &str =
     "slot 32 cnode 0 radix 4 guard 0 size 60 children\nslot 64 tcb 2048\nslot 96 tcb 4096\nslot 128 endpoint 6144 badge 0 rights wrgp\nslot 160 untyped 16384 bits 12 free 0\nslot 2048 cnode 0 radix 4 guard 0 size 60\nslot 4096 cnode 0 radix 4 guard 0 size 60\n";
 
@@ -35,163 +36,174 @@ impl Gate for FirstCallOnly {
     fn after(&self, _client: u32, _number: u32) {}
 }
 
-/// What is written for a set-up in three parts, and the exit status.
-fn run<R: Threads + Wait + Sync, G: Gate + Sync>(
-    rt: &R,
-    alloc: Global,
-    keys: &str,
-    untyped: &str,
-    calls: &str,
-    gate: &G,
-) -> Result<(Vec<u8>, u8), Fail> {
-    let setup = format!(in alloc; "{keys}{untyped}{calls}")?;
-    let mut out = Vec::new(alloc);
-    let mut source = ReaderSource::new(setup.as_bytes());
-    let mut sink = WriterSink::new(&mut out);
-    let answer = threads_run(rt, alloc, &mut source, &mut sink, gate);
-    Ok((out, status_of(&answer)))
+/// What stands between the clients and their calls.
+#[derive(Clone, Copy)]
+enum Gates {
+    /// A gate at which so many clients meet.
+    Open(u32),
+    /// One that ends each client after its first call.
+    FirstCall,
+    /// None.
+    None,
 }
 
-/// Whether a set-up gives this report, in three parts, and this exit status.
-fn gives<R: Threads + Wait + Sync>(
-    rt: &R,
-    alloc: Global,
-    setup: (&str, &str, &str),
-    report: (&str, &str, &str),
+/// What is wanted of a text: that it is these parts, or that it ends so.
+#[derive(Clone, Copy)]
+enum Wanted {
+    Whole([&'static str; 3]),
+    End(&'static str),
+}
+
+/// A set-up in parts, with what is written for it and the exit status. The name says what it shows.
+struct Case {
+    name: &'static str,
+    setup: [&'static str; 4],
+    gates: Gates,
+    wanted: Wanted,
     status: u8,
-) -> Result<bool, Fail> {
-    let (keys, untyped, calls) = setup;
-    let (text, given) = run(rt, alloc, keys, untyped, calls, &OpenGate::among(1))?;
-    let (entries, slots, last) = report;
-    let wanted = format!(in alloc; "{entries}{slots}{last}")?;
-    Ok(text.as_slice() == wanted.as_bytes() && given == status)
 }
 
-#[test]
-fn one_client_makes_its_calls_in_order(rt: HostRuntime) -> Result<(), Fail> {
-    let calls = format!(in rt.alloc(); "{SEND}{RECEIVE}")?;
-    let entries =
-        "1 client 0 number 0: 2048 send: waiting\n2 client 0 number 1: 4096 recv: delivered 6144 from 2048 to 4096 badge 0 label 7 words 1 2\nthread 2048 ready\nthread 4096 ready inbox badge 0 label 7 words 1 2\nendpoint 6144 idle\n";
-    let all = gives(
-        &rt,
-        rt.alloc(),
-        (BASE, UNTYPED, calls.as_str()),
-        (entries, SLOTS, "entries 2 of 2\n"),
-        0,
-    )?;
-    assert!(rt; all);
+const CASES: &[Case] = &[
+    Case {
+        name: "one client makes its calls in order",
+        setup: [BASE, UNTYPED, SEND, RECEIVE],
+        gates: Gates::Open(1),
+        wanted: Wanted::Whole([
+            "1 client 0 number 0: 2048 send: waiting\n2 client 0 number 1: 4096 recv: delivered 6144 from 2048 to 4096 badge 0 label 7 words 1 2\nthread 2048 ready\nthread 4096 ready inbox badge 0 label 7 words 1 2\nendpoint 6144 idle\n",
+            SLOTS,
+            "entries 2 of 2\n",
+        ]),
+        status: 0,
+    },
+    Case {
+        name: "no more entries than the limit",
+        setup: [
+            BASE,
+            "limit = 1\n[[untyped]]\nbase = 16384\nbits = 12\n",
+            SEND,
+            RECEIVE,
+        ],
+        gates: Gates::Open(1),
+        wanted: Wanted::Whole([
+            "1 client 0 number 0: 2048 send: waiting\nthread 2048 sending 6144\nthread 4096 ready\nendpoint 6144 sending 2048\n",
+            SLOTS,
+            "entries 1 of 2\n",
+        ]),
+        status: 1,
+    },
+    Case {
+        name: "two clients come to the limit",
+        setup: [BASE, "clients = 2\nlimit = 3\n", UNTYPED, TWICE_EACH],
+        gates: Gates::Open(2),
+        wanted: Wanted::End("\nentries 3 of 4\n"),
+        status: 1,
+    },
+    Case {
+        name: "two clients make all their calls",
+        setup: [BASE, "clients = 2\n", UNTYPED, TWICE_EACH],
+        gates: Gates::Open(2),
+        wanted: Wanted::End("\nentries 4 of 4\n"),
+        status: 0,
+    },
+    Case {
+        name: "clients that the gate ends make no more calls",
+        setup: [BASE, "clients = 2\n", UNTYPED, TWICE_EACH],
+        gates: Gates::FirstCall,
+        wanted: Wanted::End("\nentries 2 of 4\n"),
+        status: 1,
+    },
+    Case {
+        name: "clients make all their calls where no gate stands",
+        setup: [BASE, "clients = 2\n", "", TWICE_EACH],
+        gates: Gates::None,
+        wanted: Wanted::End("\nentries 4 of 4\n"),
+        status: 0,
+    },
+    Case {
+        name: "the words are those of the profile",
+        setup: [
+            BASE,
+            "profile = \"narrow\"\n",
+            UNTYPED,
+            "[[call]]\nthread = 1024\nop = \"nbsend\"\ncap = 4\n",
+        ],
+        gates: Gates::Open(1),
+        wanted: Wanted::Whole([
+            "1 client 0 number 0: 1024 nbsend: dropped\nthread 1024 ready\nthread 2048 ready\nendpoint 3072 idle\n",
+            "slot 16 cnode 0 radix 4 guard 0 size 28 children\nslot 32 tcb 1024\nslot 48 tcb 2048\nslot 64 endpoint 3072 badge 0 rights wrgp\nslot 80 untyped 16384 bits 12 free 0\nslot 1024 cnode 0 radix 4 guard 0 size 28\nslot 2048 cnode 0 radix 4 guard 0 size 28\n",
+            "entries 1 of 1\n",
+        ]),
+        status: 0,
+    },
+    Case {
+        name: "a refused set-up has one line",
+        setup: [BASE, "limit = 0\n", UNTYPED, SEND],
+        gates: Gates::Open(1),
+        wanted: Wanted::Whole(["set-up refused 204 at top key limit\n", "", ""]),
+        status: 2,
+    },
+    Case {
+        name: "an empty set-up has one line",
+        setup: ["", "", "", ""],
+        gates: Gates::Open(1),
+        wanted: Wanted::Whole(["set-up refused 202 at top key format\n", "", ""]),
+        status: 2,
+    },
+];
+
+/// What is written for a set-up, and the exit status.
+fn run<R: Threads + Wait + Sync>(
+    rt: &R,
+    alloc: Global,
+    setup: &[u8],
+    gates: Gates,
+) -> (Vec<u8>, u8) {
+    let mut out = Vec::new(alloc);
+    let mut source = ReaderSource::new(setup);
+    let mut sink = WriterSink::new(&mut out);
+    let answer = match gates {
+        Gates::Open(clients) => {
+            threads_run(rt, alloc, &mut source, &mut sink, &OpenGate::among(clients))
+        }
+        Gates::FirstCall => threads_run(rt, alloc, &mut source, &mut sink, &FirstCallOnly),
+        Gates::None => threads_run_open(rt, alloc, &mut source, &mut sink),
+    };
+    (out, status_of(&answer))
+}
+
+/// Whether a text is what is wanted.
+fn is_wanted(alloc: Global, text: &[u8], wanted: Wanted) -> Result<bool, AllocError> {
+    match wanted {
+        Wanted::Whole(parts) => Ok(text == parts.concat(alloc)?.as_bytes()),
+        Wanted::End(end) => Ok(text.ends_with(end.as_bytes())),
+    }
+}
+
+/// Whether a case comes out as it should.
+fn comes_out<R: Threads + Wait + Sync>(
+    rt: &R,
+    alloc: Global,
+    case: &Case,
+) -> Result<bool, AllocError> {
+    let setup = case.setup.concat(alloc)?;
+    let (text, status) = run(rt, alloc, setup.as_bytes(), case.gates);
+    Ok(status == case.status && is_wanted(alloc, text.as_slice(), case.wanted)?)
+}
+
+/// Whether each case comes out so.
+fn all_come_out<R: Abort + Threads + Wait + Sync>(
+    rt: &R,
+    alloc: Global,
+    cases: &[Case],
+) -> Result<(), AllocError> {
+    for case in cases {
+        let is_right = comes_out(rt, alloc, case)?;
+        assert!(rt; is_right, "{}", case.name);
+    }
     Ok(())
 }
 
 #[test]
-fn no_more_entries_than_the_limit(rt: HostRuntime) -> Result<(), Fail> {
-    let keys = format!(in rt.alloc(); "{BASE}limit = 1\n")?;
-    let calls = format!(in rt.alloc(); "{SEND}{RECEIVE}")?;
-    let entries =
-        "1 client 0 number 0: 2048 send: waiting\nthread 2048 sending 6144\nthread 4096 ready\nendpoint 6144 sending 2048\n";
-    let first = gives(
-        &rt,
-        rt.alloc(),
-        (keys.as_str(), UNTYPED, calls.as_str()),
-        (entries, SLOTS, "entries 1 of 2\n"),
-        1,
-    )?;
-    assert!(rt; first);
-    Ok(())
-}
-
-#[test]
-fn two_clients_come_to_the_limit(rt: HostRuntime) -> Result<(), Fail> {
-    let keys = format!(in rt.alloc(); "{BASE}clients = 2\nlimit = 3\n")?;
-    let (text, status) = run(
-        &rt,
-        rt.alloc(),
-        keys.as_str(),
-        UNTYPED,
-        TWICE_EACH,
-        &OpenGate::among(2),
-    )?;
-    assert!(rt; text.as_slice().ends_with(b"\nentries 3 of 4\n") && status == 1);
-    Ok(())
-}
-
-#[test]
-fn two_clients_make_all_their_calls(rt: HostRuntime) -> Result<(), Fail> {
-    let keys = format!(in rt.alloc(); "{BASE}clients = 2\n")?;
-    let (text, status) = run(
-        &rt,
-        rt.alloc(),
-        keys.as_str(),
-        UNTYPED,
-        TWICE_EACH,
-        &OpenGate::among(2),
-    )?;
-    assert!(rt; text.as_slice().ends_with(b"\nentries 4 of 4\n") && status == 0);
-    Ok(())
-}
-
-#[test]
-fn clients_that_the_gate_ends_make_no_more_calls(rt: HostRuntime) -> Result<(), Fail> {
-    let keys = format!(in rt.alloc(); "{BASE}clients = 2\n")?;
-    let (text, status) = run(
-        &rt,
-        rt.alloc(),
-        keys.as_str(),
-        UNTYPED,
-        TWICE_EACH,
-        &FirstCallOnly,
-    )?;
-    assert!(rt; text.as_slice().ends_with(b"\nentries 2 of 4\n") && status == 1);
-    Ok(())
-}
-
-#[test]
-fn clients_make_all_their_calls_where_no_gate_stands(rt: HostRuntime) -> Result<(), Fail> {
-    let setup = format!(in rt.alloc(); "{BASE}clients = 2\n{TWICE_EACH}")?;
-    let mut out = Vec::new(rt.alloc());
-    let mut source = ReaderSource::new(setup.as_bytes());
-    let answer = threads_run_open(&rt, rt.alloc(), &mut source, &mut WriterSink::new(&mut out));
-    assert!(rt; out.as_slice().ends_with(b"\nentries 4 of 4\n") && status_of(&answer) == 0);
-    Ok(())
-}
-
-#[test]
-fn the_words_are_those_of_the_profile(rt: HostRuntime) -> Result<(), Fail> {
-    let keys = format!(in rt.alloc(); "{BASE}profile = \"narrow\"\n")?;
-    let entries =
-        "1 client 0 number 0: 1024 nbsend: dropped\nthread 1024 ready\nthread 2048 ready\nendpoint 3072 idle\n";
-    let slots =
-        "slot 16 cnode 0 radix 4 guard 0 size 28 children\nslot 32 tcb 1024\nslot 48 tcb 2048\nslot 64 endpoint 3072 badge 0 rights wrgp\nslot 80 untyped 16384 bits 12 free 0\nslot 1024 cnode 0 radix 4 guard 0 size 28\nslot 2048 cnode 0 radix 4 guard 0 size 28\n";
-    let calls = "[[call]]\nthread = 1024\nop = \"nbsend\"\ncap = 4\n";
-    let narrow = gives(
-        &rt,
-        rt.alloc(),
-        (keys.as_str(), UNTYPED, calls),
-        (entries, slots, "entries 1 of 1\n"),
-        0,
-    )?;
-    assert!(rt; narrow);
-    Ok(())
-}
-
-#[test]
-fn a_refused_set_up_has_one_line(rt: HostRuntime) -> Result<(), Fail> {
-    let keys = format!(in rt.alloc(); "{BASE}limit = 0\n")?;
-    let limit = gives(
-        &rt,
-        rt.alloc(),
-        (keys.as_str(), UNTYPED, SEND),
-        ("set-up refused 204 at top key limit\n", "", ""),
-        2,
-    )?;
-    assert!(rt; limit);
-    let empty = gives(
-        &rt,
-        rt.alloc(),
-        ("", "", ""),
-        ("set-up refused 202 at top key format\n", "", ""),
-        2,
-    )?;
-    assert!(rt; empty);
-    Ok(())
+fn cases_come_out(rt: HostRuntime) -> Result<(), Fail> {
+    Ok(all_come_out(&rt, rt.alloc(), CASES)?)
 }

@@ -6,23 +6,43 @@ use ipc_core::MakeWaiters;
 use kernel_core::Call;
 use kernel_shared::driving::Stop;
 use kernel_shared::fault::SharedFault;
-use kernel_shared::{Gate, Naming, drive};
+use kernel_shared::{Driven, Gate, Naming, drive};
 use slot_core::MakeStore;
 use std::alloc::{AllocError, Global};
 use std::sync::Wait;
 use std::thread::Threads;
 
-/// What is left of a drive: how many calls were made, how many clients stopped, and how many of these by a full
-/// history.
-#[derive(Drop)]
-pub struct Outcome<N: Naming, S: MakeStore<Wide>, W: MakeWaiters<Wide>> {
-    pub made: u32,
-    pub stopped: u32,
-    pub full: u32,
-    pub clients: Vec<Caller<N, S, W>>,
+/// What a drive gives of one client.
+type End<N, S, W> = Driven<N, Wide, S, W>;
+
+/// How many calls were made in a drive, how many clients stopped, and how many of these by a full history.
+type Ends = (u32, u32, u32);
+
+/// The ends of clients, counted.
+fn ends_of<N: Naming, S: MakeStore<Wide>, W: MakeWaiters<Wide>>(all: &[End<N, S, W>]) -> Ends {
+    let (mut made, mut stopped, mut full) = (0u32, 0u32, 0u32);
+    for driven in all {
+        let is_full = matches!(&driven.stopped, Some(Stop::Fault(SharedFault::Full)));
+        made = made.saturating_add(driven.made);
+        stopped = stopped.saturating_add(driven.stopped.is_some() as u32);
+        full = full.saturating_add(is_full as u32);
+    }
+    (made, stopped, full)
 }
 
-/// Drives the clients, where there is a list for each.
+/// The clients themselves.
+fn clients_of<N: Naming, S: MakeStore<Wide>, W: MakeWaiters<Wide>>(
+    alloc: Global,
+    all: Vec<End<N, S, W>>,
+) -> Option<Vec<Caller<N, S, W>>> {
+    let mut clients = Vec::new(alloc);
+    for driven in all {
+        clients.push(driven.client).ok()?;
+    }
+    Some(clients)
+}
+
+/// Drives the clients, where there is a list for each: they themselves, and how they ended.
 pub fn driven<
     N: Naming + Send + Sync,
     S: MakeStore<Wide> + Send + Sync,
@@ -36,26 +56,13 @@ pub fn driven<
     clients: Vec<Caller<N, S, W>>,
     lists: &[Vec<Call>],
     gate: &G,
-) -> Option<Outcome<N, S, W>> {
+) -> Option<(Vec<Caller<N, S, W>>, Ends)> {
     if lists.len() < clients.len() {
         return None;
     }
     let all = drive(rt, alloc, shared, clients, lists, gate).ok()?;
-    let mut outcome = Outcome {
-        made: 0,
-        stopped: 0,
-        full: 0,
-        clients: Vec::new(alloc),
-    };
-    for driven in all {
-        outcome.made = outcome.made.saturating_add(driven.made);
-        let stopped = driven.stopped.is_some();
-        let full = matches!(driven.stopped, Some(Stop::Fault(SharedFault::Full)));
-        outcome.stopped = outcome.stopped.saturating_add(stopped as u32);
-        outcome.full = outcome.full.saturating_add(full as u32);
-        outcome.clients.push(driven.client).ok()?;
-    }
-    Some(outcome)
+    let ends = ends_of(all.as_slice());
+    Some((clients_of(alloc, all)?, ends))
 }
 
 /// Lists of calls, one for each client.
@@ -67,10 +74,6 @@ fn lists_of(alloc: Global, lists: &[&[Call]]) -> Result<Vec<Vec<Call>>, AllocErr
     Ok(all)
 }
 
-/// What is left of a drive: how many calls were made, how many clients stopped, how many of these by a full history, and
-/// how many entries the book has.
-type Counts = (u32, u32, u32, u32);
-
 /// Clients that are driven, each with a list of calls.
 #[derive(Clone, Copy)]
 pub struct Crowd {
@@ -79,7 +82,10 @@ pub struct Crowd {
     pub meeting: usize,
     /// Whether client 0 lets client 1 go first, and so whose the first entry is.
     pub second_first: bool,
-    pub wanted: Counts,
+    /// How they end.
+    pub ends: Ends,
+    /// How many entries the book has then.
+    pub entries: u32,
 }
 
 /// Two clients meet; client 1 goes first.
@@ -87,7 +93,8 @@ pub const SECOND_FIRST: Crowd = Crowd {
     lists: &[&[FIRST_CALL], &[SECOND_CALL]],
     meeting: 2,
     second_first: true,
-    wanted: (2, 0, 0, 2),
+    ends: (2, 0, 0),
+    entries: 2,
 };
 
 /// The two calls of a client.
@@ -98,7 +105,8 @@ pub const EIGHT_AT_ONCE: Crowd = Crowd {
     lists: &[TWICE; 8],
     meeting: 8,
     second_first: false,
-    wanted: (16, 0, 0, 16),
+    ends: (16, 0, 0),
+    entries: 16,
 };
 
 /// Two clients with two calls each, which wait for nobody, and room for three.
@@ -106,11 +114,26 @@ pub const ONE_FINDS_IT_FULL: Crowd = Crowd {
     lists: &[&[FIRST_CALL, FIRST_CALL], &[SECOND_CALL, SECOND_CALL]],
     meeting: 0,
     second_first: false,
-    wanted: (3, 1, 1, 3),
+    ends: (3, 1, 1),
+    entries: 3,
 };
 
-/// Drives clients and settles: the counts, and whose the first entry of the book is.
-fn counts<
+/// Whether a shared kernel is settled with as many entries as a crowd should have made, the first of them by whom it should
+/// be.
+fn settles<N: Naming, S: MakeStore<Wide>, W: MakeWaiters<Wide>, R: Wait>(
+    rt: &R,
+    shared: Shared<N, S, W>,
+    clients: Vec<Caller<N, S, W>>,
+    crowd: Crowd,
+) -> bool {
+    settled(rt, shared, clients).is_some_and(|book| {
+        let first = book.entry(0).map(|entry| entry.client);
+        book.length() == crowd.entries && (first == Some(1) || !crowd.second_first)
+    })
+}
+
+/// Drives a crowd: its clients, where they ended as they should.
+fn crowd_after_its_calls<
     N: Naming + Send + Sync,
     S: MakeStore<Wide> + Send + Sync,
     W: MakeWaiters<Wide> + Send + Sync,
@@ -118,24 +141,14 @@ fn counts<
 >(
     rt: &R,
     alloc: Global,
-    shared: Shared<N, S, W>,
+    shared: &Shared<N, S, W>,
     clients: Vec<Caller<N, S, W>>,
-    lists: &[Vec<Call>],
-    gate: &Meeting,
-) -> Option<(Counts, Option<u32>)> {
-    let Some(outcome) = driven(rt, alloc, &shared, clients, lists, gate) else {
-        shared.give_up(rt);
-        return None;
-    };
-    let Outcome {
-        made,
-        stopped,
-        full,
-        clients,
-    } = outcome;
-    let book = settled(rt, shared, clients)?;
-    let first = book.entry(0).map(|entry| entry.client);
-    Some(((made, stopped, full, book.length()), first))
+    crowd: Crowd,
+) -> Option<Vec<Caller<N, S, W>>> {
+    let lists = lists_of(alloc, crowd.lists).ok()?;
+    let gate = Meeting::of(crowd.meeting, crowd.second_first);
+    let (clients, ends) = driven(rt, alloc, shared, clients, lists.as_slice(), &gate)?;
+    (ends == crowd.ends).then_some(clients)
 }
 
 /// Whether a crowd comes out as it should.
@@ -151,13 +164,11 @@ pub fn crowd_comes_out<
     clients: Vec<Caller<N, S, W>>,
     crowd: Crowd,
 ) -> bool {
-    let Ok(lists) = lists_of(alloc, crowd.lists) else {
-        shared.give_up(rt);
-        return false;
-    };
-    let gate = Meeting::of(crowd.meeting, crowd.second_first);
-    match counts(rt, alloc, shared, clients, lists.as_slice(), &gate) {
-        Some((given, first)) => given == crowd.wanted && (first == Some(1) || !crowd.second_first),
-        None => false,
+    match crowd_after_its_calls(rt, alloc, &shared, clients, crowd) {
+        Some(clients) => settles(rt, shared, clients, crowd),
+        None => {
+            shared.give_up(rt);
+            false
+        }
     }
 }

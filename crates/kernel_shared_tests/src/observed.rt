@@ -6,23 +6,14 @@ use crate::crowd::driven;
 use crate::gates::{Open, TURNS};
 use crate::setup::{Caller, EMPTY, ENDPOINT, FIRST, History, SECOND, Shared, settled};
 use cap_core::{Rights, Wide};
-use ipc_core::LinkedWaiters;
+use ipc_core::MakeWaiters;
 use kernel_core::{BootPlan, Call, Kernel, Op};
 use kernel_shared::{Answer, Naming, Query};
-use slot_core::LinkedStore;
+use slot_core::MakeStore;
 use std::alloc::{AllocError, Global};
 use std::sync::Wait;
 use std::sync::atomic::{AtomicBool, Ordering};
-use std::thread;
-use std::thread::{JoinHandle, Threads};
-
-type LinkedKernel = Kernel<Wide, LinkedStore<Wide>, LinkedWaiters<Wide>>;
-
-type LinkedShared<N> = Shared<N, LinkedStore<Wide>, LinkedWaiters<Wide>>;
-
-type LinkedClient<N> = Caller<N, LinkedStore<Wide>, LinkedWaiters<Wide>>;
-
-type LinkedBook<N> = History<N, LinkedStore<Wide>, LinkedWaiters<Wide>>;
+use std::thread::{Threads, join};
 
 const CALLERS: u64 = 8;
 
@@ -78,13 +69,16 @@ fn lists(alloc: Global) -> Result<Vec<Vec<Call>>, AllocError> {
 
 /// An observer at its end: whether each look showed no less than the one before it, and an entry at its last place.
 #[derive(Drop)]
-struct Observer<N: Naming> {
-    client: LinkedClient<N>,
+struct Observer<N: Naming, S: MakeStore<Wide>, W: MakeWaiters<Wide>> {
+    client: Caller<N, S, W>,
     kept: bool,
 }
 
 /// How many entries a look shows, where it is no fewer than before and the last of them is there.
-fn seen_since<N: Naming>(client: &mut LinkedClient<N>, before: u32) -> Option<u32> {
+fn seen_since<N: Naming, S: MakeStore<Wide>, W: MakeWaiters<Wide>>(
+    client: &mut Caller<N, S, W>,
+    before: u32,
+) -> Option<u32> {
     let Some(Answer::Length(entries)) = client.look(Query::Length) else {
         return None;
     };
@@ -95,68 +89,109 @@ fn seen_since<N: Naming>(client: &mut LinkedClient<N>, before: u32) -> Option<u3
     (entries >= before && is_live && (entries == 0 || is_there)).then_some(entries)
 }
 
-/// Looks until all is over.
-fn observe<N: Naming>(mut client: LinkedClient<N>, over: &AtomicBool) -> Observer<N> {
+/// Looks until all is over: whether each look showed no less than the one before it.
+fn looks_until<N: Naming, S: MakeStore<Wide>, W: MakeWaiters<Wide>>(
+    client: &mut Caller<N, S, W>,
+    over: &AtomicBool,
+) -> bool {
     let mut entries = 0;
     for _ in 0..TURNS {
-        let Some(now) = seen_since(&mut client, entries) else {
-            return Observer {
-                client,
-                kept: false,
-            };
+        let Some(now) = seen_since(client, entries) else {
+            return false;
         };
         entries = now;
         if over.load(Ordering::SeqCst) {
             break;
         }
     }
-    Observer { client, kept: true }
+    true
 }
 
-/// Drives the callers while the observers look, and gives all clients back, or `None` where a call was not made, a
-/// thread not started or a look went back.
-fn drive_observed<N: Naming + Send + Sync, R: Threads + Wait + Sync>(
+/// Looks until all is over, and gives the client back.
+fn observe<N: Naming, S: MakeStore<Wide>, W: MakeWaiters<Wide>>(
+    mut client: Caller<N, S, W>,
+    over: &AtomicBool,
+) -> Observer<N, S, W> {
+    let kept = looks_until(&mut client, over);
+    Observer { client, kept }
+}
+
+/// Drives the callers, and says then that all is over: they themselves, where each call was made.
+fn drive_to_the_end<
+    N: Naming + Send + Sync,
+    S: MakeStore<Wide> + Send + Sync,
+    W: MakeWaiters<Wide> + Send + Sync,
+    R: Threads + Wait + Sync,
+>(
     rt: &R,
     alloc: Global,
-    shared: &LinkedShared<N>,
-    mut clients: Vec<LinkedClient<N>>,
-) -> Option<Vec<LinkedClient<N>>> {
-    let (one, other) = (clients.pop()?, clients.pop()?);
-    let lists = lists(alloc).ok()?;
-    let is_over = AtomicBool::new(false);
-    let over = &is_over;
-    let calls = lists.as_slice();
-    thread::scope(thread::scope_env(), rt, |scope| {
-        let first = scope.spawn(move || observe(one, over));
-        let second = scope.spawn(move || observe(other, over));
-        let driven = driven(rt, alloc, shared, clients, calls, &Open);
-        over.store(true, Ordering::SeqCst);
-        let (first, second) = (joined(rt, first.ok()), joined(rt, second.ok()));
-        let (Some(mut driven), Some(first), Some(second)) = (driven, first, second) else {
-            return None;
-        };
-        let is_whole = driven.stopped == 0 && first.kept && second.kept;
-        let are_back = driven.clients.push(second.client).is_ok()
-            && driven.clients.push(first.client).is_ok();
-        (is_whole && are_back).then_some(driven.clients)
-    })
+    shared: &Shared<N, S, W>,
+    clients: Vec<Caller<N, S, W>>,
+    lists: &[Vec<Call>],
+    over: &AtomicBool,
+) -> Option<Vec<Caller<N, S, W>>> {
+    let driven = driven(rt, alloc, shared, clients, lists, &Open);
+    over.store(true, Ordering::SeqCst);
+    let (clients, (_, stopped, _)) = driven?;
+    (stopped == 0).then_some(clients)
 }
 
-/// An observer at its end, where its thread was started.
-fn joined<N: Naming, R: Threads>(
+/// The callers with the observers behind them, where the observers kept what they saw.
+fn all_back<N: Naming, S: MakeStore<Wide>, W: MakeWaiters<Wide>>(
+    mut clients: Vec<Caller<N, S, W>>,
+    first: Observer<N, S, W>,
+    second: Observer<N, S, W>,
+) -> Option<Vec<Caller<N, S, W>>> {
+    let is_kept = first.kept && second.kept;
+    let are_back = clients.push(second.client).is_ok() && clients.push(first.client).is_ok();
+    (is_kept && are_back).then_some(clients)
+}
+
+/// Drives the callers while the observers look, and gives all clients back, or `None` where a call was not made or a look
+/// went back.
+fn drive_observed<
+    N: Naming + Send + Sync,
+    S: MakeStore<Wide> + Send + Sync,
+    W: MakeWaiters<Wide> + Send + Sync,
+    R: Threads + Wait + Sync,
+>(
     rt: &R,
-    thread: Option<JoinHandle<Observer<N>>>,
-) -> Option<Observer<N>> {
-    Some(thread?.join(rt))
+    alloc: Global,
+    shared: &Shared<N, S, W>,
+    mut clients: Vec<Caller<N, S, W>>,
+    lists: &[Vec<Call>],
+) -> Option<Vec<Caller<N, S, W>>> {
+    let (one, other) = (clients.pop()?, clients.pop()?);
+    let is_over = AtomicBool::new(false);
+    let over = &is_over;
+    let (driven, (first, second)) = join(
+        rt,
+        move || drive_to_the_end(rt, alloc, shared, clients, lists, over),
+        move || join(rt, move || observe(one, over), move || observe(other, over)),
+    );
+    all_back(driven?, first, second)
 }
 
 /// Whether a book's calls, made again on a kernel that was just booted, are answered alike and lead to the same state.
-fn runs_again<N: Naming>(alloc: Global, plan: &BootPlan, book: &LinkedBook<N>) -> bool
+fn runs_again<N: Naming, S: MakeStore<Wide>, W: MakeWaiters<Wide>>(
+    alloc: Global,
+    plan: &BootPlan,
+    book: &History<N, S, W>,
+) -> bool
     requires { IsPlan Name.Wide plan.now }
 {
-    let Ok(mut kernel) = LinkedKernel::boot(alloc, plan) else {
-        return false;
-    };
+    match Kernel::<Wide, S, W>::boot(alloc, plan) {
+        Ok(mut kernel) => answers_alike(&mut kernel, book)
+            && shows_the_same(&kernel, book.kernel()),
+        Err(_) => false,
+    }
+}
+
+/// Whether a kernel answers the calls of a book as they are answered there.
+fn answers_alike<N: Naming, S: MakeStore<Wide>, W: MakeWaiters<Wide>>(
+    kernel: &mut Kernel<Wide, S, W>,
+    book: &History<N, S, W>,
+) -> bool {
     for place in 0..book.length() {
         let Some(entry) = book.entry(place) else {
             return false;
@@ -165,11 +200,14 @@ fn runs_again<N: Naming>(alloc: Global, plan: &BootPlan, book: &LinkedBook<N>) -
             return false;
         }
     }
-    shows_the_same(&kernel, book.kernel())
+    true
 }
 
 /// Whether two kernels have the same slots, threads and waiting list.
-fn shows_the_same(one: &LinkedKernel, other: &LinkedKernel) -> bool {
+fn shows_the_same<S: MakeStore<Wide>, W: MakeWaiters<Wide>>(
+    one: &Kernel<Wide, S, W>,
+    other: &Kernel<Wide, S, W>,
+) -> bool {
     for slot in 0..16 {
         let at = 32 * slot;
         let same_cap = one.cap_at(at) == other.cap_at(at);
@@ -186,22 +224,42 @@ fn shows_the_same(one: &LinkedKernel, other: &LinkedKernel) -> bool {
     (0..2).all(|place| one.waiting(ENDPOINT, place) == other.waiting(ENDPOINT, place))
 }
 
+/// Drives callers and observers by the lists of calls.
+fn driven_under_looks<
+    N: Naming + Send + Sync,
+    S: MakeStore<Wide> + Send + Sync,
+    W: MakeWaiters<Wide> + Send + Sync,
+    R: Threads + Wait + Sync,
+>(
+    rt: &R,
+    alloc: Global,
+    shared: &Shared<N, S, W>,
+    clients: Vec<Caller<N, S, W>>,
+) -> Option<Vec<Caller<N, S, W>>> {
+    let lists = lists(alloc).ok()?;
+    drive_observed(rt, alloc, shared, clients, lists.as_slice())
+}
+
 /// Whether all of the callers' calls are made under the observers' eyes, and run again alike.
-pub fn calls_under_looks<N: Naming + Send + Sync, R: Threads + Wait + Sync>(
+pub fn calls_under_looks<
+    N: Naming + Send + Sync,
+    S: MakeStore<Wide> + Send + Sync,
+    W: MakeWaiters<Wide> + Send + Sync,
+    R: Threads + Wait + Sync,
+>(
     rt: &R,
     alloc: Global,
     plan: &BootPlan,
-    shared: LinkedShared<N>,
-    clients: Vec<LinkedClient<N>>,
+    shared: Shared<N, S, W>,
+    clients: Vec<Caller<N, S, W>>,
 ) -> bool
     requires { IsPlan Name.Wide plan.now }
 {
-    let Some(clients) = drive_observed(rt, alloc, &shared, clients) else {
+    let Some(clients) = driven_under_looks(rt, alloc, &shared, clients) else {
         shared.give_up(rt);
         return false;
     };
-    let Some(book) = settled(rt, shared, clients) else {
-        return false;
-    };
-    u64::from(book.length()) == CALLERS * CALLS && runs_again(alloc, plan, &book)
+    settled(rt, shared, clients).is_some_and(|book| {
+        u64::from(book.length()) == CALLERS * CALLS && runs_again(alloc, plan, &book)
+    })
 }

@@ -1,6 +1,5 @@
-//! The test: each case shares a kernel under a name of its own, over the linked forms and over rows. Over the linked forms
-//! clients call while others look, too.
-ghost use Rattle.std.specs.Prelude.{◌≡◌};
+//! The test: each case shares a kernel under a name of its own, over the linked forms and over rows.
+ghost use Rattle.std.specs.Prelude.{◌≡◌, ◌<◌};
 ghost use Rattle.cap_core.specs.declared.profile.ProfileName.TheVariants as Name;
 ghost use Rattle.abstract_kernel.specs.Plan.{IsPlan};
 ghost use Rattle.abstract_kernel.specs.Boot.{boot};
@@ -28,6 +27,7 @@ enum Case {
     Followed(Script),
     OneClientMissing,
     Driven(Crowd),
+    UnderLooks,
 }
 
 /// How many steps of a case came out as they should.
@@ -58,6 +58,7 @@ fn play<
         Case::Followed(script) => follow_and_settle(rt, shared, all, script),
         Case::OneClientMissing => one_client_missing(rt, shared, all) as usize,
         Case::Driven(crowd) => crowd_comes_out(rt, alloc, shared, all, crowd) as usize,
+        Case::UnderLooks => calls_under_looks(rt, alloc, plan, shared, all) as usize,
     })
 }
 
@@ -80,67 +81,56 @@ fn play_over<
     play::<Brand, S, W, R>(rt, alloc, blank, plan, clients, limit, case)
 }
 
-/// Whether clients that call while others look come out as they should, over the linked forms.
-fn observe<N: Naming + Send + Sync, R: Threads + Wait + Sync>(
-    rt: &R,
-    alloc: Global,
-    blank: Blank,
-    plan: &BootPlan,
-    clients: u32,
-    limit: u32,
-) -> Result<bool, StartFault>
-    requires name { blank.name ≡ N.name }
-    requires parts { (blank.parts ≡ N.parts) × (blank.parts ≡ clients) }
+/// The cases, each with its name, so many clients, a limit, and how many of its steps come out.
+const CASES: [(&str, Case, u32, u32, usize); 7] = [
+    ("one call", Case::Followed(ONE_CALL), 1, 1, 6),
+    ("two clients", Case::Followed(TWO_CLIENTS), 2, 4, 14),
+    ("one client missing", Case::OneClientMissing, 2, 4, 1),
+    ("second first", Case::Driven(SECOND_FIRST), 2, 2, 1),
+    ("eight at once", Case::Driven(EIGHT_AT_ONCE), 8, 16, 1),
+    (
+        "one finds it full",
+        Case::Driven(ONE_FINDS_IT_FULL),
+        2,
+        3,
+        1,
+    ),
+    ("under looks", Case::UnderLooks, 10, 8000, 1),
+];
+
+/// Whether a case comes out over a pair of stores.
+fn comes_out<
+    S: MakeStore<Wide> + Send + Sync,
+    W: MakeWaiters<Wide> + Send + Sync,
+    R: Threads + Wait + Sync,
+>(rt: &R, alloc: Global, plan: &BootPlan, place: usize) -> bool
     requires plan { IsPlan Name.Wide plan.now }
-    requires profile { N.profile ≡ Name.Wide }
-    requires start { N.start ≡ boot Name.Wide plan.now }
-    requires opening { N.opening ≡ shown (boot Name.Wide plan.now) }
-    requires limit { N.limit ≡ limit }
+    requires place { place < 7 }
 {
-    let (shared, all) = begin::<N, LinkedStore<Wide>, LinkedWaiters<Wide>, R>(
-        rt, alloc, blank, plan, clients, limit,
-    )?;
-    Ok(calls_under_looks(rt, alloc, plan, shared, all))
+    let (_, case, clients, limit, steps) = CASES[place];
+    matches!(play_over::<S, W, R>(rt, alloc, plan, clients, limit, case), Ok(right) if right == steps)
 }
 
-/// Each case, with so many clients and a limit, comes out with so many steps, over the linked forms and over rows.
+/// Each case comes out with so many steps, over the linked forms and over rows.
 #[test]
 fn cases_come_out(rt: HostRuntime) -> Result<(), Fail> {
     let plan = plan(&rt, rt.alloc())?;
-    for (name, case, clients, limit, steps) in [
-        ("one call", Case::Followed(ONE_CALL), 1, 1, 6),
-        ("two clients", Case::Followed(TWO_CLIENTS), 2, 4, 14),
-        ("one client missing", Case::OneClientMissing, 2, 4, 1),
-        ("second first", Case::Driven(SECOND_FIRST), 2, 2, 1),
-        ("eight at once", Case::Driven(EIGHT_AT_ONCE), 8, 16, 1),
-        (
-            "one finds it full",
-            Case::Driven(ONE_FINDS_IT_FULL),
-            2,
-            3,
-            1,
-        ),
-    ] {
-        let links = play_over::<LinkedStore<Wide>, LinkedWaiters<Wide>, _>(
+    for place in 0..CASES.len() {
+        let name = CASES[place].0;
+        let is_over_links = comes_out::<LinkedStore<Wide>, LinkedWaiters<Wide>, _>(
             &rt,
             rt.alloc(),
             &plan,
-            clients,
-            limit,
-            case,
+            place,
         );
-        assert!(rt; links == Ok(steps), "{name}, linked: {links:?}");
-        let rows = play_over::<RowStore<Wide>, RowWaiters<Wide>, _>(
+        assert!(rt; is_over_links, "{name}, linked");
+        let is_over_rows = comes_out::<RowStore<Wide>, RowWaiters<Wide>, _>(
             &rt,
             rt.alloc(),
             &plan,
-            clients,
-            limit,
-            case,
+            place,
         );
-        assert!(rt; rows == Ok(steps), "{name}, rows: {rows:?}");
+        assert!(rt; is_over_rows, "{name}, rows");
     }
-    let observed = observe::<Brand, _>(&rt, rt.alloc(), Blank::new(10), &plan, 10, 8000);
-    assert!(rt; observed == Ok(true), "observed: {observed:?}");
     Ok(())
 }

@@ -4,4 +4,4 @@ use Rattle.abstract_kernel.specs.Memory.{IsInMemory}
 use Rattle.reach_core_tests.proofs.three_cnodes.build.Given as goal
 
 abbrev pub invariant-loop-op : goal.invariant-loop-op
-invariant-loop-op g l = (memory : ℕ) × IsInMemory Wide memory l.kernel.now
+invariant-loop-op l = (memory : ℕ) × IsInMemory Wide memory l.kernel
