@@ -8,18 +8,27 @@ const MOST_NAMED: usize = 12;
 /// The number of the call of a report's line, where the call is refused and has no expectation. Behind an expectation
 /// stands whether it is met, in brackets.
 fn unexpected(line: &str) -> Option<&str> {
-    let (head, reply) = line.split_once(": ")?;
-    if !reply.starts_with("refused ") || reply.ends_with(']') {
+    let (head, reply) = line.split_once(':')?;
+    if !reply.starts_with(" refused ") || reply.ends_with(']') {
         return None;
     }
     let (number, _) = head.split_once(' ')?;
     Some(number)
 }
 
-/// The numbers of the calls of a report that were refused and have no expectation.
+/// Whether a report's line is that of a call: it begins with the call's number, and no other line begins with a digit.
+fn is_of_call(line: &str) -> bool {
+    line.starts_with(|letter: char| letter.is_ascii_digit())
+}
+
+/// The numbers of the calls of a report that were refused and have no expectation. The lines of the calls stand first: the
+/// others, which a full memory has many of, are not read.
 fn unexpected_in(alloc: Global, report: &str) -> Result<Vec<&str>, AllocError> {
     let mut numbers = Vec::new(alloc);
     for line in report.lines() {
+        if !is_of_call(line) {
+            break;
+        }
         if let Some(number) = unexpected(line) {
             numbers.push(number)?;
         }
