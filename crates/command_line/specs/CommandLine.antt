@@ -74,6 +74,9 @@ abbrev pub check_command : App
 check_command = with_rule (with_file (codes "check")) more_files_rule
 
 -- the subcommands that have options
+abbrev pub threads_command : App
+threads_command = with_rule (with_file (codes "threads")) (number_rule (codes "first"))
+
 abbrev pub why_command : App
 why_command = with_rule (with_file (codes "why")) (number_rule (codes "call"))
 
@@ -101,15 +104,15 @@ new_command =
 abbrev pub plain_command : App
 plain_command =
     and_subcommand (with_file (codes "migrate"))
-    (and_subcommand (with_file (codes "threads"))
-    (and_subcommand (with_file (codes "trace")) (and_subcommand check_command bare_command)))
+    (and_subcommand (with_file (codes "trace")) (and_subcommand check_command bare_command))
 
 -- `sel4sim`, with all its subcommands
 unfoldable pub command : App
 command =
     and_subcommand new_command
     (and_subcommand tree_command
-    (and_subcommand explore_command (and_subcommand audit_command (and_subcommand why_command plain_command))))
+    (and_subcommand explore_command
+    (and_subcommand audit_command (and_subcommand why_command (and_subcommand threads_command plain_command)))))
 
 -- the job of a subcommand's name
 abbrev pub job_named : Text → Option Job

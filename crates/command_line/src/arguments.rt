@@ -45,7 +45,7 @@ pub struct Options<'a> {
     /// `--without` of `audit --ever` and `audit --never`: the threads that are trusted to make no more calls, with commas
     /// between them.
     pub without: Option<&'a str>,
-    /// `--first` of `explore`: how many calls are made before the clients begin.
+    /// `--first` of `explore` and `threads`: how many calls are made before the clients begin.
     pub first: Option<u64>,
     /// `--states` of `explore`: the most states that are kept.
     pub states: Option<u64>,

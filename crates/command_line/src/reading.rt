@@ -5,7 +5,7 @@ ghost use Rattle.clap.specs.Words.{app_of, fault_of, first_of, found_of, rows_of
 ghost use Rattle.clap.specs.declared.builder.command.Command.TheViews.{out-Command};
 ghost use Rattle.clap.specs.Values.{kind_of};
 ghost use Rattle.clap.specs.Walk.{texts};
-ghost use Rattle.command_line.specs.CommandLine.{Explains, ExplainsMatches, HasOptions, Says, StandsFor, agrees, and_subcommand, audit_command, bare_command, check_command, command as definition, explore_command, file_asked, file_of, file_rule, files_of, flag_rule, is_set, job_asked, job_named, job_of, more_behind as more_behind_definition, more_files_in, more_files_rule, more_given, new_command, number_rule, own_rows, plain_command, reads_once, several_asked, several_of, text_rule, tree_command, version_rule, why_command, with_file as with_file_definition};
+ghost use Rattle.command_line.specs.CommandLine.{Explains, ExplainsMatches, HasOptions, Says, StandsFor, agrees, and_subcommand, audit_command, bare_command, check_command, command as definition, explore_command, file_asked, file_of, file_rule, files_of, flag_rule, is_set, job_asked, job_named, job_of, more_behind as more_behind_definition, more_files_in, more_files_rule, more_given, new_command, number_rule, own_rows, plain_command, reads_once, several_asked, several_of, text_rule, threads_command, tree_command, version_rule, why_command, with_file as with_file_definition};
 
 use crate::arguments::{Job, Line, LineFault, Options};
 use clap::builder::ValueParser;
@@ -230,6 +230,27 @@ fn audit<'a>(alloc: Global) -> Result<Command<'a>, AllocError>
     Ok(whole)
 }
 
+/// The option `--first`.
+fn first_calls<'a>(alloc: Global) -> Arg<'a>
+    ensures rule { rule_of result ≡ number_rule (codes "first") }
+    ensures local { result.global ≡ false }
+{
+    let about = "Make the first N calls before the clients begin [default: 0]";
+    number(alloc, "first", about)
+}
+
+/// The subcommand `threads`.
+fn threads<'a>(alloc: Global) -> Result<Command<'a>, AllocError>
+    ensures app { IfOk result (λ c. app_of c ≡ threads_command) }
+    ensures local { IfOk result (λ c. (out-Command c).has_globals ≡ false) }
+{
+    let about =
+        "Runs each client of a set-up in a thread of its own and prints what was done, in order";
+    let command = with_file(alloc, "threads", about)?;
+    let whole = command.arg(first_calls(alloc))?;
+    Ok(whole)
+}
+
 /// The subcommand `explore`.
 fn explore<'a>(alloc: Global) -> Result<Command<'a>, AllocError>
     ensures app { IfOk result (λ c. app_of c ≡ explore_command) }
@@ -238,12 +259,7 @@ fn explore<'a>(alloc: Global) -> Result<Command<'a>, AllocError>
     let about =
         "Runs the clients of a set-up in every order of their calls and prints what can happen";
     let command = with_file(alloc, "explore", about)?;
-    let first = number(
-        alloc,
-        "first",
-        "Make the first N calls before the clients begin [default: 0]",
-    );
-    let with_first = command.arg(first)?;
+    let with_first = command.arg(first_calls(alloc))?;
     let states = number(alloc, "states", "Keep at most N states [default: 100000]");
     let with_states = with_first.arg(states)?;
     let witness = text(
@@ -330,15 +346,9 @@ fn plain<'a>(alloc: Global) -> Result<Command<'a>, AllocError>
         "trace",
         "Runs a set-up and prints what each of its calls changed",
     )?;
-    let threads = and_with_file(
-        alloc,
-        trace,
-        "threads",
-        "Runs each client of a set-up in a thread of its own and prints what was done, in order",
-    )?;
     let migrate = and_with_file(
         alloc,
-        threads,
+        trace,
         "migrate",
         "Prints a set-up of format 1 as one of format 2",
     )?;
@@ -349,7 +359,8 @@ fn plain<'a>(alloc: Global) -> Result<Command<'a>, AllocError>
 fn command<'a>(alloc: Global) -> Result<Command<'a>, AllocError>
     ensures { IfOk result (λ c. app_of c ≡ definition) }
 {
-    let with_why = plain(alloc)?.subcommand(why(alloc)?)?;
+    let with_threads = plain(alloc)?.subcommand(threads(alloc)?)?;
+    let with_why = with_threads.subcommand(why(alloc)?)?;
     let with_audit = with_why.subcommand(audit(alloc)?)?;
     let with_explore = with_audit.subcommand(explore(alloc)?)?;
     let with_tree = with_explore.subcommand(tree(alloc)?)?;

@@ -7,5 +7,4 @@ pub returns : goal.returns
 returns c =
     let check = c.in_ok-with_check.ensures.shape c.in_ok-check.ensures.local ∙ ap₂ and_subcommand c.in_ok-check.ensures.app c.in_ok-bare.ensures in
     let trace = c.in_ok-trace.ensures ∙ ap (and_subcommand (with_file (codes "trace"))) check in
-    let threads = c.in_ok-threads.ensures ∙ ap (and_subcommand (with_file (codes "threads"))) trace in
-    c.in_ok-migrate.ensures ∙ ap (and_subcommand (with_file (codes "migrate"))) threads
+    c.in_ok-migrate.ensures ∙ ap (and_subcommand (with_file (codes "migrate"))) trace
