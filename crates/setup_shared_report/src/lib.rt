@@ -6,6 +6,7 @@ ghost use Rattle.setup_shared_report.specs.SharedReport.{entry_text, entry_lines
 
 use cap_core::Profile;
 use ipc_core::Waiters;
+use kernel_core::Kernel;
 use kernel_shared::{Book, Entry, Naming};
 use setup_format::Setup;
 use setup_report::{AnsweredText, add_state};
@@ -50,15 +51,38 @@ fn add_entries(out: &mut String, history: &[Entry]) -> Result<(), AllocError>
     Ok(())
 }
 
-/// The report of a kernel that the clients of a set-up shared, as text: a line for each entry of the book's history, in its
-/// order, with the client that made the call, the client's number for it, from 0 on, and the reply; then what the book's
-/// kernel shows of the memory, as `setup_report::report` tells it; and how many entries there are, of how many calls of the
-/// set-up. Expectations are not looked at.
+/// The report of a history and of a kernel behind it, as text: a line for each entry of the history, in its order, with the
+/// client that made the call, the client's number for it and the reply; then what the kernel shows of the memory, as
+/// `setup_report::report` tells it; and how many entries there are, of how many calls of the set-up. Expectations are not looked
+/// at.
 ///
 /// # Errors
 ///
 /// Memory was refused.
 #[tactic(auto, unfolding(crate::specs::SharedReport::shared_report_of))]
+pub fn history_report<P: Profile, S: DerivationStore<P> + Drop, W: Waiters<P> + Drop>(
+    alloc: Global,
+    setup: &Setup,
+    history: &[Entry],
+    kernel: &Kernel<P, S, W>,
+) -> Result<Vec<u8>, AllocError>
+    ensures { IfOk result (λ v. v.items ≡ shared_report_of P.profile (length setup.now.calls) history.now kernel.now) }
+{
+    let mut out = String::new(alloc);
+    add_entries(&mut out, history)?;
+    add_state::<P, S, W>(alloc, &mut out, kernel)?;
+    let entries = history.len();
+    let calls = setup.calls().len();
+    writeln!(out, "entries {entries} of {calls}")?;
+    Ok(out.into_bytes())
+}
+
+/// The report of a kernel that the clients of a set-up shared, as text: that of the book's history, with the client's numbers
+/// from 0 on, and of the book's kernel.
+///
+/// # Errors
+///
+/// Memory was refused.
 pub fn shared_report<N: Naming, P: Profile, S: DerivationStore<P> + Drop, W: Waiters<P> + Drop>(
     alloc: Global,
     setup: &Setup,
@@ -66,11 +90,5 @@ pub fn shared_report<N: Naming, P: Profile, S: DerivationStore<P> + Drop, W: Wai
 ) -> Result<Vec<u8>, AllocError>
     ensures { IfOk result (λ v. v.items ≡ shared_report_of P.profile (length setup.now.calls) book.now.history.items book.now.kernel) }
 {
-    let mut out = String::new(alloc);
-    add_entries(&mut out, book.history.as_slice())?;
-    add_state::<P, S, W>(alloc, &mut out, &book.kernel)?;
-    let entries = book.history.len();
-    let calls = setup.calls().len();
-    writeln!(out, "entries {entries} of {calls}")?;
-    Ok(out.into_bytes())
+    history_report(alloc, setup, book.history.as_slice(), &book.kernel)
 }
