@@ -15,8 +15,8 @@ export function threadWord(told) {
 const ticked = (value) => (value ? value.split(",") : []);
 
 /** Draws a text field. */
-function drawText({ name, about, least, value, give }) {
-  const field = element("input", { type: "text", id: `option-${name}`, size: "8", inputmode: "numeric", spellcheck: "false",
+function drawText({ name, about, least, value, inputmode = "numeric", give }) {
+  const field = element("input", { type: "text", id: `option-${name}`, size: "8", inputmode, spellcheck: "false",
     autocomplete: "off", title: about, placeholder: least });
   field.value = value;
   field.addEventListener("input", () => give(field.value.trim()));
@@ -45,12 +45,11 @@ export class Options {
     return this.values[tab.name]?.[name] ?? "";
   }
 
-  /** The words of the command line for a tab. */
+  /** The words of the command line for a tab. An option may stand in place of one of the tab's own words. */
   words(tab) {
-    return [...tab.words, ...(tab.options ?? []).flatMap(({ name }) => {
-      const value = this.value(tab, name);
-      return value ? [`--${name}`, value] : [];
-    })];
+    const given = (tab.options ?? []).filter(({ name }) => this.value(tab, name));
+    const own = tab.words.filter((word) => !given.some(({ replaces }) => replaces === word));
+    return [...own, ...given.flatMap(({ name }) => [`--${name}`, this.value(tab, name)])];
   }
 
   /** Gives an option of a tab, or takes it back by an empty value. */

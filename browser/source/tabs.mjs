@@ -3,6 +3,7 @@
 import { dim, element } from "../../page/source/element.mjs";
 import { drawAudit } from "./audit.mjs";
 import { drawEver, threadsTold } from "./ever.mjs";
+import { drawNever, isNever } from "./never.mjs";
 import { drawOrders } from "./orders.mjs";
 import { drawReport } from "./report.mjs";
 import { drawWhy } from "./why.mjs";
@@ -24,8 +25,12 @@ function showAudit(page, panel, text) {
   drawAudit(panel, text, (slot) => page.give(AUDIT, "slot", slot));
 }
 
-/** The parts of a layout; each thread that is told gets a box to tick. */
+/** The parts of a layout, where each thread that is told gets a box to tick; or the answer whether two are kept apart. */
 function showEver(page, panel, text) {
+  if (isNever(text)) {
+    drawNever(panel, text);
+    return;
+  }
   page.options.offer(EVER, threadsTold(text));
   drawEver(panel, text);
 }
@@ -70,7 +75,11 @@ const AUDIT = {
 };
 const EVER = {
   name: "ever", words: ["audit", "--ever"], about: "What each thread can never get, whatever calls are made",
-  options: [AFTER, { name: "without", about: "Threads that are trusted to make no more calls", ticks: true }],
+  missed: "it is not excluded",
+  options: [AFTER, { name: "without", about: "Threads that are trusted to make no more calls", ticks: true },
+    { name: "never", about: "Two threads: is the part of the first kept from the part of the second?", least: "FROM,TO",
+      inputmode: "text", replaces: "--ever" },
+    { name: "by", about: "Endpoints that are allowed between these two", least: "none", inputmode: "text" }],
   show: showEver,
 };
 

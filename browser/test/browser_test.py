@@ -26,7 +26,8 @@ import firefox  # noqa: E402
 import hostile_texts  # noqa: E402
 
 SITE = TOP / "site" / "sel4sim.html"
-SUBCOMMANDS = (["check"], ["trace"], ["migrate"], ["why"], ["audit"], ["audit", "--ever"], ["explore"], ["tree"])
+SUBCOMMANDS = (["check"], ["trace"], ["migrate"], ["why"], ["audit"], ["audit", "--ever"], ["audit", "--never", "2048,4096"], ["explore"],
+               ["tree"])
 SEED = 7
 TEXTS = 400
 MOST_SECONDS = 5
@@ -162,6 +163,8 @@ def words_asked(path):
     name, text = path.stem, path.read_text()
     first = re.search(r"(?m)^#.*(--first) (\d+)", text)
     for file in sorted(path.parent.glob(f"{name}.*")):
+        if file.suffix == ".never":
+            yield ["audit", *file.with_suffix(".args").read_text().split()]
         options = {}
         for option, value in (re.split("[-_]", part, maxsplit=1) for part in file.name.split(".")[1:-1]):
             options[option] = f"{options[option]},{value}" if option in options else value
@@ -494,6 +497,31 @@ def parts(test, _):
     test.wanted(browser.value(drawn) == 1, "without a tick it is not all one part")
 
 
+def kept_apart(test, _):
+    """The tab ever says of two threads whether the one is kept from the other, in words, with the program's lines below."""
+    if not pick(test, *TRUSTED_LOADER):
+        return
+    parts_drawn = test.browser.value("document.querySelectorAll('#panel-ever .wires rect').length")
+    asked = (("never", "client_a,client_b", "--without loader --never client_a,client_b", 0, "excluded", ()),
+             ("never", "client_a,client_c", "--without loader --never client_a,client_c", 1, "possible", ("open 10240", "chain 4096 @client_a -> 10240")),
+             ("by", "10240", "--without loader --never client_a,client_c --by 10240", 0, "excluded", ()),
+             ("never", "loader,client_a", "--without loader --never loader,client_a --by 10240", 1, "possible", ("2048 @loader lies in no part",)))
+    for name, value, words, status, answer, lines in asked:
+        type_option(test, name, value)
+        test.wanted(test.text("command-line") == f"sel4sim audit {words} two_clients.toml", f"{name} {value} gives {test.text('command-line')}")
+        test.wanted(test.text("status") == f"status {status}", f"{words} ends with {test.text('status')}")
+        test.wanted(("it is not excluded" in test.text("ended")) == (status == 1), f"{words}: status {status} is told as {test.text('ended')}")
+        told = test.browser.value("document.querySelector('#verdict .tag')?.textContent")
+        test.wanted(told == answer, f"{words} is told as {told}")
+        for line in lines:
+            test.wanted(line in test.text("panel-ever"), f"{words}: {line!r} is not told")
+    type_option(test, "never", "")
+    test.wanted("--by goes with --never alone" in test.text("errors"), f"--by without --never is told as {test.text('errors')!r}")
+    type_option(test, "by", "")
+    drawn = test.browser.value("document.querySelectorAll('#panel-ever .wires rect').length")
+    test.wanted(drawn == parts_drawn == 3, f"without a question {drawn} parts are drawn, and before it {parts_drawn}")
+
+
 def every_order(test, _):
     """The tab orders tells each call with its answers; a number of an order leads to the call."""
     if not pick(test, "for orders", "cancel_against_send"):
@@ -528,7 +556,7 @@ def new_tabs(test, stored):
     """The tabs with options, at two widths."""
     for width in (1280, 390):
         test.browser.call("Emulation.setDeviceMetricsOverride", width=width, height=844, deviceScaleFactor=1, mobile=width < 400)
-        for check in (reasons, audits, parts, every_order):
+        for check in (reasons, audits, parts, kept_apart, every_order):
             check(test, stored)
             wide = test.browser.value("document.documentElement.scrollWidth")
             test.wanted(wide <= width, f"{check.__name__}: a window of {width} is overrun: {wide}")

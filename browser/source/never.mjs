@@ -1,0 +1,39 @@
+// Whether the part of one thread is kept from the part of another: the answer in words, and what the program writes.
+import { element, heading } from "../../page/source/element.mjs";
+
+const ANSWER = /^never (\d+(?: @\S+)?) part (\w+) -> (\d+(?: @\S+)?) part (\w+) (excluded|possible)$/u;
+const OPEN = /^open (\d+)$/u;
+const NO_PART = "none";
+
+/** Whether a text is one of `audit --never`. */
+export const isNever = (text) => text.startsWith("never ");
+
+/** Why it is not excluded, in words. */
+function reasonOf({ from, fromPart, to, toPart, endpoints }) {
+  const unbound = [[from, fromPart], [to, toPart]].filter(([, part]) => part === NO_PART).map(([thread]) => thread);
+  if (unbound.length > 0) return `${unbound.join(" and ")} ${unbound.length === 1 ? "lies" : "lie"} in no part, where nothing is bound`;
+  if (fromPart === toPart) return `both are threads of part ${fromPart}`;
+  const named = endpoints.length === 1 ? `endpoint ${endpoints[0]} is` : `endpoints ${endpoints.join(", ")} are`;
+  return `${named} open from part ${fromPart} to part ${toPart}`;
+}
+
+/** The answer in words. */
+function wordsOf(told) {
+  const { fromPart, toPart, answer } = told;
+  return answer === "possible" ? `Not excluded: ${reasonOf(told)}. Whether some calls do it, this does not say.`
+    : `Whatever calls the threads of the parts make: no slot of part ${fromPart} ever holds a capability to an object of part `
+      + `${toPart}, and no message of a thread of part ${fromPart} is ever delivered to a thread of part ${toPart}, but by an `
+      + "endpoint that --by names.";
+}
+
+/** Draws a text of `audit --never` into an element. */
+export function drawNever(into, text) {
+  const lines = text.split("\n");
+  const [, from, fromPart, to, toPart, answer] = ANSWER.exec(lines[0]) ?? [];
+  const endpoints = lines.map((line) => OPEN.exec(line)?.[1]).filter(Boolean);
+  const told = answer === undefined ? null : element("p", { id: "verdict" },
+    element("span", { class: answer === "excluded" ? "tag met" : "tag missed" }, answer), " ",
+    wordsOf({ from, fromPart, to, toPart, answer, endpoints }));
+  into.replaceChildren(heading("From one thread to another", "it is a bound on all calls that the threads of parts can make"), ...[told].filter(Boolean),
+    element("pre", { tabindex: "0", "aria-label": "What the program wrote" }, text));
+}
