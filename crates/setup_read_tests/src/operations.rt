@@ -2,7 +2,8 @@
 use cap_core::{Message, Rights};
 use kernel_core::{Call, Op};
 use setup_format::read_setup;
-use std::alloc::Global;
+use std::alloc::{AllocError, Global};
+use std::process::Abort;
 use std::test::Fail;
 
 /// A set-up with no untyped region and no call.
@@ -187,21 +188,30 @@ const OTHERS: &[Keys] = &[
     ("op = \"nbrecv\", cap = 5", Op::NbRecv { cap: 5 }),
 ];
 
-/// Whether a set-up of one call with these keys has the operation.
-fn is_read_as(alloc: Global, keys: &str, op: Op) -> Result<bool, Fail> {
-    let text = format!(in alloc; "{SIZES}call = [{{ thread = 2048, {keys} }}]")?;
-    Ok(match read_setup(alloc, text.as_bytes()) {
+/// Whether a set-up of one call is read with this operation.
+fn has_operation(alloc: Global, text: &str, op: Op) -> bool {
+    match read_setup(alloc, text.as_bytes()) {
         Ok(setup) => setup.calls() == [Call { thread: 2048, op }].as_slice(),
         Err(_) => false,
-    })
+    }
+}
+
+/// Whether a set-up of one call with these keys has the operation.
+fn is_read_as(alloc: Global, keys: &str, op: Op) -> Result<bool, AllocError> {
+    let text = format!(in alloc; "{SIZES}call = [{{ thread = 2048, {keys} }}]")?;
+    Ok(has_operation(alloc, text.as_str(), op))
+}
+
+/// Whether all keys are read as their operations.
+fn are_read(rt: &impl Abort, alloc: Global, all: &[Keys]) -> Result<(), AllocError> {
+    for (keys, op) in all {
+        assert!(rt; is_read_as(alloc, keys, *op)?, "of {keys}");
+    }
+    Ok(())
 }
 
 #[test]
 fn what_operations_are_read_as(rt: HostRuntime) -> Result<(), Fail> {
-    for keys in [ON_A_SLOT_OR_A_THREAD, OTHERS] {
-        for (keys, op) in keys {
-            assert!(rt; is_read_as(rt.alloc(), keys, *op)?, "of {keys}");
-        }
-    }
-    Ok(())
+    are_read(&rt, rt.alloc(), ON_A_SLOT_OR_A_THREAD)?;
+    Ok(are_read(&rt, rt.alloc(), OTHERS)?)
 }

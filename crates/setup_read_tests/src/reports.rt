@@ -9,6 +9,7 @@ use setup_format::{Setup, read_setup};
 use setup_report::{expectations, report};
 use slot_core::RowStore;
 use std::alloc::Global;
+use std::process::Abort;
 use std::test::Fail;
 
 /// A set-up, its report, and how many of its expectations are met of how many.
@@ -238,11 +239,16 @@ fn comes_out(alloc: Global, case: &Case) -> Result<bool, Fail> {
     Ok(is_counted && text.as_slice() == case.report.as_bytes())
 }
 
-#[test]
-fn reports_are_whole(rt: HostRuntime) -> Result<(), Fail> {
-    for case in &CASES {
+/// Whether each case comes out.
+fn all_come_out(rt: &impl Abort, alloc: Global, cases: &[Case]) -> Result<(), Fail> {
+    for case in cases {
         let name = case.name;
-        assert!(rt; comes_out(rt.alloc(), case)?, "{name}");
+        assert!(rt; comes_out(alloc, case)?, "{name}");
     }
     Ok(())
+}
+
+#[test]
+fn reports_are_whole(rt: HostRuntime) -> Result<(), Fail> {
+    all_come_out(&rt, rt.alloc(), CASES.as_slice())
 }
