@@ -14,7 +14,7 @@ use Rattle.std.proofs.lemmas.Bool.Decides.{nat_tests}
 use Rattle.kernel_shared.specs.declared.stray.Stray.{Stray}
 use Rattle.kernel_shared.specs.Fronts.{StartsWith}
 use Rattle.kernel_shared.specs.Tokens.{IsClient, Token, Lost, token, lost, lost_of, stray_fits, strays}
-use Rattle.kernel_shared.proofs.Keeping.{starts_trans, take_same, longer, count_later}
+use Rattle.kernel_shared.proofs.Keeping.{starts_trans, take_same, longer}
 use Rattle.kernel_shared.proofs.Lawfully.{take_one}
 
 pub new_client : (p : ProfileName) (o : Shown) (id parts amount : ℕ) (log : List Entry) → log ≡ [] → parts ≡ 1 → amount ≡ 0 → IsClient p o id 0 parts amount 0 None log
@@ -46,18 +46,6 @@ pub lost_same : (id done : ℕ) (stray : Option Stray) (log log' : List Entry) �
 lost_same id done None log log' s f = refl
 lost_same id done (Some x) log log' s f = ap (λ l. Some (lost x.call l)) (take_same log' log x.seen s f.0)
 
-pub client_looks : (p : ProfileName) (o : Shown) (id done parts amount seen n : ℕ) (stray : Option Stray) (log log' : List Entry) → IsClient p o id done parts amount seen stray log
-    → StartsWith log' log → ∥ Lawful p o log' ∥₁ → n ≡ length log' → IsClient p o id done parts amount n stray log'
-client_looks p o id done parts amount seen n stray log log' c s l e = record {
-  one_part = c.one_part;
-  counted = c.counted;
-  within = omega arith;
-  lawful = l;
-  has_done = let a = count_later id (take n log') (take seen log) (looks_later seen n log log' s e) in let b = c.has_done in omega arith;
-  fits = fits_later id done stray log log' s c.fits;
-  small = c.small;
-}
-
 -- an entry that gives no more to see
 pub client_same : (p : ProfileName) (o : Shown) (id done parts amount seen : ℕ) (stray : Option Stray) (log log' : List Entry) → IsClient p o id done parts amount seen stray log
     → StartsWith log' log → ∥ Lawful p o log' ∥₁ → IsClient p o id done parts amount seen stray log'
@@ -74,19 +62,6 @@ client_same p o id done parts amount seen stray log log' c s l = record {
 pub no_stray : (stray : Option Stray) (log : List Entry) → lost_of stray log ≡ None → stray ≡ None
 no_stray None log e = refl
 no_stray (Some s) log e = cc
-
--- the call was published: until it is found it counts as lost
-pub client_publishes : (p : ProfileName) (o : Shown) (id done parts amount amount' seen : ℕ) (stray : Option Stray) (log : List Entry) (call : Call) → IsClient p o id done parts amount seen stray log
-    → stray ≡ None → amount' ≡ amount + 1 → amount' < 2 ^ 32 → count_of id (take seen log) ≡ done → IsClient p o id done parts amount' seen (Some (record { call = call; seen = seen })) log
-client_publishes p o id done parts amount amount' seen stray log call c none e lt just = record {
-  one_part = c.one_part;
-  counted = let a = c.counted in let b : strays stray ≡ 0 = ap strays none in omega arith;
-  within = c.within;
-  lawful = c.lawful;
-  has_done = c.has_done;
-  fits = (c.within, just);
-  small = lt;
-}
 
 pub found_front : (id done seen : ℕ) (log log' : List Entry) (call : Call) (reply : Reply) → StartsWith log' log → seen ≤ length log → slice_get log' seen ≡ Some (entry id done call reply)
     → take (seen + 1) log' ≡ take seen log ++ entry id done call reply ∷ []

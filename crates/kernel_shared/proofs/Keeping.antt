@@ -3,7 +3,7 @@ use Rattle.std.proofs.Common.{◌≡◌, ◌≢◌, ℕ, List, [], ◌∷◌, �
 use Rattle.std.proofs.lemmas.List.{append-nil, take-append-le}
 use mathlib.Core.Option.{some}
 use lib.ListN.{get_elem?}
-use Rattle.atomic_table.proofs.Lists.{at_set, at_snoc}
+use Rattle.kernel_shared.proofs.Seats.{at_set, at_snoc}
 use Rattle.kernel_book.specs.declared.entry.Entry.{Entry}
 use Rattle.kernel_book.specs.Laws.{count_of}
 use Rattle.kernel_book.proofs.Grows.{count_append}
@@ -11,9 +11,6 @@ use Rattle.kernel_shared.specs.Fronts.{StartsWith, Keeps, Sees}
 
 pub starts_refl : (log : List Entry) → StartsWith log log
 starts_refl log = record { rest = []; is = sym (append-nil log) }
-
-pub starts_same : (log log' : List Entry) → log' ≡ log → StartsWith log' log
-starts_same log log' e = record { rest = []; is = e ∙ sym (append-nil log) }
 
 pub starts_nil : (log : List Entry) → StartsWith log []
 starts_nil log = record { rest = log; is = refl }
@@ -23,9 +20,6 @@ starts_snoc log e = record { rest = e ∷ []; is = refl }
 
 pub starts_trans : (c b a : List Entry) → StartsWith c b → StartsWith b a → StartsWith c a
 starts_trans c b a s t = record { rest = t.rest ++ s.rest; is = s.is ∙ (ap (λ l. l ++ s.rest) t.is ∙ append_assoc a t.rest s.rest) }
-
-pub starts_take : (log : List Entry) (n : ℕ) (rest : List Entry) → take n log ++ rest ≡ log → StartsWith log (take n log)
-starts_take log n rest e = record { rest = rest; is = sym e }
 
 -- what was within the first stays
 pub take_same : (log' log : List Entry) (n : ℕ) → StartsWith log' log → n ≤ length log → take n log' ≡ take n log
@@ -43,9 +37,6 @@ keeps_set log log' views seat w s h k j u e =
 
 pub keeps_snoc : (log : List Entry) (views : List (List Entry)) (w : List Entry) → Keeps log views → StartsWith log w → Keeps log (views ++ w ∷ [])
 keeps_snoc log views w h k j u e = ⊎_elim (h j u) (λ (same : w ≡ u). subst (λ (z : List Entry). StartsWith log z) same k) (at_snoc views w u j e)
-
-pub keeps_first : (log : List Entry) → Keeps log ([] ∷ [])
-keeps_first log = keeps_snoc log [] [] (λ j u e. cc) (starts_nil log)
 
 -- a look, or a publish
 pub turns : (log log' : List Entry) (views : List (List Entry)) (seat : ℕ) (v : List Entry) → StartsWith log' log → Keeps log views → get_elem? views seat ≡ some v

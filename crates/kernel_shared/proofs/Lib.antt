@@ -3,6 +3,7 @@ pub mod Numbered
 pub mod Lawfully
 pub mod Shows
 pub mod Taken
+pub mod Seats
 pub mod Keeping
 pub mod Publishing
 pub mod Clients

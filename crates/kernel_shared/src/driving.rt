@@ -16,8 +16,7 @@ use std::alloc::Global;
 use std::marker::PhantomData;
 use std::snapshot::Snapshot;
 use std::sync::Wait;
-use std::thread;
-use std::thread::{Promise, PromisedHandle, Scope, Threads};
+use std::thread::{self, Promise, PromisedHandle, Scope, Threads};
 
 /// What stands round each call of a drive.
 pub trait Gate {

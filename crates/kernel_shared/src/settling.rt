@@ -35,11 +35,7 @@ pub struct Unsettled<N: Naming, T: Volume<N>> {
 impl<N: Naming, T: Volume<N>> Unsettled<N, T> {
     /// Ends the shared kernel without its book. It takes no memory.
     pub fn give_up<R: Wait>(self, rt: &R) {
-        let Unsettled {
-            why: _,
-            shared,
-            clients: _,
-        } = self;
+        let Unsettled { shared, .. } = self;
         shared.give_up(rt);
     }
 }

@@ -13,7 +13,7 @@ use ipc_core::{LinkedWaiters, MakeWaiters, RowWaiters};
 use kernel_core::{BootPlan, Call, Kernel, Op, ThreadState};
 use outcome::Outcome;
 use reports::stored_outcome;
-use setup_read::{SetupFault, read_setup};
+use setup_format::{SetupFault, read_setup};
 use shared::{SharedOutcomes, shared_outcomes};
 use slot_core::{DerivationStore, LinkedStore, MakeStore, RowStore};
 use std::alloc::Global;
@@ -111,11 +111,7 @@ fn read(alloc: Global) -> Option<bool> {
 fn words(alloc: Global) -> Option<bool> {
     match line(alloc, &["sel4sim", "check", "setup.toml"]) {
         Ok(line) => Some(line.file == Some("setup.toml")),
-        Err(fault) => if fault.status() == 3 {
-            None
-        } else {
-            Some(false)
-        },
+        Err(fault) => (fault.status() != 3).then_some(false),
     }
 }
 

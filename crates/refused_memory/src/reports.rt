@@ -7,7 +7,8 @@ use crate::stored::{REPORT, SETUP};
 use cap_core::{ProfileName, Wide};
 use ipc_core::MakeWaiters;
 use kernel_core::Kernel;
-use setup_read::{Setup, read_setup, report};
+use setup_format::{Setup, read_setup};
+use setup_report::report;
 use slot_core::{DerivationStore, MakeStore};
 use std::alloc::{AllocError, Global};
 
