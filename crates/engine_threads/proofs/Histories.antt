@@ -28,7 +28,7 @@ pub record IsMade (ends : ℕ → ℕ → Type 0) (calls : List CallView) (limit
   pub within : t.done ≤ length (client_calls i calls)
   pub finished : length t.front < limit → (t.done ≡ length (client_calls i calls)) ⊎ ends i t.done
 
-or_map : {A B C D : Type 0} → (A → C) → (B → D) → A ⊎ B → C ⊎ D
+pub or_map : {A B C D : Type 0} → (A → C) → (B → D) → A ⊎ B → C ⊎ D
 or_map f g (inl a) = inl (f a)
 or_map f g (inr b) = inr (g b)
 

@@ -1,5 +1,5 @@
 -- A client's own calls among the first calls of a set-up.
-use Rattle.std.proofs.Common.{◌≡◌, ℕ, ◌+◌, ◌<◌, ◌==◌, true, false, cond, Bool, List, [], ◌∷◌, ◌++◌, filter, length, take, map, get_or, slice_get, option_map, Some, refl, ap, sym, ◌∙◌, arith, eq-eqb, ne_eqb}
+use Rattle.std.proofs.Common.{◌≡◌, ℕ, zero, suc, ◌+◌, ◌<◌, ◌==◌, true, false, cond, Bool, List, [], ◌∷◌, ◌++◌, drop, filter, length, take, map, get_or, slice_get, option_map, Some, refl, ap, sym, ◌∙◌, arith, eq-eqb, ne_eqb}
 use Rattle.std.proofs.lemmas.List.{append-nil, length-map, map-append}
 use Rattle.std.proofs.lemmas.List.Elements.{filter_more}
 use Rattle.std.proofs.lemmas.Option.{slice_get-map, get_or_from_slice_get}
@@ -54,3 +54,9 @@ own_kept client calls items own i who is lt from so other =
     let named : (v.0).client ≡ who = some_is _ _ (sym (ap (option_map (λ (c : CallView). c.client)) v.1) ∙ from) in
     let t : ((v.0).client == client) ≡ false = ap (λ k. k == client) named ∙ ne_eqb who client other in
     so ∙ sym (more client calls i v.0 within v.1 ∙ (ap (λ b. client_calls client (take i calls) ++ cond b ((v.0).call ∷ []) []) t ∙ append-nil (client_calls client (take i calls))))
+
+-- what stands at a place behind so many
+pub slice_get-drop : {X : Type 0} (n : ℕ) (xs : List X) (i : ℕ) → slice_get (drop n xs) i ≡ slice_get xs (n + i)
+slice_get-drop zero xs i = ap (slice_get xs) (let e : i ≡ 0 + i = omega arith in e)
+slice_get-drop (suc n) [] i = refl
+slice_get-drop (suc n) (x ∷ xs) i = slice_get-drop n xs i ∙ ap (slice_get (x ∷ xs)) (let e : suc (n + i) ≡ suc n + i = omega arith in e)

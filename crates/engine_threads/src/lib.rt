@@ -1,7 +1,9 @@
 //! The engine that lets the clients of a set-up share one kernel, each in a thread of its own.
 #![tactic(auto)]
 
+mod beginning;
 mod client_calls;
+mod numbered;
 mod open_gate;
 mod returning;
 mod sharing;

@@ -1,15 +1,14 @@
 //! A shared run of a set-up: its clients make their calls of one kernel, each in a thread of its own.
-ghost use Rattle.std.specs.Prelude.{◌≡◌, ◌↔◌, All, Err, IfOk, IfErr, map};
-ghost use Rattle.abstract_kernel.specs.Boot.{boot};
+ghost use Rattle.std.specs.Prelude.{◌≡◌, ◌≤◌, ◌↔◌, ◌-◌, All, Err, IfOk, IfErr, map, drop, length};
 ghost use Rattle.engine_core.specs.declared.fault.RunFault.TheVariants as Told;
 ghost use Rattle.kernel_shared.specs.declared.start.StartFault.TheVariants as Start;
 ghost use Rattle.kernel_shared.specs.declared.driving.DriveFault.TheVariants as Drive;
 ghost use Rattle.kernel_shared.specs.declared.settling.SettleFault.TheVariants as Settle;
 ghost use Rattle.engine_threads.specs.declared.returning.ReturnFault.TheVariants as Returns;
-ghost use Rattle.abstract_kernel.specs.Plan.{IsPlan};
+ghost use Rattle.abstract_kernel.specs.Reached.{IsReached};
 ghost use Rattle.abstract_kernel.specs.State.{shown};
+ghost use Rattle.engine_threads.specs.Private.Begun.{IsRunFrom};
 ghost use Rattle.engine_threads.specs.Private.Settled.{AreSettled, HadMemory, IsFinished, IsOwnFault};
-ghost use Rattle.engine_threads.specs.SharedRuns.{IsSharedRun};
 
 use crate::client_calls::calls_of_clients;
 use crate::returning::{ReturnFault, clients_after};
@@ -100,8 +99,8 @@ fn settle_after<N: Naming, P: Profile, S: MakeStore<P>, W: MakeWaiters<P>, R: Wa
     }
 }
 
-/// Boots a kernel from the set-up's plan, shares it among the set-up's clients, and lets each make its calls, in order,
-/// in a thread of its own.
+/// Shares a kernel among the set-up's clients, and lets each make its calls behind the first `made` of the set-up, in order, in a
+/// thread of its own.
 ///
 /// # Errors
 /// `Memory` where memory was wanted and not there, by any client too, whatever stopped the others. `Thread` where a thread
@@ -118,32 +117,33 @@ pub fn shared_run<
     alloc: Global,
     blank: Blank,
     setup: &Setup,
+    kernel: Kernel<P, S, W>,
+    made: usize,
     gate: &G,
 ) -> Result<Book<N, P, S, W>, RunFault>
     requires name { blank.name ≡ N.name }
     requires parts { blank.parts ≡ N.parts }
     requires clients { blank.parts ≡ setup.now.clients }
-    requires plan { IsPlan P.profile setup.now.plan }
     requires profile { N.profile ≡ P.profile }
-    requires start { N.start ≡ boot P.profile setup.now.plan }
-    requires opening { N.opening ≡ shown (boot P.profile setup.now.plan) }
-    requires limit { N.limit ≡ setup.now.limit }
-    ensures run { IfOk result (λ b. IsSharedRun G.ends P.profile setup.now b.history.items) }
+    requires opening { kernel ≡ N.opening }
+    requires reached { IsReached P.profile N.start }
+    requires shows { N.opening ≡ shown N.start }
+    requires within { (made ≤ length setup.now.calls) × (made ≤ setup.now.limit) }
+    requires limit { N.limit ≡ setup.now.limit - made }
+    ensures run { IfOk result (λ b. IsRunFrom G.ends P.profile N.start (drop made setup.now.calls) N.limit b.history.items) }
     ensures fault { IfErr result IsOwnFault }
 {
-    let Ok(kernel) = Kernel::<P, S, W>::boot(alloc, setup.plan()) else {
+    let Ok(lists) = calls_of_clients(alloc, setup, made) else {
         return Err(RunFault::Memory);
     };
-    let Ok(lists) = calls_of_clients(alloc, setup) else {
-        return Err(RunFault::Memory);
-    };
+    let limit = setup.limit() - made as u32;
     let (shared, clients) = match SharedKernel::<N, P, S, W>::start(
         rt,
         alloc,
         blank,
         kernel,
         setup.clients(),
-        setup.limit(),
+        limit,
     ) {
         Ok(started) => started,
         Err(fault) => return Err(start_fault(fault)),

@@ -25,6 +25,14 @@ const RECEIVE: &str =
 const TWICE_EACH: &str =
     "[[call]]\nthread = 2048\nop = \"nbsend\"\ncap = 4\n[[call]]\nthread = 2048\nop = \"nbsend\"\ncap = 4\n[[call]]\nthread = 4096\nop = \"nbsend\"\ncap = 4\nclient = 1\n[[call]]\nthread = 4096\nop = \"nbsend\"\ncap = 4\nclient = 1\n";
 
+/// The lines of these calls where they are made in the order of the set-up.
+const IN_ORDER: &str =
+    "1 client 0 number 0: 2048 nbsend: dropped\n2 client 0 number 1: 2048 nbsend: dropped\n3 client 1 number 0: 4096 nbsend: dropped\n4 client 1 number 1: 4096 nbsend: dropped\nthread ";
+
+/// Those of the first three alone.
+const THREE_IN_ORDER: &str =
+    "1 client 0 number 0: 2048 nbsend: dropped\n2 client 0 number 1: 2048 nbsend: dropped\n3 client 1 number 0: 4096 nbsend: dropped\nthread ";
+
 /// A gate that ends each client after its first call.
 struct FirstCallOnly;
 
@@ -47,17 +55,19 @@ enum Gates {
     None,
 }
 
-/// What is wanted of a text: that it is these parts, or that it ends so.
+/// What is wanted of a text: that it is these parts, or that it begins and ends so.
 #[derive(Clone, Copy)]
 enum Wanted {
     Whole([&'static str; 3]),
-    End(&'static str),
+    Ends([&'static str; 2]),
 }
 
-/// A set-up in parts, with what is written for it and the exit status. The name says what it shows.
+/// A set-up in parts, of which so many first calls are made first, with what is written for it and the exit status. The name says
+/// what it shows.
 struct Case {
     name: &'static str,
     setup: [&'static str; 4],
+    first: usize,
     gates: Gates,
     wanted: Wanted,
     status: u8,
@@ -67,6 +77,7 @@ const CASES: &[Case] = &[
     Case {
         name: "one client makes its calls in order",
         setup: [BASE, UNTYPED, SEND, RECEIVE],
+        first: 0,
         gates: Gates::Open(1),
         wanted: Wanted::Whole([
             "1 client 0 number 0: 2048 send: waiting\n2 client 0 number 1: 4096 recv: delivered 6144 from 2048 to 4096 badge 0 label 7 words 1 2\nthread 2048 ready\nthread 4096 ready inbox badge 0 label 7 words 1 2\nendpoint 6144 idle\n",
@@ -94,29 +105,33 @@ const CASES: &[Case] = &[
     Case {
         name: "two clients come to the limit",
         setup: [BASE, "clients = 2\nlimit = 3\n", UNTYPED, TWICE_EACH],
+        first: 0,
         gates: Gates::Open(2),
-        wanted: Wanted::End("\nentries 3 of 4\n"),
+        wanted: Wanted::Ends(["", "\nentries 3 of 4\n"]),
         status: 1,
     },
     Case {
         name: "two clients make all their calls",
         setup: [BASE, "clients = 2\n", UNTYPED, TWICE_EACH],
+        first: 0,
         gates: Gates::Open(2),
-        wanted: Wanted::End("\nentries 4 of 4\n"),
+        wanted: Wanted::Ends(["", "\nentries 4 of 4\n"]),
         status: 0,
     },
     Case {
         name: "clients that the gate ends make no more calls",
         setup: [BASE, "clients = 2\n", UNTYPED, TWICE_EACH],
+        first: 0,
         gates: Gates::FirstCall,
-        wanted: Wanted::End("\nentries 2 of 4\n"),
+        wanted: Wanted::Ends(["", "\nentries 2 of 4\n"]),
         status: 1,
     },
     Case {
         name: "clients make all their calls where no gate stands",
         setup: [BASE, "clients = 2\n", "", TWICE_EACH],
+        first: 0,
         gates: Gates::None,
-        wanted: Wanted::End("\nentries 4 of 4\n"),
+        wanted: Wanted::Ends(["", "\nentries 4 of 4\n"]),
         status: 0,
     },
     Case {
@@ -138,6 +153,7 @@ const CASES: &[Case] = &[
     Case {
         name: "a refused set-up has one line",
         setup: [BASE, "limit = 0\n", UNTYPED, SEND],
+        first: 0,
         gates: Gates::Open(1),
         wanted: Wanted::Whole(["set-up refused 204 at top key limit\n", "", ""]),
         status: 2,
@@ -145,37 +161,65 @@ const CASES: &[Case] = &[
     Case {
         name: "an empty set-up has one line",
         setup: ["", "", "", ""],
+        first: 0,
         gates: Gates::Open(1),
         wanted: Wanted::Whole(["set-up refused 202 at top key format\n", "", ""]),
         status: 2,
     },
+    Case {
+        name: "the first calls are made in the order of the set-up",
+        setup: [BASE, "clients = 2\n", UNTYPED, TWICE_EACH],
+        first: 3,
+        gates: Gates::Open(2),
+        wanted: Wanted::Ends([IN_ORDER, "\nentries 4 of 4\n"]),
+        status: 0,
+    },
+    Case {
+        name: "all calls are made first, where more are asked for than there are",
+        setup: [BASE, "clients = 2\n", UNTYPED, TWICE_EACH],
+        first: 9,
+        gates: Gates::Open(2),
+        wanted: Wanted::Ends([IN_ORDER, "\nentries 4 of 4\n"]),
+        status: 0,
+    },
+    Case {
+        name: "no more first calls than the limit",
+        setup: [BASE, "clients = 2\nlimit = 3\n", UNTYPED, TWICE_EACH],
+        first: 9,
+        gates: Gates::Open(2),
+        wanted: Wanted::Ends([THREE_IN_ORDER, "\nentries 3 of 4\n"]),
+        status: 1,
+    },
 ];
 
-/// What is written for a set-up, and the exit status.
+/// What is written for a case's set-up, and the exit status.
 fn run<R: Threads + Wait + Sync>(
     rt: &R,
     alloc: Global,
-    setup: &[u8],
-    gates: Gates,
-) -> (Vec<u8>, u8) {
+    case: &Case,
+) -> Result<(Vec<u8>, u8), AllocError> {
+    let (setup, first) = (case.setup.concat(alloc)?, case.first);
     let mut out = Vec::new(alloc);
-    let mut source = ReaderSource::new(setup);
+    let mut source = ReaderSource::new(setup.as_bytes());
     let mut sink = WriterSink::new(&mut out);
-    let answer = match gates {
+    let answer = match case.gates {
         Gates::Open(clients) => {
-            threads_run(rt, alloc, &mut source, &mut sink, &OpenGate::among(clients))
+            let gate = OpenGate::among(clients);
+            threads_run(rt, alloc, first, &mut source, &mut sink, &gate)
         }
-        Gates::FirstCall => threads_run(rt, alloc, &mut source, &mut sink, &FirstCallOnly),
-        Gates::None => threads_run_open(rt, alloc, &mut source, &mut sink),
+        Gates::FirstCall => threads_run(rt, alloc, first, &mut source, &mut sink, &FirstCallOnly),
+        Gates::None => threads_run_open(rt, alloc, first, &mut source, &mut sink),
     };
-    (out, status_of(&answer))
+    Ok((out, status_of(&answer)))
 }
 
 /// Whether a text is what is wanted.
 fn is_wanted(alloc: Global, text: &[u8], wanted: Wanted) -> Result<bool, AllocError> {
     match wanted {
         Wanted::Whole(parts) => Ok(text == parts.concat(alloc)?.as_bytes()),
-        Wanted::End(end) => Ok(text.ends_with(end.as_bytes())),
+        Wanted::Ends([begin, end]) => {
+            Ok(text.starts_with(begin.as_bytes()) && text.ends_with(end.as_bytes()))
+        }
     }
 }
 
@@ -185,8 +229,7 @@ fn comes_out<R: Threads + Wait + Sync>(
     alloc: Global,
     case: &Case,
 ) -> Result<bool, AllocError> {
-    let setup = case.setup.concat(alloc)?;
-    let (text, status) = run(rt, alloc, setup.as_bytes(), case.gates);
+    let (text, status) = run(rt, alloc, case)?;
     Ok(status == case.status && is_wanted(alloc, text.as_slice(), case.wanted)?)
 }
 
