@@ -18,6 +18,7 @@ from measures import counts_of_functions, instructions, least_seconds, output, p
 WHOLE = ["engine::run::counted_text_of", "engine::run::text_of", "engine::checking::CheckerEngine::make"]
 BOOT = "engine::run::boot"
 AUDITS = ["engine_audit::auditing::Auditor::text_of", "engine_audit::auditing::AuditorEngine::make"]
+EVERS = ["engine_ever::telling::Teller::text_of", "engine_ever::telling::TellerEngine::make"]
 READ = "setup_format::read::read_named_setup"
 REVOKES = "setup_audit::revokes::add_revokes"
 
@@ -46,21 +47,25 @@ def plain_parts(command):
     return {"instructions": counts[None], **parts}
 
 
-def audit_parts(command, calls):
-    """The parts of an audit, where `calls` has those of `check` for the same set-up: the calls are the same. Reporting is
-    what threads name and who can send to whom; revoking what is told of revokes."""
-    counts = counts_of_functions(command)
-    made = next(counts[name] for name in AUDITS if name in counts)
+def told_parts(counts, names, calls):
+    """The parts of a run whose text one of these functions makes, where `calls` has those of `check` for the same set-up: the
+    calls are the same. Reporting is all that is told."""
+    made = next(counts[name] for name in names if name in counts)
     parts = {"reading": counts[READ], "booting": calls["booting"], "running": calls["running"]}
-    revoking = counts[REVOKES]
-    return {"instructions": counts[None], **parts, "reporting": made - sum(parts.values()) - revoking}, revoking
+    return {"instructions": counts[None], **parts, "reporting": made - sum(parts.values())}
 
 
 def audit_rows(proved, path, size):
-    """An audit of a memory, and what it tells of revokes alone."""
-    parts, revoking = audit_parts([proved, "audit", path], proved_parts([proved, "check", path]))
+    """An audit of a memory, where reporting is what threads name and who can send to whom; what it tells of revokes alone;
+    and what threads can never get there."""
+    calls = proved_parts([proved, "check", path])
+    counts = counts_of_functions([proved, "audit", path])
+    parts, revoking = told_parts(counts, AUDITS, calls), counts[REVOKES]
+    parts["reporting"] -= revoking
     yield {"subject": "audits", "size": size, "program": "proved", **parts}
     yield {"subject": "audits, revokes", "size": size, "program": "proved", "reporting": revoking}
+    ever = told_parts(counts_of_functions([proved, "audit", "--ever", path]), EVERS, calls)
+    yield {"subject": "audits, ever", "size": size, "program": "proved", **ever}
 
 
 def whole(command):

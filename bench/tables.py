@@ -138,7 +138,11 @@ def explored(figures):
     return table(head, lines)
 
 
-AUDITS = {"audits": "what threads name, and who can send to whom", "audits, revokes": "what each revoke would do"}
+AUDITS = {
+    "audits": "what threads name, and who can send to whom",
+    "audits, revokes": "what each revoke would do",
+    "audits, ever": "what threads can never get, by `--ever`",
+}
 
 
 def audits(figures):
@@ -146,6 +150,8 @@ def audits(figures):
     lines = []
     for subject, name in AUDITS.items():
         sizes = figures.sizes.get(subject, [])
+        if not sizes:
+            continue
         pairs = [(figures.of(subject, size, "proved", "reporting"), figures.of("memories", size, "proved", "reporting")) for size in sizes]
         lines.append([name, ", ".join(ratio(*pair) for pair in pairs)])
     return table(["audit of a full memory, ratio of instructions to the report", "at the four sizes"], lines)
