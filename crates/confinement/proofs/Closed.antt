@@ -46,7 +46,7 @@ module _ (test : Entry → Bool) where
       ∙ ap (list_all (λ (x : Entry × Option ℕ). test x.0)) told
       ∙ all_parented None f
 
-shown_derivations : (A : State) → (shown A).derivations ≡ A.derivations
+pub shown_derivations : (A : State) → (shown A).derivations ≡ A.derivations
 unfolding shown
 shown_derivations A = refl
 

@@ -5,6 +5,13 @@ pub mod Changes
 pub mod Spared
 pub mod Runs
 pub mod Delivered
+pub mod Lists
+pub mod Joining
+pub mod Growing
+pub mod Taken
+pub mod Turns
+pub mod Arranging
 pub mod Tested
 pub mod Closed
 pub mod Rising
+pub mod Bounded

@@ -25,38 +25,9 @@ use Rattle.confinement.specs.declared.listed.PartMemory.{PartMemory}
 use Rattle.confinement.specs.declared.listed.PartUse.{PartUse}
 use Rattle.confinement.specs.Parts.{IsOwned, IsCovered, IsWithin, IsClosed}
 use Rattle.confinement.specs.Order.{AreInParts}
-use Rattle.confinement.specs.Listed.{lies_in, part_at, use_of, parts_listed, spares, has_all, owns, owns_to, owns_range, allows, is_within, stands_in, entry_stands, whole_memory}
-
--- the first stretch that has an address is of the part, where each spares these addresses or is of it, and one has them
-owned_at : (part first last address : ℕ) (memory : List PartMemory) → first ≤ address → address ≤ last →
-    list_all (spares part first last) memory ≡ true → list_any (has_all part first last) memory ≡ true →
-    part_at memory address ≡ Some part
-owned_at part first last address [] low high all any = absurd (false≢true any)
-owned_at part first last address (m ∷ ms) low high all any =
-    let both = both_true (spares part first last m) (list_all (spares part first last) ms) all in
-    (elim (lies_in m address) as (λ b. lies_in m address ≡ b → option_map (λ (x : PartMemory). x.part) (cond b (Some m) (find (λ (x : PartMemory). lies_in x address) ms)) ≡ Some part) [
-      | true ↦ λ here. ap Some (here_is here (either_true (m.part == part) _ both.0))
-      | false ↦ λ other. owned_at part first last address ms low high both.1 (rest other (either_true (has_all part first last m) _ any))
-    ]) refl
-  where
-    here_is : lies_in m address ≡ true → (m.part == part ≡ true) ⊎ ((nat_lt m.last first || nat_lt last m.first) ≡ true) → m.part ≡ part
-    here_is here (inl same) = eqb-true m.part part same
-    here_is here (inr apart) = absurd (grind (arith, nat_tests, here, apart, low, high))
-
-    rest : lies_in m address ≡ false → (has_all part first last m ≡ true) ⊎ (list_any (has_all part first last) ms ≡ true) →
-        list_any (has_all part first last) ms ≡ true
-    rest other (inl here) = absurd (grind (arith, nat_tests, other, here, low, high))
-    rest other (inr more) = more
-
-owns_last : (memory : List PartMemory) (part first last : ℕ) (t : Bool) → owns_to memory part first (cond t (Some last) None) ≡ true →
-    owns memory part first last ≡ true
-owns_last memory part first last true h = h
-owns_last memory part first last false h = absurd (false≢true h)
-
-in_mapped : {A B : Type 0} (w : A → B) (a : A) (l : List A) → In a l → In (w a) (map w l)
-in_mapped w a [] i = i
-in_mapped w a (x ∷ l) (inl same) = inl (ap w same)
-in_mapped w a (x ∷ l) (inr more) = inr (in_mapped w a l more)
+use Rattle.confinement.specs.Listed.{lies_in, part_at, use_of, parts_listed, spares, owns_range, allows, is_within, stands_in, entry_stands, whole_memory}
+use Rattle.confinement.proofs.Lists.{in_mapped}
+use Rattle.confinement.proofs.Growing.{owned_at, owns_last}
 
 module _ (p : ProfileName) (memory : List PartMemory) (uses : List PartUse) (part : ℕ) where
   range_owned : (cap : Cap) → owns_range memory part (record { first = base_of cap; bits = bits_of p cap }) ≡ true →

@@ -1,52 +1,103 @@
 //! The search for the least parts of some threads: from their control blocks on, what the slots of a part name is taken in.
+ghost use Rattle.std.specs.Prelude.{◌≡◌, ◌&&◌, ◌==◌, not, true, map, find, option_map, IfOk};
+ghost use Rattle.slot_core.specs.Calls.{derivation_view};
+ghost use Rattle.confinement.specs.Listed.{last_in};
+ghost use Rattle.confinement.specs.declared.listed.PartMemory.{PartMemory};
+ghost use Rattle.confinement.specs.Private.Search.{AreAround, AreFound, AreJoined, AreTaken, IsCapTaken, IsRangeTaken, IsSlotTaken, entries_of, overlaps};
+ghost use Rattle.confinement.specs.Private.Search as spec;
+
 use crate::listed::{PartMemory, PartUse, is_within, last_of, part_at};
 use crate::parts::Parts;
 use cap_core::{Cap, Profile, Range, range_of};
 use slot_core::Derivation;
 use std::alloc::{AllocError, Global};
 
-fn relabel_memory(memory: &mut [PartMemory], from: u64, to: u64) {
-    for stretch in memory.iter_mut() {
-        if stretch.part == from {
-            stretch.part = to;
-        }
+fn renamed(from: u64, to: u64, part: u64) -> u64
+    ensures { result ≡ spec.renamed from to part }
+{
+    if part == from { to } else { part }
+}
+
+fn memory_renamed(memory: PartMemory, from: u64, to: u64) -> PartMemory
+    ensures { result ≡ spec.memory_in (spec.renamed from to) memory }
+{
+    PartMemory {
+        part: renamed(from, to, memory.part),
+        first: memory.first,
+        last: memory.last,
     }
 }
 
-fn relabel_uses(uses: &mut [PartUse], from: u64, to: u64) {
-    for allowed in uses.iter_mut() {
-        if allowed.part == from {
-            allowed.part = to;
-        }
+fn use_renamed(allowed: PartUse, from: u64, to: u64) -> PartUse
+    ensures { result ≡ spec.use_in (spec.renamed from to) allowed }
+{
+    PartUse {
+        part: renamed(from, to, allowed.part),
+        endpoint: allowed.endpoint,
+        badge: allowed.badge,
+        rights: allowed.rights,
     }
+}
+
+fn relabel_memory(memory: &mut [PartMemory], from: u64, to: u64)
+    ensures { memory.new ≡ map (spec.memory_in (spec.renamed from to)) memory.old }
+{
+    for stretch in memory.iter_mut() {
+        *stretch = memory_renamed(*stretch, from, to);
+    }
+}
+
+fn relabel_uses(uses: &mut [PartUse], from: u64, to: u64)
+    ensures { uses.new ≡ map (spec.use_in (spec.renamed from to)) uses.old }
+{
+    for allowed in uses.iter_mut() {
+        *allowed = use_renamed(*allowed, from, to);
+    }
+}
+
+fn is_overlapped(stretch: &PartMemory, part: u64, first: u64, last: u64) -> bool
+    ensures { result ≡ not (stretch.now.part == part) && overlaps first last stretch.now }
+{
+    stretch.part != part && stretch.first <= last && first <= stretch.last
 }
 
 /// Another part that has one of these addresses.
-fn overlapped(memory: &[PartMemory], part: u64, first: u64, last: u64) -> Option<u64> {
+fn overlapped(memory: &[PartMemory], part: u64, first: u64, last: u64) -> Option<u64>
+    ensures { result ≡ option_map (λ (m : PartMemory). m.part) (find (λ (m : PartMemory). not (m.part == part) && overlaps first last m) memory.now) }
+{
     let stretch = memory
         .iter()
-        .find(|m| m.part != part && m.first <= last && first <= m.last)?;
+        .find(|m| is_overlapped(m, part, first, last))?;
     Some(stretch.part)
 }
 
+/// Makes the parts that have one of these addresses one with a part.
+fn join_overlapped(parts: &mut Parts, part: u64, first: u64, last: u64)
+    ensures { AreJoined part first last parts.old.memory.items parts.old.uses.items parts.new.memory.items parts.new.uses.items }
+{
+    while let Some(other) = overlapped(parts.memory.as_slice(), part, first, last) {
+        relabel_memory(parts.memory.as_mut_slice(), other, part);
+        relabel_uses(parts.uses.as_mut_slice(), other, part);
+    }
+}
+
 /// Takes a range into a part. The parts with which it has an address in common become that part.
-fn take_range(parts: &mut Parts, part: u64, range: Range) -> Result<(), AllocError> {
+fn take_range(parts: &mut Parts, part: u64, range: Range) -> Result<(), AllocError>
+    ensures { IfOk result (λ _. IsRangeTaken part range parts.old.memory.items parts.old.uses.items parts.new.memory.items parts.new.uses.items) }
+{
     let Some(last) = last_of(range) else {
         return Ok(());
     };
     let first = range.first;
-    for _ in 0..parts.memory.len() {
-        if let Some(other) = overlapped(parts.memory.as_slice(), part, first, last) {
-            relabel_memory(parts.memory.as_mut_slice(), other, part);
-            relabel_uses(parts.uses.as_mut_slice(), other, part);
-        }
-    }
+    join_overlapped(parts, part, first, last);
     parts.memory.push(PartMemory { part, first, last })?;
     Ok(())
 }
 
 /// Takes what a capability names into a part: an endpoint as one that it may use, all else as its memory.
-fn take_cap<P: Profile>(parts: &mut Parts, part: u64, cap: Cap) -> Result<(), AllocError> {
+fn take_cap<P: Profile>(parts: &mut Parts, part: u64, cap: Cap) -> Result<(), AllocError>
+    ensures { IfOk result (λ _. IsCapTaken P.profile part cap parts.old.memory.items parts.old.uses.items parts.new.memory.items parts.new.uses.items) }
+{
     if let Cap::Endpoint {
         base,
         badge,
@@ -68,7 +119,9 @@ fn take_cap<P: Profile>(parts: &mut Parts, part: u64, cap: Cap) -> Result<(), Al
 }
 
 /// Takes in what a full slot of a part names, unless it may stand there: whether something was taken in.
-fn take_slot<P: Profile>(parts: &mut Parts, derivation: &Derivation) -> Result<bool, AllocError> {
+fn take_slot<P: Profile>(parts: &mut Parts, derivation: &Derivation) -> Result<bool, AllocError>
+    ensures { IfOk result (λ taken. IsSlotTaken P.profile (derivation_view P.profile derivation.now).0 parts.old.memory.items parts.old.uses.items parts.new.memory.items parts.new.uses.items taken) }
+{
     let Some(part) = part_at(parts.memory.as_slice(), derivation.slot.address::<P>()) else {
         return Ok(false);
     };
@@ -83,7 +136,9 @@ fn take_slot<P: Profile>(parts: &mut Parts, derivation: &Derivation) -> Result<b
 fn take_slots<P: Profile>(
     parts: &mut Parts,
     derivations: &[Derivation],
-) -> Result<bool, AllocError> {
+) -> Result<bool, AllocError>
+    ensures { IfOk result (λ taken. AreTaken P.profile (entries_of P.profile derivations.now) parts.old.memory.items parts.old.uses.items parts.new.memory.items parts.new.uses.items taken) }
+{
     let mut taken = false;
     for derivation in derivations {
         if take_slot::<P>(parts, derivation)? {
@@ -94,7 +149,9 @@ fn take_slots<P: Profile>(
 }
 
 /// A part for each thread, of its control block.
-fn thread_parts<P: Profile>(alloc: Global, threads: &[u64]) -> Result<Parts, AllocError> {
+fn thread_parts<P: Profile>(alloc: Global, threads: &[u64]) -> Result<Parts, AllocError>
+    ensures { IfOk result (λ parts. AreAround P.profile threads.now parts.memory.items parts.uses.items) }
+{
     let mut parts = Parts {
         memory: Vec::new(alloc),
         uses: Vec::new(alloc),
@@ -119,7 +176,9 @@ pub fn least_parts<P: Profile>(
     alloc: Global,
     derivations: &[Derivation],
     threads: &[u64],
-) -> Result<Parts, AllocError> {
+) -> Result<Parts, AllocError>
+    ensures { IfOk result (λ parts. AreFound P.profile (entries_of P.profile derivations.now) threads.now parts.memory.items parts.uses.items) }
+{
     let mut parts = thread_parts::<P>(alloc, threads)?;
     for _ in 0..derivations.len() {
         if !take_slots::<P>(&mut parts, derivations)? {

@@ -5,6 +5,7 @@ ghost use Rattle.slot_core.specs.Calls.{derivation_view};
 ghost use Rattle.confinement.specs.Listed.{entry_stands, are_closed_in, whole_memory};
 ghost use Rattle.confinement.specs.Order.{AreInOrder, AreInParts};
 ghost use Rattle.confinement.specs.Ever.{AreConfinedEver};
+ghost use Rattle.confinement.specs.Least.{AreLeast};
 
 use crate::arranged::arranged;
 use crate::least::least_parts;
@@ -118,6 +119,7 @@ pub fn parts_around<P: Profile, S: DerivationStore<P> + Drop, W: Waiters<P> + Dr
     ensures ever { IfOk result (λ parts. AreConfinedEver P.profile parts.memory.items parts.uses.items kernel.now) }
     ensures order { IfOk result (λ parts. AreInOrder P.profile parts.memory.items parts.uses.items) }
     ensures threads { IfOk result (λ parts. AreInParts parts.memory.items threads.now) }
+    ensures least { IfOk result (λ parts. (parts.memory.items ≡ whole_memory → ⊥) → AreLeast P.profile threads.now parts.memory.items parts.uses.items kernel.now) }
 {
     let derivations = kernel.derivations(alloc)?;
     let found = least_parts::<P>(alloc, derivations.as_slice(), threads)?;

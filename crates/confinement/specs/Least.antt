@@ -1,0 +1,32 @@
+-- The least parts around threads: those that lie in the parts of every closed family around these threads.
+use Rattle.std.specs.Prelude.{◌≡◌, ℕ, Some, List}
+use Rattle.std.specs.List.{Contains}
+use Rattle.cap_core.specs.declared.profile.ProfileName.{ProfileName}
+use Rattle.cap_core.specs.declared.capability.Cap.TheVariants.{Endpoint, Tcb}
+use Rattle.abstract_kernel.specs.Shown.{Shown}
+use Rattle.abstract_kernel.specs.State.{State, shown}
+use Rattle.abstract_kernel.specs.Reached.{IsReached}
+use Rattle.confinement.specs.declared.listed.PartMemory.{PartMemory}
+use Rattle.confinement.specs.declared.listed.PartUse.{PartUse}
+use Rattle.confinement.specs.Parts.{Use, Parts, IsOwned, IsWithin}
+use Rattle.confinement.specs.Listed.{parts_listed}
+use Rattle.confinement.specs.Laws.{AreClosed}
+
+-- parts that are closed in a state, with the whole control block of each of these threads in one of them
+pub record AreClosedAround (p : ProfileName) (threads : List ℕ) (A : State) (others : Parts) : Type 0 where
+  pub closed : AreClosed p others A
+  pub around : (thread : ℕ) → Contains threads thread → (j : ℕ) × IsOwned p others j (Tcb thread)
+
+-- a part lies in another: all its memory is the other's, and what it may use may stand in the other
+pub record LiesIn (p : ProfileName) (parts : Parts) (i : ℕ) (others : Parts) (j : ℕ) : Type 0 where
+  pub memory : (address : ℕ) → parts.part_of address ≡ Some i → others.part_of address ≡ Some j
+  pub uses : (u : Use) → Contains (parts.uses i) u → IsWithin p others j (Endpoint u.endpoint u.badge u.rights)
+
+-- each part lies in one of the others
+abbrev pub LieIn : ProfileName → Parts → Parts → Type 0
+LieIn p parts others = (i : ℕ) → (j : ℕ) × LiesIn p parts i others j
+
+-- the parts lie in all parts that are closed around these threads, in each state that is shown
+abbrev pub AreLeast : ProfileName → List ℕ → List PartMemory → List PartUse → Shown → Type 0
+AreLeast p threads memory uses v =
+    (A : State) → IsReached p A → v ≡ shown A → (others : Parts) → AreClosedAround p threads A others → LieIn p (parts_listed memory uses) others

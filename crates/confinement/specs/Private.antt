@@ -1,0 +1,3 @@
+-- These serve the proofs of private functions, no public contract cites them.
+pub mod Search
+pub mod Arranging
