@@ -15,14 +15,23 @@ use std::fmt;
 /// What a name has.
 pub const A_NAME: &str = "1 to 40 of the letters a to z, the digits and _";
 
-/// What a word of a call accepts.
+/// What a word of a call accepts, but for its bound.
 const A_WORD: &str =
-    "a number from 0 on, a text of 0x and 1 to 16 hexadecimal digits, or in format 2 a text of @ and a name from names; \
-     in a narrow set-up it is below 2^32";
+    "a number from 0 on, a text of 0x and 1 to 16 hexadecimal digits, or in format 2 a text of @ and a name from names";
 
-/// What a word that takes no name accepts.
-pub const A_NUMBER: &str =
-    "a number from 0 on, or a text of 0x and 1 to 16 hexadecimal digits; in a narrow set-up it is below 2^32";
+/// What a word that takes no name accepts, but for its bound.
+pub const A_NUMBER: &str = "a number from 0 on, or a text of 0x and 1 to 16 hexadecimal digits";
+
+/// The kinds of the objects that a retype makes.
+const KINDS: &str = "0 (untyped), 1 (thread control block), 2 (endpoint) and 4 (CNode)";
+
+/// The bound of a word, where the words of the machine are shorter than a set-up's.
+pub fn word_bound(profile: ProfileName) -> &'static str {
+    match profile {
+        ProfileName::Wide => "",
+        ProfileName::Narrow => "; in a narrow set-up it is below 2^32",
+    }
+}
 
 /// What a key of a document accepts, or an element of the array there.
 #[derive(Clone, Copy)]
@@ -31,14 +40,15 @@ pub struct Accepted<'a>(pub Spot<'a>);
 impl fmt::Display for Accepted<'_> {
     fn fmt<W: fmt::Write>(&self, f: &mut fmt::Formatter<W>) -> fmt::Result {
         let Accepted(spot) = *self;
-        let (document, key) = (spot.document, spot.key);
+        let (key, profile) = (spot.key, spot.document.profile());
+        let bound = word_bound(profile);
         match spot.place {
-            _ if spot.element.is_some() => write!(f, "{A_WORD}"),
-            Place::Top => write_in_top(f, document.formats, key),
-            Place::Untyped(_) if key == "bits" => write_bits(f, document.profile()),
-            Place::Untyped(_) => write!(f, "{A_NUMBER}"),
+            _ if spot.element.is_some() => write!(f, "{A_WORD}{bound}"),
+            Place::Top => write_in_top(f, spot.document.formats, key),
+            Place::Untyped(_) if key == "bits" => write_bits(f, profile),
+            Place::Untyped(_) => write!(f, "{A_NUMBER}{bound}"),
             Place::Call(_) if key == "op" => write_operations(f),
-            Place::Call(_) => write_in_call(f, key),
+            Place::Call(_) => write_in_call(f, profile, key),
         }
     }
 }
@@ -87,17 +97,19 @@ fn write_operations<W: fmt::Write>(f: &mut fmt::Formatter<W>) -> fmt::Result {
 
 /// Writes what a key of a call accepts, besides its operation. One that is not named here holds a word.
 #[rattlefmt::skip]
-fn write_in_call<W: fmt::Write>(f: &mut fmt::Formatter<W>, key: &str) -> fmt::Result {
+fn write_in_call<W: fmt::Write>(f: &mut fmt::Formatter<W>, profile: ProfileName, key: &str) -> fmt::Result {
+    let bound = word_bound(profile);
+    let label_bits = match profile {
+        ProfileName::Wide => Wide::LABEL_BITS,
+        ProfileName::Narrow => Narrow::LABEL_BITS,
+    };
     match key {
         "client" => write!(f, "a number from 0 on and below the number of clients"),
         "expect" => write!(f, "a text of 1 to {MAX_EXPECT_BYTES} characters, each from a space to ~"),
-        "label" => {
-            let (wide, narrow) = (Wide::LABEL_BITS, Narrow::LABEL_BITS);
-            write!(f, "a number from 0 on, or a text of 0x and 1 to 16 hexadecimal digits, ")?;
-            write!(f, "below 2^{wide}, or in a narrow set-up below 2^{narrow}")
-        }
+        "kind" => write!(f, "{A_WORD}{bound}; the kinds are {KINDS}"),
+        "label" => write!(f, "{A_NUMBER}, below 2^{label_bits}"),
         "rights" => write!(f, "a number from 0 to 15, the sum of 1 for w, 2 for r, 4 for g and 8 for p"),
-        "words" => write!(f, "an array of at most {MAX_MESSAGE_WORDS} of these: {A_WORD}"),
-        _ => write!(f, "{A_WORD}"),
+        "words" => write!(f, "an array of at most {MAX_MESSAGE_WORDS} of these: {A_WORD}{bound}"),
+        _ => write!(f, "{A_WORD}{bound}"),
     }
 }

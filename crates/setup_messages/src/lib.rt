@@ -10,6 +10,7 @@ mod message;
 mod near;
 mod refused;
 mod regions;
+mod texts;
 mod values;
 
 pub use document::Formats;

@@ -5,6 +5,7 @@ use crate::mending::{Mended, mend};
 use crate::message::{Listed, Quoted, Spot};
 use crate::near::Nearest;
 use crate::regions::layout_words;
+use crate::texts::text_words;
 use crate::values::Rejected;
 use boot_plan::PlanDefect;
 use cap_core::Wide;
@@ -13,7 +14,7 @@ use setup_format::{
     Key, Place, SetupFault, Wrong, read_document, read_first_format, read_table, top_keys,
     untyped_keys,
 };
-use setup_positions::{NamedText, SoughtKey};
+use setup_positions::{NamedText, Part, SoughtKey};
 use setup_values::KnownNames;
 use setup_values::kinds::{Kind, OpKind};
 use std::alloc::{AllocError, Global};
@@ -55,7 +56,20 @@ fn unknown_words(table: &Table, spot: Spot<'_>) -> Result<String, AllocError> {
         near.try_name(alloc, *name)?;
     }
     let (key, keys) = (Quoted(spot.key), Listed(names));
-    format!(in alloc; "{place}: there is no key {key}; the keys are {keys}{near}")
+    let hint = hint_on_top(spot);
+    format!(in alloc; "{place}: there is no key {key}; the keys are {keys}{hint}{near}")
+}
+
+/// What is said of a key of another table that the top table has.
+fn hint_on_top(spot: Spot<'_>) -> &'static str {
+    let is_of_top = top_keys(NEWEST_FORMAT).contains(&spot.key);
+    match (spot.place, spot.key) {
+        (Place::Top, _) => "",
+        (_, "call") =>
+            "; call is a key of the top table: put it above the first [..], or write [[call]]",
+        _ if is_of_top => "; it is a key of the top table: put it above the first [..]",
+        _ => "",
+    }
 }
 
 /// Why a key is not as it should be.
@@ -65,17 +79,16 @@ fn key_words(
     place: Place,
     key: &str,
 ) -> Result<String, AllocError> {
-    let element = None;
     let spot = Spot {
         document,
         place,
         key,
-        element,
+        element: None,
     };
-    let table = document.table_at(place);
-    match (wrong, table, table.and_then(|table| table.get(key))) {
+    let rejected = Rejected::at(document, place, key);
+    match (wrong, document.table_at(place), rejected) {
         (Wrong::Unknown, Some(table), _) => unknown_words(table, spot),
-        (_, _, Some(value)) => Rejected { spot, value }.words(),
+        (_, _, Some(rejected)) => rejected.words(),
         _ => {
             let accepted = Accepted(spot);
             format!(in document.alloc; "{spot}: the key is missing; it has to be {accepted}")
@@ -111,15 +124,23 @@ fn sought_of_layout(defect: PlanDefect) -> SoughtKey<'static> {
         | PlanDefect::UntypedOutside(place)
         | PlanDefect::Overlap(place) => (Place::Untyped(place.saturating_add(1)), "base"),
     };
-    SoughtKey { place, key }
+    SoughtKey {
+        place,
+        key,
+        part: Part::Key,
+    }
 }
 
-/// The table and the key at which a fault of a document stands.
-fn sought_of(fault: &SetupFault) -> Option<SoughtKey<'_>> {
+/// The table and the key at which a fault of a document stands, and whether its value is at fault.
+fn sought_of<'a>(document: Document<'a>, fault: &'a SetupFault) -> Option<SoughtKey<'a>> {
     match fault {
-        SetupFault::At { place, key, .. } => {
+        SetupFault::At { wrong, place, key } => {
             let (place, key) = (*place, text_of(key));
-            Some(SoughtKey { place, key })
+            let part = match (wrong, Rejected::at(document, place, key)) {
+                (Wrong::OtherValue | Wrong::OtherType, Some(rejected)) => rejected.part(),
+                _ => Part::Key,
+            };
+            Some(SoughtKey { place, key, part })
         }
         SetupFault::Layout(defect) => Some(sought_of_layout(*defect)),
         SetupFault::Text | SetupFault::Memory => None,
@@ -135,7 +156,7 @@ fn add_fault(
 ) -> Result<(), AllocError> {
     words.push_str(fault_words(document, fault)?.as_str())?;
     words.push('\n')?;
-    let sought = sought_of(fault);
+    let sought = sought_of(document, fault);
     if let Some(excerpt) = sought.and_then(|sought| source.excerpt_at(document.alloc, sought)) {
         let lines = format!(in document.alloc; "{excerpt}\n")?;
         words.push_str(lines.as_str())?;
@@ -180,24 +201,6 @@ fn document_words(
     }
     words.push_str(NO_MORE)?;
     Ok(words)
-}
-
-/// The words on bytes that are no TOML document.
-fn text_words(alloc: Global, bytes: &[u8], name: &str) -> Result<String, AllocError> {
-    let Ok(text) = str::from_utf8(bytes) else {
-        return String::from_str(alloc, "the text is not UTF-8");
-    };
-    let error = match toml::table_from_str(alloc, text) {
-        Ok(_) => return Ok(String::new(alloc)),
-        Err(error) => error,
-    };
-    match error.span() {
-        Some(span) => {
-            let excerpt = NamedText { name, text }.excerpt(span);
-            format!(in alloc; "{error}{excerpt}")
-        }
-        None => format!(in alloc; "{error}"),
-    }
 }
 
 /// Says in words why a set-up is refused that is read by these formats: each fault with the line of the text at which it

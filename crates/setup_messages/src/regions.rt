@@ -21,6 +21,10 @@ const NO_ROOM: &str =
 const NO_SLOTS: &str =
     "the root CNode has too few slots for the capabilities of the boot; raise root_radix";
 
+/// The slot of the first capability that a boot puts behind that of the root CNode: the first thread's. Behind the threads come
+/// the endpoints.
+const FIRST_SLOT: u64 = 2;
+
 /// What a region overlaps, with its number and its first address. Threads and endpoints count from 0, and untyped regions
 /// from 1, as set-ups have them.
 #[derive(Clone, Copy)]
@@ -61,22 +65,56 @@ fn first_overlapped(
     None
 }
 
-/// The first boot object that a region overlaps.
+/// The boot objects of a document.
+#[derive(Clone, Copy)]
+struct Boot {
+    /// The bits of the root CNode's size.
+    root_bits: u32,
+    threads: u32,
+    first_thread: u64,
+    endpoints: u32,
+    first_endpoint: u64,
+}
+
+/// Where the boot objects of a document stand.
 #[rattlefmt::skip]
-fn overlapped_object<P: Profile>(document: &Table, region: Extent) -> Option<Occupant> {
+fn boot_of<P: Profile>(document: &Table) -> Boot
+    ensures { result.root_bits < 64 }
+{
     let radix = read_or(document, "root_radix", Number(MIN_ROOT_RADIX, MAX_ROOT_RADIX), MIN_ROOT_RADIX);
     let threads = read_or(document, "threads", Number(MIN_BOOT_THREADS, MAX_BOOT_THREADS), MIN_BOOT_THREADS);
     let endpoints = read_or(document, "endpoints", Number(0, MAX_BOOT_ENDPOINTS), 0);
     let root_bits = P::SLOT_BITS + radix;
-    if region.overlaps(Extent::new(0, root_bits)) {
-        return Some(Occupant::Root);
-    }
     // Both sizes are powers of two, so the first thread stands at the greater one.
     let first_thread = 1u64 << root_bits.max(P::TCB_BITS);
     let first_endpoint = first_thread + (u64::from(threads) << P::TCB_BITS);
-    match first_overlapped(region, "thread", first_thread, P::TCB_BITS, threads) {
-        None => first_overlapped(region, "endpoint", first_endpoint, P::ENDPOINT_BITS, endpoints),
+    Boot { root_bits, threads, first_thread, endpoints, first_endpoint }
+}
+
+/// The first boot object that a region overlaps.
+#[rattlefmt::skip]
+fn overlapped_object<P: Profile>(document: &Table, region: Extent) -> Option<Occupant> {
+    let boot = boot_of::<P>(document);
+    if region.overlaps(Extent::new(0, boot.root_bits)) {
+        return Some(Occupant::Root);
+    }
+    match first_overlapped(region, "thread", boot.first_thread, P::TCB_BITS, boot.threads) {
+        None => first_overlapped(region, "endpoint", boot.first_endpoint, P::ENDPOINT_BITS, boot.endpoints),
         thread => thread,
+    }
+}
+
+/// The address of the boot endpoint whose capability a boot puts into a slot of the root CNode.
+pub fn endpoint_at(document: Document<'_>, slot: u64) -> Option<u64> {
+    let (boot, bits) = match document.profile() {
+        ProfileName::Wide => (boot_of::<Wide>(document.table), Wide::ENDPOINT_BITS),
+        ProfileName::Narrow => (boot_of::<Narrow>(document.table), Narrow::ENDPOINT_BITS),
+    };
+    let number = slot.checked_sub(FIRST_SLOT + u64::from(boot.threads))?;
+    if number < u64::from(boot.endpoints) {
+        boot.first_endpoint.checked_add(number << bits)
+    } else {
+        None
     }
 }
 

@@ -25,8 +25,8 @@ impl<'a> NamedText<'a> {
         Excerpt { source: self, span }
     }
 
-    /// The bytes of the text that are a key of a table, or, where the key is missing, those with which the table begins. None
-    /// where the text is no TOML document, or memory was refused.
+    /// The bytes of the text that are a key of a table, or a part of its value, or, where the key is missing, those with which
+    /// the table begins. None where the text is no TOML document, or memory was refused.
     pub fn excerpt_at(self, alloc: Global, sought: SoughtKey<'_>) -> Option<Excerpt<'a>> {
         Some(self.excerpt(span_at(alloc, self.text, sought)?))
     }

@@ -1,5 +1,5 @@
-//! Where a key of a set-up stands in its text: its line, its column, and that line with the key underlined. What is shown
-//! is tested, and no clause says what it is.
+//! Where a key of a set-up, or its value, stands in its text: its line, its column, and that line with the key or the value
+//! underlined. What is shown is tested, and no clause says what it is.
 #![tactic(auto)]
 
 mod excerpt;
@@ -7,4 +7,4 @@ mod search;
 mod steps;
 
 pub use excerpt::{Excerpt, NamedText};
-pub use search::{SoughtKey, span_at};
+pub use search::{Part, SoughtKey, span_at};

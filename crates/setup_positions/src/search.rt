@@ -8,6 +8,17 @@ use std::ops::Range;
 use toml_parser::dotted_key;
 use toml_parser::text::{first, skip_blank};
 
+/// A part of a key with its value.
+#[derive(Clone, Copy)]
+pub enum Part {
+    /// The key.
+    Key,
+    /// The value.
+    Value,
+    /// An element of the value, which is an array; 1 the first.
+    Element(usize),
+}
+
 /// A key of a set-up that is looked for in its text.
 #[derive(Clone, Copy)]
 pub struct SoughtKey<'a> {
@@ -15,6 +26,8 @@ pub struct SoughtKey<'a> {
     pub place: Place,
     /// The key.
     pub key: &'a str,
+    /// The part of it that is looked for.
+    pub part: Part,
 }
 
 /// How far a search is, behind some lines of a document.
@@ -201,10 +214,26 @@ fn length_at(alloc: Global, text: &str) -> usize {
     }
 }
 
-/// Which bytes of a set-up's text are a key of a table: those of the key as it is written; where it is missing, those with
-/// which the table begins. None where the text is no TOML document, or memory was refused.
+/// The text from the value on that stands behind a key, or from an element of it on, and how many bytes that has.
+fn value_at(alloc: Global, text: &str, part: Part) -> Option<(&str, usize)> {
+    let value = entry_of(alloc, text)?.value;
+    let from = match part {
+        Part::Key => return None,
+        Part::Value => value,
+        Part::Element(n) => element_at(alloc, value, n)?,
+    };
+    let rest = after_value(alloc, from)?;
+    Some((from, from.len().checked_sub(rest.len())?))
+}
+
+/// Which bytes of a set-up's text are a key of a table, as it is written, or the part of its value that is looked for; where the
+/// key is missing, those with which the table begins. None where the text is no TOML document, or memory was refused.
 pub fn span_at(alloc: Global, text: &str, sought: SoughtKey<'_>) -> Option<Range<usize>> {
     let at = text_from(alloc, text, sought)?;
-    let start = text.len().checked_sub(at.len())?;
-    Some(start..start.checked_add(length_at(alloc, at))?)
+    let (from, length) = match value_at(alloc, at, sought.part) {
+        Some(found) => found,
+        None => (at, length_at(alloc, at)),
+    };
+    let start = text.len().checked_sub(from.len())?;
+    Some(start..start.checked_add(length)?)
 }
