@@ -28,12 +28,14 @@ class Option:
 
 
 class Help:
-    """What a help text has: commands with what they are for, options, and whether files can follow."""
+    """What a help text has: commands with what they are for, options, and whether files or names of commands can follow."""
 
     def __init__(self, text):
         self.commands = [entry.split(None, 1) for entry in entries(text, "Commands")]
         self.options = [Option(entry) for entry in entries(text, "Options")]
-        self.takes_files = any(re.match(r"[<\[]\w*FILE", entry) for entry in entries(text, "Arguments"))
+        arguments = entries(text, "Arguments")
+        self.takes_files = any(re.match(r"[<\[]\w*FILE", entry) for entry in arguments)
+        self.takes_commands = any(re.match(r"[<\[]COMMAND", entry) for entry in arguments)
 
 
 def entries(text, heading):
@@ -56,7 +58,8 @@ def output(*words):
 def helps(program):
     """The help of the program, and of each command with its name and what it is for."""
     whole = Help(output(program, "--help"))
-    return whole, [(name, about, Help(output(program, name, "--help"))) for name, about in whole.commands]
+    asked = {"help": ("help", "help")}    # `help` takes no options
+    return whole, [(name, about, Help(output(program, *asked.get(name, (name, "--help"))))) for name, about in whole.commands]
 
 
 def spellings(options):
@@ -82,7 +85,8 @@ def bash(whole, commands):
     yield '    case $command in'
     names = " ".join(name for name, _, _ in commands)
     for name, words, files in [("''", f"{names} {spellings(whole.options)}", whole.takes_files),
-                               *((name, spellings(told.options), told.takes_files) for name, _, told in commands)]:
+                               *((name, names if told.takes_commands else spellings(told.options), told.takes_files)
+                                 for name, _, told in commands)]:
         yield f"        {name})"
         yield f"""            COMPREPLY=($(compgen -W '{words}' -- "$word"))"""
         if files:
@@ -131,6 +135,8 @@ def zsh(whole, commands):
     yield "            case $line[1] in"
     for name, _, told in commands:
         rest = " '*:file:_files'" if told.takes_files else ""
+        if told.takes_commands:
+            rest = f" '*:command:({' '.join(name for name, _, _ in commands)})'"
         yield f"                {name}) _arguments {' '.join(map(zsh_option, told.options))}{rest} ;;"
     yield "            esac"
     yield "            ;;"
@@ -162,6 +168,8 @@ def fish(whole, commands):
             yield fish_option(inside, option)
         if told.takes_files:
             yield f"complete -c {NAME} -n {quoted(inside)} -F"
+        if told.takes_commands:
+            yield f"complete -c {NAME} -n {quoted(inside)} -a {quoted(' '.join(name for name, _, _ in commands))}"
 
 
 def completions(program):

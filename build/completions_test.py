@@ -17,6 +17,7 @@ Usage: sel4sim [FILE] [COMMAND]
 Commands:
   check    Runs a set-up
   tree     Prints the forest; it's text
+  help     Prints help
 
 Arguments:
   [FILE]  The set-up
@@ -50,6 +51,13 @@ Options:
       --after <N>  Behind call N
   -h, --help       Print help
 """,
+    "help": """Prints help
+
+Usage: sel4sim help [COMMAND]...
+
+Arguments:
+  [COMMAND]...  Print help for the subcommand(s)
+""",
 }
 
 
@@ -60,7 +68,7 @@ class Completions(unittest.TestCase):
         program = os.path.join(cls.folder, "sel4sim")
         with open(program, "w", encoding="utf-8") as file:
             file.write("#!/bin/sh\ncase $1 in\n")
-            for name in ("check", "tree", ""):
+            for name in ("check", "tree", "help", ""):
                 file.write(f"{name or '*'}) cat <<'END'\n{HELP[name]}END\n;;\n")
             file.write("esac\n")
         os.chmod(program, 0o755)
@@ -93,21 +101,22 @@ class Completions(unittest.TestCase):
 
     def test_reads_the_help(self):
         whole, commands = completions.helps(f"{self.folder}/sel4sim")
-        self.assertEqual([name for name, _, _ in commands], ["check", "tree"])
+        self.assertEqual([name for name, _, _ in commands], ["check", "tree", "help"])
         self.assertEqual([option.spellings for option in whole.options], [["-h", "--help"], ["-V", "--version"]])
         form, after, _ = commands[1][2].options
         self.assertEqual((form.values, form.about, after.has_value), (["text", "dot"], "How it is drawn", True))
-        self.assertEqual([told.takes_files for told in (whole, *(it[2] for it in commands))], [True, True, False])
+        self.assertEqual([told.takes_files for told in (whole, *(it[2] for it in commands))], [True, True, False, False])
 
     def test_in_bash(self):
-        words = ["check", "tree", "-h", "--help", "-V", "--version"]
-        self.assertEqual((self.in_bash("")[:6], sorted(self.in_bash("")[6:])), (words, ["my layout.toml", "t.toml"]))
+        words = ["check", "tree", "help", "-h", "--help", "-V", "--version"]
+        self.assertEqual((self.in_bash("")[:7], sorted(self.in_bash("")[7:])), (words, ["my layout.toml", "t.toml"]))
         self.assertEqual(self.in_bash("my"), ["my layout.toml"])
         self.assertEqual(self.in_bash("ch"), ["check"])
         self.assertEqual(self.in_bash("check", "my"), ["my layout.toml"])
         self.assertEqual(self.in_bash("check", "--s"), ["--strict"])
         self.assertEqual(self.in_bash("tree", "--form", ""), ["text", "dot"])
         self.assertEqual(self.in_bash("tree", "t"), [""])
+        self.assertEqual(self.in_bash("help", "t"), ["tree"])
 
     @unittest.skipUnless(shutil.which("fish"), "there is no fish")
     def test_in_fish(self):
@@ -117,6 +126,7 @@ class Completions(unittest.TestCase):
         self.assertEqual(self.in_fish("check --s"), ["--strict"])
         self.assertEqual(sorted(self.in_fish("tree --form ")), ["dot", "text"])
         self.assertEqual(self.in_fish("tree t"), [])
+        self.assertEqual(self.in_fish("help t"), ["tree"])
 
     @unittest.skipUnless(shutil.which("zsh"), "there is no zsh")
     def test_is_read_by_zsh(self):

@@ -22,7 +22,7 @@ _sel4sim() {
     esac
     case $command in
         '')
-            COMPREPLY=($(compgen -W 'check trace threads migrate why audit explore tree new -V --version -h --help' -- "$word"))
+            COMPREPLY=($(compgen -W 'check trace threads migrate why audit explore tree new help -V --version -h --help' -- "$word"))
             [[ $word == -* ]] || mapfile -t -O "${#COMPREPLY[@]}" COMPREPLY < <(compgen -f -- "$word")
             ;;
         check)
@@ -59,6 +59,9 @@ _sel4sim() {
             ;;
         new)
             COMPREPLY=($(compgen -W '--profile --threads --endpoints --untyped -h --help' -- "$word"))
+            ;;
+        help)
+            COMPREPLY=($(compgen -W 'check trace threads migrate why audit explore tree new help' -- "$word"))
             ;;
     esac
 }

@@ -1,14 +1,17 @@
 -- What the definition of the command says of a parse.
-use Rattle.std.proofs.Common.{◌≡◌, ◌≢◌, ◌⊎◌, ◌∙◌, codes, map, List, [], ◌∷◌, Bool, true, false, Option, Some, None, option_map, cond, is_some, find, refl, inl, inr, subst, ap, ap₂}
+use Rattle.std.proofs.Common.{◌≡◌, ◌≢◌, ◌⊎◌, ◌∙◌, ◌&&◌, ◌||◌, sym, codes, map, List, [], ◌∷◌, Bool, true, false, Option, Some, None, option_map, cond, is_some, find, refl, inl, inr, subst, ap, ap₂}
 use Rattle.std.specs.Borrow.{Bor}
 use Rattle.std.specs.Box.{box_value}
-use Rattle.std.specs.Prelude.{unwrap_or, IfErr, OnOk, Result, Ok, Err}
+use Rattle.std.proofs.lemmas.Slice.Eq.{bytes_eq-Decides}
+use Rattle.std.specs.Prelude.{not, unwrap_or, IfErr, OnOk, Result, Ok, Err}
 use Rattle.std.specs.Str.{bytes_eq}
 use Rattle.std.specs.List.{list_all}
 use Rattle.clap.specs.Words.{App, HasMatchesOf, Row, Kinds, IsAmong, HasKind, Shape, Text, app_of, found_of, is_simple, is_simple_and_free, matches_of, rows_of, subcommand_name_of, subcommand_of, subcommand_rows, subcommand_rows_of, takes, fault_of}
 use Rattle.clap.specs.Values.{kind_of}
 use Rattle.clap.specs.Simple.{argument_words, built, entered, label_of, names_of, rows_at}
-use Rattle.clap.specs.Walk.{answers_to, stop_after}
+use Rattle.clap.specs.Faults.{walk_fault}
+use Rattle.clap.specs.Kinds.{or_else}
+use Rattle.clap.specs.Walk.{answers_to, nothing_held, stop_after, walk_from}
 use Rattle.clap.specs.declared.builder.command.Command.{Command}
 use Rattle.clap.specs.declared.error.Error.{Error}
 use Rattle.clap.specs.declared.error.kind.ErrorKind.{ErrorKind}
@@ -18,6 +21,7 @@ use Rattle.clap.specs.declared.parser.matches.ArgMatches.TheViews.{out-ArgMatche
 use Rattle.clap.proofs.OnLiterals.{clap_on_literals}
 use Rattle.clap.proofs.WalkLemmas.{both}
 use Rattle.command_line.specs.CommandLine.{command, file_of, files_of, job_named, job_of, more_behind, more_given, several_of, Explains, ExplainsMatches, StandsFor}
+use Rattle.command_line.proofs.NoHelp.{IsNoHelp, walk_stops}
 use Rattle.command_line.specs.declared.arguments.Job.TheVariants.{Check}
 use Rattle.command_line.specs.declared.arguments.LineFault.{LineFault}
 use Rattle.command_line.specs.declared.arguments.LineFault.TheVariants.{Help, Refused, Conflict, Memory}
@@ -32,29 +36,54 @@ command_is_free = refl
 
 -- ---- the job of what is met
 
-abbrev has_job : Shape → Bool
-has_job s = is_some (job_named s.name)
+-- a subcommand has a job, or is not the one of that name
+abbrev fits : Text → Shape → Bool
+fits name s = is_some (job_named s.name) || not (answers_to name (label_of s))
 
-subcommands_have_jobs : list_all has_job (built command).subs ≡ true
+last_fits : (b : Bool) → (b ≡ true → ⊥) → (not (b || false) && true) ≡ true
+last_fits true never = absurd (never refl)
+last_fits false never = refl
+
+-- clap's `help` alone has no job
+subcommands_fit : (name : Text) → ¬ (name ≡ codes "help") → list_all (fits name) (built command).subs ≡ true
 unfolding command clap_on_literals
-subcommands_have_jobs = refl
+subcommands_fit name other = last_fits (bytes_eq (codes "help") name) (λ is. other (sym ((bytes_eq-Decides (codes "help") name).0 is)))
 
-job_found : (subs : List Shape) (p : Text × List Text) → list_all has_job subs ≡ true
+job_found : (subs : List Shape) (p : Text × List Text) → list_all (fits p.0) subs ≡ true
     → is_some (job_of (option_map (λ s. rows_at s p.1) (find (λ s. answers_to p.0 (label_of s)) subs))) ≡ true
 job_found [] p all = refl
-job_found (s ∷ subs) p all =
-    elim (answers_to p.0 (label_of s)) as (λ here. is_some (job_of (option_map (λ t. rows_at t p.1) (cond here (Some s) (find (λ t. answers_to p.0 (label_of t)) subs)))) ≡ true) [
-      | true ↦ (both _ _ all).0
-      | false ↦ job_found subs p (both _ _ all).1
-    ]
+job_found (s ∷ subs) p all = go (answers_to p.0 (label_of s)) (both _ _ all).0 (job_found subs p (both _ _ all).1)
+  where
+    left : (b : Bool) → (b || false) ≡ true → b ≡ true
+    left true e = refl
+    left false e = e
 
-job_entered : (stop : Option (Text × List Text)) → is_some (job_of (entered (built command) stop)) ≡ true
-job_entered None = refl
-job_entered (Some p) = job_found (built command).subs p subcommands_have_jobs
+    go : (here : Bool) → (is_some (job_named s.name) || not here) ≡ true
+        → is_some (job_of (option_map (λ t. rows_at t p.1) (find (λ t. answers_to p.0 (label_of t)) subs))) ≡ true
+        → is_some (job_of (option_map (λ t. rows_at t p.1) (cond here (Some s) (find (λ t. answers_to p.0 (label_of t)) subs)))) ≡ true
+    go true fit later = left _ fit
+    go false fit later = later
 
--- what the words name as a subcommand has a job
-pub job_is_known : (words : List Text) → is_some (job_of (subcommand_of command words)) ≡ true
-job_is_known words = job_entered (stop_after (built command).top.rules (names_of (built command)) (argument_words command words))
+job_entered : (stop : Option (Text × List Text)) → IsNoHelp stop → is_some (job_of (entered (built command) stop)) ≡ true
+job_entered None other = refl
+job_entered (Some p) other = job_found (built command).subs p (subcommands_fit p.0 other)
+
+help_is_shown : (built command).top.disable_help_subcommand ≡ false
+unfolding command clap_on_literals
+help_is_shown = refl
+
+first_empty : (a b : Kinds) → or_else a b ≡ [] → a ≡ []
+first_empty [] b e = refl
+first_empty (k ∷ ks) b e = e
+
+-- what the words name as a subcommand has a job, where clap takes them
+pub job_is_known : (words : List Text) → fault_of command words ≡ [] → is_some (job_of (subcommand_of command words)) ≡ true
+job_is_known words taken =
+    let top = (built command).top in
+    let given = argument_words command words in
+    job_entered (stop_after top.rules (names_of (built command)) given)
+    (walk_stops top (names_of (built command)) help_is_shown given (walk_from nothing_held) tt
+    (first_empty (walk_fault top (names_of (built command)) (walk_from nothing_held) given) _ taken))
 
 -- the rows of matches that clap gives for the words, and their subcommand
 pub own_rows_met : (c : Command) (words : List Text) (m : ArgMatches) → app_of c ≡ command → HasMatchesOf (app_of c) words m → rows_of (found_of m) ≡ matches_of command words

@@ -1,11 +1,10 @@
 -- The program's command as clap's definition, and what clap's matches for the words say.
-use Rattle.std.specs.Prelude.{◌≡◌, ◌≢◌, ◌<◌, ◌^◌, ◌&&◌, ◌||◌, ⊤, Bool, nat_le, count_by, unwrap_or, true, false, not, codes, ℕ, List, [], ◌∷◌, Option, Some, None, is_some, option_map, if◌then◌else◌}
+use Rattle.std.specs.Prelude.{◌≡◌, ◌≢◌, ◌<◌, ◌^◌, ◌&&◌, ◌||◌, ⊤, Bool, nat_le, count_by, unwrap_or, false, not, codes, ℕ, List, [], ◌∷◌, Option, Some, None, is_some, option_map, if◌then◌else◌}
 use Rattle.std.specs.Str.Parse.{IsNumeral, digits_value, without_leading_plus}
 use Rattle.std.specs.Borrow.{Bor}
 use Rattle.std.specs.Option.{option_or}
 use Rattle.std.specs.Str.{bytes_eq}
 use Rattle.clap.specs.Words.{App, Kinds, Row, Rule, Text, all_of, first_of, matches_of, new_app, new_rule, with_rule, with_subcommand, subcommand_of, takes, fault_of, IsAmong}
-use Rattle.clap.specs.Simple.{on_top}
 use Rattle.clap.specs.Walk.{texts}
 use Rattle.clap.specs.declared.builder.action.ArgAction.TheVariants as action
 use Rattle.clap.specs.declared.builder.value_parser.ValueParser.TheVariants.{Unsigned}
@@ -37,11 +36,9 @@ more_files_rule = record (new_rule (codes "FILES")) { action = Some action.Appen
 abbrev pub with_file : Text → App
 with_file name = with_rule (new_app name) file_rule
 
--- `sel4sim` with FILE, FILES and `--version`, without clap's subcommand `help`
+-- `sel4sim` with FILE, FILES and `--version`; clap adds its own subcommand `help`, which no line that is taken has
 abbrev pub bare_command : App
-bare_command =
-    with_rule (with_rule (with_rule (on_top (λ s. record s { disable_help_subcommand = true }) (new_app (codes "sel4sim"))) file_rule)
-    more_files_rule) version_rule
+bare_command = with_rule (with_rule (with_rule (new_app (codes "sel4sim")) file_rule) more_files_rule) version_rule
 
 -- a command with one more subcommand
 abbrev pub and_subcommand : App → App → App

@@ -100,14 +100,13 @@ fn version<'a>(alloc: Global) -> Arg<'a>
         .help("Print help, which begins with the version")
 }
 
-/// The command without the subcommands, and without clap's own `help`.
+/// The command without the subcommands. Clap adds its own, `help`.
 fn bare<'a>(alloc: Global) -> Result<Command<'a>, AllocError>
     ensures { IfOk result (λ c. app_of c ≡ bare_command) }
 {
     let command = Command::new(alloc, "sel4sim")
         .about(ABOUT)
         .after_help(AFTER_HELP)
-        .disable_help_subcommand(true)
         .arg(file(alloc))?;
     let with_more = command.arg(more_files(alloc))?;
     let whole = with_more.arg(version(alloc))?;

@@ -120,9 +120,10 @@ fn note_on_words(rt: &impl Eprint, text: &str) {
     }
 }
 
-/// Says that one file is read in a run, where more words than one stand behind a command and none is an option.
+/// Says that one file is read in a run, where more words than one stand behind a command that reads one, and none is an option.
 fn note_on_files(rt: &impl Eprint, words: &[&str]) {
-    if words.len() > 3 && words.iter().all(|word| !word.starts_with("-")) {
+    let is_option_or_help = |word: &&str| word.starts_with("-") || *word == "help";
+    if words.len() > 3 && !words.iter().any(is_option_or_help) {
         complain(rt, "one file is read in a run; check alone takes several");
     }
 }

@@ -10,7 +10,9 @@ use Rattle.command_line.proofs.reading.line.Goals as goal
 pub taken_line-requires : goal.taken_line-requires
 taken_line-requires c =
     let ws = texts c.args.words.now in
-    ap (λ met. is_some (job_of met)) (rows_met c.in-Ok.command ws c.in-Ok-try_get_matches_from.matches c.in-Ok.ensures c.in-Ok-try_get_matches_from.ensures.matches) ∙ job_is_known ws
+    let is = c.in-Ok.ensures in
+    let taken = ap (λ (a : App). fault_of a ws) (sym is) ∙ c.in-Ok-try_get_matches_from.ensures.kinds (ap is_simple_and_free is ∙ command_is_free) in
+    ap (λ met. is_some (job_of met)) (rows_met c.in-Ok.command ws c.in-Ok-try_get_matches_from.matches is c.in-Ok-try_get_matches_from.ensures.matches) ∙ job_is_known ws taken
 
 pub returns-in-Ok-try_get_matches_from-clause-job : goal.returns-in-Ok-try_get_matches_from-clause-job
 returns-in-Ok-try_get_matches_from-clause-job c =
