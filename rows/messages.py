@@ -17,11 +17,17 @@ OPERATIONS = ("send, nbsend, recv, nbrecv, retype, copy, mint, move, mutate, del
               "suspend, resume")
 RIGHTS = "a number from 0 to 15, the sum of 1 for w, 2 for r, 4 for g and 8 for p"
 NAME = "1 to 40 of the letters a to z, the digits and _"
-NUMBER = "a number from 0 on, or a text of 0x and 1 to 16 hexadecimal digits; in a narrow set-up it is below 2^32"
-WORD = ("a number from 0 on, a text of 0x and 1 to 16 hexadecimal digits, or in format 2 a text of @ and a name from names; "
-        "in a narrow set-up it is below 2^32")
-LABEL = ("a number from 0 on, or a text of 0x and 1 to 16 hexadecimal digits, below 2^52, or in a narrow set-up below "
-         "2^20")
+NUMBER = "a number from 0 on, or a text of 0x and 1 to 16 hexadecimal digits"
+WORD = "a number from 0 on, a text of 0x and 1 to 16 hexadecimal digits, or in format 2 a text of @ and a name from names"
+IN_NARROW = "; in a narrow set-up it is below 2^32"
+LABEL = NUMBER + ", below 2^52"
+KINDS = "; the kinds are 0 (untyped), 1 (thread control block), 2 (endpoint) and 4 (CNode)"
+COPY_KEYS = "thread, op, client, expect, cap, index, depth, src_root, src_index, src_depth, rights"
+NO_VALUE = "invalid value, expected a string, number, boolean, date-time, array or inline table"
+NO_KEY = "invalid key, expected letters, numbers, `-`, `_` or a quoted key"
+TOO_LARGE = "TOML's integers end at 2^63 - 1; a greater word is written as \"0xFFFFFFFFFFFFFFFF\", in quotes"
+QUOTES = 'a text stands in plain quotes, as "send"'
+ON_TOP = "is a key of the top table: put it above the first [..]"
 FORMAT_1 = "1, since only a set-up of format 1 is migrated"
 # the most characters of a line that are shown, and how many of a longer one before the place
 MAX_SHOWN = 100
@@ -32,18 +38,24 @@ KEYS = "format, profile, memory_bits, root_radix, threads, endpoints, clients, l
 # of the refusals that a reply can give each one, and numbers of seL4's that it never gives
 REFUSALS = "1 2 3 4 6/1 6/2 6/3 6/4 8 9 10 100 101".split()
 NO_REFUSALS = "0 5 6 6/0 6/5 6/9 6/01 7 8/1 11 01 +1 99 102 1000".split()
-# expectations with which a reply can begin, and others; of a message at most four words are delivered
+# expectations with which a reply to a receive can begin, and others; of a message at most four words are delivered
 DELIVERED = "delivered 6144 from 2048 to 4096 badge 0 label 7 words"
-BEGINNINGS = ["done", "waiting", "dropped", "empty", "refused", "delivered", "delivered 6144 from 2048 to 4096",
-              DELIVERED, DELIVERED + " 1 2 3 4"]
-NO_BEGINNINGS = ["done ", "Waiting", "refused seL4_FailedLookup", "refused NotEnoughMemory", "refused AlignmentError", "don", "done 1", "waiting 2048", "delivered to 2048", "delivered x", "delivered 06144",
-                 DELIVERED + " -1", DELIVERED + " 1 2 3 4 5", "refused IllegalOperation", "refused 3 ", "refused "]
-
-
+BEGINNINGS = ["waiting", "refused", "delivered", "delivered 6144 from 2048 to 4096", DELIVERED, DELIVERED + " 1 2 3 4"]
+NO_DELIVERIES = ["delivered to 2048", "delivered x", "delivered 06144", "delivered @a", "delivered @endpoint from @nobody",
+                 DELIVERED + " -1", DELIVERED + " 1 2 3 4 5"]
+NO_WAITING = ["done", "dropped", "empty", "done ", "Waiting", "don", "done 1", "waiting 2048"]
+NO_BEGINNINGS = [*NO_DELIVERIES, *NO_WAITING, "refused seL4_FailedLookup", "refused NotEnoughMemory", "refused AlignmentError",
+                 "refused IllegalOperation", "refused 3 ", "refused ", "met", "delivered @endpoint from @a"]
 # what is said to be meant in the place of such an expectation, where something is
-MEANT = {"done ": "done", "Waiting": "waiting", "refused seL4_FailedLookup": "refused 6/1, 6/2, 6/3 or 6/4",
-         "refused NotEnoughMemory": "refused 10", "don": "done", "done 1": "done", "delivered x": "delivered", "refused IllegalOperation": "refused 3",
-         "refused 3 ": "refused 3", "refused ": "refused", "refused 6": "refused 6/1, 6/2, 6/3 or 6/4"}
+MEANT = {**{expectation: "waiting" for expectation in NO_WAITING}, "refused seL4_FailedLookup": "refused 6/1, 6/2, 6/3 or 6/4",
+         "refused NotEnoughMemory": "refused 10", "refused IllegalOperation": "refused 3",
+         "refused 3 ": "refused 3", "refused ": "refused", "refused 6": "refused 6/1, 6/2, 6/3 or 6/4",
+         "delivered @endpoint from @a": "delivered 6144 from 2048"}
+DELIVERY = "; a delivery reads delivered E from F to T badge B label L words W .."
+# of some operations the reply that is neither a refusal nor a delivery, and the keys that their calls need
+WORDS = {"send": ("waiting", ""), "nbsend": ("dropped", ""), "recv": ("waiting", ""), "nbrecv": ("empty", ""),
+         "suspend": ("done", ""), "delete": ("done", "index = 9\n"), "copy": ("done", "index = 9\nsrc_index = 4\n")}
+DELIVERING = ("send", "nbsend", "recv", "nbrecv")
 
 
 def untyped(base, bits):
@@ -58,14 +70,25 @@ SETUPS = [
     (FIRST + (CALL.replace("cap = 4", "cap = 9") + 'op = "send"\n') * 15 + CALL.replace("cap = 4", "cap = 9")
      + 'op = "send"\nexpect = "refused"\n', 0,
      ["15 calls were refused where nothing was expected: 1 2 3 4 5 6 7 8 9 10 11 12 and 3 more; sel4sim why tells why"]),
-    (FIRST + CALL + 'op = "nbsend"\nexpect = "empty"\n', 1, []),
+    (FIRST + CALL + 'op = "nbsend"\nexpect = "empty"\n', 1,
+     ['call 1: no reply to nbsend begins with "empty"; did you mean dropped?']),
     (FIRST + CALL + 'op = "nbsend"\nexpect = "refused"\n', 1, []),
     (FIRST + CALL + 'op = "nbsend"\nexpect = "delivered 6144 from 2048"\n', 1, []),
     (FIRST + CALL + 'op = "nbsend"\nexpect = "refused IllegalOperation"\n', 1,
-     ['call 1: no reply begins with "refused IllegalOperation"; did you mean refused 3?']),
-    (FIRST + CALL + 'op = "nbsend"\nexpect = "delivered to 2048"\n', 1, ['call 1: no reply begins with "delivered to 2048"']),
+     ['call 1: no reply to nbsend begins with "refused IllegalOperation"; did you mean refused 3?']),
+    (FIRST + CALL + 'op = "nbsend"\nexpect = "delivered to 2048"\n', 1,
+     ['call 1: no reply to nbsend begins with "delivered to 2048"' + DELIVERY]),
     (FIRST + CALL + 'op = "Send"\n', 2,
      [f'call 1, key op: the value is "Send"; it has to be one of {OPERATIONS}; did you mean send?']),
+    (FIRST + CALL + 'op = "seL4_NBSend"\n', 2,
+     [f'call 1, key op: the value is "seL4_NBSend"; it has to be one of {OPERATIONS}; did you mean nbsend?']),
+    (FIRST + CALL + 'op = "seL4_CNode_CancelBadgedSends"\n', 2,
+     [f'call 1, key op: the value is "seL4_CNode_CancelBadgedSends"; it has to be one of {OPERATIONS}; did you mean '
+      'cancel_badged?']),
+    (FIRST + CALL + 'op = "recieve"\n', 2,
+     [f'call 1, key op: the value is "recieve"; it has to be one of {OPERATIONS}; did you mean recv?']),
+    (FIRST + CALL + 'op = "seL4_Call"\n', 2,
+     [f'call 1, key op: the value is "seL4_Call"; it has to be one of {OPERATIONS}; this one of seL4\'s is left out']),
     (FIRST + CALL + 'op = "copy"\nindex = 8\nsrc_index = 4\nrights = "wr--"\n', 2,
      [f'call 1, key rights: the value is "wr--"; it has to be {RIGHTS}']),
     (FIRST + CALL + 'op = "send"\nlabel = "@x"\n', 2,
@@ -83,7 +106,17 @@ SETUPS = [
     (FIRST + CALL.replace("cap = 4", "cap = -1") + 'op = "recv"\n', 2,
      [f"call 1, key cap: the value is -1; it has to be {WORD}"]),
     (NARROW + CALL.replace("cap = 4", "cap = 4294967296") + 'op = "recv"\n', 2,
-     [f"call 1, key cap: the value is 4294967296; it has to be {WORD}"]),
+     [f"call 1, key cap: the value is 4294967296; it has to be {WORD}{IN_NARROW}"]),
+    (NARROW + CALL + 'op = "send"\nlabel = 1048576\n', 2,
+     [f"call 1, key label: the value is 1048576; it has to be {NUMBER}, below 2^20"]),
+    (NARROW + CALL + 'op = "send"\nwords = [1, 2, 3, 4, 5]\n', 2,
+     [f"call 1, key words: the value is an array of 5; it has to be an array of at most 4 of these: {WORD}{IN_NARROW}"]),
+    (NARROW + untyped(4294967296, 12), 2,
+     [f"untyped 1, key base: the value is 4294967296; it has to be {NUMBER}{IN_NARROW}"]),
+    (SECOND.replace("2048", "4294967296") + 'profile = "narrow"\n', 2,
+     [f"top, key names: the value of a is 4294967296; it has to be {NUMBER}{IN_NARROW}"]),
+    (FIRST + CALL.replace("cap = 4", "cap = 5") + 'op = "retype"\nkind = "endpoint"\nroot = 1\noffset = 8\ncount = 1\n', 2,
+     [f'call 1, key kind: the value is "endpoint"; it has to be {WORD}{KINDS}']),
     (FIRST + CALL + 'op = "send"\nlabel = -1\n', 2, [f"call 1, key label: the value is -1; it has to be {LABEL}"]),
     (FIRST + CALL + 'op = "send"\nwords = [1, -1, "x"]\n', 2,
      [f"call 1, key words, element 2: the value is -1; it has to be {WORD}"]),
@@ -92,7 +125,7 @@ SETUPS = [
     (FIRST + CALL + 'op = "send"\nwords = [[]]\n', 2,
      [f"call 1, key words, element 1: the value is an array of 0; it has to be {WORD}"]),
     (NARROW + CALL + 'op = "send"\nwords = [1, 4294967296]\n', 2,
-     [f"call 1, key words, element 2: the value is 4294967296; it has to be {WORD}"]),
+     [f"call 1, key words, element 2: the value is 4294967296; it has to be {WORD}{IN_NARROW}"]),
     (SECOND + CALL + 'op = "send"\nwords = ["@a", "0x1", "@b"]\n', 2,
      ['call 1, key words, element 3: names has no "b"; did you mean a?']),
     (FIRST + CALL + 'op = "send"\nwords = [1, -1, 3, 4, 5]\n', 2,
@@ -106,6 +139,20 @@ SETUPS = [
     (FIRST + untyped(-1, 12), 2, [f"untyped 1, key base: the value is -1; it has to be {NUMBER}"]),
     (FIRST + CALL + 'op = "recv"\nlabel = 1\n', 2,
      ['call 1: there is no key "label"; the keys are thread, op, client, expect, cap']),
+    (FIRST + CALL + 'op = "mint"\nindex = 8\nsrc_index = 4\nword = 1\nbadge = 16\n', 2,
+     [f'call 1: there is no key "badge"; the keys are {COPY_KEYS}, word; did you mean word?']),
+    (FIRST + CALL + 'op = "copy"\nindex = 8\nsrc_index = 4\ndest_index = 8\n', 2,
+     [f'call 1: there is no key "dest_index"; the keys are {COPY_KEYS}; did you mean index?']),
+    (FIRST + CALL + 'op = "copy"\nindex = 8\nsrc_index = 4\ndst = 8\n', 2,
+     [f'call 1: there is no key "dst"; the keys are {COPY_KEYS}; did you mean index?']),
+    (FIRST + CALL + 'op = "recv"\nep = 4\n', 2,
+     ['call 1: there is no key "ep"; the keys are thread, op, client, expect, cap; did you mean cap?']),
+    (FIRST + untyped(16384, 12) + "size = 4096\n", 2,
+     ['untyped 1: there is no key "size"; the keys are base, bits; did you mean bits?']),
+    (FIRST + untyped(16384, 12) + "call = []\n", 2,
+     [f'untyped 1: there is no key "call"; the keys are base, bits; call {ON_TOP}, or write [[call]]']),
+    (FIRST + CALL + 'op = "recv"\n[call.names]\nx = 1\n', 2,
+     [f'call 1: there is no key "names"; the keys are thread, op, client, expect, cap; it {ON_TOP}']),
     (FIRST + "memory_bit = 3\n", 2, [f'top: there is no key "memory_bit"; the keys are {KEYS}; did you mean memory_bits?']),
     (FIRST + "k" * 100 + " = 1\n", 2, [f"top: there is no key of 100 bytes; the keys are {KEYS}"]),
     (FIRST + "names = {}\n", 2, ["top: names are a key of format 2, and this set-up has format 1"]),
@@ -113,6 +160,11 @@ SETUPS = [
     (SECOND.replace("2048", '"@endpoint"'), 2,
      [f'top, key names: the value of a is "@endpoint"; it has to be {NUMBER}']),
     (FIRST.replace("16", "30"), 2, ["top, key memory_bits: the value is 30; it has to be a number from 12 to 20"]),
+    (FIRST.replace("16", "65536"), 2,
+     ["top, key memory_bits: the value is 65536; it has to be a number from 12 to 20; 2^16 is 65536"]),
+    (FIRST + untyped(16384, 4096), 2,
+     ["untyped 1, key bits: the value is 4096; it has to be the number of bits of an untyped region's size, from 4 to 47; 2^12 is "
+      "4096"]),
     (FIRST.replace("endpoints = 1\n", ""), 2,
      ["top, key endpoints: the key is missing; it has to be a number from 0 to 256"]),
     (FIRST.replace("threads = 2", "threads = 64"), 2,
@@ -132,7 +184,22 @@ SETUPS = [
      ["untyped 1: its base 16388 is no multiple of its size 32"]),
     ("format = 1\nthreads =\n", 2,
      ["TOML parse error at line 2, column 10", None]),
+    (FIRST + CALL.replace("cap = 4", "cap = 18446744073709551615") + 'op = "recv"\n', 2,
+     ["TOML parse error at line 8, column 7", "number out of range", TOO_LARGE]),
+    (FIRST + CALL.replace("cap = 4", "cap = 0xFFFFFFFFFFFFFFFF") + 'op = "recv"\n', 2,
+     ["TOML parse error at line 8, column 7", NO_VALUE, TOO_LARGE]),
+    (FIRST + CALL + "op = send\n", 2, ["TOML parse error at line 9, column 6", NO_VALUE, QUOTES]),
+    (FIRST + CALL + "op = \u201csend\u201d\n", 2, ["TOML parse error at line 9, column 6", NO_VALUE, QUOTES]),
+    ("format = 2\n" + SIZES + "[names]\nep = 4\nep = 5\n", 2,
+     ["TOML parse error at line 8, column 1", "duplicate key", "ep stands in line 7 already"]),
+    ('{"format": 2}\n', 2,
+     ["TOML parse error at line 1, column 1", NO_KEY, "this looks like JSON; a set-up is TOML, with lines as threads = 2"]),
+    (FIRST + "# caf\udce9\n", 2, ["TOML parse error at line 6, column 6", "invalid UTF-8", "save the text as UTF-8"]),
+    (FIRST.encode("utf-16").decode("utf-8", "surrogateescape"), 2,
+     ["TOML parse error at line 1, column 1", "invalid UTF-8", "this looks like UTF-16; save the text as UTF-8"]),
 ]
+
+COMMANDS = ["check", "trace", "threads", "migrate", "why", "audit", "explore", "tree", "new"]
 
 # the words of a command line, the first line of standard error, and a part of what follows it
 LINES = [
@@ -152,8 +219,8 @@ LINES = [
     (["audit", "--ever=yes"], "sel4sim: command line refused", "unexpected value 'yes' for '--ever' found"),
     (["audit", "--after", ""], "sel4sim: command line refused", "cannot parse integer from empty string"),
     (["explore", "--states", "18446744073709551616"], "sel4sim: command line refused", "number too large to fit in target type"),
-    (["help", "audit"], "sel4sim: reading failed", "sel4sim: help: No such file or directory (os error 2)\n"),
-    (["help", "audit"], "sel4sim: reading failed", "sel4sim: help is no command either; sel4sim --help names them\n"),
+    (["help", "nosuch"], "sel4sim: command line refused", "unrecognized subcommand 'nosuch'"),
+    (["hlp"], "sel4sim: reading failed", "sel4sim: hlp is no command either; did you mean help?\n"),
     (["chek", "a.toml"], "sel4sim: reading failed", "sel4sim: chek is no command; did you mean check?\n"),
     (["simulate", "x"], "sel4sim: reading failed", "sel4sim: simulate: No such file or directory (os error 2)\n"),
     (["simulate", "x", "--fast"], "sel4sim: command line refused", "sel4sim: simulate is no command; sel4sim --help names them\n"),
@@ -175,7 +242,7 @@ STREAMS = [
     (["--help"], "", "/dev/full", 3, ["writing failed", "standard output: No space left on device (os error 28)"]),
     (["trace"], FIRST, "/dev/full", 3, ["writing failed", "standard output: No space left on device (os error 28)"]),
     (["trace"], FIRST + CALL + 'op = "nbsend"\nexpect = "delivered to 2048"\n', "/dev/null", 1,
-     ['call 1: no reply begins with "delivered to 2048"']),
+     ['call 1: no reply to nbsend begins with "delivered to 2048"' + DELIVERY]),
     (["trace"], "format = 1\nthreads =\n", "/dev/null", 2, ["TOML parse error at line 2, column 10", None]),
     (["migrate"], FIRST, "/dev/null", 0, []),
     (["migrate"], SECOND, "/dev/null", 2, [f"top, key format: the value is 2; it has to be {FORMAT_1}"]),
@@ -271,6 +338,10 @@ PLACES = [
     (FIRST.replace("root_radix = 4", "root_radix = 40") + "untyped = [{ base = 3, bits = 12, size = 1 }]\n"
      + CALL + 'op = "recv"\n' + CALL + 'op = "send"\nlable = 1\nword = 2\nlabel = -1\n' + CALL.replace("cap = 4\n", 'op = "recv"\n'),
      [(3, 1, 10), (6, 35, 4), (15, 1, 5), (16, 1, 4), (17, 1, 5), (18, 1, 2)]),
+    # names that no table lists
+    (SECOND + CALL.replace("2048", '"@nobody"') + 'op = "recv"\n', [(8, 10, 9)]),
+    (SECOND + CALL + 'op = "send"\nwords = ["@a", "0x1", "@b"]\n', [(11, 23, 4)]),
+    (FIRST + 'call = [{ thread = "@x", op = "recv", cap = 4 }]\n', [(6, 20, 4)]),
     # an untyped region that overlaps an earlier one
     (FIRST + untyped(16384, 12) + untyped(16384, 4), [(10, 1, 4)]),
     # a line of more characters than are shown
@@ -280,7 +351,8 @@ PLACES = [
 ]
 
 def said(program, words, text, output=subprocess.PIPE):
-    done = subprocess.run([program, *words], input=text.encode(), stdout=output, stderr=subprocess.PIPE, timeout=60)
+    text = text.encode("utf-8", "surrogateescape")
+    done = subprocess.run([program, *words], input=text, stdout=output, stderr=subprocess.PIPE, timeout=60)
     return done.returncode, done.stderr.decode()
 
 
@@ -293,6 +365,7 @@ def fits(lines, wanted):
 def places_shown(text, lines):
     """The places of the parts of a text that are shown; none where the lines that show one are not of its form."""
     found = []
+    text = re.split("[\udc80-\udcff]", text)[0]    # what is UTF-8 of it
     blocks = [line for line in lines if line.startswith(" ")]
     for head, bar, shown, marks in zip(*[iter(blocks)] * 4):
         told = re.fullmatch(r" +--> standard input:(\d+):(\d+)", head)
@@ -323,7 +396,12 @@ def wrong_places(program):
             yield f"{setup}shown {shown}"
             continue
         key = re.match(r"(?:top|untyped \d+|call \d+)(?:, key (\w+)|: there is no key \"(\w+)\")", wanted[0] or "") if shown else None
-        if key and (written := setup.split("\n")[shown[0][0] - 1][:shown[0][2]]) not in (key[1] or key[2], "[["):
+        if not key:
+            continue
+        line, column, length = shown[0]
+        written = setup.split("\n")[line - 1][column - 1 : column - 1 + length]
+        name = re.search(r'(?:names has no "|the value is "@)([^"]*)"', wanted[0])
+        if written not in ((f'"@{name[1]}"',) if name else (key[1] or key[2], "[[")):
             yield f"{setup}shown {written}"
 
 
@@ -335,16 +413,38 @@ def wrong_setups(program):
 
 
 def wrong_expectations(program):
-    """A receive waits, so `waiting` alone is met; a line is said of each expectation that no reply begins with."""
+    """A receive waits, so `waiting` alone is met; a line is said of each expectation that no reply to it begins with."""
     begins = [*BEGINNINGS, *(f"refused {refusal}" for refusal in REFUSALS)]
     others = [*NO_BEGINNINGS, *(f"refused {refusal}" for refusal in NO_REFUSALS)]
     for expectation in [*begins, *others]:
-        setup = FIRST + CALL + f'op = "recv"\nexpect = "{expectation}"\n'
+        setup = SECOND + CALL + f'op = "recv"\nexpect = "{expectation}"\n'
         meant = f"; did you mean {MEANT[expectation]}?" if expectation in MEANT else ""
-        wanted = [] if expectation in begins else [f'call 1: no reply begins with "{expectation}"{meant}']
+        meant = DELIVERY if expectation in NO_DELIVERIES else meant
+        wanted = [] if expectation in begins else [f'call 1: no reply to recv begins with "{expectation}"{meant}']
         status, error = said(program, ["check"], setup)
         if status != (0 if expectation == "waiting" else 1) or not fits(error.splitlines(), wanted):
             yield f"{setup}status {status}, said\n{error}"
+
+
+def wrong_words(program):
+    """Of an operation a line is said of each expectation that replies to other operations alone begin with."""
+    for op, (own, keys) in WORDS.items():
+        for expectation in ["done", "waiting", "dropped", "empty", "delivered 6144"]:
+            setup = FIRST + CALL + f'op = "{op}"\n{keys}expect = "{expectation}"\n'
+            can_be = expectation == own or expectation == "delivered 6144" and op in DELIVERING
+            wanted = [] if can_be else [f'call 1: no reply to {op} begins with "{expectation}"; did you mean {own}?']
+            status, error = said(program, ["check"], setup)
+            if status not in (0, 1) or not fits(error.splitlines(), wanted):
+                yield f"{setup}status {status}, said\n{error}"
+
+
+def wrong_helps(program):
+    """`help` answers as `--help`, also of a command."""
+    for words in [[], *([command] for command in COMMANDS)]:
+        wanted, done = [subprocess.run([program, *line], capture_output=True, text=True, timeout=60)
+                        for line in ([*words, "--help"], ["help", *words])]
+        if not wanted.stdout or (wanted.stdout, "", 0) != (done.stdout, done.stderr, done.returncode):
+            yield f"help {words}: status {done.returncode}, wrote\n{done.stdout}{done.stderr}"
 
 
 def wrong_lines(program):
@@ -365,11 +465,11 @@ def wrong_streams(program):
 
 def main():
     program = sys.argv[1]
-    wrong = [*wrong_setups(program), *wrong_expectations(program), *wrong_places(program),
-             *wrong_lines(program), *wrong_streams(program)]
+    wrong = [*wrong_setups(program), *wrong_expectations(program), *wrong_words(program), *wrong_places(program),
+             *wrong_lines(program), *wrong_helps(program), *wrong_streams(program)]
     for text in wrong:
         print(text)
-    expectations = len(BEGINNINGS) + len(NO_BEGINNINGS) + len(REFUSALS) + len(NO_REFUSALS)
+    expectations = len(BEGINNINGS) + len(NO_BEGINNINGS) + len(REFUSALS) + len(NO_REFUSALS) + 5 * len(WORDS) + len(COMMANDS) + 1
     print(f"{len(SETUPS) + expectations + len(PLACES) + len(LINES) + len(STREAMS)} messages, {len(wrong)} wrong")
     return 1 if wrong else 0
 
