@@ -8,7 +8,7 @@
 # make install: the program that make run built, and the same files, below PREFIX (/usr/local) and DESTDIR;
 # make test: the gate, and what it took;
 # make rows: the built program: each worked set-up, as it is, with others in one run, migrated and traced, why its calls are refused, and by
-# the schema for editors; each worked audit, layout and exploration; explorations of random set-ups beside all orders one by one; what --help names beside the completions and the
+# the schema for editors; each worked audit, layout and exploration; each revoke that an audit tells beside the call; explorations of random set-ups beside all orders one by one; what --help names beside the completions and the
 # man page; what it says of wrong command lines, files and set-ups, an address used again a thousand times, each
 # request for memory refused in turn, by each subcommand and by calls of the libraries, inputs and outputs that fail,
 # texts that are broken, deep or long, three clients and four in whatever order they come, and what the documents
@@ -70,6 +70,7 @@ rows: rows-needs run
 	python3 rows/traces.py $(program) $(setups)
 	python3 rows/why.py $(program) $(setups)
 	python3 rows/audits.py $(program) crates/worked_audits/data crates/worked_parts/data crates/worked_trees/data
+	python3 rows/revokes.py $(program) crates/worked_audits/data $(setups)
 	python3 rows/explore.py $(program) crates/worked_explorations/data
 	python3 rows/orders_one_by_one.py $(program) 100
 	python3 rows/new_set_ups.py $(program)
