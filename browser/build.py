@@ -121,7 +121,7 @@ def policy(style, *scripts):
 def page():
     """Returns the text of the page."""
     import module
-    styles = [join.SOURCE / "colours.css", CODEMIRROR / "lib/codemirror.css", SOURCE / "style.css"]
+    styles = [join.SOURCE / "colours.css", join.SOURCE / "wires.css", CODEMIRROR / "lib/codemirror.css", SOURCE / "style.css"]
     style = "\n" + "".join(path.read_text() for path in styles)
     codemirror = "\n" + "".join((CODEMIRROR / it).read_text() for it in SCRIPTS)
     style, codemirror, script = join.harmless(style, codemirror, join.joined(SOURCE / "page.mjs", apart=("worker.mjs",)))

@@ -1,8 +1,8 @@
 #!/usr/bin/env python3
 """join.py [--check]: makes viewer.html out of the files in source/.
 
-viewer.html opens a trace from a file. page.sh makes a page of a run of it: it writes another title and the trace into
-the lines that begin with <title> and <pre id="trace">, which stand once each. The modules become one script, in the
+viewer.html opens a trace from a file. page.sh makes a page of a run of it: it writes another title, the trace and the
+audits into the lines that begin with <title>, <pre id="trace"> and <pre id="audits", which stand once each. The modules become one script, in the
 order in which they need one another: each is a function that gives what the module exports, and an import takes it from
 there. The page's policy lets the browser run just this script and use just this style, by their hashes, and load
 nothing.
@@ -18,7 +18,7 @@ import sys
 FOLDER = pathlib.Path(__file__).resolve().parent
 SOURCE = FOLDER / "source"
 FIRST_MODULE = SOURCE / "page.mjs"
-STYLES = ("colours.css", "style.css")
+STYLES = ("colours.css", "style.css", "wires.css")
 IMPORT = re.compile(r'^import \{ ([\w, ]+) \} from "([./\w]+)/(\w+\.mjs)";\n', re.M)
 EXPORT = re.compile(r"^export (?=(?:async )?(?:function|class|const) (\w+))", re.M)
 
@@ -102,7 +102,7 @@ def viewer():
     """The text of viewer.html."""
     style, script = viewer_parts()
     page = filled((SOURCE / "page.html").read_text(), policy=policy_of(style, script), style=style, script=script)
-    for line in ("<title>", '<pre id="trace">'):
+    for line in ("<title>", '<pre id="trace">', '<pre id="audits"'):
         assert len(re.findall(f"^{line}", page, re.M)) == 1, line
     return page
 

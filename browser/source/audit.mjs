@@ -1,15 +1,14 @@
 // Who reaches what, who can send to whom, and what each revoke would destroy.
+import { drawChannels, wayOf } from "../../page/source/channels.mjs";
 import { dim, element, fold, heading } from "../../page/source/element.mjs";
 import { drawNamed } from "./named.mjs";
-import { drawWires } from "./wires.mjs";
 
 const FORMS = {
   name: /^name (\S+) (\d+)$/u,
   thread: /^thread (\d+(?: @\S+)?) (.*)$/u,
   reach: /^ {2}reach \d+ (\d+) slot (\d+) (.*)$/u,
   hold: /^ {2}hold \d+ (\d+) index (\d+) depth (\d+) slot (\d+) (.*)$/u,
-  channel: /^channel (\d+(?: @\S+)?) (\d+) -> (\d+) badge (\d+) rights (\S+) -> (?:none|(\d+(?: @\S+)?) (\d+))$/u,
-  unwritten: /^channel none -> (\d+) -> (\d+(?: @\S+)?) (\d+)$/u,
+  channel: /^channel /u,
   revoke: /^revoke (\d+) (.*) clears (\d+)$/u,
   ends: /^ {2}ends (.*)$/u,
   change: /^ {2}([-+]) (.*)$/u,
@@ -42,19 +41,6 @@ function grouped(lines, outer, inner) {
 function drawSome(things, what, draw) {
   const rest = things.slice(MOST_SHOWN);
   return [draw(things.slice(0, MOST_SHOWN)), rest.length > 0 ? fold(rest.length, what, () => draw(rest)) : null];
-}
-
-/** The channels as a drawing: the threads that send or receive, and the ways between them. */
-function drawChannels(threads, channels) {
-  const ways = channels.map(({ form, found }) => {
-    if (form === "unwritten") return { from: null, endpoint: found[0], by: "", to: found[1] };
-    const [from, word, endpoint, badge, rights, to = null] = found;
-    return { from, endpoint, by: `${endpoint} badge ${badge} ${rights} by ${word}`, to };
-  });
-  const ends = new Set(ways.flatMap(({ from, to }) => [from, to]));
-  const boxes = threads.map(({ found: [thread] }) => ({ id: thread, title: thread, lines: [] })).filter(({ id }) => ends.has(id));
-  const drawing = drawWires(boxes, ways, "Who can send to whom; the text below says the same");
-  return drawing ? element("div", { class: "drawing", tabindex: "0", role: "region", "aria-label": "Channels" }, drawing) : null;
 }
 
 function drawChange({ found: [sign, line] }) {
@@ -90,11 +76,12 @@ export function drawAudit(into, text, choose) {
     return;
   }
   const threads = grouped(lines, "thread", ["reach", "hold"]);
-  const channels = lines.filter(({ form }) => form === "channel" || form === "unwritten");
+  const channels = lines.filter(({ form }) => form === "channel").map(({ line }) => line);
+  const drawing = drawChannels(channels.map(wayOf).filter(Boolean), "Who can send to whom; the text below says the same");
   into.replaceChildren(
     heading("Who can send to whom", "by a word; an endpoint, a badge that the receiver is told, and rights"),
-    ...[drawChannels(threads, channels)].filter(Boolean),
-    element("pre", { class: "told", tabindex: "0", "aria-label": "Channels as text" }, channels.map(({ line }) => line).join("\n") || "nobody"),
+    ...[drawing].filter(Boolean),
+    element("pre", { class: "told", tabindex: "0", "aria-label": "Channels as text" }, channels.join("\n") || "nobody"),
     heading("What each thread can name", "by a word of a call; in dim letters, by a CNode's word with an index and a depth"),
     ...drawNamed(threads),
     heading("What a revoke would do", "of each slot with children, whether or not a thread can name it"),

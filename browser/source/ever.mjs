@@ -1,6 +1,6 @@
 // What threads can never get: parts of a system as boxes, and the ways between them as lines.
 import { dim, element, fold, heading } from "../../page/source/element.mjs";
-import { drawWires } from "./wires.mjs";
+import { drawWires } from "../../page/source/wires.mjs";
 
 const PART = /^part (\d+)$/u;
 const THREAD = /^ {2}thread (\d+(?: @\S+)?) (\w+)$/u;

@@ -1,6 +1,6 @@
 // Lookups of words in capability spaces, by the rules of docs/behaviour.md. The trace does not tell which slots a call
-// named, nor what a thread can invoke: the page works these out here. They are not proved, and they never say what
-// happened.
+// named, and where no audit stands in the page, nothing tells what a thread can invoke: the page works these out here. They
+// are not proved, and they never say what happened.
 
 const lowBits = (word, bits) => BigInt(word) & ((1n << BigInt(bits)) - 1n);
 
@@ -57,13 +57,14 @@ export function namedSlots(state, machine, step) {
   return named;
 }
 
-function writeWord(word) {
+/** A word in decimal, or a long one in hexadecimal. */
+export function writeWord(word) {
   return word < 100000n ? String(word) : `0x${word.toString(16)}`;
 }
 
 /** Each full slot that some word of a thread leads to, with such a word: a map from addresses to texts. `3/9` is a word
     of which the first 9 bits alone count. */
-export function wordsOfThread(places, thread) {
+function wordsLookedUp(places, thread) {
   const { state, machine } = places;
   const words = new Map();
   const seen = new Set();
@@ -87,6 +88,11 @@ export function wordsOfThread(places, thread) {
   const root = state.slot.get(thread);
   if (root?.capability.kind === "cnode") walk(root, 0n, machine.wordBits);
   return words;
+}
+
+/** The full slots that a word of a thread leads to, with such a word each: as the audit of the state has them, or looked up. */
+export function wordsOfThread(places, thread) {
+  return places.audit?.of(thread).words ?? wordsLookedUp(places, thread);
 }
 
 /** The full slots that some index and depth name from a CNode's capability: those from which a copy through it can be

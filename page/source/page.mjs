@@ -6,11 +6,12 @@ import { firstMisfit } from "./state.mjs";
 import { drawChanges, drawSentence } from "./summary.mjs";
 import { drawForest, showChange } from "./forest.mjs";
 import { drawMemory } from "./memory.mjs";
-import { drawReachTable } from "./reach_table.mjs";
+import { drawReachTable, drawWays } from "./reach_table.mjs";
 import { drawSpaces } from "./spaces.mjs";
 import { drawThreadsAndEndpoints } from "./threads.mjs";
 import { listenToFiles, listenToParent } from "./files.mjs";
 import { listenToKeys } from "./keys.mjs";
+import { readAudits } from "./audits.mjs";
 import { readTrace } from "./trace.mjs";
 import { redraw } from "./redraw.mjs";
 import { wordsOfSteps } from "./words.mjs";
@@ -49,14 +50,14 @@ class Page {
     return this.trace.steps.length - 1;
   }
 
-  /** Reads a trace and shows one of its steps; a text that is none is refused with its fault. The name is that of the
-      set-up, or of the file. */
-  open(text, number, name) {
+  /** Reads a trace, and the audits of its states where they are there, and shows one of its steps; a text that is no trace is
+      refused with its fault. The name is that of the set-up, or of the file. */
+  open(text, number, name, audits = "") {
     try {
       const [trace, notice] = fitting(readTrace(text));
       if (trace.steps.length === 0) throw new Error(notice);
-      this.trace = { ...trace, told: wordsOfSteps(trace) };
-      this.views = new Views(trace);
+      this.trace = { ...trace, told: wordsOfSteps(trace), audits: readAudits(audits) };
+      this.views = new Views(this.trace);
       this.say(notice);
     } catch (error) {
       this.say(`This is not a trace of sel4sim. ${error.message}`);
@@ -143,6 +144,7 @@ class Page {
     this.put("memory", drawMemory(view));
     this.put("threads", drawThreadsAndEndpoints(view));
     this.put("reach", drawReachTable(view));
+    this.put("channels", drawWays(view));
     this.drawSpaces();
     this.drawLines();
     this.drawPosition(number);
@@ -246,7 +248,7 @@ function start() {
   const name = document.title.replace(TITLE, "").replace(/ · $/, "");
   listenToControls(page);
   if (text === "") document.body.dataset.shows = "start";
-  else page.open(text, Number(location.hash.slice(1)), name);
+  else page.open(text, Number(location.hash.slice(1)), name, byId("audits").textContent);
 }
 
 start();

@@ -1,11 +1,10 @@
 // Where the slots of a state stand: in which CNode, and how many of them hold a capability of one object.
 
-/** A state with its slots, its CNodes, and the full slots of each. What takes sorting is worked out when it is asked for,
+/** A state with its slots, its CNodes, and the full slots of each, and its audit, where there is one. What takes sorting is worked out when it is asked for,
     from the lines that were there at first, since the state goes on. */
 export class Places {
-  constructor(state, machine) {
-    this.state = state;
-    this.machine = machine;
+  constructor(state, machine, audit) {
+    Object.assign(this, { state, machine, audit });
     this.lines = [...state.slot.values()];
     const roots = [...state.thread.keys()].map((address) => state.slot.get(address)?.capability);
     this.roots = roots.filter((capability) => capability !== undefined);

@@ -1,6 +1,11 @@
 // What each thread can invoke: the capabilities that its words lead to, and those that one copy or move from a CNode
-// among them would give besides. The page works this out from the state by its own lookups.
+// among them would give besides: as the audit of the state says, or, where the page has none, by its own lookups.
 import { slotsFrom, wordsOfThread } from "./lookup.mjs";
+
+/** Where it is from what a thread's words lead to in a state. */
+export function sourceOf(places) {
+  return places.audit ? "This is what sel4sim audit says, which is proved." : "Worked out by this page, not proved.";
+}
 
 const KIND_ORDER = ["endpoint", "tcb", "cnode", "untyped"];
 
@@ -12,7 +17,8 @@ const keyOf = ({ object, badge, rights, guard, guardSize, free }) =>
 function waysOf(places, thread) {
   const ways = new Map();
   for (const [address, word] of wordsOfThread(places, thread)) {
-    const { capability } = places.state.slot.get(address);
+    const capability = places.state.slot.get(address)?.capability;
+    if (capability === undefined) continue;
     const key = keyOf(capability);
     if (!ways.has(key)) ways.set(key, { capability, words: [] });
     ways.get(key).words.push(word);
@@ -20,18 +26,27 @@ function waysOf(places, thread) {
   return ways;
 }
 
-/** The capabilities that a copy or move through the CNodes among some ways would give besides, by their keys; each with
-    the CNodes that it stands in reach of. */
-function copiesOf(places, ways) {
-  const copies = new Map();
+/** The slots that an index and a depth name from a CNode among some ways, each with the CNode. Where an audit says this, each
+    slot that no word leads to is told once. */
+function heldOf(places, thread, ways) {
+  const capabilityIn = (address) => places.state.slot.get(address)?.capability;
+  if (places.audit) {
+    return places.audit.of(thread).held.map(({ from, slot }) => ({ node: capabilityIn(from), capability: capabilityIn(slot) }))
+      .filter(({ node, capability }) => node && capability);
+  }
   const nodes = [...ways.values()].map(({ capability }) => capability).filter(({ kind }) => kind === "cnode");
-  for (const node of nodes) {
-    for (const { capability } of slotsFrom(places, node)) {
-      const key = keyOf(capability);
-      if (ways.has(key)) continue;
-      if (!copies.has(key)) copies.set(key, { capability, from: new Set() });
-      copies.get(key).from.add(node.object);
-    }
+  return nodes.flatMap((node) => slotsFrom(places, node).map(({ capability }) => ({ node, capability })));
+}
+
+/** The capabilities that a copy or move through the CNodes among some ways would give besides, by their keys; each with
+    the CNodes that it is told of. */
+function copiesOf(places, thread, ways) {
+  const copies = new Map();
+  for (const { node, capability } of heldOf(places, thread, ways)) {
+    const key = keyOf(capability);
+    if (ways.has(key)) continue;
+    if (!copies.has(key)) copies.set(key, { capability, from: new Set() });
+    copies.get(key).from.add(node.object);
   }
   return copies;
 }
@@ -39,7 +54,7 @@ function copiesOf(places, ways) {
 /** What a thread can invoke, `ways`, and could by a copy, `copies`, with one text that says all of it. */
 function sightOf(places, thread) {
   const ways = waysOf(places, thread);
-  const copies = copiesOf(places, ways);
+  const copies = copiesOf(places, thread, ways);
   const text = JSON.stringify([[...ways].map(([key, { words }]) => [key, words]),
     [...copies].map(([key, { from }]) => [key, [...from]])]);
   return { text, ways: [...ways.values()], copies: [...copies.values()] };

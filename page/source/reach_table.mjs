@@ -1,8 +1,9 @@
 // The table of what each thread can invoke: a row for each object, a column for threads with the same capabilities by
 // the same words, and in a cell one line for each capability.
-import { code, dim, element, fold, heading } from "./element.mjs";
+import { code, counted, dim, element, fold, heading } from "./element.mjs";
+import { drawChannels } from "./channels.mjs";
 import { objectName, threadName, wholeDetailsOf } from "./names.mjs";
-import { reachOf } from "./reach.mjs";
+import { reachOf, sourceOf } from "./reach.mjs";
 
 const MOST_OBJECTS = 120;
 const MOST_WORDS = 3;
@@ -69,13 +70,22 @@ function drawTable(view, columns, rows) {
   return element("div", attributes, table);
 }
 
+/** Who can send to whom in the state behind a step, where the page has an audit of it. */
+export function drawWays({ after }) {
+  if (!after.audit) return [];
+  const { ways } = after.audit;
+  const drawing = drawChannels(ways, "Who can send to whom, by which word, under which badge");
+  const remark = `by a word; an endpoint, the badge that the receiver is told, and rights. ${sourceOf(after)}`;
+  const none = ways.length > 0 ? `${counted(ways.length, "way")}, too many to be drawn` : "nobody";
+  return [heading("Who can send to whom", remark), drawing ?? element("p", {}, none)];
+}
+
 /** The table of what each thread can invoke in the state behind a step. */
 export function drawReachTable(view) {
   const { columns, rows } = reachOf(view.after);
   const remark = "a line is a capability: the words that lead to it, and what it allows. Threads with the same lines "
     + "share a column. Dim: what one copy or move from a CNode would give besides, if there is an empty slot for it; a "
-    + "mint can also set a badge where there is none, and several calls may give more. Worked out by this page, not "
-    + "proved.";
+    + `mint can also set a badge where there is none, and several calls may give more. ${sourceOf(view.after)}`;
   const rest = rows.slice(MOST_OBJECTS);
   return [heading("What each thread can invoke now", remark), drawTable(view, columns, rows.slice(0, MOST_OBJECTS)),
     rest.length > 0 ? fold(rest.length, "objects", () => drawTable(view, columns, rest)) : null];

@@ -3,6 +3,7 @@ import { code, dim, element, fold, heading } from "./element.mjs";
 import { capabilityName, kindMark, namesOfThread, objectName, signOf, slotName } from "./names.mjs";
 import { markOf } from "./changes.mjs";
 import { wordsOfThread } from "./lookup.mjs";
+import { sourceOf } from "./reach.mjs";
 
 // In a CNode of few slots each empty one has a cell. Of more full slots than these, runs of unchanged ones are folded.
 const FEW_SLOTS = 16;
@@ -135,8 +136,9 @@ function drawChoice(view, threads, chosen, choose) {
 export function drawSpaces(view, wanted, choose) {
   const { threads, chosen } = chooseThread(view, wanted);
   const words = chosen === undefined ? new Map() : wordsOfThread(view.after, chosen);
-  const remark = "“→ n” is a word that names the slot in a call (“/9”: its first 9 bits alone count); dotted: no word "
-    + "of this thread leads there. Worked out by this page, not proved.";
+  const bits = view.after.audit ? "" : " (“/9”: its first 9 bits alone count)";
+  const remark = `“→ n” is a word that names the slot in a call${bits}; dotted: no word of this thread leads there. `
+    + sourceOf(view.after);
   return [heading("Capability spaces", "as seen by thread ", drawChoice(view, threads, chosen, choose)),
     element("p", { class: "dim" }, remark),
     nodesOf(view).map((node) => drawNode(view, node, words)),

@@ -17,7 +17,7 @@ export class Views {
   /** Goes to the state behind a step: its places. Those of the steps looked at last are kept. */
   placesBehind(number) {
     this.run.go(number);
-    const places = this.latest.get(number) ?? new Places(this.run.state, this.trace.machine);
+    const places = this.latest.get(number) ?? new Places(this.run.state, this.trace.machine, this.trace.audits?.get(number));
     this.latest = new Map([...this.latest].slice(-1)).set(number, places);
     return places;
   }

@@ -54,20 +54,31 @@ def slots_by_words(words, thread, slots, profile):
             yield slot_of_word(slots, thread, value, profile)
 
 
-def wrong_cell(cell, thing, sight, thread, slots, profile):
+def copies_in(cell, thing):
+    """The copies and moves that a cell tells: of each, the CNodes that it can be taken from."""
+    return {(thing, text): set(map(int, nodes.split(", "))) for nodes, text in cell["copies"]}
+
+
+def wrong_copies(told, sight, is_audited):
+    """The cells of a column tell each capability that a copy or move would give besides, with the CNodes that it can be taken
+    from: with all of them, or, where an audit says it, with some."""
+    if told.keys() != sight.copies.keys():
+        yield f"a copy or move is told to give {sorted(told)}, and it gives {sorted(sight.copies)}"
+    for key in told.keys() & sight.copies.keys():
+        if not told[key] or not told[key] <= sight.copies[key] or not is_audited and told[key] != sight.copies[key]:
+            yield f"{key} is told to be taken from {told[key]}, and can be from {sight.copies[key]}"
+
+
+def wrong_cell(cell, thing, sight, told_copies, thread, slots, profile):
     """A cell has a line for each capability of its object that the thread can invoke, with a word for each slot that
-    holds it; each that a copy or move would give besides; and, of a CNode, all that one from it would give."""
+    holds it; and, of a CNode, all that a copy or move from it is told to give."""
     if len({text for _, text in cell["ways"]}) != len(cell["ways"]):
         yield f"a capability stands in two lines: {cell['text']!r}"
     told = {(thing, text): set(slots_by_words(words, thread, slots, profile)) for words, text in cell["ways"]}
     wanted = {key: addresses for key, addresses in sight.ways.items() if key[0] == thing}
     if told != wanted or sum(len(words) for words, _ in cell["ways"]) != sum(map(len, wanted.values())):
         yield f"the cell says {cell['text']!r}, and it can invoke {wanted}"
-    copies = {(thing, text): set(map(int, nodes.split(", "))) for nodes, text in cell["copies"]}
-    wanted = {key: nodes for key, nodes in sight.copies.items() if key[0] == thing}
-    if copies != wanted:
-        yield f"the cell says {cell['text']!r}, and a copy or move gives {wanted}"
-    from_it = sorted(key for key, nodes in sight.copies.items() if thing in {f"cnode {base}" for base in nodes})
+    from_it = sorted(key for key, nodes in told_copies.items() if thing in {f"cnode {base}" for base in nodes})
     if sorted(map(tuple, cell["given"])) != from_it:
         yield f"the cell says {cell['text']!r}, and a copy or move from it gives {from_it}"
     if not any(cell[part] for part in ("ways", "copies", "given")) and cell["text"] != "–":
@@ -86,7 +97,32 @@ def wrong_columns(columns, replay, threads):
                 yield f"the head {head!r} has no {thread} {names}"
 
 
-def wrong_table(tables, replay, state):
+def told_in(rows, place):
+    """What the cells of a column tell of copies and moves."""
+    told = {}
+    for thing, _, cells in rows:
+        told.update(copies_in(cells[place], thing))
+    return told
+
+
+def wrong_channels(titles, replay, state):
+    """Between two threads there is a line for each word by which the one may send to an endpoint, and the other may receive;
+    words are not compared."""
+    slots = slots_of(state)
+    walks = Walks(slots, replay.profile)
+    threads = [address for kind, address in state if KINDS[kind] == "thread"]
+    ends = {thread: [slots[address] for address in walks.invoked(thread) if slots[address].kind == "endpoint"] for thread in threads}
+    rights = {slot.address: slot.words[slot.words.index("rights") + 1] for slots_of_one in ends.values() for slot in slots_of_one}
+    wanted = [(one, slot.base, slot.number("badge"), rights[slot.address], other) for one in threads for other in threads
+              for slot in ends[one] if one != other and "w" in rights[slot.address]
+              and any(slot.base == end.base and "r" in rights[end.address] for end in ends[other])]
+    forms = [re.fullmatch(r"(\d+)(?: @\w+)?: (\d+) badge (\d+) ([-wrgp]{4}) by \d+ → (\d+)(?: @\w+)?", title) for title in titles]
+    told = [(*map(int, form.group(1, 2, 3)), form[4], int(form[5])) for form in forms if form]
+    if sorted(told) != sorted(wanted) or len(told) != len(titles):
+        yield f"it draws the ways {titles}, and there are {sorted(wanted)}"
+
+
+def wrong_table(tables, replay, state, is_audited):
     """The table has a column for each thread and a row for each object that some thread can invoke, or could by a copy
     or move, and each of its cells is that of the replay for all threads of its column."""
     slots = slots_of(state)
@@ -99,9 +135,14 @@ def wrong_table(tables, replay, state):
         yield f"the table has rows for {[thing for thing, _, _ in rows]}, and not {sorted(objects)}"
     for table in tables if threads else ():
         yield from wrong_columns(table["columns"], replay, threads)
+    columns = [list(map(int, column.split(" "))) for column, _ in tables[0]["columns"]] if tables else []
+    told = [told_in(rows, place) for place in range(len(columns))]
+    for copies, column in zip(told, columns, strict=True):
+        for thread in column:
+            yield from wrong_copies(copies, sights[thread], is_audited)
     for thing, head, cells in rows:
         if re.search(r" (\d+)", thing)[1] not in head:
             yield f"the row of {thing} is called {head!r}"
-        for (column, _), cell in zip(tables[0]["columns"], cells, strict=True):
-            for thread in map(int, column.split(" ")):
-                yield from wrong_cell(cell, thing, sights[thread], thread, slots, profile)
+        for copies, column, cell in zip(told, columns, cells, strict=True):
+            for thread in column:
+                yield from wrong_cell(cell, thing, sights[thread], copies, thread, slots, profile)

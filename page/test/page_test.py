@@ -5,8 +5,8 @@ set-ups of its own and the planted faults, which need the program.
 
 Each page is stepped through forward and back (a long run for its first 60 calls) and by jumps; behind each step what it
 shows is compared with a replay of the trace that is made here. Nothing that a page does may leave it: its policy has to
-hold, and no request may reach the proxy. The same is done for the set-ups in the folder `setups`, and faults that are
-planted in the page have to be found by it. With their effects hidden, the first calls are stepped through once more.
+hold, and no request may reach the proxy. The same is done for the set-ups in the folder `setups`, with audits and without,
+and faults that are planted in the page have to be found by it. With their effects hidden, the first calls are stepped through once more.
 Then: the modules by themselves, the viewer, page.sh, texts and files that mean harm, the keys, the find box, a phone's
 width, the forest alone, what a screen reader is told, and the colours; and faults that these have to find.
 """
@@ -174,6 +174,17 @@ def stand_in(folder):
     return path
 
 
+def without_audits(browser, program, folder):
+    """Whether pages that have a trace alone are right, and faults that are planted in their lookups are found."""
+    alone = folder / "alone"
+    alone.mkdir()
+    for setup in SETUPS.glob("*.toml"):
+        (alone / setup.name).write_text(trace_of(program, setup))
+    program = stand_in(folder)
+    return step_through(browser, program, sorted(alone.glob("*.toml")), folder) & planted.run(
+        faults_of_planted(browser, program, folder), PAGE, alone, folder, planted.FAULTS_OF_LOOKUPS)
+
+
 def main():
     missing = list(needs())
     if missing:
@@ -188,7 +199,8 @@ def main():
         right = step_through(browser, program, setups, folder)
         if not traces:
             right &= step_through(browser, program, sorted(SETUPS.glob("*.toml")), folder)
-            right &= planted.run(faults_of_planted(browser, program, folder), PAGE, SETUPS, folder)
+            right &= planted.run(faults_of_planted(browser, program, folder), PAGE, SETUPS, folder, planted.FAULTS)
+            right &= without_audits(browser, program, folder)
         (folder / "harm.trace").write_text(special.RUN)
         right &= step_through(browser, stand_in(folder), [folder / "harm.trace"], folder)
         right &= special.run(browser, PAGE, folder)

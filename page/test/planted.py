@@ -16,8 +16,10 @@ FAULTS = (
      'return badge === "0" ? rights : `badge ${badge} ${rights}`', "return rights"),
     ("what a copy would give is left out", "five_components", "reach.mjs",
      "if (ways.has(key)) continue;", "continue;"),
-    ("a copy is taken from the first CNode alone", "cnode_in_cnode", "lookup.mjs",
-     'if (inner.capability.kind === "cnode") walk(inner.capability, left);', ""),
+    ("what an index names is left out of an audit", "cnode_in_cnode", "audits.mjs",
+     "this.held.push({ from: this.slotOf.get(word), slot: Number(slot) });", ""),
+    ("a channel to none is drawn to the sender", "five_components", "channels.mjs",
+     "rights, to = null] = channel", "rights, to = from] = channel"),
     ("names are told wherever the number stands", "five_components", "names.mjs",
      "view.before.nodeAround(slot)?.base === 0", "true"),
     ("CNodes that hold one another are not marked", "cnodes_that_hold_one_another", "places.mjs",
@@ -42,6 +44,12 @@ FAULTS = (
      "this.views.asked(wanted)", "this.views.of(wanted)"),
 )
 
+# The same of pages that have a trace and no audits.
+FAULTS_OF_LOOKUPS = (
+    ("a copy is taken from the first CNode alone", "cnode_in_cnode", "lookup.mjs",
+     'if (inner.capability.kind === "cnode") walk(inner.capability, left);', ""),
+)
+
 # The same for the further checks.
 FURTHER_FAULTS = (
     ("the find box looks through the trace's lines alone", modes.found, "calls.mjs", ", ...told.texts]", "]"),
@@ -54,10 +62,10 @@ FURTHER_FAULTS = (
 )
 
 
-def plant(page, folder, place, fault):
+def plant(page, folder, fault):
     """A copy of the page's folder with one fault in it."""
-    _, _, module, old, new = fault
-    copied = folder / f"planted_{place}"
+    said, _, module, old, new = fault
+    copied = folder / said.replace(" ", "_")
     shutil.copytree(page, copied, ignore=shutil.ignore_patterns("out", "test"))
     path = copied / "source" / module
     text = path.read_text()
@@ -67,22 +75,22 @@ def plant(page, folder, place, fault):
     return copied
 
 
-def run(faults_of, page, setups, folder):
+def run(faults_of, page, setups, folder, faults):
     """Whether each planted fault is found: `faults_of` gives the faults of the page that a folder makes of a set-up."""
     missed = 0
-    for place, fault in enumerate(FAULTS):
-        if not faults_of(plant(page, folder, place, fault), setups / f"{fault[1]}.toml"):
+    for fault in faults:
+        if not faults_of(plant(page, folder, fault), setups / f"{fault[1]}.toml"):
             print(f"planted and not found: {fault[0]}")
             missed += 1
-    print(f"{len(FAULTS)} planted faults, {missed} not found")
+    print(f"{len(faults)} planted faults, {missed} not found")
     return missed == 0
 
 
 def run_further(browser, page, folder):
     """Whether each planted fault is found by its check."""
     missed = 0
-    for place, fault in enumerate(FURTHER_FAULTS, len(FAULTS)):
-        special.make_run(plant(page, folder, place, fault), folder)
+    for fault in FURTHER_FAULTS:
+        special.make_run(plant(page, folder, fault), folder)
         if not list(fault[1](browser, page, folder)):
             print(f"planted and not found: {fault[0]}")
             missed += 1

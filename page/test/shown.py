@@ -3,7 +3,7 @@ import re
 
 from collections import Counter
 
-from invoked import READ_TABLE, wrong_table
+from invoked import READ_TABLE, wrong_channels, wrong_table
 from replay import KINDS, lost_nodes, siblings_of, slot_of_index, slot_of_word, slots_of
 
 # Looks whether the forest was scrolled to what changed; opens what is folded, until nothing is, and reads the page.
@@ -24,6 +24,8 @@ READ = r"""
   const around = (element) => element.parentElement.closest("li[data-slot]")?.dataset.slot ?? null;
   return {
     inSight, title: document.title, table: """ + READ_TABLE + r""",
+    audited: document.getElementById("reach").textContent.includes("which is proved"),
+    channels: all("#channels .wire title", (it) => it.textContent),
     reasons: all("#said .reasons > li", (reason) => reason.textContent),
     names: all("#sentence .name", (name) => name.textContent), changed: text("changed"),
     nodes: all("#spaces h3[data-node]", (node) => [Number(node.dataset.node), node.textContent]),
@@ -296,7 +298,9 @@ def wrong_page(shown, replay, number):
     yield from wrong_order(shown["forest"], state)
     yield from wrong_threads(shown, state)
     yield from wrong_words(shown, state, profile)
-    yield from wrong_table(shown["table"], replay, state)
+    yield from wrong_table(shown["table"], replay, state, shown["audited"])
+    if shown["audited"]:
+        yield from wrong_channels(shown["channels"], replay, state)
     yield from wrong_names(shown["names"], replay, number)
     yield from wrong_losses(shown, replay, number)
     yield from wrong_gist(shown["gists"], replay, number)
