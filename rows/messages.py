@@ -73,6 +73,7 @@ SETUPS = [
     (FIRST + CALL + 'op = "nbsend"\nexpect = "empty"\n', 1,
      ['call 1: no reply to nbsend begins with "empty"; did you mean dropped?']),
     (FIRST + CALL + 'op = "nbsend"\nexpect = "refused"\n', 1, []),
+    (FIRST + CALL + 'op = "nbsend"\nexpect = "?"\n', 1, []),
     (FIRST + CALL + 'op = "nbsend"\nexpect = "delivered 6144 from 2048"\n', 1, []),
     (FIRST + CALL + 'op = "nbsend"\nexpect = "refused IllegalOperation"\n', 1,
      ['call 1: no reply to nbsend begins with "refused IllegalOperation"; did you mean refused 3?']),

@@ -33,6 +33,9 @@ const DELIVERED: [&str; 11] = ["delivered", "", "from", "", "to", "", "badge", "
 /// The place of the endpoint's address among them, 0 the first.
 const ENDPOINT_PLACE: usize = 1;
 
+/// The expectation of an exercise that is not answered yet. It is never met, and nothing is said of it.
+const UNANSWERED: &str = "?";
+
 /// What is said of a text that begins as a delivery, and is none.
 const DELIVERY: &str = "; a delivery reads delivered E from F to T badge B label L words W ..";
 
@@ -156,7 +159,7 @@ fn say_unmet(
     expectation: &str,
 ) -> Result<(), AllocError> {
     let (name, word) = (op.text(), word_of(op));
-    if is_beginning(word, expectation) {
+    if expectation == UNANSWERED || is_beginning(word, expectation) {
         return Ok(());
     }
     write!(
