@@ -35,7 +35,11 @@ pub struct Unsettled<N: Naming, T: Volume<N>> {
 impl<N: Naming, T: Volume<N>> Unsettled<N, T> {
     /// Ends the shared kernel without its book. It takes no memory.
     pub fn give_up<R: Wait>(self, rt: &R) {
-        let Unsettled { shared, .. } = self;
+        let Unsettled {
+            why: _,
+            shared,
+            clients: _,
+        } = self;
         shared.give_up(rt);
     }
 }

@@ -1,28 +1,26 @@
 //! Drives: clients that meet before their calls, and a history that is full.
 use crate::gates::Meeting;
-use crate::setup::{Caller, FIRST_CALL, SECOND_CALL, Shared, settled};
+use crate::setup::{Caller, CallerOver, FIRST_CALL, SECOND_CALL, Shared, SharedOver, settled};
 use cap_core::Wide;
 use ipc_core::MakeWaiters;
 use kernel_core::Call;
-use kernel_shared::driving::Stop;
+use kernel_shared::driving::{Driven, Stop};
 use kernel_shared::fault::SharedFault;
-use kernel_shared::{Driven, Gate, Naming, drive};
+use kernel_shared::volume::Volume;
+use kernel_shared::{Gate, Naming, drive};
 use slot_core::MakeStore;
 use std::alloc::{AllocError, Global};
 use std::sync::Wait;
 use std::thread::Threads;
 
-/// What a drive gives of one client.
-type End<N, S, W> = Driven<N, Wide, S, W>;
-
 /// How many calls were made in a drive, how many clients stopped, and how many of these by a full history.
 type Ends = (u32, u32, u32);
 
 /// The ends of clients, counted.
-fn ends_of<N: Naming, S: MakeStore<Wide>, W: MakeWaiters<Wide>>(all: &[End<N, S, W>]) -> Ends {
+fn ends_of<N: Naming, T: Volume<N>>(all: &[Driven<N, T>]) -> Ends {
     let (mut made, mut stopped, mut full) = (0u32, 0u32, 0u32);
     for driven in all {
-        let is_full = matches!(&driven.stopped, Some(Stop::Fault(SharedFault::Full)));
+        let is_full = matches!(driven.stopped, Some(Stop::Fault(SharedFault::Full)));
         made = made.saturating_add(driven.made);
         stopped = stopped.saturating_add(driven.stopped.is_some() as u32);
         full = full.saturating_add(is_full as u32);
@@ -30,14 +28,22 @@ fn ends_of<N: Naming, S: MakeStore<Wide>, W: MakeWaiters<Wide>>(all: &[End<N, S,
     (made, stopped, full)
 }
 
+/// A client, whatever stopped it.
+fn client_after<N: Naming, T: Volume<N>>(driven: Driven<N, T>) -> CallerOver<N, T> {
+    let Driven { client, .. } = driven;
+    client
+}
+
 /// The clients themselves.
-fn clients_of<N: Naming, S: MakeStore<Wide>, W: MakeWaiters<Wide>>(
+fn clients_of<N: Naming, T: Volume<N>>(
     alloc: Global,
-    all: Vec<End<N, S, W>>,
-) -> Option<Vec<Caller<N, S, W>>> {
-    let mut clients = Vec::new(alloc);
+    all: Vec<Driven<N, T>>,
+) -> Option<Vec<CallerOver<N, T>>> {
+    let Ok(mut clients) = Vec::with_capacity(alloc, all.len()) else {
+        return None;
+    };
     for driven in all {
-        clients.push(driven.client).ok()?;
+        clients.push_reserved(client_after(driven));
     }
     Some(clients)
 }
@@ -45,18 +51,17 @@ fn clients_of<N: Naming, S: MakeStore<Wide>, W: MakeWaiters<Wide>>(
 /// Drives the clients, where there is a list for each: they themselves, and how they ended.
 pub fn driven<
     N: Naming + Send + Sync,
-    S: MakeStore<Wide> + Send + Sync,
-    W: MakeWaiters<Wide> + Send + Sync,
+    T: Volume<N> + Send + Sync,
     R: Threads + Wait + Sync,
     G: Gate + Sync,
 >(
     rt: &R,
     alloc: Global,
-    shared: &Shared<N, S, W>,
-    clients: Vec<Caller<N, S, W>>,
+    shared: &SharedOver<N, T>,
+    clients: Vec<CallerOver<N, T>>,
     lists: &[Vec<Call>],
     gate: &G,
-) -> Option<(Vec<Caller<N, S, W>>, Ends)> {
+) -> Option<(Vec<CallerOver<N, T>>, Ends)> {
     if lists.len() < clients.len() {
         return None;
     }
@@ -135,16 +140,15 @@ fn settles<N: Naming, S: MakeStore<Wide>, W: MakeWaiters<Wide>, R: Wait>(
 /// Drives a crowd: its clients, where they ended as they should.
 fn crowd_after_its_calls<
     N: Naming + Send + Sync,
-    S: MakeStore<Wide> + Send + Sync,
-    W: MakeWaiters<Wide> + Send + Sync,
+    T: Volume<N> + Send + Sync,
     R: Threads + Wait + Sync,
 >(
     rt: &R,
     alloc: Global,
-    shared: &Shared<N, S, W>,
-    clients: Vec<Caller<N, S, W>>,
+    shared: &SharedOver<N, T>,
+    clients: Vec<CallerOver<N, T>>,
     crowd: Crowd,
-) -> Option<Vec<Caller<N, S, W>>> {
+) -> Option<Vec<CallerOver<N, T>>> {
     let lists = lists_of(alloc, crowd.lists).ok()?;
     let gate = Meeting::of(crowd.meeting, crowd.second_first);
     let (clients, ends) = driven(rt, alloc, shared, clients, lists.as_slice(), &gate)?;

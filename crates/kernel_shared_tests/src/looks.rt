@@ -1,12 +1,14 @@
 //! What clients are answered, and what they see.
 use crate::setup::{
-    Caller, EMPTY, ENDPOINT, ENDPOINT_SLOT, FIRST, FIRST_CALL, SECOND, Shared, settled,
+    Caller, CallerOver, EMPTY, ENDPOINT, ENDPOINT_SLOT, FIRST, FIRST_CALL, SECOND, Shared,
+    SharedOver, settled,
 };
 use cap_core::{Badge, Cap, Rights, Wide};
 use ipc_core::MakeWaiters;
 use kernel_core::{Call, Inbox, Op, Reply, ThreadState};
 use kernel_shared::fault::SharedFault;
 use kernel_shared::settling::Unsettled;
+use kernel_shared::volume::Volume;
 use kernel_shared::{Answer, Entry, Naming, Query, SettleFault, settle};
 use slot_core::MakeStore;
 use std::sync::Wait;
@@ -138,10 +140,10 @@ pub const TWO_CLIENTS: Script = Script {
 };
 
 /// Whether a step comes out as it should.
-fn comes_out<N: Naming, S: MakeStore<Wide>, W: MakeWaiters<Wide>, R: Wait>(
+fn comes_out<N: Naming, T: Volume<N>, R: Wait>(
     rt: &R,
-    shared: &Shared<N, S, W>,
-    client: &mut Caller<N, S, W>,
+    shared: &SharedOver<N, T>,
+    client: &mut CallerOver<N, T>,
     step: Step,
 ) -> bool {
     match step {
@@ -152,20 +154,20 @@ fn comes_out<N: Naming, S: MakeStore<Wide>, W: MakeWaiters<Wide>, R: Wait>(
 }
 
 /// Whether a call finds the history full.
-fn finds_full<N: Naming, S: MakeStore<Wide>, W: MakeWaiters<Wide>, R: Wait>(
+fn finds_full<N: Naming, T: Volume<N>, R: Wait>(
     rt: &R,
-    shared: &Shared<N, S, W>,
-    client: &mut Caller<N, S, W>,
+    shared: &SharedOver<N, T>,
+    client: &mut CallerOver<N, T>,
     call: Call,
 ) -> bool {
     matches!(shared.call(rt, client, call), Err(SharedFault::Full))
 }
 
 /// How many steps come out as they should, up to the first that does not.
-fn follow<N: Naming, S: MakeStore<Wide>, W: MakeWaiters<Wide>, R: Wait>(
+fn follow<N: Naming, T: Volume<N>, R: Wait>(
     rt: &R,
-    shared: &Shared<N, S, W>,
-    clients: &mut Vec<Caller<N, S, W>>,
+    shared: &SharedOver<N, T>,
+    clients: &mut Vec<CallerOver<N, T>>,
     steps: &[(usize, Step)],
 ) -> usize {
     for (number, (place, step)) in steps.iter().enumerate() {

@@ -4,10 +4,13 @@ ghost use Rattle.abstract_kernel.specs.Plan.{IsPlan};
 
 use crate::crowd::driven;
 use crate::gates::{Open, TURNS};
-use crate::setup::{Caller, EMPTY, ENDPOINT, FIRST, History, SECOND, Shared, settled};
+use crate::setup::{
+    Caller, CallerOver, EMPTY, ENDPOINT, FIRST, History, SECOND, Shared, SharedOver, settled,
+};
 use cap_core::{Rights, Wide};
 use ipc_core::MakeWaiters;
 use kernel_core::{BootPlan, Call, Kernel, Op};
+use kernel_shared::volume::Volume;
 use kernel_shared::{Answer, Naming, Query};
 use slot_core::MakeStore;
 use std::alloc::{AllocError, Global};
@@ -69,16 +72,13 @@ fn lists(alloc: Global) -> Result<Vec<Vec<Call>>, AllocError> {
 
 /// An observer at its end: whether each look showed no less than the one before it, and an entry at its last place.
 #[derive(Drop)]
-struct Observer<N: Naming, S: MakeStore<Wide>, W: MakeWaiters<Wide>> {
-    client: Caller<N, S, W>,
+struct Observer<N: Naming, T: Volume<N>> {
+    client: CallerOver<N, T>,
     kept: bool,
 }
 
 /// How many entries a look shows, where it is no fewer than before and the last of them is there.
-fn seen_since<N: Naming, S: MakeStore<Wide>, W: MakeWaiters<Wide>>(
-    client: &mut Caller<N, S, W>,
-    before: u32,
-) -> Option<u32> {
+fn seen_since<N: Naming, T: Volume<N>>(client: &mut CallerOver<N, T>, before: u32) -> Option<u32> {
     let Some(Answer::Length(entries)) = client.look(Query::Length) else {
         return None;
     };
@@ -90,10 +90,7 @@ fn seen_since<N: Naming, S: MakeStore<Wide>, W: MakeWaiters<Wide>>(
 }
 
 /// Looks until all is over: whether each look showed no less than the one before it.
-fn looks_until<N: Naming, S: MakeStore<Wide>, W: MakeWaiters<Wide>>(
-    client: &mut Caller<N, S, W>,
-    over: &AtomicBool,
-) -> bool {
+fn looks_until<N: Naming, T: Volume<N>>(client: &mut CallerOver<N, T>, over: &AtomicBool) -> bool {
     let mut entries = 0;
     for _ in 0..TURNS {
         let Some(now) = seen_since(client, entries) else {
@@ -108,59 +105,58 @@ fn looks_until<N: Naming, S: MakeStore<Wide>, W: MakeWaiters<Wide>>(
 }
 
 /// Looks until all is over, and gives the client back.
-fn observe<N: Naming, S: MakeStore<Wide>, W: MakeWaiters<Wide>>(
-    mut client: Caller<N, S, W>,
+fn observe<N: Naming, T: Volume<N>>(
+    mut client: CallerOver<N, T>,
     over: &AtomicBool,
-) -> Observer<N, S, W> {
+) -> Observer<N, T> {
     let kept = looks_until(&mut client, over);
     Observer { client, kept }
 }
 
 /// Drives the callers, and says then that all is over: they themselves, where each call was made.
-fn drive_to_the_end<
-    N: Naming + Send + Sync,
-    S: MakeStore<Wide> + Send + Sync,
-    W: MakeWaiters<Wide> + Send + Sync,
-    R: Threads + Wait + Sync,
->(
+fn drive_to_the_end<N: Naming + Send + Sync, T: Volume<N> + Send + Sync, R: Threads + Wait + Sync>(
     rt: &R,
     alloc: Global,
-    shared: &Shared<N, S, W>,
-    clients: Vec<Caller<N, S, W>>,
+    shared: &SharedOver<N, T>,
+    clients: Vec<CallerOver<N, T>>,
     lists: &[Vec<Call>],
     over: &AtomicBool,
-) -> Option<Vec<Caller<N, S, W>>> {
+) -> Option<Vec<CallerOver<N, T>>> {
     let driven = driven(rt, alloc, shared, clients, lists, &Open);
     over.store(true, Ordering::SeqCst);
     let (clients, (_, stopped, _)) = driven?;
     (stopped == 0).then_some(clients)
 }
 
+/// Puts an observer's client behind the others: whether each look showed no less than the one before it.
+fn put_back<N: Naming, T: Volume<N>>(
+    clients: &mut Vec<CallerOver<N, T>>,
+    observer: Observer<N, T>,
+) -> bool {
+    let Observer { client, kept } = observer;
+    clients.push(client).is_ok() && kept
+}
+
 /// The callers with the observers behind them, where the observers kept what they saw.
-fn all_back<N: Naming, S: MakeStore<Wide>, W: MakeWaiters<Wide>>(
-    mut clients: Vec<Caller<N, S, W>>,
-    first: Observer<N, S, W>,
-    second: Observer<N, S, W>,
-) -> Option<Vec<Caller<N, S, W>>> {
-    let is_kept = first.kept && second.kept;
-    let are_back = clients.push(second.client).is_ok() && clients.push(first.client).is_ok();
-    (is_kept && are_back).then_some(clients)
+fn all_back<N: Naming, T: Volume<N>>(
+    mut clients: Vec<CallerOver<N, T>>,
+    first: Observer<N, T>,
+    second: Observer<N, T>,
+) -> Option<Vec<CallerOver<N, T>>> {
+    let second_kept = put_back(&mut clients, second);
+    let first_kept = put_back(&mut clients, first);
+    (first_kept && second_kept).then_some(clients)
 }
 
 /// Drives the callers while the observers look, and gives all clients back, or `None` where a call was not made or a look
 /// went back.
-fn drive_observed<
-    N: Naming + Send + Sync,
-    S: MakeStore<Wide> + Send + Sync,
-    W: MakeWaiters<Wide> + Send + Sync,
-    R: Threads + Wait + Sync,
->(
+fn drive_observed<N: Naming + Send + Sync, T: Volume<N> + Send + Sync, R: Threads + Wait + Sync>(
     rt: &R,
     alloc: Global,
-    shared: &Shared<N, S, W>,
-    mut clients: Vec<Caller<N, S, W>>,
+    shared: &SharedOver<N, T>,
+    mut clients: Vec<CallerOver<N, T>>,
     lists: &[Vec<Call>],
-) -> Option<Vec<Caller<N, S, W>>> {
+) -> Option<Vec<CallerOver<N, T>>> {
     let (one, other) = (clients.pop()?, clients.pop()?);
     let is_over = AtomicBool::new(false);
     let over = &is_over;
@@ -227,15 +223,14 @@ fn shows_the_same<S: MakeStore<Wide>, W: MakeWaiters<Wide>>(
 /// Drives callers and observers by the lists of calls.
 fn driven_under_looks<
     N: Naming + Send + Sync,
-    S: MakeStore<Wide> + Send + Sync,
-    W: MakeWaiters<Wide> + Send + Sync,
+    T: Volume<N> + Send + Sync,
     R: Threads + Wait + Sync,
 >(
     rt: &R,
     alloc: Global,
-    shared: &Shared<N, S, W>,
-    clients: Vec<Caller<N, S, W>>,
-) -> Option<Vec<Caller<N, S, W>>> {
+    shared: &SharedOver<N, T>,
+    clients: Vec<CallerOver<N, T>>,
+) -> Option<Vec<CallerOver<N, T>>> {
     let lists = lists(alloc).ok()?;
     drive_observed(rt, alloc, shared, clients, lists.as_slice())
 }
@@ -259,7 +254,8 @@ pub fn calls_under_looks<
         shared.give_up(rt);
         return false;
     };
-    settled(rt, shared, clients).is_some_and(|book| {
-        u64::from(book.length()) == CALLERS * CALLS && runs_again(alloc, plan, &book)
-    })
+    let Some(book) = settled(rt, shared, clients) else {
+        return false;
+    };
+    u64::from(book.length()) == CALLERS * CALLS && runs_again(alloc, plan, &book)
 }

@@ -8,7 +8,7 @@ ghost use Rattle.abstract_kernel.specs.State.{shown};
 use cap_core::{Message, Wide};
 use ipc_core::MakeWaiters;
 use kernel_core::{BootPlan, Call, Kernel, Op};
-use kernel_shared::{Book, Client, Naming, SharedKernel, StartFault, settle};
+use kernel_shared::{Book, Client, Naming, SharedKernel, StartFault, client, settle, shared};
 use slot_core::MakeStore;
 use std::alloc::{AllocError, Global};
 use std::process::Abort;
@@ -30,6 +30,11 @@ pub type Shared<N, S, W> = SharedKernel<N, Wide, S, W>;
 pub type Caller<N, S, W> = Client<N, Wide, S, W>;
 
 pub type History<N, S, W> = Book<N, Wide, S, W>;
+
+/// A shared kernel and a client of it, whatever its copies are.
+pub type SharedOver<N, T> = shared::Shared<N, T>;
+
+pub type CallerOver<N, T> = client::Client<N, T>;
 
 pub const EMPTY: Message = Message {
     label: 0,

@@ -9,8 +9,9 @@ use crate::outcome::Outcome;
 use cap_core::{Badge, Message, Wide};
 use ipc_core::MakeWaiters;
 use kernel_core::{BootPlan, Call, Kernel, Op, Reply};
-use kernel_shared::fault::SharedFault;
-use kernel_shared::{Answer, Client, Naming, Query, SharedKernel, StartFault, settle};
+use kernel_shared::{
+    Answer, Client, Naming, Query, SharedKernel, StartFault, client, fault, settle, shared, volume,
+};
 use slot_core::MakeStore;
 use std::alloc::Global;
 use std::marker::Brand;
@@ -69,17 +70,17 @@ const WRONG: SharedOutcomes = SharedOutcomes {
 
 /// Makes a call: whether it is answered so, or `None` where it was out of memory and the history, which has so many
 /// entries, has no more than before.
-fn call<N: Naming, S: MakeStore<Wide>, W: MakeWaiters<Wide>, R: Wait>(
+fn call<N: Naming, T: volume::Volume<N>, R: Wait>(
     rt: &R,
-    shared: &SharedKernel<N, Wide, S, W>,
-    client: &mut Client<N, Wide, S, W>,
+    shared: &shared::Shared<N, T>,
+    client: &mut client::Client<N, T>,
     call: Call,
     reply: Reply,
     entries: u32,
 ) -> Option<bool> {
     match shared.call(rt, client, call) {
         Ok(answer) => Some(answer == reply),
-        Err(SharedFault::Memory) => {
+        Err(fault::SharedFault::Memory) => {
             let is_kept = client.look(Query::Length) == Some(Answer::Length(entries));
             if is_kept { None } else { Some(false) }
         }
@@ -88,10 +89,10 @@ fn call<N: Naming, S: MakeStore<Wide>, W: MakeWaiters<Wide>, R: Wait>(
 }
 
 /// How the calls end, each made once more where it was out of memory.
-fn make_calls<N: Naming, S: MakeStore<Wide>, W: MakeWaiters<Wide>, R: Wait>(
+fn make_calls<N: Naming, T: volume::Volume<N>, R: Wait>(
     rt: &R,
-    shared: &SharedKernel<N, Wide, S, W>,
-    client: &mut Client<N, Wide, S, W>,
+    shared: &shared::Shared<N, T>,
+    client: &mut client::Client<N, T>,
 ) -> Outcome {
     let mut all = Outcome::Done;
     let mut entries = 0u32;

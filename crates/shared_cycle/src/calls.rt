@@ -1,5 +1,8 @@
 //! Calls that are taken, made and looked at.
-use crate::kernel::{DROPPED_SEND, LinkedBook, LinkedClient, LinkedShared};
+use crate::kernel::{DROPPED_SEND, LinkedBook};
+use kernel_shared::client::Client;
+use kernel_shared::shared::Shared;
+use kernel_shared::volume::Volume;
 use kernel_shared::{Naming, Query};
 use std::sync::Wait;
 use std::sync::atomic::{AtomicBool, AtomicU64, Ordering};
@@ -19,10 +22,10 @@ pub fn take_all<N: Naming>(book: &mut LinkedBook<N>, calls: u32) -> bool {
 }
 
 /// Makes so many calls of one client: whether each was answered.
-pub fn call_all<N: Naming, R: Wait>(
+pub fn call_all<N: Naming, T: Volume<N>, R: Wait>(
     rt: &R,
-    shared: &LinkedShared<N>,
-    client: &mut LinkedClient<N>,
+    shared: &Shared<N, T>,
+    client: &mut Client<N, T>,
     calls: u32,
 ) -> bool {
     let mut all = true;
@@ -32,12 +35,8 @@ pub fn call_all<N: Naming, R: Wait>(
     all
 }
 
-/// Looks until all is over, adds how many looks were answered, and gives the client back.
-fn look_until<N: Naming>(
-    mut client: LinkedClient<N>,
-    over: &AtomicBool,
-    looks: &AtomicU64,
-) -> LinkedClient<N> {
+/// Looks until all is over: how many looks were answered.
+fn looks_until<N: Naming, T: Volume<N>>(client: &mut Client<N, T>, over: &AtomicBool) -> u64 {
     let mut answered = 0u64;
     for _ in 0..MOST_LOOKS {
         if over.load(Ordering::Relaxed) {
@@ -47,15 +46,24 @@ fn look_until<N: Naming>(
             answered = answered.saturating_add(1);
         }
     }
-    looks.fetch_add(answered, Ordering::SeqCst);
+    answered
+}
+
+/// Looks until all is over, adds how many looks were answered, and gives the client back.
+fn look_until<N: Naming, T: Volume<N>>(
+    mut client: Client<N, T>,
+    over: &AtomicBool,
+    looks: &AtomicU64,
+) -> Client<N, T> {
+    looks.fetch_add(looks_until(&mut client, over), Ordering::SeqCst);
     client
 }
 
 /// The last client makes so many calls while the others look: how many looks were answered, where each call was.
-pub fn looks_beside<N: Naming + Send + Sync, R: Threads + Wait + Sync>(
+pub fn looks_beside<N: Naming + Send + Sync, T: Volume<N> + Send + Sync, R: Threads + Wait + Sync>(
     rt: &R,
-    shared: &LinkedShared<N>,
-    mut clients: Vec<LinkedClient<N>>,
+    shared: &Shared<N, T>,
+    mut clients: Vec<Client<N, T>>,
     calls: u32,
 ) -> Option<u64> {
     let mut caller = clients.pop()?;

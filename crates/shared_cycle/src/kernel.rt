@@ -6,7 +6,7 @@ ghost use Rattle.abstract_kernel.specs.Plan.{IsPlan};
 use cap_core::{Message, Wide};
 use ipc_core::LinkedWaiters;
 use kernel_core::{BootPlan, Call, Kernel, Op};
-use kernel_shared::{Book, Client, SharedKernel};
+use kernel_shared::{Book, SharedKernel};
 use slot_core::LinkedStore;
 use std::alloc::Global;
 
@@ -15,8 +15,6 @@ pub type LinkedKernel = Kernel<Wide, LinkedStore<Wide>, LinkedWaiters<Wide>>;
 pub type LinkedBook<N> = Book<N, Wide, LinkedStore<Wide>, LinkedWaiters<Wide>>;
 
 pub type LinkedShared<N> = SharedKernel<N, Wide, LinkedStore<Wide>, LinkedWaiters<Wide>>;
-
-pub type LinkedClient<N> = Client<N, Wide, LinkedStore<Wide>, LinkedWaiters<Wide>>;
 
 /// A send that finds no receiver: it is dropped.
 pub const DROPPED_SEND: Call = Call {

@@ -27,9 +27,8 @@ const FEW_READERS: u32 = 2;
 /// The most clients that look.
 const MOST_READERS: u32 = 64;
 
-/// The job that the words name, with how many times it is done and its number.
-fn job_of<R: Env + AllocGlobal>(rt: &R) -> Option<(Job, u32, u32)> {
-    let words = env::args(rt).ok()?.collect::<Vec<String>>(rt.alloc()).ok()?;
+/// The job that words name, with how many times it is done and its number.
+fn job_in(words: &[String]) -> Option<(Job, u32, u32)> {
     let job = match words.get(1)?.as_str() {
         "take" => Job::Take,
         "call" => Job::Call,
@@ -39,6 +38,12 @@ fn job_of<R: Env + AllocGlobal>(rt: &R) -> Option<(Job, u32, u32)> {
     let times = words.get(2)?.as_str().parse::<u32>().ok()?;
     let number = words.get(3)?.as_str().parse::<u32>().ok()?;
     Some((job, times, number))
+}
+
+/// The job that the words of the command line name.
+fn job_of<R: Env + AllocGlobal>(rt: &R) -> Option<(Job, u32, u32)> {
+    let words = env::args(rt).ok()?.collect::<Vec<String>>(rt.alloc()).ok()?;
+    job_in(words.as_slice())
 }
 
 /// Does a job so many times with so many calls each, or looks beside so many calls with so many clients: how many looks
