@@ -70,6 +70,10 @@ IsExplored (Some which) first states input text verdict = IsNamedWitness which f
 abbrev pub IsExploration : Options → List ℕ → List ℕ → Verdict → Type 0
 IsExploration options = IsExplored (option_map (λ s. s.now) options.witness) (unwrap_or options.first 0) (states_kept options.states)
 
+-- the report of clients that share a kernel, by the option
+abbrev pub IsShared : Options → List ℕ → List ℕ → Verdict → Type 0
+IsShared options = IsSharedProgram (λ _ _. ⊥) (unwrap_or options.first 0)
+
 -- the form of a derivation forest, by the option
 abbrev pub form_of : Options → Form
 form_of options = cond options.dot Dot Lines
@@ -77,7 +81,7 @@ form_of options = cond options.dot Dot Lines
 abbrev pub meaning : Job → Options → List ℕ → List ℕ → Verdict → Type 0
 meaning Check options = λ input text verdict. program input ≡ (text, verdict)
 meaning Trace options = λ input text verdict. trace_of_bytes input ≡ (text, verdict)
-meaning Threads options = IsSharedProgram (λ _ _. ⊥)
+meaning Threads options = IsShared options
 meaning Migrate options = IsMigration
 meaning Why options = λ input text verdict. why_of_bytes options.call input ≡ (text, verdict)
 meaning Audit options = IsAudit options

@@ -6,7 +6,7 @@ ghost use Rattle.engine_ever.specs.Ever.{IsEverOfBytes};
 ghost use Rattle.engine_tree.specs.Trees.{IsTreeOfBytes};
 ghost use Rattle.setup_format.specs.Setups.{setup_of_bytes};
 ghost use Rattle.program.specs.Commas.{words_in as words_in_definition};
-ghost use Rattle.program.specs.Jobs.{IsAudit, IsAuditOfState, IsExploration, IsNeverAsked, by_of, form_of, meaning, without_of};
+ghost use Rattle.program.specs.Jobs.{IsAudit, IsAuditOfState, IsExploration, IsNeverAsked, IsShared, by_of, form_of, meaning, without_of};
 ghost use Rattle.program.specs.NewWords.{IsNewOf};
 ghost use Rattle.program.specs.WitnessWords.{IsNamedWitness};
 
@@ -189,6 +189,23 @@ fn explore<S: Source, K: Sink>(
     }
 }
 
+/// Lets the clients of a set-up share a kernel, by the options.
+fn threads<R: Threads + Wait + Sync, S: Source, K: Sink>(
+    rt: &R,
+    alloc: Global,
+    options: Options<'_>,
+    source: &mut S,
+    sink: &mut K,
+) -> Result<Verdict, RunFault>
+    requires source { S.failed source.old ≡ false }
+    requires sink { K.failed sink.old ≡ false }
+    ensures run { IsRun (IsShared options.entry) S.Source K.Sink source.old source.new sink.old sink.new result }
+    ensures accepted { result ≡ Err RunFault.Thread → (input : List ℕ) × Gave S.left S.given source.old source.new input × IsOk (setup_of_bytes input) }
+{
+    let first = options.first.unwrap_or(0) as usize;
+    threads_run_open(rt, alloc, first, source, sink)
+}
+
 /// Writes the derivation forest, by the options.
 fn draw_tree<S: Source, K: Sink>(
     alloc: Global,
@@ -247,7 +264,7 @@ pub fn run_job<R: Threads + Wait + Sync, S: Source, K: Sink>(
     match job {
         Job::Check => check(alloc, source, sink),
         Job::Trace => trace_run(alloc, source, sink),
-        Job::Threads => threads_run_open(rt, alloc, source, sink),
+        Job::Threads => threads(rt, alloc, options, source, sink),
         Job::Migrate => migrate_run(alloc, source, sink),
         Job::Why => why_run(alloc, options.call, source, sink),
         Job::Audit => audit(alloc, options, source, sink),

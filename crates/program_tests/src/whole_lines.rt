@@ -103,6 +103,10 @@ const SUBCOMMANDS: &[(&[&str], Wanted<'_>)] = &[
         Wanted::Done(0, "  + endpoint 6144 sending 2048\n"),
     ),
     (&["sel4sim", "threads"], Wanted::Done(0, "entries 2 of 2\n")),
+    (
+        &["sel4sim", "threads", "--first", "2"],
+        Wanted::Done(0, "2 client 0 number 1: 4096 recv: delivered"),
+    ),
     (&["sel4sim", "migrate"], Wanted::Done(0, "format = 2\n")),
     (
         &["sel4sim", "check", "text.toml"],

@@ -1,6 +1,9 @@
 -- Each job's run has the meaning that the job has by its options.
 use Rattle.program.proofs.jobs.run_job.Goals as goal
 
+pub returns-in-Threads-clause-run : goal.returns-in-Threads-clause-run
+returns-in-Threads-clause-run g c = rw c.in-Threads.is c.threads.ensures.run
+
 pub returns-in-Why-clause-run : goal.returns-in-Why-clause-run
 returns-in-Why-clause-run g c = rw c.in-Why.is c.why_run.ensures.run
 
