@@ -1,15 +1,19 @@
 #!/usr/bin/env python3
-"""run_clients.py PROGRAM SETUP TIMES [ORDERS]: runs a set-up's clients by `threads` so many times, and looks at each
-history.
+"""run_clients.py [--first N] PROGRAM SETUP TIMES [ORDERS]: runs a set-up's clients by `threads` so many times, and looks at
+each history.
 
 Each client's entries have to be numbered from 0 on, and to be the first of its calls in the set-up. Then the calls of
 the history are made again, in its order, by `check`: each reply and each line of the state has to be the same. The
 status is 0 where all calls of the set-up were made, and else 1.
 
+With `--first N` the history has to begin with the first N calls of the set-up, in its order: with all of them where there
+are fewer than N, and with as many as `limit` says where that is less. Without it, `threads` is run without the option.
+
 It counts the runs in which each client was alone, which is where it made all of its calls with no other client's call
 between them, and the orders in which the clients' calls came. Where ORDERS is given, no client may be alone in that way
 in any run, and there have to be at least so many different orders.
 """
+import argparse
 import itertools
 import json
 import re
@@ -33,16 +37,23 @@ def text_of(setup, calls):
     return "".join(line + "\n" for part in parts for line in part)
 
 
-def run(program, job, text):
-    done = subprocess.run([program, job], input=text.encode(), capture_output=True, timeout=120)
+def run(program, words, text):
+    done = subprocess.run([program, *words], input=text.encode(), capture_output=True, timeout=120)
     return done.returncode, done.stdout.decode().splitlines()
 
 
-def faults(program, setup, text, orders):
+def first_calls(setup, first):
+    """The clients of the calls that are made before the clients begin, in order."""
+    calls = setup.get("call", [])
+    return [call.get("client", 0) for call in calls[: min(first, setup.get("limit", len(calls)))]]
+
+
+def faults(program, setup, text, orders, first=None):
     """What is wrong with one run. The clients whose calls came, in their order, are added to `orders`."""
     calls = setup.get("call", [])
     own = [[call for call in calls if call.get("client", 0) == client] for client in range(setup.get("clients", 1))]
-    status, lines = run(program, "threads", text)
+    option = [] if first is None else ["--first", str(first)]
+    status, lines = run(program, ["threads", *option], text)
     entries = [ENTRY.fullmatch(line) for line in lines if " client " in line]
     made, seen = [], [0] * len(own)
     for place, entry in enumerate(entries):
@@ -56,11 +67,14 @@ def faults(program, setup, text, orders):
         made.append(call)
         seen[client] += 1
     orders.append(tuple(int(entry[2]) for entry in entries))
+    wanted = first_calls(setup, first or 0)
+    if list(orders[-1][: len(wanted)]) != wanted:
+        yield f"other calls come first: {orders[-1]}"
     if lines[-1] != f"entries {len(made)} of {len(calls)}":
         yield f"last line {lines[-1]!r}"
     if status != (0 if len(made) == len(calls) else 1):
         yield f"status {status}"
-    again = run(program, "check", text_of(setup, made))[1]
+    again = run(program, ["check"], text_of(setup, made))[1]
     if [re.sub(r" client \d+ number \d+:", "", line) for line in lines[:-1]] != again[:-1]:
         yield "the history's calls, made again, give another report"
 
@@ -72,15 +86,21 @@ def is_each_alone(order):
 
 
 def main():
-    program, path, times = sys.argv[1:4]
-    wanted = int(sys.argv[4]) if len(sys.argv) > 4 else None
-    with open(path, encoding="utf-8") as file:
+    parser = argparse.ArgumentParser()
+    parser.add_argument("--first", type=int)
+    parser.add_argument("program")
+    parser.add_argument("setup")
+    parser.add_argument("times", type=int)
+    parser.add_argument("orders", type=int, nargs="?")
+    given = parser.parse_args()
+    program, times, wanted = given.program, given.times, given.orders
+    with open(given.setup, encoding="utf-8") as file:
         text = file.read()
     setup = tomllib.loads(text)
     wrong = 0
     orders = []
-    for _ in range(int(times)):
-        bad = list(faults(program, setup, text, orders))
+    for _ in range(times):
+        bad = list(faults(program, setup, text, orders, given.first))
         wrong += bool(bad)
         for fault in bad:
             print(fault)
