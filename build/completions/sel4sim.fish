@@ -9,12 +9,13 @@ complete -c sel4sim -n '__fish_seen_subcommand_from check' -F
 complete -c sel4sim -n '__fish_use_subcommand' -a trace -d 'Runs a set-up and prints what each of its calls changed'
 complete -c sel4sim -n '__fish_seen_subcommand_from trace' -s h -l help -d 'Print help'
 complete -c sel4sim -n '__fish_seen_subcommand_from trace' -F
-complete -c sel4sim -n '__fish_use_subcommand' -a threads -d 'Runs each client of a set-up in a thread of its own and prints what was done, in order'
-complete -c sel4sim -n '__fish_seen_subcommand_from threads' -s h -l help -d 'Print help'
-complete -c sel4sim -n '__fish_seen_subcommand_from threads' -F
 complete -c sel4sim -n '__fish_use_subcommand' -a migrate -d 'Prints a set-up of format 1 as one of format 2'
 complete -c sel4sim -n '__fish_seen_subcommand_from migrate' -s h -l help -d 'Print help'
 complete -c sel4sim -n '__fish_seen_subcommand_from migrate' -F
+complete -c sel4sim -n '__fish_use_subcommand' -a threads -d 'Runs each client of a set-up in a thread of its own and prints what was done, in order'
+complete -c sel4sim -n '__fish_seen_subcommand_from threads' -l first -x -a '' -d 'Make the first N calls before the clients begin'
+complete -c sel4sim -n '__fish_seen_subcommand_from threads' -s h -l help -d 'Print help'
+complete -c sel4sim -n '__fish_seen_subcommand_from threads' -F
 complete -c sel4sim -n '__fish_use_subcommand' -a why -d 'Runs a set-up and prints why its calls are refused'
 complete -c sel4sim -n '__fish_seen_subcommand_from why' -l call -x -a '' -d 'Tell of call N alone'
 complete -c sel4sim -n '__fish_seen_subcommand_from why' -s h -l help -d 'Print help'
