@@ -57,6 +57,11 @@ impl Tally {
 
     /// Whether the calls reached all that they have to.
     pub fn is_enough(&self) -> bool {
-        self.between >= LEAST_BETWEEN && self.done.iter().all(|n| *n >= LEAST_OF_EACH)
+        for times in &self.done {
+            if *times < LEAST_OF_EACH {
+                return false;
+            }
+        }
+        self.between >= LEAST_BETWEEN
     }
 }
