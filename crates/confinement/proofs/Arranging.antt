@@ -52,11 +52,11 @@ from_joined first (n ∷ ns) m i address low high =
     widen : (k : PartMemory) → From k address (joined_with first n ∷ ns) → goes_on first n ≡ true → From k address (first ∷ (n ∷ ns))
     widen k w going = elim w.1.0 [
       | inl same ↦
-        let at : lies_in (joined_with first n) address ≡ true = subst (λ (x : PartMemory). lies_in x address ≡ true) same w.1.1.1 in
-        let part_is : first.part ≡ k.part = ap (λ (x : PartMemory). x.part) (sym same) ∙ w.1.1.0 in
-        let both = both_true (nat_le first.first address) _ at in
-        let s = split going at _ refl _ refl both.0 both.1 in
-        (s.0, (s.1.0, (s.1.1.0 ∙ part_is, s.1.1.1)))
+          let at : lies_in (joined_with first n) address ≡ true = subst (λ (x : PartMemory). lies_in x address ≡ true) same w.1.1.1 in
+          let part_is : first.part ≡ k.part = ap (λ (x : PartMemory). x.part) (sym same) ∙ w.1.1.0 in
+          let both = both_true (nat_le first.first address) _ at in
+          let s = split going at _ refl _ refl both.0 both.1 in
+          (s.0, (s.1.0, (s.1.1.0 ∙ part_is, s.1.1.1)))
       | inr more ↦ (w.0, (inr (inr more), w.1.1))
     ]
 
@@ -169,9 +169,9 @@ arranged_from memory uses sorted joined labels numbered used told moved joins la
     memory_from S m i address low high =
         let w = from_mapped (memory_in (number_of labels)) joined m (subst (λ (l : List PartMemory). In m l) memory_is i) in
         let o = from_all sorted w.0 (subst (λ (l : List PartMemory). In w.0 l) joins w.1.0) address
-            (subst (λ n. n ≤ address) (ap (λ (x : PartMemory). x.first) w.1.1) low) (subst (λ n. address ≤ n) (ap (λ (x : PartMemory). x.last) w.1.1) high) in
+        (subst (λ n. n ≤ address) (ap (λ (x : PartMemory). x.first) w.1.1) low) (subst (λ n. address ≤ n) (ap (λ (x : PartMemory). x.last) w.1.1) high) in
         let number : get_or labels (m.part - 1) 0 ≡ w.0.part =
-            ap (λ (x : PartMemory). get_or labels (x.part - 1) 0) w.1.1 ∙ number_is labels w.0.part (labelled_all w.0 w.1.0) in
+        ap (λ (x : PartMemory). get_or labels (x.part - 1) 0) w.1.1 ∙ number_is labels w.0.part (labelled_all w.0 w.1.0) in
         (o.0, (back o.0 o.1.0, (o.1.1.0 ∙ sym number, o.1.1.1)))
 
     uses_from : AreSound memory uses → (u : PartUse) → In u told →
@@ -181,9 +181,9 @@ arranged_from memory uses sorted joined labels numbered used told moved joins la
         let m = S.used w.0 w.1.0 in
         let j = all_has sorted m.0 (forth m.0 m.1.0) in
         let has : In w.0.part labels =
-            subst (λ k. In k labels) (j.1.1 ∙ m.1.1) (labelled_all j.0 (subst (λ (l : List PartMemory). In j.0 l) (sym joins) j.1.0)) in
+        subst (λ k. In k labels) (j.1.1 ∙ m.1.1) (labelled_all j.0 (subst (λ (l : List PartMemory). In j.0 l) (sym joins) j.1.0)) in
         let number : get_or labels (u.part - 1) 0 ≡ w.0.part =
-            ap (λ (x : PartUse). get_or labels (x.part - 1) 0) w.1.1 ∙ number_is labels w.0.part has in
+        ap (λ (x : PartUse). get_or labels (x.part - 1) 0) w.1.1 ∙ number_is labels w.0.part has in
         (w.0, (w.1.0, (sym number, (sym (ap (λ (x : PartUse). x.endpoint) w.1.1), (sym (ap (λ (x : PartUse). x.badge) w.1.1), sym (ap (λ (x : PartUse). x.rights) w.1.1))))))
 
 -- ---- steps of the loops

@@ -42,8 +42,8 @@ firsts above (tree a under others) =
     ap (λ (l : List Entry). a ∷ l)
     (ap (map (λ (x : Entry × Option ℕ). x.0)) (map-append (λ (e : Entry × Option Entry). (e.0, option_map slot_of e.1)) (parented (Some a) under) (parented above others))
     ∙ map-append (λ (x : Entry × Option ℕ). x.0)
-        (map {B = Entry × Option ℕ} (λ (e : Entry × Option Entry). (e.0, option_map slot_of e.1)) (parented (Some a) under))
-        (map {B = Entry × Option ℕ} (λ (e : Entry × Option Entry). (e.0, option_map slot_of e.1)) (parented above others))
+    (map {B = Entry × Option ℕ} (λ (e : Entry × Option Entry). (e.0, option_map slot_of e.1)) (parented (Some a) under))
+    (map {B = Entry × Option ℕ} (λ (e : Entry × Option Entry). (e.0, option_map slot_of e.1)) (parented above others))
     ∙ ap (λ (l : List Entry). l ++ map (λ (x : Entry × Option ℕ). x.0) (map {B = Entry × Option ℕ} (λ (e : Entry × Option Entry). (e.0, option_map slot_of e.1)) (parented above others))) (firsts (Some a) under)
     ∙ ap (λ (l : List Entry). preorder under ++ l) (firsts above others))
 

@@ -27,7 +27,7 @@ pub at_member : (memory : List PartMemory) (address k : ℕ) → part_at memory 
 at_member [] address k h = cc
 at_member (m ∷ ms) address k h =
     (elim (lies_in m address) as (λ b. lies_in m address ≡ b → option_map (λ (x : PartMemory). x.part) (cond b (Some m) (find (λ (x : PartMemory). lies_in x address) ms)) ≡ Some k →
-        (x : PartMemory) × (In x (m ∷ ms) × ((lies_in x address ≡ true) × (x.part ≡ k)))) [
+    (x : PartMemory) × (In x (m ∷ ms) × ((lies_in x address ≡ true) × (x.part ≡ k)))) [
       | true ↦ λ here e. (m, (inl refl, (here, same e)))
       | false ↦ λ other e. let g = at_member ms address k e in (g.0, (inr g.1.0, g.1.1))
     ]) refl h
@@ -80,7 +80,7 @@ pub part_mapped : (into : ℕ → ℕ) (memory more : List PartMemory) (address 
 part_mapped into [] more address k h = cc
 part_mapped into (m ∷ ms) more address k h =
     (elim (lies_in m address) as (λ b. option_map (λ (x : PartMemory). x.part) (cond b (Some m) (find (λ (x : PartMemory). lies_in x address) ms)) ≡ Some k →
-        option_map (λ (x : PartMemory). x.part) (cond b (Some (memory_in into m)) (find (λ (x : PartMemory). lies_in x address) (map (memory_in into) ms ++ more))) ≡ Some (into k)) [
+    option_map (λ (x : PartMemory). x.part) (cond b (Some (memory_in into m)) (find (λ (x : PartMemory). lies_in x address) (map (memory_in into) ms ++ more))) ≡ Some (into k)) [
       | true ↦ λ e. ap (option_map into) e
       | false ↦ λ e. part_mapped into ms more address k e
     ]) h
@@ -135,7 +135,7 @@ module _ (part first last : ℕ) (low : first ≤ last) (memory : List PartMemor
           (n : PartMemory) → In n with_new → spares (into k) f l n ≡ true
       every spare m i same has n j = elim (in_append n (map (memory_in into) memory) _ j) [
         | inl old ↦ let w = from_mapped (memory_in into) memory n old in
-          subst (λ (x : PartMemory). spares (into k) f l x ≡ true) (sym w.1.1) (spared w.0 (all_in (spares k f l) memory w.0 spare w.1.0))
+            subst (λ (x : PartMemory). spares (into k) f l x ≡ true) (sym w.1.1) (spared w.0 (all_in (spares k f l) memory w.0 spare w.1.0))
         | inr one ↦ elim one [
           | inl e ↦ subst (λ (x : PartMemory). spares (into k) f l x ≡ true) (sym e) (new_spared m i same has _ refl)
           | inr none ↦ absurd none
@@ -160,7 +160,7 @@ module _ (part first last : ℕ) (low : first ≤ last) (memory : List PartMemor
       every : (n : PartMemory) → In n with_new → spares part first last n ≡ true
       every n j = elim (in_append n (map (memory_in into) memory) _ j) [
         | inl old ↦ let w = from_mapped (memory_in into) memory n old in
-          subst (λ (x : PartMemory). spares part first last x ≡ true) (sym w.1.1) (spared w.0 w.1.0 _ refl)
+            subst (λ (x : PartMemory). spares part first last x ≡ true) (sym w.1.1) (spared w.0 w.1.0 _ refl)
         | inr one ↦ elim one [
           | inl e ↦ subst (λ (x : PartMemory). spares part first last x ≡ true) (sym e) (true_left _ _ (eqb_self part))
           | inr none ↦ absurd none

@@ -193,7 +193,7 @@ module _ (part first last : ℕ) where
   fewer_others memory other found =
       let g = other_found memory other found in
       let less = count_less (λ (m : PartMemory). not (renamed other part m.part == part)) (λ (m : PartMemory). not (m.part == part)) each memory g.0 g.1.0
-          (ap not (ap (λ n. n == part) (ap (renamed other part) g.1.1.0 ∙ ap (λ b. cond b part other) (eqb_self other)) ∙ eqb_self part)) (ap not g.1.1.1.0) in
+      (ap not (ap (λ n. n == part) (ap (renamed other part) g.1.1.0 ∙ ap (λ b. cond b part other) (eqb_self other)) ∙ eqb_self part)) (ap not g.1.1.1.0) in
       subst (λ n. n < count_by (λ (m : PartMemory). not (m.part == part)) memory)
       (sym (count_map (λ (m : PartMemory). not (m.part == part)) (memory_in (renamed other part)) memory)) less
     where

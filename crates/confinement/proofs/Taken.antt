@@ -173,7 +173,7 @@ module _ (p : ProfileName) (part : ℕ) (memory : List PartMemory) (uses : List 
   stretch_kept cap first last memory' uses' low lies now T =
       let J = T.joins in
       let is : memory' ≡ map (memory_in J.into) memory ++ record { part = part; first = first; last = last } ∷ [] =
-          T.memory_is ∙ ap (λ (l : List PartMemory). l ++ record { part = part; first = first; last = last } ∷ []) J.memory_is in
+      T.memory_is ∙ ap (λ (l : List PartMemory). l ++ record { part = part; first = first; last = last } ∷ []) J.memory_is in
       subst (λ (m : List PartMemory). IsKept p cap part memory uses m uses') (sym is)
       (subst (λ (u : List PartUse). IsKept p cap part memory uses (map (memory_in J.into) memory ++ record { part = part; first = first; last = last } ∷ []) u) (sym J.uses_are)
       (record {

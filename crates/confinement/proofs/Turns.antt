@@ -34,8 +34,16 @@ module _ (p : ProfileName) (e : Entry) (memory : List PartMemory) (uses : List P
         sound = K.sound;
         grows = λ S. K.grows;
         bounded = λ S other holds B. K.bounded S other (holds_there other holds B) B;
-        more = λ _ S ends. (e, (inl refl, (ap (inside_in p memory uses e.cap) N.lies ∙ N.new,
-            made_inside p memory' uses' e N.part (K.stays e.slot N.lies) (K.now (ends e (inl refl))))));
+        more = λ _ S ends. (
+          e,
+          (
+            inl refl,
+            (
+              ap (inside_in p memory uses e.cap) N.lies ∙ N.new,
+              made_inside p memory' uses' e N.part (K.stays e.slot N.lies) (K.now (ends e (inl refl))),
+            ),
+          ),
+        );
         none = λ h. absurd (false≢true (sym h));
       }
     where

@@ -65,9 +65,7 @@ fn is_overlapped(stretch: &PartMemory, part: u64, first: u64, last: u64) -> bool
 fn overlapped(memory: &[PartMemory], part: u64, first: u64, last: u64) -> Option<u64>
     ensures { result ≡ option_map (λ (m : PartMemory). m.part) (find (λ (m : PartMemory). not (m.part == part) && overlaps first last m) memory.now) }
 {
-    let stretch = memory
-        .iter()
-        .find(|m| is_overlapped(m, part, first, last))?;
+    let stretch = memory.iter().find(|m| is_overlapped(m, part, first, last))?;
     Some(stretch.part)
 }
 
@@ -133,10 +131,7 @@ fn take_slot<P: Profile>(parts: &mut Parts, derivation: &Derivation) -> Result<b
     Ok(true)
 }
 
-fn take_slots<P: Profile>(
-    parts: &mut Parts,
-    derivations: &[Derivation],
-) -> Result<bool, AllocError>
+fn take_slots<P: Profile>(parts: &mut Parts, derivations: &[Derivation]) -> Result<bool, AllocError>
     ensures { IfOk result (λ taken. AreTaken P.profile (entries_of P.profile derivations.now) parts.old.memory.items parts.old.uses.items parts.new.memory.items parts.new.uses.items taken) }
 {
     let mut taken = false;
@@ -167,7 +162,7 @@ fn thread_parts<P: Profile>(alloc: Global, threads: &[u64]) -> Result<Parts, All
 }
 
 /// The least closed parts around some threads, each by the address of one of its threads. There are at most as many turns
-/// as full slots: with each, one more capability may stand where it does.
+/// as full slots: with each, one more slot of a part holds what may stand there.
 ///
 /// # Errors
 ///

@@ -104,9 +104,10 @@ fn one_part(alloc: Global) -> Result<Parts, AllocError>
 /// have the numbers from 1 on by their first addresses, and no use is of an endpoint that its part owns, or says what
 /// another use says.
 ///
-/// They hold ever, by `are_parts_closed`. That they are the least such parts is meant, and no clause says it. What is found
-/// is tested; if it did not pass, which no kernel is known to bring about, the answer would be one part that has every
-/// address.
+/// They hold ever, by `are_parts_closed`. They are the least such parts: each lies in a part of every closed family that has
+/// these threads' control blocks, with all of its memory and all that it may use (`least`). What is found is tested; if it
+/// did not pass, as where a control block would end past the last address, the answer is one part that has every address,
+/// and of that part `least` says nothing. No kernel is known to bring it about of its own live threads.
 ///
 /// # Errors
 ///

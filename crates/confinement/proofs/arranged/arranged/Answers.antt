@@ -13,15 +13,15 @@ use Rattle.confinement.proofs.arranged.arranged.Goals as goal
 pub returns : goal.returns
 returns g c =
     let moved : IsPermutation c.args.parts.memory.items c.sort_stretches.new.memory =
-        subst (λ (l : List PartMemory). IsPermutation l c.sort_stretches.new.memory) c.as_mut_slice.ensures.value c.sort_stretches.ensures in
+    subst (λ (l : List PartMemory). IsPermutation l c.sort_stretches.new.memory) c.as_mut_slice.ensures.value c.sort_stretches.ensures in
     let joins = c.in_ok-memory.ensures ∙ ap joined_all (c.as_slice.ensures.value ∙ with_items_is c.args.parts.memory c.sort_stretches.new.memory (omega arith)) in
     let labelled = c.in_ok-order.ensures ∙ ap (labels_from []) c.as_slice-2.ensures.value in
     let numbered = with_items_is c.in_ok-memory.memory c.number_memory.new.memory (omega arith) ∙ c.number_memory.ensures
-        ∙ ap (λ (l : List ℕ). map (memory_in (number_of l)) c.as_mut_slice-2.result.now) c.as_slice-3.ensures.value
-        ∙ ap (map (memory_in (number_of c.in_ok-order.order.items))) c.as_mut_slice-2.ensures.value in
+    ∙ ap (λ (l : List ℕ). map (memory_in (number_of l)) c.as_mut_slice-2.result.now) c.as_slice-3.ensures.value
+    ∙ ap (map (memory_in (number_of c.in_ok-order.order.items))) c.as_mut_slice-2.ensures.value in
     let used = with_items_is c.args.parts.uses c.number_uses.new.uses (omega arith) ∙ c.number_uses.ensures
-        ∙ ap (λ (l : List ℕ). map (use_in (number_of l)) c.as_mut_slice-3.result.now) c.as_slice-4.ensures.value
-        ∙ ap (map (use_in (number_of c.in_ok-order.order.items))) c.as_mut_slice-3.ensures.value in
+    ∙ ap (λ (l : List ℕ). map (use_in (number_of l)) c.as_mut_slice-3.result.now) c.as_slice-4.ensures.value
+    ∙ ap (map (use_in (number_of c.in_ok-order.order.items))) c.as_mut_slice-3.ensures.value in
     arranged_from c.args.parts.memory.items c.args.parts.uses.items c.sort_stretches.new.memory c.in_ok-memory.memory.items c.in_ok-order.order.items _ _ _
     moved joins labelled numbered used
     (λ u has. subst (λ (l : List PartUse). Contains l u) c.as_mut_slice-4.ensures.value (c.in_ok-uses.ensures u has))

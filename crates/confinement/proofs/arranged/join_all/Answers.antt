@@ -10,13 +10,13 @@ loop-next-init c = rw c.new-joined.ensures.items refl
 pub loop-next-preserved : goal.loop-next-preserved
 loop-next-preserved c = elim c.if-goes_on.branch [
   | then-goes_on w ↦
-    rw w.joined-is (rw w.last-is (rw w.joined_with-last.ensures
-    (joining_on c.args.others.now c.loop-next.joined.items _ c.loop-next.last c.loop-next.next-index _ (omega arith) c.loop-next.invariant
-    (sym c.goes_on.ensures ∙ w.if-goes_on.true))))
+      rw w.joined-is (rw w.last-is (rw w.joined_with-last.ensures
+      (joining_on c.args.others.now c.loop-next.joined.items _ c.loop-next.last c.loop-next.next-index _ (omega arith) c.loop-next.invariant
+      (sym c.goes_on.ensures ∙ w.if-goes_on.true))))
   | else-goes_on+in_ok-push w ↦
-    rw w.joined-is (rw w.last-is (rw w.in_ok-push.ensures.items
-    (joining_next c.args.others.now c.loop-next.joined.items _ c.loop-next.last c.loop-next.next-index _ (omega arith) c.loop-next.invariant
-    (sym c.goes_on.ensures ∙ w.if-goes_on.false))))
+      rw w.joined-is (rw w.last-is (rw w.in_ok-push.ensures.items
+      (joining_next c.args.others.now c.loop-next.joined.items _ c.loop-next.last c.loop-next.next-index _ (omega arith) c.loop-next.invariant
+      (sym c.goes_on.ensures ∙ w.if-goes_on.false))))
 ]
 
 pub returns : goal.returns

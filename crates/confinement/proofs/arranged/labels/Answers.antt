@@ -8,11 +8,11 @@ use Rattle.confinement.proofs.arranged.labels.Goals.{then-not-contains+in_ok-pus
 pub loop-stretch-preserved : goal.loop-stretch-preserved
 loop-stretch-preserved c = elim c.if-not-contains.branch [
   | then-not-contains+in_ok-push w ↦
-    rw w.seen-is (rw w.in_ok-push.ensures.items
-    (label_new c.args.memory.now c.loop-stretch.seen.items _ c.loop-stretch.stretch-index _ (omega arith) c.loop-stretch.invariant
-    (ap (list_any _) (sym c.as_slice.ensures.value) ∙ sym c.contains.ensures.value ∙ w.if-not-contains.true)))
+      rw w.seen-is (rw w.in_ok-push.ensures.items
+      (label_new c.args.memory.now c.loop-stretch.seen.items _ c.loop-stretch.stretch-index _ (omega arith) c.loop-stretch.invariant
+      (ap (list_any _) (sym c.as_slice.ensures.value) ∙ sym c.contains.ensures.value ∙ w.if-not-contains.true)))
   | else-not-contains w ↦
-    rw w.seen-is
-    (label_known c.args.memory.now c.loop-stretch.seen.items _ c.loop-stretch.stretch-index _ (omega arith) c.loop-stretch.invariant
-    (ap (list_any _) (sym c.as_slice.ensures.value) ∙ sym c.contains.ensures.value ∙ w.if-not-contains.false))
+      rw w.seen-is
+      (label_known c.args.memory.now c.loop-stretch.seen.items _ c.loop-stretch.stretch-index _ (omega arith) c.loop-stretch.invariant
+      (ap (list_any _) (sym c.as_slice.ensures.value) ∙ sym c.contains.ensures.value ∙ w.if-not-contains.false))
 ]

@@ -11,7 +11,7 @@ pub loop-stretch-preserved : goal.loop-stretch-preserved
 loop-stretch-preserved c =
     let low : c.loop-stretch.stretch-index < length c.loop-stretch.memory = omega arith in
     subst (λ (x : PartMemory). set c.loop-stretch.memory c.loop-stretch.stretch-index x
-        ≡ map (memory_in (number_of c.args.labels.now)) (take (c.loop-stretch.stretch-index + 1) c.args.memory.now) ++ drop (c.loop-stretch.stretch-index + 1) c.args.memory.now)
+    ≡ map (memory_in (number_of c.args.labels.now)) (take (c.loop-stretch.stretch-index + 1) c.args.memory.now) ++ drop (c.loop-stretch.stretch-index + 1) c.args.memory.now)
     (sym c.memory_numbered.ensures)
     (map_over_more (memory_in (number_of c.args.labels.now)) c.args.memory.now c.loop-stretch.memory c.loop-stretch.stretch-index _ (omega arith) c.loop-stretch.invariant
     (get_or_default c.loop-stretch.memory c.loop-stretch.stretch-index _ _ low))

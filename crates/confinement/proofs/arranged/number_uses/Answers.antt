@@ -11,7 +11,7 @@ pub loop-allowed-preserved : goal.loop-allowed-preserved
 loop-allowed-preserved c =
     let low : c.loop-allowed.allowed-index < length c.loop-allowed.uses = omega arith in
     subst (λ (x : PartUse). set c.loop-allowed.uses c.loop-allowed.allowed-index x
-        ≡ map (use_in (number_of c.args.labels.now)) (take (c.loop-allowed.allowed-index + 1) c.args.uses.now) ++ drop (c.loop-allowed.allowed-index + 1) c.args.uses.now)
+    ≡ map (use_in (number_of c.args.labels.now)) (take (c.loop-allowed.allowed-index + 1) c.args.uses.now) ++ drop (c.loop-allowed.allowed-index + 1) c.args.uses.now)
     (sym c.use_numbered.ensures)
     (map_over_more (use_in (number_of c.args.labels.now)) c.args.uses.now c.loop-allowed.uses c.loop-allowed.allowed-index _ (omega arith) c.loop-allowed.invariant
     (get_or_default c.loop-allowed.uses c.loop-allowed.allowed-index _ _ low))

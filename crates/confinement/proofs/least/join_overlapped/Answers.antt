@@ -17,7 +17,7 @@ loop-other-smaller c =
     let found = ap (λ (l : List PartMemory). option_map (λ (m : PartMemory). m.part) (find (is_other c.args.part c.args.first c.args.last) l)) (sym c.as_slice.ensures.value) ∙ sym c.overlapped.ensures ∙ c.in-Some.is in
     let fewer = fewer_others c.args.part c.args.first c.args.last c.loop-other.parts.memory.items c.in-Some.other found in
     let memory = with_items_is c.loop-other.parts.memory c.relabel_memory.new.memory (omega arith)
-        ∙ c.relabel_memory.ensures ∙ ap (map (memory_in (renamed c.in-Some.other c.args.part))) c.as_mut_slice.ensures.value in
+    ∙ c.relabel_memory.ensures ∙ ap (map (memory_in (renamed c.in-Some.other c.args.part))) c.as_mut_slice.ensures.value in
     subst (λ (l : List PartMemory). count_by (λ (m : PartMemory). not (m.part == c.args.part)) l < count_by (λ (m : PartMemory). not (m.part == c.args.part)) c.loop-other.parts.memory.items)
     (sym memory) fewer
 
@@ -25,11 +25,11 @@ pub loop-other-preserved : goal.loop-other-preserved
 loop-other-preserved c =
     let found = ap (λ (l : List PartMemory). option_map (λ (m : PartMemory). m.part) (find (is_other c.args.part c.args.first c.args.last) l)) (sym c.as_slice.ensures.value) ∙ sym c.overlapped.ensures ∙ c.in-Some.is in
     let more = joining_more c.args.part c.args.first c.args.last c.args.parts.now.memory.items c.args.parts.now.uses.items
-        c.loop-other.parts.memory.items c.loop-other.parts.uses.items c.in-Some.other found c.loop-other.invariant in
+    c.loop-other.parts.memory.items c.loop-other.parts.uses.items c.in-Some.other found c.loop-other.invariant in
     let memory = with_items_is c.loop-other.parts.memory c.relabel_memory.new.memory (omega arith)
-        ∙ c.relabel_memory.ensures ∙ ap (map (memory_in (renamed c.in-Some.other c.args.part))) c.as_mut_slice.ensures.value in
+    ∙ c.relabel_memory.ensures ∙ ap (map (memory_in (renamed c.in-Some.other c.args.part))) c.as_mut_slice.ensures.value in
     let uses = with_items_is c.loop-other.parts.uses c.relabel_uses.new.uses (omega arith)
-        ∙ c.relabel_uses.ensures ∙ ap (map (use_in (renamed c.in-Some.other c.args.part))) c.as_mut_slice-in-Some.ensures.value in
+    ∙ c.relabel_uses.ensures ∙ ap (map (use_in (renamed c.in-Some.other c.args.part))) c.as_mut_slice-in-Some.ensures.value in
     joining_at c.args.part c.args.first c.args.last c.args.parts.now.memory.items c.args.parts.now.uses.items _ _ _ _ memory uses more
 
 pub returns : goal.returns

@@ -10,7 +10,7 @@ pub loop-stretch-preserved : goal.loop-stretch-preserved
 loop-stretch-preserved c =
     let low : c.loop-stretch.stretch-index < length c.loop-stretch.memory = omega arith in
     subst (λ (x : PartMemory). set c.loop-stretch.memory c.loop-stretch.stretch-index x
-        ≡ map (memory_in (renamed c.args.from c.args.to)) (take (c.loop-stretch.stretch-index + 1) c.args.memory.now) ++ drop (c.loop-stretch.stretch-index + 1) c.args.memory.now)
+    ≡ map (memory_in (renamed c.args.from c.args.to)) (take (c.loop-stretch.stretch-index + 1) c.args.memory.now) ++ drop (c.loop-stretch.stretch-index + 1) c.args.memory.now)
     (sym c.memory_renamed.ensures)
     (map_over_more (memory_in (renamed c.args.from c.args.to)) c.args.memory.now c.loop-stretch.memory c.loop-stretch.stretch-index _ (omega arith) c.loop-stretch.invariant
     (get_or_default c.loop-stretch.memory c.loop-stretch.stretch-index _ _ low))
