@@ -193,6 +193,7 @@ SETUPS = [
     (FIRST + CALL + "op = \u201csend\u201d\n", 2, ["TOML parse error at line 9, column 6", NO_VALUE, QUOTES]),
     ("format = 2\n" + SIZES + "[names]\nep = 4\nep = 5\n", 2,
      ["TOML parse error at line 8, column 1", "duplicate key", "ep stands in line 7 already"]),
+    ("format = 2\n" + SIZES + "[names]\n" + 2 * ("k" * 100 + " = 4\n"), 2, ["TOML parse error at line 8, column 1", "duplicate key"]),
     ('{"format": 2}\n', 2,
      ["TOML parse error at line 1, column 1", NO_KEY, "this looks like JSON; a set-up is TOML, with lines as threads = 2"]),
     (FIRST + "# caf\udce9\n", 2, ["TOML parse error at line 6, column 6", "invalid UTF-8", "save the text as UTF-8"]),

@@ -1,4 +1,5 @@
 //! Why a text is no TOML document, in words.
+use crate::message::MAX_SHOWN_BYTES;
 use setup_positions::NamedText;
 use std::alloc::{AllocError, Global};
 use std::ops::Range;
@@ -58,7 +59,7 @@ fn fault_words(
     let key = there.split('=').next().unwrap_or("").trim_end();
     let excerpt = source.excerpt(span);
     match line_of(above, key) {
-        Some(line) if fault == "duplicate key" => {
+        Some(line) if fault == "duplicate key" && key.len() <= MAX_SHOWN_BYTES => {
             format!(in alloc; "{error}{key} stands in line {line} already\n{excerpt}")
         }
         _ => {
