@@ -1,6 +1,6 @@
 -- The parts that are found are the least ones.
-use Rattle.std.proofs.Common.{◌≡◌, ℕ, ◌+◌, ◌^◌, ◌≤◌, ◌<◌, Bool, true, ◌==◌, List, [], ◌∷◌, ◌++◌, map, Option, Some, None, refl, sym, ap, subst, ◌∙◌, arith}
-use Rattle.std.specs.Prelude.{unwrap_or, option_map}
+use Rattle.std.proofs.Common.{◌≡◌, ℕ, ◌≤◌, true, ◌==◌, List, [], ◌∷◌, ◌++◌, map, Option, Some, None, refl, sym, ap, subst, ◌∙◌, arith}
+use Rattle.std.specs.Prelude.{option_map}
 use Rattle.std.specs.List.{Contains, filter}
 use Rattle.std.proofs.lemmas.Bool.{eqb-true}
 use Rattle.std.proofs.lemmas.Bool.Decides.{nat_tests}
@@ -8,11 +8,11 @@ use Rattle.std.proofs.lemmas.List.{map-append}
 use Rattle.std.proofs.lemmas.Nat.{pow_pos}
 use Rattle.cap_core.specs.declared.profile.ProfileName.{ProfileName}
 use Rattle.cap_core.specs.declared.capability.Badge.{Badge}
-use Rattle.cap_core.specs.declared.capability.Cap.TheVariants.{Endpoint, Tcb}
+use Rattle.cap_core.specs.declared.capability.Cap.TheVariants.{Endpoint}
 use Rattle.cap_core.specs.declared.rights.Rights.{Rights}
 use Rattle.cap_core.specs.Numbers.{tcb_bits}
 use Rattle.derivation.specs.Forest.{Forest, none, tree, preorder, parented}
-use Rattle.derivation.specs.Entries.{Entry, slot_of, derivations_of, cap_at}
+use Rattle.derivation.specs.Entries.{Entry, slot_of, derivations_of}
 use Rattle.derivation.proofs.Slots.Holding.{cap-entry}
 use Rattle.slot_core.specs.declared.derivations.Derivation.{Derivation}
 use Rattle.slot_core.specs.Calls.{derivation_view}
@@ -28,7 +28,7 @@ use Rattle.confinement.specs.declared.listed.PartUse.{PartUse}
 use Rattle.confinement.specs.Parts.{Use, Parts, IsWithin}
 use Rattle.confinement.specs.Listed.{lies_in, part_at, use_of, parts_listed}
 use Rattle.confinement.specs.Least.{AreClosedAround, LiesIn, AreLeast}
-use Rattle.confinement.specs.Private.Search.{whose, HoldWithin, AreBounded, AreOf, AreFound, entries_of}
+use Rattle.confinement.specs.Private.Search.{whose, HoldWithin, AreBounded, AreFound, entries_of}
 use Rattle.confinement.specs.Private.Arranging.{AreArranged}
 use Rattle.confinement.proofs.Lists.{from_mapped}
 use Rattle.confinement.proofs.Growing.{at_member}

@@ -1,23 +1,18 @@
 -- What the search for the least parts keeps, with each thing that it takes in.
-use Rattle.std.proofs.Common.{◌≡◌, ℕ, ◌+◌, ◌-◌, ◌^◌, ◌≤◌, ◌<◌, ◌⊎◌, inl, inr, Bool, true, false, cond, ◌==◌, ◌||◌, ◌&&◌, nat_lt, List, [], ◌∷◌, ◌++◌, map, Option, Some, None, refl, sym, ap, subst, ◌∙◌, arith, bit_and}
+use Rattle.std.proofs.Common.{◌≡◌, ℕ, ◌≤◌, ◌⊎◌, inl, inr, Bool, true, false, cond, ◌==◌, ◌||◌, ◌&&◌, nat_lt, List, [], ◌∷◌, ◌++◌, map, Option, Some, None, refl, sym, ap, subst, ◌∙◌, arith}
 use Rattle.std.specs.Prelude.{find, option_map, nat_le}
 use Rattle.std.specs.List.{list_any, list_all}
 use Rattle.std.proofs.lemmas.Bool.{false≢true, eqb-true, eq-eqb}
 use Rattle.std.proofs.lemmas.Bool.Decides.{nat_tests}
 use Rattle.cap_core.specs.declared.profile.ProfileName.{ProfileName}
-use Rattle.cap_core.specs.declared.capability.Badge.{Badge}
 use Rattle.cap_core.specs.declared.capability.Cap.{Cap}
-use Rattle.cap_core.specs.declared.capability.Cap.TheVariants.{Null, Untyped, Endpoint, CNode, Tcb}
-use Rattle.cap_core.specs.declared.rights.Rights.{Rights}
-use Rattle.cap_core.specs.declared.object.Range.{Range}
-use Rattle.cap_core.specs.Ranges.{range_named}
 use Rattle.derivation.specs.Entries.{Entry}
 use Rattle.clearing.specs.Members.{In}
-use Rattle.clearing.proofs.Members.{both_true, either_true, true_left, true_right, any_of, any_in, all_in, all_of, in_append, in_left, in_right, eqb_self, tells}
+use Rattle.clearing.proofs.Members.{both_true, either_true, true_left, true_right, any_of, any_in, all_in, all_of, in_append, in_left, in_right, eqb_self}
 use Rattle.confinement.specs.declared.listed.PartMemory.{PartMemory}
 use Rattle.confinement.specs.declared.listed.PartUse.{PartUse}
-use Rattle.confinement.specs.Listed.{lies_in, part_at, last_in, spares, has_all, owns, owns_to, owns_range, allows, is_allowed, named_within, is_within}
-use Rattle.confinement.specs.Private.Search.{overlaps, memory_in, use_in, inside_in, is_inside}
+use Rattle.confinement.specs.Listed.{lies_in, part_at, spares, has_all, owns, owns_to, is_within}
+use Rattle.confinement.specs.Private.Search.{overlaps, memory_in, inside_in, is_inside}
 use Rattle.confinement.proofs.Lists.{in_mapped, from_mapped, and_true}
 
 -- ---- where an address lies

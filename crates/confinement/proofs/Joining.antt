@@ -1,14 +1,14 @@
 -- Parts that become one, by one at a time; and counts of what passes a test.
 use Rattle.std.proofs.Common.{◌≡◌, ℕ, ◌+◌, ◌≤◌, ◌<◌, ◌⊎◌, inl, inr, Bool, true, false, cond, ◌==◌, ◌&&◌, List, [], ◌∷◌, map, length, Option, Some, None, refl, sym, ap, subst, ◌∙◌, arith}
 use Rattle.std.specs.Prelude.{find, option_map, not}
-use Rattle.std.specs.List.{list_all, count_by}
-use Rattle.std.proofs.lemmas.Bool.{false≢true, eqb-true, eq-eqb}
+use Rattle.std.specs.List.{count_by}
+use Rattle.std.proofs.lemmas.Bool.{false≢true, eqb-true}
 use Rattle.std.proofs.lemmas.List.Sums.{count_by-le-length, sum_by-cons}
 use Rattle.clearing.specs.Members.{In}
-use Rattle.clearing.proofs.Members.{both_true, eqb_self, tells}
+use Rattle.clearing.proofs.Members.{both_true, eqb_self}
 use Rattle.confinement.specs.declared.listed.PartMemory.{PartMemory}
 use Rattle.confinement.specs.declared.listed.PartUse.{PartUse}
-use Rattle.confinement.specs.Private.Search.{overlaps, renamed, memory_in, use_in, Joins, AreJoining, AreJoined}
+use Rattle.confinement.specs.Private.Search.{overlaps, renamed, memory_in, use_in, AreJoining, AreJoined}
 use Rattle.confinement.proofs.Lists.{in_mapped, from_mapped}
 
 -- ---- counts

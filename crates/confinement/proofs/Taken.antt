@@ -1,7 +1,7 @@
 -- What is kept where a stretch, or what a capability names, is taken into a part.
-use Rattle.std.proofs.Common.{◌≡◌, ℕ, ◌+◌, ◌-◌, ◌^◌, ◌≤◌, ◌<◌, ◌⊎◌, inl, inr, Bool, true, false, cond, ◌==◌, ◌||◌, ◌&&◌, nat_lt, List, [], ◌∷◌, ◌++◌, map, Option, Some, None, refl, sym, ap, subst, ◌∙◌, arith, bit_and}
-use Rattle.std.specs.Prelude.{nat_le, unwrap_or}
-use Rattle.std.specs.List.{list_any, list_all}
+use Rattle.std.proofs.Common.{◌≡◌, ℕ, ◌+◌, ◌-◌, ◌^◌, ◌≤◌, ◌⊎◌, inl, inr, Bool, true, false, cond, ◌==◌, ◌&&◌, nat_lt, List, [], ◌∷◌, ◌++◌, map, Option, Some, None, refl, sym, ap, subst, ◌∙◌, arith}
+use Rattle.std.specs.Prelude.{nat_le}
+use Rattle.std.specs.List.{list_any}
 use Rattle.std.specs.Int.Bits.{and_self}
 use Rattle.std.proofs.Math.Pow.{pow_mono}
 use Rattle.std.proofs.lemmas.Bool.{false≢true, eqb-true, eq-eqb}
@@ -13,7 +13,7 @@ use Rattle.cap_core.specs.declared.capability.Cap.{Cap}
 use Rattle.cap_core.specs.declared.capability.Cap.TheVariants.{Null, Untyped, Endpoint, CNode, Tcb}
 use Rattle.cap_core.specs.declared.rights.Rights.{Rights}
 use Rattle.cap_core.specs.declared.object.Range.{Range}
-use Rattle.cap_core.specs.Objects.{base_of, bits_of, end_of}
+use Rattle.cap_core.specs.Objects.{base_of, bits_of}
 use Rattle.cap_core.specs.Ranges.{range_named}
 use Rattle.derivation.specs.Entries.{Entry}
 use Rattle.clearing.specs.Members.{In}
@@ -21,10 +21,10 @@ use Rattle.clearing.proofs.Members.{both_true, either_true, true_left, true_righ
 use Rattle.confinement.specs.declared.listed.PartMemory.{PartMemory}
 use Rattle.confinement.specs.declared.listed.PartUse.{PartUse}
 use Rattle.confinement.specs.Parts.{Parts, IsOwned, IsWithin}
-use Rattle.confinement.specs.Listed.{lies_in, part_at, last_in, owns, owns_to, owns_range, allows, is_allowed, named_within, is_within}
-use Rattle.confinement.specs.Private.Search.{overlaps, memory_in, use_in, Joins, AreJoined, IsStretchTaken, AreSame, IsTakenTo, IsRangeTaken, IsCapTaken, AreSound, is_inside, EndsInWords, whose, AreBounded}
+use Rattle.confinement.specs.Listed.{lies_in, part_at, owns, owns_to, owns_range, allows, is_allowed, named_within, is_within}
+use Rattle.confinement.specs.Private.Search.{overlaps, memory_in, use_in, Joins, IsStretchTaken, AreSame, IsTakenTo, IsRangeTaken, IsCapTaken, AreSound, is_inside, EndsInWords, whose, AreBounded}
 use Rattle.confinement.proofs.Lists.{in_mapped, from_mapped, and_true}
-use Rattle.confinement.proofs.Growing.{at_member, part_mapped, found_inside, made_inside, with_new, owns_grown, owns_new}
+use Rattle.confinement.proofs.Growing.{at_member, part_mapped, found_inside, made_inside, owns_grown, owns_new}
 
 -- what is kept where a part takes in what a capability names
 pub record IsKept (p : ProfileName) (cap : Cap) (part : ℕ) (memory : List PartMemory) (uses : List PartUse) (memory' : List PartMemory) (uses' : List PartUse) : Type 0 where

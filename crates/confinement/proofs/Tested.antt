@@ -1,9 +1,8 @@
 -- Where the test answers yes, the parts are closed; and one part that has every address is.
-use Rattle.std.proofs.Common.{◌≡◌, ℕ, Fits, w64, get_or, ◌+◌, ◌-◌, ◌^◌, ◌≤◌, ◌⊎◌, inl, inr, Bool, true, false, cond, ◌==◌, ◌||◌, nat_lt, List, [], ◌∷◌, map, filter, Option, Some, None, refl, sym, ap, subst, ◌∙◌, arith, bit_and}
-use Rattle.std.specs.Prelude.{find, option_map, is_some, ◌<◌, ◌&&◌, suc, All}
+use Rattle.std.proofs.Common.{◌≡◌, ℕ, Fits, w64, get_or, ◌+◌, ◌-◌, ◌^◌, ◌≤◌, ◌⊎◌, inl, inr, Bool, true, false, cond, ◌==◌, ◌||◌, List, [], ◌∷◌, map, filter, Option, Some, None, refl, sym, ap, subst, ◌∙◌, arith, bit_and}
+use Rattle.std.specs.Prelude.{option_map, is_some, ◌<◌, ◌&&◌, suc, All}
 use Rattle.std.specs.List.{list_any, list_all}
 use Rattle.std.proofs.lemmas.Bool.{false≢true, eqb-true}
-use Rattle.std.proofs.lemmas.Bool.Decides.{nat_tests}
 use Rattle.std.proofs.lemmas.Nat.{pow_pos}
 use Rattle.cap_core.specs.declared.profile.ProfileName.{ProfileName}
 use Rattle.cap_core.specs.declared.capability.Badge.{Badge}
@@ -17,7 +16,6 @@ use Rattle.cap_core.proofs.Minting.{bit_in_both}
 use Rattle.std.specs.Int.{bit_at}
 use Rattle.derivation.specs.Forest.{Forest}
 use Rattle.derivation.specs.Entries.{Entry, caps, cap_in, cap_at}
-use Rattle.clearing.specs.Members.{In}
 use Rattle.clearing.proofs.Members.{both_true, either_true, any_of, filter_in}
 use Rattle.clearing.proofs.Clearable.{in_contains}
 use Rattle.abstract_kernel.proofs.Checks.FoundSlots.{lawful_at}

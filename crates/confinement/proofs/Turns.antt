@@ -1,16 +1,15 @@
 -- The turns of the search for the least parts: what is kept, and that it ends with closed parts.
-use Rattle.std.proofs.Common.{◌≡◌, ℕ, ◌+◌, ◌-◌, ◌^◌, ◌≤◌, ◌<◌, ◌⊎◌, inl, inr, Bool, true, false, cond, ◌||◌, List, [], ◌∷◌, ◌++◌, map, length, take, get_or, Option, Some, None, refl, sym, ap, subst, ◌∙◌, arith}
+use Rattle.std.proofs.Common.{◌≡◌, ℕ, ◌+◌, ◌-◌, ◌^◌, ◌≤◌, ◌<◌, ◌⊎◌, inl, inr, Bool, true, false, ◌||◌, List, [], ◌∷◌, ◌++◌, length, take, get_or, Option, Some, None, refl, sym, ap, subst, ◌∙◌, arith}
 use Rattle.std.proofs.lemmas.List.{take_more, map-append, length-map}
 use Rattle.slot_core.specs.declared.derivations.Derivation.{Derivation}
 use Rattle.slot_core.specs.Calls.{derivation_view}
 use Rattle.std.specs.Prelude.{unwrap_or}
-use Rattle.std.specs.List.{list_all, count_by}
+use Rattle.std.specs.List.{list_all}
 use Rattle.std.proofs.lemmas.Bool.{false≢true}
 use Rattle.std.proofs.lemmas.Bool.Decides.{nat_tests}
-use Rattle.std.proofs.lemmas.Nat.{pow_pos}
 use Rattle.cap_core.specs.declared.profile.ProfileName.{ProfileName}
 use Rattle.cap_core.specs.declared.capability.Cap.{Cap}
-use Rattle.cap_core.specs.declared.capability.Cap.TheVariants.{Endpoint, Tcb}
+use Rattle.cap_core.specs.declared.capability.Cap.TheVariants.{Tcb}
 use Rattle.cap_core.specs.Numbers.{tcb_bits}
 use Rattle.derivation.specs.Entries.{Entry}
 use Rattle.clearing.specs.Members.{In}
@@ -19,8 +18,8 @@ use Rattle.confinement.specs.declared.listed.PartMemory.{PartMemory}
 use Rattle.confinement.specs.declared.listed.PartUse.{PartUse}
 use Rattle.confinement.specs.Parts.{Parts, IsWithin}
 use Rattle.confinement.specs.Listed.{lies_in, part_at, is_within, spares, stands_in, entry_stands}
-use Rattle.confinement.specs.Private.Search.{AreSame, IsNewTaken, IsSlotTaken, IsRangeTaken, AreSound, inside_in, is_inside, EndsInWords, whose, HoldWithin, AreBounded, AreTaken, block_of, entries_of, AreAround, AreOf, AreFound, AreFoundSoFar}
-use Rattle.confinement.proofs.Joining.{count_le, count_less, count_full}
+use Rattle.confinement.specs.Private.Search.{AreSame, IsNewTaken, IsSlotTaken, IsRangeTaken, AreSound, inside_in, is_inside, EndsInWords, whose, HoldWithin, AreBounded, AreTaken, block_of, entries_of, AreAround, AreFound, AreFoundSoFar}
+use Rattle.confinement.proofs.Joining.{count_less, count_full}
 use Rattle.confinement.proofs.Growing.{at_member, owned_at, owns_last, made_inside}
 use Rattle.confinement.proofs.Taken.{IsKept, range_kept, cap_kept}
 

@@ -1,6 +1,5 @@
 -- The proof of `needed`: the goals that a search leaves open.
 use Rattle.std.proofs.lemmas.List.Filters.{dedup_is}
-use Rattle.std.proofs.lemmas.List.Kept.{Contains-from_dedup}
 use Rattle.confinement.proofs.Arranging.{from_needed}
 use Rattle.confinement.proofs.arranged.needed.Goals as goal
 

@@ -1,10 +1,9 @@
 -- The proof of `join_overlapped`: the goals that a search leaves open.
-use Rattle.std.proofs.Common.{◌≡◌, ◌==◌, ◌<◌, ◌∙◌, ap, sym, subst, List, map, arith}
+use Rattle.std.proofs.Common.{◌==◌, ◌<◌, ◌∙◌, ap, sym, subst, List, map, arith}
 use Rattle.std.proofs.lemmas.List.{with_items_is}
 use Rattle.std.specs.Prelude.{option_map, find, not}
 use Rattle.std.specs.List.{count_by}
 use Rattle.confinement.specs.declared.listed.PartMemory.{PartMemory}
-use Rattle.confinement.specs.declared.listed.PartUse.{PartUse}
 use Rattle.confinement.specs.Private.Search.{memory_in, renamed, use_in}
 use Rattle.confinement.proofs.Joining.{is_other, joining_none, joining_at, joining_more, joining_all, fewer_others}
 use Rattle.confinement.proofs.least.join_overlapped.Goals as goal

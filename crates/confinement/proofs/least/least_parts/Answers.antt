@@ -1,5 +1,5 @@
 -- The proof of `least_parts`: the goals that a search leaves open.
-use Rattle.std.proofs.Common.{◌≤◌, length, false, true, subst, arith}
+use Rattle.std.proofs.Common.{subst, arith}
 use Rattle.confinement.specs.Private.Search.{AreTaken, entries_of}
 use Rattle.confinement.proofs.Turns.{found_first, found_more, found_still, found_all, as_many_entries}
 use Rattle.confinement.proofs.least.least_parts.Goals as goal

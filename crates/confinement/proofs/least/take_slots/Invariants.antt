@@ -1,7 +1,6 @@
 -- The proof of `take_slots`: the loop's invariant.
 use Rattle.std.proofs.Common.{take}
 use Rattle.confinement.specs.Private.Search.{AreTaken, entries_of}
-use Rattle.confinement.proofs.Turns.{slots_more}
 use Rattle.confinement.proofs.least.take_slots.Given as goal
 
 abbrev pub invariant-loop-derivation : goal.invariant-loop-derivation
