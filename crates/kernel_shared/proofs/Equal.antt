@@ -171,7 +171,7 @@ same_reply a b e =
       ),
     )) ∙ reply.enum.eta b)
 
-pub same_call : (a b : Call) → call_eq.ghosts.eq a b ≡ true → a ≡ b
+same_call : (a b : Call) → call_eq.ghosts.eq a b ≡ true → a ≡ b
 same_call a b e =
     let p = parts (a.thread == b.thread) (op_eq.ghosts.eq a.op b.op) e in
     λ i. record { thread = same_word a.thread b.thread p.0 i; op = same_op a.op b.op p.1 i }

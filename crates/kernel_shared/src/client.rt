@@ -307,26 +307,17 @@ fn found<N: Naming, T: Volume<N>>(book: &T, place: u32, request: Request) -> Opt
         return None;
     }
     let entry = book.entry(place)?;
-    if is_of_request(entry, request) {
+    let wanted = Entry {
+        client: request.client,
+        number: request.number,
+        call: request.call,
+        reply: entry.reply,
+    };
+    if is_same(entry, wanted) {
         Some(entry.reply)
     } else {
         None
     }
-}
-
-/// Whether an entry is that of a request. Nothing is said of its reply.
-fn is_of_request(made: Entry, request: Request) -> bool
-    ensures { IsTrue result → made ≡ entry request.client request.number request.call made.reply }
-{
-    made.client == request.client
-        && made.number == request.number
-        && is_same_call(made.call, request.call)
-}
-
-fn is_same_call(one: Call, other: Call) -> bool
-    ensures { IsTrue result → one ≡ other }
-{
-    one == other
 }
 
 /// Whether two copies have the same first entries, so many as were seen.
