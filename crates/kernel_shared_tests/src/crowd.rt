@@ -39,11 +39,9 @@ fn clients_of<N: Naming, T: Volume<N>>(
     alloc: Global,
     all: Vec<Driven<N, T>>,
 ) -> Option<Vec<CallerOver<N, T>>> {
-    let Ok(mut clients) = Vec::with_capacity(alloc, all.len()) else {
-        return None;
-    };
+    let mut clients = Vec::new(alloc);
     for driven in all {
-        clients.push_reserved(client_after(driven));
+        clients.push(client_after(driven)).ok()?;
     }
     Some(clients)
 }
