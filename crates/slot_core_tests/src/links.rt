@@ -22,16 +22,16 @@ fn is_blank(link: Link) -> bool {
     cap == Cap::Null && previous.is_none() && next.is_none() && !revocable && !first_badged
 }
 
-// An endpoint's capability in slot 4, and below it, once the first of three with a badge is removed, the other two in slots 9
-// and 10.
-fn store_after_a_removal(alloc: Global) -> Result<LinkedStore<Wide>, AllocError> {
+// The row of slot 10: an endpoint's capability is in slot 4, and below it, once the first of three with a badge is removed,
+// are the other two, in slots 9 and 10.
+fn link_after_a_removal(alloc: Global) -> Result<Link, AllocError> {
     let mut store: LinkedStore<Wide> = new_store(alloc)?;
     put_root(&mut store, 4, object::<Wide>(512, 4));
     derive(&mut store, 4, 8, 5);
     derive(&mut store, 4, 9, 5);
     derive(&mut store, 8, 10, 5);
     remove(&mut store, 8);
-    Ok(store)
+    Ok(store.link(slot::<Wide>(10)))
 }
 
 // Whether slot 10, the next one of the removed slot, is first badged, and is the last of the list.
@@ -46,7 +46,7 @@ fn next_is_first_badged(link: Link) -> bool {
 fn rows_of_the_list_are_as_they_should_be(rt: HostRuntime) -> Result<(), Fail> {
     let store: LinkedStore<Wide> = new_store(rt.alloc())?;
     assert!(rt; is_blank(store.link(slot::<Wide>(4))), "an empty slot");
-    let link = store_after_a_removal(rt.alloc())?.link(slot::<Wide>(10));
+    let link = link_after_a_removal(rt.alloc())?;
     assert!(rt; next_is_first_badged(link), "the next slot after a removal");
     Ok(())
 }
