@@ -94,6 +94,7 @@ const CASES: &[Case] = &[
             SEND,
             RECEIVE,
         ],
+        first: 0,
         gates: Gates::Open(1),
         wanted: Wanted::Whole([
             "1 client 0 number 0: 2048 send: waiting\nthread 2048 sending 6144\nthread 4096 ready\nendpoint 6144 sending 2048\n",
@@ -142,6 +143,7 @@ const CASES: &[Case] = &[
             UNTYPED,
             "[[call]]\nthread = 1024\nop = \"nbsend\"\ncap = 4\n",
         ],
+        first: 0,
         gates: Gates::Open(1),
         wanted: Wanted::Whole([
             "1 client 0 number 0: 1024 nbsend: dropped\nthread 1024 ready\nthread 2048 ready\nendpoint 3072 idle\n",
