@@ -59,7 +59,7 @@ enum Gates {
 #[derive(Clone, Copy)]
 enum Wanted {
     Whole([&'static str; 3]),
-    Ends([&'static str; 2]),
+    Ends(&'static str, &'static str),
 }
 
 /// A set-up in parts, of which so many first calls are made first, with what is written for it and the exit status. The name says
@@ -108,7 +108,7 @@ const CASES: &[Case] = &[
         setup: [BASE, "clients = 2\nlimit = 3\n", UNTYPED, TWICE_EACH],
         first: 0,
         gates: Gates::Open(2),
-        wanted: Wanted::Ends(["", "\nentries 3 of 4\n"]),
+        wanted: Wanted::Ends("", "\nentries 3 of 4\n"),
         status: 1,
     },
     Case {
@@ -116,7 +116,7 @@ const CASES: &[Case] = &[
         setup: [BASE, "clients = 2\n", UNTYPED, TWICE_EACH],
         first: 0,
         gates: Gates::Open(2),
-        wanted: Wanted::Ends(["", "\nentries 4 of 4\n"]),
+        wanted: Wanted::Ends("", "\nentries 4 of 4\n"),
         status: 0,
     },
     Case {
@@ -124,7 +124,7 @@ const CASES: &[Case] = &[
         setup: [BASE, "clients = 2\n", UNTYPED, TWICE_EACH],
         first: 0,
         gates: Gates::FirstCall,
-        wanted: Wanted::Ends(["", "\nentries 2 of 4\n"]),
+        wanted: Wanted::Ends("", "\nentries 2 of 4\n"),
         status: 1,
     },
     Case {
@@ -132,7 +132,7 @@ const CASES: &[Case] = &[
         setup: [BASE, "clients = 2\n", "", TWICE_EACH],
         first: 0,
         gates: Gates::None,
-        wanted: Wanted::Ends(["", "\nentries 4 of 4\n"]),
+        wanted: Wanted::Ends("", "\nentries 4 of 4\n"),
         status: 0,
     },
     Case {
@@ -173,7 +173,7 @@ const CASES: &[Case] = &[
         setup: [BASE, "clients = 2\n", UNTYPED, TWICE_EACH],
         first: 3,
         gates: Gates::Open(2),
-        wanted: Wanted::Ends([IN_ORDER, "\nentries 4 of 4\n"]),
+        wanted: Wanted::Ends(IN_ORDER, "\nentries 4 of 4\n"),
         status: 0,
     },
     Case {
@@ -181,7 +181,7 @@ const CASES: &[Case] = &[
         setup: [BASE, "clients = 2\n", UNTYPED, TWICE_EACH],
         first: 9,
         gates: Gates::Open(2),
-        wanted: Wanted::Ends([IN_ORDER, "\nentries 4 of 4\n"]),
+        wanted: Wanted::Ends(IN_ORDER, "\nentries 4 of 4\n"),
         status: 0,
     },
     Case {
@@ -189,7 +189,7 @@ const CASES: &[Case] = &[
         setup: [BASE, "clients = 2\nlimit = 3\n", UNTYPED, TWICE_EACH],
         first: 9,
         gates: Gates::Open(2),
-        wanted: Wanted::Ends([THREE_IN_ORDER, "\nentries 3 of 4\n"]),
+        wanted: Wanted::Ends(THREE_IN_ORDER, "\nentries 3 of 4\n"),
         status: 1,
     },
 ];
@@ -219,7 +219,7 @@ fn run<R: Threads + Wait + Sync>(
 fn is_wanted(alloc: Global, text: &[u8], wanted: Wanted) -> Result<bool, AllocError> {
     match wanted {
         Wanted::Whole(parts) => Ok(text == parts.concat(alloc)?.as_bytes()),
-        Wanted::Ends([begin, end]) => {
+        Wanted::Ends(begin, end) => {
             Ok(text.starts_with(begin.as_bytes()) && text.ends_with(end.as_bytes()))
         }
     }
