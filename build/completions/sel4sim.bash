@@ -6,13 +6,13 @@ _sel4sim() {
     done
     COMPREPLY=()
     case ${COMP_WORDS[COMP_CWORD-1]} in
+        --first) COMPREPLY=($(compgen -W '' -- "$word")); return ;;
         --call) COMPREPLY=($(compgen -W '' -- "$word")); return ;;
         --after) COMPREPLY=($(compgen -W '' -- "$word")); return ;;
         --slot) COMPREPLY=($(compgen -W '' -- "$word")); return ;;
         --without) COMPREPLY=($(compgen -W '' -- "$word")); return ;;
         --never) COMPREPLY=($(compgen -W '' -- "$word")); return ;;
         --by) COMPREPLY=($(compgen -W '' -- "$word")); return ;;
-        --first) COMPREPLY=($(compgen -W '' -- "$word")); return ;;
         --states) COMPREPLY=($(compgen -W '' -- "$word")); return ;;
         --witness) COMPREPLY=($(compgen -W '' -- "$word")); return ;;
         --profile) COMPREPLY=($(compgen -W '' -- "$word")); return ;;
@@ -22,7 +22,7 @@ _sel4sim() {
     esac
     case $command in
         '')
-            COMPREPLY=($(compgen -W 'check trace threads migrate why audit explore tree new help -V --version -h --help' -- "$word"))
+            COMPREPLY=($(compgen -W 'check trace migrate threads why audit explore tree new help -V --version -h --help' -- "$word"))
             [[ $word == -* ]] || mapfile -t -O "${#COMPREPLY[@]}" COMPREPLY < <(compgen -f -- "$word")
             ;;
         check)
@@ -33,12 +33,12 @@ _sel4sim() {
             COMPREPLY=($(compgen -W '-h --help' -- "$word"))
             [[ $word == -* ]] || mapfile -t -O "${#COMPREPLY[@]}" COMPREPLY < <(compgen -f -- "$word")
             ;;
-        threads)
+        migrate)
             COMPREPLY=($(compgen -W '-h --help' -- "$word"))
             [[ $word == -* ]] || mapfile -t -O "${#COMPREPLY[@]}" COMPREPLY < <(compgen -f -- "$word")
             ;;
-        migrate)
-            COMPREPLY=($(compgen -W '-h --help' -- "$word"))
+        threads)
+            COMPREPLY=($(compgen -W '--first -h --help' -- "$word"))
             [[ $word == -* ]] || mapfile -t -O "${#COMPREPLY[@]}" COMPREPLY < <(compgen -f -- "$word")
             ;;
         why)
@@ -61,7 +61,7 @@ _sel4sim() {
             COMPREPLY=($(compgen -W '--profile --threads --endpoints --untyped -h --help' -- "$word"))
             ;;
         help)
-            COMPREPLY=($(compgen -W 'check trace threads migrate why audit explore tree new help' -- "$word"))
+            COMPREPLY=($(compgen -W 'check trace migrate threads why audit explore tree new help' -- "$word"))
             ;;
     esac
 }

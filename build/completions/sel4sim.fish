@@ -47,4 +47,4 @@ complete -c sel4sim -n '__fish_seen_subcommand_from new' -l endpoints -x -a '' -
 complete -c sel4sim -n '__fish_seen_subcommand_from new' -l untyped -x -a '' -d 'It has these untyped regions, with commas between them'
 complete -c sel4sim -n '__fish_seen_subcommand_from new' -s h -l help -d 'Print help'
 complete -c sel4sim -n '__fish_use_subcommand' -a help -d 'Print this message or the help of the given subcommand(s)'
-complete -c sel4sim -n '__fish_seen_subcommand_from help' -a 'check trace threads migrate why audit explore tree new help'
+complete -c sel4sim -n '__fish_seen_subcommand_from help' -a 'check trace migrate threads why audit explore tree new help'
