@@ -84,7 +84,7 @@ rows: rows-needs run
 	python3 rows/run_clients.py $(program) $(setups)/examples/three_clients.toml 100
 	python3 rows/run_clients.py $(program) rows/four_clients.toml 100 60
 	python3 rows/run_clients.py --first 2 $(program) crates/worked_explorations/data/badge_names_the_sender.toml 100
-	python3 rows/run_clients.py --first 11 $(program) rows/four_clients.toml 20 10
+	python3 rows/run_clients.py --first 5 $(program) rows/four_clients.toml 20 10
 	python3 rows/run_clients.py --first 1000 $(program) rows/four_clients.toml 5
 	python3 rows/run_clients.py --first 5 $(program) rows/three_of_four_calls.toml 5
 	python3 rows/documents.py $(dir $(program)) README.md docs/*.md
