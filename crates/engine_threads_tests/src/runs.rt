@@ -58,7 +58,7 @@ enum Gates {
 /// What is wanted of a text: that it is these parts, or that it begins and ends so.
 #[derive(Clone, Copy)]
 enum Wanted {
-    Whole([&'static str; 3]),
+    Whole(&'static str, &'static str, &'static str),
     Ends(&'static str, &'static str),
 }
 
@@ -79,11 +79,11 @@ const CASES: &[Case] = &[
         setup: [BASE, UNTYPED, SEND, RECEIVE],
         first: 0,
         gates: Gates::Open(1),
-        wanted: Wanted::Whole([
+        wanted: Wanted::Whole(
             "1 client 0 number 0: 2048 send: waiting\n2 client 0 number 1: 4096 recv: delivered 6144 from 2048 to 4096 badge 0 label 7 words 1 2\nthread 2048 ready\nthread 4096 ready inbox badge 0 label 7 words 1 2\nendpoint 6144 idle\n",
             SLOTS,
             "entries 2 of 2\n",
-        ]),
+        ),
         status: 0,
     },
     Case {
@@ -96,11 +96,11 @@ const CASES: &[Case] = &[
         ],
         first: 0,
         gates: Gates::Open(1),
-        wanted: Wanted::Whole([
+        wanted: Wanted::Whole(
             "1 client 0 number 0: 2048 send: waiting\nthread 2048 sending 6144\nthread 4096 ready\nendpoint 6144 sending 2048\n",
             SLOTS,
             "entries 1 of 2\n",
-        ]),
+        ),
         status: 1,
     },
     Case {
@@ -145,11 +145,11 @@ const CASES: &[Case] = &[
         ],
         first: 0,
         gates: Gates::Open(1),
-        wanted: Wanted::Whole([
+        wanted: Wanted::Whole(
             "1 client 0 number 0: 1024 nbsend: dropped\nthread 1024 ready\nthread 2048 ready\nendpoint 3072 idle\n",
             "slot 16 cnode 0 radix 4 guard 0 size 28 children\nslot 32 tcb 1024\nslot 48 tcb 2048\nslot 64 endpoint 3072 badge 0 rights wrgp\nslot 80 untyped 16384 bits 12 free 0\nslot 1024 cnode 0 radix 4 guard 0 size 28\nslot 2048 cnode 0 radix 4 guard 0 size 28\n",
             "entries 1 of 1\n",
-        ]),
+        ),
         status: 0,
     },
     Case {
@@ -157,7 +157,7 @@ const CASES: &[Case] = &[
         setup: [BASE, "limit = 0\n", UNTYPED, SEND],
         first: 0,
         gates: Gates::Open(1),
-        wanted: Wanted::Whole(["set-up refused 204 at top key limit\n", "", ""]),
+        wanted: Wanted::Whole("set-up refused 204 at top key limit\n", "", ""),
         status: 2,
     },
     Case {
@@ -165,7 +165,7 @@ const CASES: &[Case] = &[
         setup: ["", "", "", ""],
         first: 0,
         gates: Gates::Open(1),
-        wanted: Wanted::Whole(["set-up refused 202 at top key format\n", "", ""]),
+        wanted: Wanted::Whole("set-up refused 202 at top key format\n", "", ""),
         status: 2,
     },
     Case {
@@ -218,7 +218,9 @@ fn run<R: Threads + Wait + Sync>(
 /// Whether a text is what is wanted.
 fn is_wanted(alloc: Global, text: &[u8], wanted: Wanted) -> Result<bool, AllocError> {
     match wanted {
-        Wanted::Whole(parts) => Ok(text == parts.concat(alloc)?.as_bytes()),
+        Wanted::Whole(lines, slots, last) => Ok(
+            text == [lines, slots, last].concat(alloc)?.as_bytes(),
+        ),
         Wanted::Ends(begin, end) => {
             Ok(text.starts_with(begin.as_bytes()) && text.ends_with(end.as_bytes()))
         }
