@@ -12,7 +12,7 @@ use cap_core::{Badge, Profile};
 use ipc_core::Waiters;
 use slot_core::CapStore;
 
-impl<P: Profile, S: CapStore<P> + Drop, W: Waiters<P> + Drop> Kernel<P, S, W> {
+impl<P: Profile, S: CapStore<P>, W: Waiters<P>> Kernel<P, S, W> {
     /// Suspends a thread: it waits no more, and is inactive.
     pub(crate) fn suspend(&mut self, thread: u64) -> Reply
         requires { IsLiveThread self.old.derivations thread }

@@ -18,7 +18,7 @@ use clearing::{Finalise, SlotChain, clear, revoke};
 use ipc_core::Waiters;
 use slot_core::{CapStore, Slot};
 
-impl<P: Profile, S: CapStore<P> + Drop, W: Waiters<P> + Drop> Kernel<P, S, W> {
+impl<P: Profile, S: CapStore<P>, W: Waiters<P>> Kernel<P, S, W> {
     /// Clears a slot.
     pub(crate) fn delete(&mut self, slot: u64) -> Reply
         requires { IsNamedSlot P.profile self.old.derivations slot }

@@ -19,7 +19,7 @@ use std::marker::PhantomData;
 
 /// The threads that wait, and a row for each thread control block of the memory.
 #[derive(Drop)]
-pub struct Threads<P: Profile, W: Waiters<P> + Drop> {
+pub struct Threads<P: Profile, W: Waiters<P>> {
     pub waiters: W,
     /// Row k is that of the thread control block at k times its size.
     pub rows: Vec<Option<ThreadRow>>,
@@ -30,7 +30,7 @@ pub struct Threads<P: Profile, W: Waiters<P> + Drop> {
     ghost fill: { length rows.items * tcb_size P.profile ≡ 2 ^ memory_bits },
 }
 
-impl<P: Profile, W: Waiters<P> + Drop> Threads<P, W> {
+impl<P: Profile, W: Waiters<P>> Threads<P, W> {
     /// A thread waits no more, and is inactive or not. What was delivered to it last stays.
     pub fn stop(&mut self, thread: u64, inactive: bool)
         requires { IsSome (get (rows_map (tcb_size P.profile) self.old.rows.items) thread) }
@@ -74,7 +74,7 @@ impl<P: Profile, W: Waiters<P> + Drop> Threads<P, W> {
     }
 }
 
-impl<P: Profile, W: Waiters<P> + Drop> Finalise for Threads<P, W> {
+impl<P: Profile, W: Waiters<P>> Finalise for Threads<P, W> {
     ghost Ended = { λ ended old new. HaveEnded P.profile ended old.memory_bits new.memory_bits
         old.rows.items new.rows.items (W.waits old.waiters) (W.waits new.waiters) };
 

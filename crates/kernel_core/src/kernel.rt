@@ -43,14 +43,14 @@ use std::marker::Model;
 /// Contracts see a kernel as what it shows of its state: the derivation forest with its capabilities, what each live
 /// thread does and received last, and the waiting list of each live endpoint.
 #[derive(Drop)]
-pub struct Kernel<P: Profile, S: CapStore<P> + Drop, W: Waiters<P> + Drop> {
+pub struct Kernel<P: Profile, S: CapStore<P>, W: Waiters<P>> {
     pub(crate) store: S,
     pub(crate) threads: Threads<P, W>,
     /// For slots that are cleared: a link for each slot of the memory, and no slot in it between calls.
     pub(crate) chain: SlotChain<P>,
 }
 
-impl<P: Profile, S: CapStore<P> + Drop, W: Waiters<P> + Drop> Model for Kernel<P, S, W> {
+impl<P: Profile, S: CapStore<P>, W: Waiters<P>> Model for Kernel<P, S, W> {
     ghost use Rattle.abstract_kernel.specs.Shown.{Shown};
     ghost use Rattle.std.specs.Coded.{codes};
     ghost use Rattle.std.specs.FinMap.{code as coded_map};
@@ -68,7 +68,7 @@ impl<P: Profile, S: CapStore<P> + Drop, W: Waiters<P> + Drop> Model for Kernel<P
         (W.memory_bits a.threads.waiters) (S.forest a.store) a.threads.rows.items (W.waits a.threads.waiters) a.chain };
 }
 
-impl<P: Profile, S: CapStore<P> + Drop, W: Waiters<P> + Drop> Kernel<P, S, W> {
+impl<P: Profile, S: CapStore<P>, W: Waiters<P>> Kernel<P, S, W> {
     /// Makes one call of one thread, whole (seL4 Reference Manual, on system calls and IPC), and answers it. It is
     /// refused, and nothing changes, by the first of these that fails:
     ///
@@ -364,7 +364,7 @@ impl<P: Profile, S: CapStore<P> + Drop, W: Waiters<P> + Drop> Kernel<P, S, W> {
     }
 }
 
-impl<P: Profile, S: DerivationStore<P> + Drop, W: Waiters<P> + Drop> Kernel<P, S, W> {
+impl<P: Profile, S: DerivationStore<P>, W: Waiters<P>> Kernel<P, S, W> {
     /// All full slots, each with its capability, whether that is original, and the slot that it is derived from, found in
     /// one walk; each comes before those that are derived from it. It takes memory for them.
     pub fn derivations(&self, alloc: Global) -> Result<Vec<Derivation>, AllocError>

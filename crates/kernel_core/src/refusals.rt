@@ -21,7 +21,7 @@ use reasons::{Held, Hint, Reason, index_hint, path, reason_in, reason_op, word_h
 use slot_core::CapStore;
 use std::alloc::{AllocError, Global};
 
-impl<P: Profile, S: CapStore<P> + Drop, W: Waiters<P> + Drop> Kernel<P, S, W> {
+impl<P: Profile, S: CapStore<P>, W: Waiters<P>> Kernel<P, S, W> {
     /// Why the kernel, as it stands, refuses a call: the first check that fails, with what was found there; `None` where
     /// all checks pass. A refused call changes nothing, so its reason can be asked for after it too.
     ///

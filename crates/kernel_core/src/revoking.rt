@@ -13,7 +13,7 @@ use cap_core::Profile;
 use ipc_core::Waiters;
 use slot_core::CapStore;
 
-impl<P: Profile, S: CapStore<P> + Drop, W: Waiters<P> + Drop> Kernel<P, S, W> {
+impl<P: Profile, S: CapStore<P>, W: Waiters<P>> Kernel<P, S, W> {
     /// Revokes the full slot at an address, by itself: no thread makes a call of it, and none has to be able to name the
     /// slot. What was derived from its capability is cleared, and what ends with that ends, as by a call of a thread that is
     /// a revoke of the slot.
