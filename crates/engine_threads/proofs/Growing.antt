@@ -1,6 +1,6 @@
 -- A history that grows: the steps of its loops.
-use Rattle.std.proofs.Common.{◌≡◌, ℕ, ◌+◌, ◌<◌, true, List, [], ◌∷◌, ◌++◌, eq-eqb, get_or, length, map, option_map, slice_get, take, Some, refl, ap, ap₂, sym, ◌∙◌, subst, arith, append_assoc}
-use Rattle.std.proofs.lemmas.List.{append-nil, length-map, map-append, take_more}
+use Rattle.std.proofs.Common.{◌≡◌, ℕ, ◌+◌, ◌<◌, true, List, [], ◌∷◌, ◌++◌, eq-eqb, get_or, length, map, option_map, slice_get, take, Some, refl, ap, ap₂, sym, ◌∙◌, append_assoc}
+use Rattle.std.proofs.lemmas.List.{append-nil, map-append, take_more}
 use Rattle.std.proofs.lemmas.Option.{get_or_from_slice_get, slice_get-map}
 use Rattle.abstract_kernel.specs.declared.call.Call.{Call}
 use Rattle.abstract_kernel.specs.declared.call.Reply.{Reply}
@@ -8,7 +8,7 @@ use Rattle.kernel_book.specs.declared.entry.Entry.{Entry}
 use Rattle.kernel_book.specs.Laws.{count_of, entry, is_numbered, replies_in}
 use Rattle.kernel_book.proofs.Grows.{numbered-snoc}
 use Rattle.setup_format.specs.Views.{CallView}
-use Rattle.engine_threads.specs.Private.Begun.{AreBehind, AreEntriesOf, AreSameCalls}
+use Rattle.engine_threads.specs.Private.Begun.{AreBehind, AreEntriesOf}
 use Rattle.engine_threads.specs.SharedRuns.{call_asked, call_made}
 use Rattle.engine_threads.proofs.Histories.{some_there}
 

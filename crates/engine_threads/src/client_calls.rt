@@ -1,5 +1,5 @@
 //! The calls of each client of a set-up, behind the first of all.
-ghost use Rattle.std.specs.Prelude.{ℕ, ◌≡◌, ◌≤◌, ◌++◌, ◌∷◌, [], cond, ◌==◌, Some, drop, length, IfOk, OnOk, slice_get, vec_len};
+ghost use Rattle.std.specs.Prelude.{ℕ, ◌≡◌, ◌==◌, Some, drop, IfOk, slice_get, vec_len};
 ghost use Rattle.engine_threads.specs.SharedRuns.{client_calls};
 
 use kernel_core::Call;
@@ -13,12 +13,12 @@ fn calls_of_client(
     made: usize,
     client: u32,
 ) -> Result<Vec<Call>, AllocError>
-    requires { made ≤ length setup.now.calls }
     ensures { IfOk result (λ v. v.items ≡ client_calls client (drop made setup.now.calls)) }
 {
     let mut own = Vec::new(alloc);
-    for (i, call) in setup.calls()[made..].iter().enumerate() {
-        if setup.client_of(made + i) == client {
+    let begin = made.min(setup.calls().len());
+    for (i, call) in setup.calls()[begin..].iter().enumerate() {
+        if setup.client_of(begin + i) == client {
             own.push(*call)?;
         }
     }
@@ -31,7 +31,6 @@ pub fn calls_of_clients(
     setup: &Setup,
     made: usize,
 ) -> Result<Vec<Vec<Call>>, AllocError>
-    requires { made ≤ length setup.now.calls }
     ensures len { IfOk result (λ v. vec_len v ≡ setup.now.clients) }
     ensures each { IfOk result (λ v. (i : ℕ) (own : _) → slice_get v.items i ≡ Some own
         → own.items ≡ client_calls i (drop made setup.now.calls)) }

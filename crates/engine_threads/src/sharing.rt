@@ -1,5 +1,5 @@
 //! A shared run of a set-up: its clients make their calls of one kernel, each in a thread of its own.
-ghost use Rattle.std.specs.Prelude.{◌≡◌, ◌≤◌, ◌↔◌, ◌-◌, All, Err, IfOk, IfErr, map, drop, length};
+ghost use Rattle.std.specs.Prelude.{◌≡◌, ◌↔◌, ◌-◌, All, Err, IfOk, IfErr, map, drop};
 ghost use Rattle.engine_core.specs.declared.fault.RunFault.TheVariants as Told;
 ghost use Rattle.kernel_shared.specs.declared.start.StartFault.TheVariants as Start;
 ghost use Rattle.kernel_shared.specs.declared.driving.DriveFault.TheVariants as Drive;
@@ -128,7 +128,6 @@ pub fn shared_run<
     requires opening { kernel ≡ N.opening }
     requires reached { IsReached P.profile N.start }
     requires shows { N.opening ≡ shown N.start }
-    requires within { (made ≤ length setup.now.calls) × (made ≤ setup.now.limit) }
     requires limit { N.limit ≡ setup.now.limit - made }
     ensures run { IfOk result (λ b. IsRunFrom G.ends P.profile N.start (drop made setup.now.calls) N.limit b.history.items) }
     ensures fault { IfErr result IsOwnFault }
@@ -136,7 +135,7 @@ pub fn shared_run<
     let Ok(lists) = calls_of_clients(alloc, setup, made) else {
         return Err(RunFault::Memory);
     };
-    let limit = setup.limit() - made as u32;
+    let limit = (setup.limit() as usize).saturating_sub(made) as u32;
     let (shared, clients) = match SharedKernel::<N, P, S, W>::start(
         rt,
         alloc,
