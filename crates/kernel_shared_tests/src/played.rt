@@ -98,16 +98,22 @@ const CASES: [(&str, Case, u32, u32, usize); 7] = [
     ("under looks", Case::UnderLooks, 10, 8000, 1),
 ];
 
-/// Whether a case comes out over a pair of stores.
+/// Whether a case comes out with so many steps over a pair of stores.
 fn comes_out<
     S: MakeStore<Wide> + Send + Sync,
     W: MakeWaiters<Wide> + Send + Sync,
     R: Threads + Wait + Sync,
->(rt: &R, alloc: Global, plan: &BootPlan, place: usize) -> bool
-    requires plan { IsPlan Name.Wide plan.now }
-    requires place { place < 7 }
+>(
+    rt: &R,
+    alloc: Global,
+    plan: &BootPlan,
+    case: Case,
+    clients: u32,
+    limit: u32,
+    steps: usize,
+) -> bool
+    requires { IsPlan Name.Wide plan.now }
 {
-    let (_, case, clients, limit, steps) = CASES[place];
     matches!(play_over::<S, W, R>(rt, alloc, plan, clients, limit, case), Ok(right) if right == steps)
 }
 
@@ -116,19 +122,25 @@ fn comes_out<
 fn cases_come_out(rt: HostRuntime) -> Result<(), Fail> {
     let plan = plan(&rt, rt.alloc())?;
     for place in 0..CASES.len() {
-        let name = CASES[place].0;
+        let (name, case, clients, limit, steps) = CASES[place];
         let is_over_links = comes_out::<LinkedStore<Wide>, LinkedWaiters<Wide>, _>(
             &rt,
             rt.alloc(),
             &plan,
-            place,
+            case,
+            clients,
+            limit,
+            steps,
         );
         assert!(rt; is_over_links, "{name}, linked");
         let is_over_rows = comes_out::<RowStore<Wide>, RowWaiters<Wide>, _>(
             &rt,
             rt.alloc(),
             &plan,
-            place,
+            case,
+            clients,
+            limit,
+            steps,
         );
         assert!(rt; is_over_rows, "{name}, rows");
     }
