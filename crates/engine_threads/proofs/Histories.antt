@@ -8,7 +8,7 @@ use mathlib.Core.Logic.{◌⊎◌, inl, inr}
 use Rattle.abstract_kernel.specs.declared.call.Call.{Call}
 use Rattle.kernel_book.specs.declared.entry.Entry.{Entry}
 use Rattle.kernel_book.specs.Laws.{calls_of}
-use Rattle.kernel_shared.specs.Tokens.{Token, token, is_below, calls_made, lost_calls, newly_lost, made}
+use Rattle.kernel_shared.specs.ClientStates.{ClientState, client_state, is_below, calls_made, lost_calls, newly_lost, made}
 use Rattle.kernel_shared.specs.declared.driving.Stop.{Stop}
 use Rattle.kernel_shared.specs.declared.driving.Stop.TheVariants.{Gate, Fault}
 use Rattle.kernel_shared.specs.declared.fault.SharedFault.TheVariants.{Full, Stray, NameTaken, Memory, NoEntry}
@@ -22,7 +22,7 @@ use Rattle.shares.proofs.Shares.{each_begins, carry_all, carry_whole, counts_who
 
 -- The client's own entries in what it saw, below the number of calls that were answered, carry the first of its calls. All
 -- were answered where what it saw has fewer entries than the limit, or the gate may end it before the next.
-pub record IsMade (ends : ℕ → ℕ → Type 0) (calls : List CallView) (limit i : ℕ) (t : Token) : Type 0 where
+pub record IsMade (ends : ℕ → ℕ → Type 0) (calls : List CallView) (limit i : ℕ) (t : ClientState) : Type 0 where
   pub id : t.id ≡ i
   pub carry : calls_of (filter (is_below t.id t.done) t.front) ≡ take t.done (client_calls i calls)
   pub within : t.done ≤ length (client_calls i calls)
@@ -33,7 +33,7 @@ or_map f g (inl a) = inl (f a)
 or_map f g (inr b) = inr (g b)
 
 -- where a client finished and saw fewer entries than the limit, all of its calls were answered, or the gate ended it
-all_answered : {N T : Type 0} (ends : ℕ → ℕ → Type 0) (limit : ℕ) (old : Token) (own : List Call) (new : Token) (n : ℕ) (stopped : Option (Stop N T)) → IsDriven ends limit old own new n stopped → IsFinished stopped → length new.front < limit → (n ≡ length own) ⊎ ends new.id new.done
+all_answered : {N T : Type 0} (ends : ℕ → ℕ → Type 0) (limit : ℕ) (old : ClientState) (own : List Call) (new : ClientState) (n : ℕ) (stopped : Option (Stop N T)) → IsDriven ends limit old own new n stopped → IsFinished stopped → length new.front < limit → (n ≡ length own) ⊎ ends new.id new.done
 all_answered ends limit old own new n None driven finished room = inl (driven.ended.0 refl)
 all_answered ends limit old own new n (Some (Fault Full)) driven finished room = absurd (let full : length new.front ≡ limit = driven.told.0 in omega arith)
 all_answered ends limit old own new n (Some Gate) driven finished room = inr driven.told
@@ -43,10 +43,10 @@ all_answered ends limit old own new n (Some (Fault Memory)) driven finished room
 all_answered ends limit old own new n (Some (Fault NoEntry)) driven finished room = absurd finished
 
 -- a client that had seen nothing, after its run
-pub made_by : {N T : Type 0} (ends : ℕ → ℕ → Type 0) (calls : List CallView) (limit i : ℕ) (old : Token) (own : List Call) (new : Token) (n : ℕ) (stopped : Option (Stop N T))
-    → old ≡ token i 0 [] None → own ≡ client_calls i calls → new.stray ≡ None → IsDriven ends limit old own new n stopped → IsFinished stopped → IsMade ends calls limit i new
+pub made_by : {N T : Type 0} (ends : ℕ → ℕ → Type 0) (calls : List CallView) (limit i : ℕ) (old : ClientState) (own : List Call) (new : ClientState) (n : ℕ) (stopped : Option (Stop N T))
+    → old ≡ client_state i 0 [] None → own ≡ client_calls i calls → new.stray ≡ None → IsDriven ends limit old own new n stopped → IsFinished stopped → IsMade ends calls limit i new
 made_by ends calls limit i old own new n stopped is list whole driven finished =
-    let first : IsRun (token i 0 [] None) own new n = subst (λ (t : Token). IsRun t own new n) is driven.run in
+    let first : IsRun (client_state i 0 [] None) own new n = subst (λ (t : ClientState). IsRun t own new n) is driven.run in
     let done : new.done ≡ n = let d = first.done in omega arith in
     let lost : length (newly_lost None new.stray) ≡ 0 = ap (λ (s : _). length (newly_lost None s)) whole in
     let many : n + length (newly_lost None new.stray) ≡ new.done = omega arith in
@@ -69,9 +69,9 @@ none_beyond : (calls : List CallView) (n i : ℕ) → n ≤ i → All (λ (c : C
 none_beyond calls n i le all =
     ap (map (λ (c : CallView). c.call)) (none_pass (λ (c : CallView). c.client == i) calls (λ k d lt. let below = all k d lt in grind (arith, nat_tests)))
 
-module _ (ends : ℕ → ℕ → Type 0) (calls : List CallView) (limit : ℕ) (h : List Entry) (clients : List Token) (settled : AreSettled h clients) (each : (i : ℕ) (t : Token) → slice_get clients i ≡ Some t → IsMade ends calls limit i t) where
-  client : ℕ → Token
-  client i = get_or clients i (token 0 0 [] None)
+module _ (ends : ℕ → ℕ → Type 0) (calls : List CallView) (limit : ℕ) (h : List Entry) (clients : List ClientState) (settled : AreSettled h clients) (each : (i : ℕ) (t : ClientState) → slice_get clients i ≡ Some t → IsMade ends calls limit i t) where
+  client : ℕ → ClientState
+  client i = get_or clients i (client_state 0 0 [] None)
 
   done : ℕ → ℕ
   done i = made (client i)
@@ -79,8 +79,8 @@ module _ (ends : ℕ → ℕ → Type 0) (calls : List CallView) (limit : ℕ) (
   has_made : (i : ℕ) → i < length clients → HasMade (λ (e : Entry). e.client) (λ (e : Entry). e.call) h i (done i) (client_calls i calls)
   unfolding done client
   has_made i lt =
-      let d : Token = token 0 0 [] None in
-      let t : Token = get_or clients i d in
+      let d : ClientState = client_state 0 0 [] None in
+      let t : ClientState = get_or clients i d in
       let at : slice_get clients i ≡ Some t = slice_get-get_or clients i d lt in
       let is = each i t at in
       let s = settled.fronts i t at in
@@ -98,7 +98,7 @@ module _ (ends : ℕ → ℕ → Type 0) (calls : List CallView) (limit : ℕ) (
   sums : length h ≤ total (length clients) done
   unfolding done client
   sums =
-      let e = total-sum_by made clients (token 0 0 [] None) (length clients) (omega arith) in
+      let e = total-sum_by made clients (client_state 0 0 [] None) (length clients) (omega arith) in
       let a : sum_by made (take (length clients) clients) ≡ sum_by made clients = ap (sum_by made) (take_all (length clients) clients (omega arith)) in
       let s = settled.entries in
       omega arith
@@ -110,8 +110,8 @@ module _ (ends : ℕ → ℕ → Type 0) (calls : List CallView) (limit : ℕ) (
   all_done : length h < limit → (i : ℕ) → i < length clients → (length (client_calls i calls) ≤ done i) ⊎ ends i (done i)
   unfolding done client
   all_done room i lt =
-      let d : Token = token 0 0 [] None in
-      let t : Token = get_or clients i d in
+      let d : ClientState = client_state 0 0 [] None in
+      let t : ClientState = get_or clients i d in
       let at : slice_get clients i ≡ Some t = slice_get-get_or clients i d lt in
       let s = settled.fronts i t at in
       let long = ap length s.is ∙ length-append t.front s.rest in
@@ -153,14 +153,14 @@ all_at : {A : Type 0} (P : A → Type 0) (xs : List A) (i : ℕ) (x : A) → All
 all_at P xs i x all at = subst P (get_or_from_slice_get xs i x x at) (all i x (slice_get_within xs i x at))
 
 -- what each client made, by what is known of it before and after its run
-pub each_made : {N T D L : Type 0} (ends : ℕ → ℕ → Type 0) (calls : List CallView) (limit : ℕ) (client : D → Token) (many : D → ℕ) (stopped : D → Option (Stop N T)) (own : L → List Call) (olds : List Token) (lists : List L) (driven : List D)
+pub each_made : {N T D L : Type 0} (ends : ℕ → ℕ → Type 0) (calls : List CallView) (limit : ℕ) (client : D → ClientState) (many : D → ℕ) (stopped : D → Option (Stop N T)) (own : L → List Call) (olds : List ClientState) (lists : List L) (driven : List D)
     → length lists ≡ length olds → length driven ≡ length olds
-    → ((i : ℕ) (t : Token) → slice_get olds i ≡ Some t → t ≡ token i 0 [] None)
+    → ((i : ℕ) (t : ClientState) → slice_get olds i ≡ Some t → t ≡ client_state i 0 [] None)
     → ((i : ℕ) (l : L) → slice_get lists i ≡ Some l → own l ≡ client_calls i calls)
     → EachThree olds lists driven (λ t l d. IsDriven ends limit t (own l) (client d) (many d) (stopped d))
-    → All (λ (t : Token). t.stray ≡ None) (map client driven)
+    → All (λ (t : ClientState). t.stray ≡ None) (map client driven)
     → All (λ d. IsFinished (stopped d)) driven
-    → (i : ℕ) (t : Token) → slice_get (map client driven) i ≡ Some t → IsMade ends calls limit i t
+    → (i : ℕ) (t : ClientState) → slice_get (map client driven) i ≡ Some t → IsMade ends calls limit i t
 each_made ends calls limit client many stopped own olds lists driven a b first listed ran stray finished i t at =
     let lt : i < length driven = let w = slice_get_within (map client driven) i t at in let l = length-map driven client in omega arith in
     let old = some_there olds i (omega arith) in
@@ -168,6 +168,6 @@ each_made ends calls limit client many stopped own olds lists driven a b first l
     let d = some_there driven i lt in
     let same : client d.0 ≡ t = some_same (client d.0) t (sym (slice_get-map client driven i ∙ ap (option_map client) d.1) ∙ at) in
     let run = ran i old.0 l.0 d.0 old.1 l.1 d.1 in
-    made_by ends calls limit i old.0 (own l.0) t (many d.0) (stopped d.0) (first i old.0 old.1) (listed i l.0 l.1) (all_at (λ (t : Token). t.stray ≡ None) (map client driven) i t stray at)
-    (subst (λ (t : Token). IsDriven ends limit old.0 (own l.0) t (many d.0) (stopped d.0)) same run)
+    made_by ends calls limit i old.0 (own l.0) t (many d.0) (stopped d.0) (first i old.0 old.1) (listed i l.0 l.1) (all_at (λ (t : ClientState). t.stray ≡ None) (map client driven) i t stray at)
+    (subst (λ (t : ClientState). IsDriven ends limit old.0 (own l.0) t (many d.0) (stopped d.0)) same run)
     (all_at (λ d. IsFinished (stopped d)) driven i d.0 finished d.1)

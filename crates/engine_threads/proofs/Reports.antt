@@ -14,7 +14,7 @@ use Rattle.kernel_book.specs.declared.entry.Entry.{Entry}
 use Rattle.kernel_shared.specs.declared.driving.Stop.{Stop}
 use Rattle.kernel_shared.specs.Driving.{EachThree, IsDriven}
 use Rattle.kernel_book.specs.Laws.{Lawful, StandsAfter, calls_of, replies_in}
-use Rattle.kernel_shared.specs.Tokens.{Token, token}
+use Rattle.kernel_shared.specs.ClientStates.{ClientState, client_state}
 use Rattle.setup_format.specs.Views.{CallView}
 use Rattle.setup_shared_report.specs.SharedReport.{shared_report_of}
 use Rattle.engine_threads.specs.Private.Begun.{IsRunFrom}
@@ -46,11 +46,11 @@ answered p A o h reached is b =
 
 -- ---- the whole
 
-run_is : (ends : ℕ → ℕ → Type 0) (p : ProfileName) (A : State) (calls : List CallView) (o : Shown) (limit : ℕ) (h : List Entry) (clients : List Token)
+run_is : (ends : ℕ → ℕ → Type 0) (p : ProfileName) (A : State) (calls : List CallView) (o : Shown) (limit : ℕ) (h : List Entry) (clients : List ClientState)
     → IsReached p A → o ≡ shown A
     → All (λ (c : CallView). c.client < length clients) calls
     → ∥ Lawful p o h ∥₁ → length h ≤ limit → AreSettled h clients
-    → ((i : ℕ) (t : Token) → slice_get clients i ≡ Some t → IsMade ends calls limit i t) → IsRunFrom ends p A calls limit h
+    → ((i : ℕ) (t : ClientState) → slice_get clients i ≡ Some t → IsMade ends calls limit i t) → IsRunFrom ends p A calls limit h
 run_is ends p A calls o limit h clients reached is few law short settled each = record {
   replies = answered p A o h reached is law;
   within = short;
@@ -60,10 +60,10 @@ run_is ends p A calls o limit h clients reached is few law short settled each = 
 }
 
 -- a history that was settled with the clients of a drive
-pub run_settled : {N T D : Type 0} (ends : ℕ → ℕ → Type 0) (p : ProfileName) (A : State) (calls : List CallView) (o : Shown) (limit many_clients : ℕ) (client : D → Token) (many : D → ℕ) (stopped : D → Option (Stop N T)) (olds : List Token) (lists : List (Vec Call Global)) (driven : List D) (h : List Entry)
+pub run_settled : {N T D : Type 0} (ends : ℕ → ℕ → Type 0) (p : ProfileName) (A : State) (calls : List CallView) (o : Shown) (limit many_clients : ℕ) (client : D → ClientState) (many : D → ℕ) (stopped : D → Option (Stop N T)) (olds : List ClientState) (lists : List (Vec Call Global)) (driven : List D) (h : List Entry)
     → IsReached p A → o ≡ shown A
     → All (λ (c : CallView). c.client < many_clients) calls → length olds ≡ many_clients → length lists ≡ length olds → length driven ≡ length olds
-    → ((i : ℕ) (t : Token) → slice_get olds i ≡ Some t → t ≡ token i 0 [] None)
+    → ((i : ℕ) (t : ClientState) → slice_get olds i ≡ Some t → t ≡ client_state i 0 [] None)
     → ((i : ℕ) (l : Vec Call Global) → slice_get lists i ≡ Some l → l.items ≡ client_calls i calls)
     → EachThree olds lists driven (λ t l d. IsDriven ends limit t l.items (client d) (many d) (stopped d))
     → All (λ d. IsFinished (stopped d)) driven

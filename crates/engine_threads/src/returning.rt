@@ -7,7 +7,7 @@ use kernel_book::Naming;
 use kernel_shared::client::Client;
 use kernel_shared::driving::{Driven, Stop};
 use kernel_shared::fault::SharedFault;
-use kernel_shared::volume::Volume;
+use kernel_shared::history_copy::HistoryCopy;
 use std::alloc::Global;
 
 /// Why the clients of a drive are not handed back.
@@ -20,7 +20,9 @@ pub enum ReturnFault {
 }
 
 /// A client after all of its calls, after those that the history had room for, or after those before the gate ended it.
-fn client_after<N: Naming, T: Volume<N>>(driven: Driven<N, T>) -> Result<Client<N, T>, ReturnFault>
+fn client_after<N: Naming, T: HistoryCopy<N>>(
+    driven: Driven<N, T>,
+) -> Result<Client<N, T>, ReturnFault>
     ensures same { IfOk result (λ c. c ≡ driven.client) }
     ensures whole { IfOk result (λ c. c.stray ≡ None) }
     ensures finished { IfOk result (λ _. IsFinished driven.stopped) }
@@ -43,14 +45,14 @@ fn client_after<N: Naming, T: Volume<N>>(driven: Driven<N, T>) -> Result<Client<
 }
 
 /// Whether the client's last call wanted memory that was not there.
-fn wanted_memory<N: Naming, T: Volume<N>>(driven: &Driven<N, T>) -> bool
+fn wanted_memory<N: Naming, T: HistoryCopy<N>>(driven: &Driven<N, T>) -> bool
     ensures { result ≡ false → HadMemory driven.now.stopped }
 {
     matches!(driven.stopped, Some(Stop::Fault(SharedFault::Memory)))
 }
 
 /// Whether any client wanted memory that was not there.
-fn any_wanted_memory<N: Naming, T: Volume<N>>(all: &[Driven<N, T>]) -> bool
+fn any_wanted_memory<N: Naming, T: HistoryCopy<N>>(all: &[Driven<N, T>]) -> bool
     ensures { result ≡ false → All (λ d. HadMemory d.stopped) all.now }
 {
     for driven in all {
@@ -68,7 +70,7 @@ fn any_wanted_memory<N: Naming, T: Volume<N>>(all: &[Driven<N, T>]) -> bool
 ///
 /// - `Memory` where any client's call wanted memory, whatever stopped the others, or where this call wanted it;
 /// - `Ended` where another client lost a call, found its name taken, or was given no entry by its reader.
-pub fn clients_after<N: Naming, T: Volume<N>>(
+pub fn clients_after<N: Naming, T: HistoryCopy<N>>(
     alloc: Global,
     all: Vec<Driven<N, T>>,
 ) -> Result<Vec<Client<N, T>>, ReturnFault>

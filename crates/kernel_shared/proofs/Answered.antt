@@ -11,7 +11,7 @@ use Rattle.kernel_book.specs.declared.entry.Entry.{Entry}
 use Rattle.kernel_book.specs.Laws.{Lawful, entry, calls_of, count_of, is_numbered}
 use Rattle.kernel_book.proofs.Grows.{count_append}
 use Rattle.kernel_shared.specs.Fronts.{StartsWith}
-use Rattle.kernel_shared.specs.Tokens.{Token, token, lost_calls, calls_made, is_below, holds_not, IsAnswered}
+use Rattle.kernel_shared.specs.ClientStates.{ClientState, client_state, lost_calls, calls_made, is_below, holds_not, IsAnswered}
 use Rattle.kernel_shared.proofs.Keeping.{starts_snoc, starts_trans, longer}
 use Rattle.kernel_shared.proofs.Numbered.{numbered_parts, below_kept, below_next, none_held, once}
 use Rattle.kernel_shared.proofs.Clients.{count_one}
@@ -35,16 +35,16 @@ pub not_held : (p : ProfileName) (o : Shown) (id n : ℕ) (h : List Entry) → �
 not_held p o id n h l e = none_held id n h (numbered_of p o h l) (omega arith)
 
 -- no call was answered since
-pub unmade : (p : ProfileName) (o : Shown) (old new : Token) → StartsWith new.front old.front → ∥ Lawful p o new.front ∥₁ → old.done ≤ count_of old.id old.front → new.id ≡ old.id → new.done ≡ old.done → old.stray ≡ None
+pub unmade : (p : ProfileName) (o : Shown) (old new : ClientState) → StartsWith new.front old.front → ∥ Lawful p o new.front ∥₁ → old.done ≤ count_of old.id old.front → new.id ≡ old.id → new.done ≡ old.done → old.stray ≡ None
     → calls_made new ≡ calls_made old ++ lost_calls new.stray
 unmade p o old new s l le i d none =
     let same : filter (is_below new.id new.done) new.front ≡ filter (is_below old.id old.done) old.front = ap (λ k. filter (is_below k new.done) new.front) i ∙ (ap (λ k. filter (is_below old.id k) new.front) d ∙ below_later p o old.id old.done old.front new.front s l le) in
     let calls : List Call = calls_of (filter (is_below old.id old.done) old.front) in
     ap (λ h. calls_of h ++ lost_calls new.stray) same ∙ ap (λ cs. cs ++ lost_calls new.stray) (sym (append-nil calls) ∙ ap (λ x. calls ++ lost_calls x) (sym none))
 
-module _ (p : ProfileName) (o : Shown) (old : Token) (mid : List Entry) (call : Call) (reply : Reply) where
-  abbrev after : Token
-  after = token old.id (old.done + 1) (mid ++ entry old.id old.done call reply ∷ []) None
+module _ (p : ProfileName) (o : Shown) (old : ClientState) (mid : List Entry) (call : Call) (reply : Reply) where
+  abbrev after : ClientState
+  after = client_state old.id (old.done + 1) (mid ++ entry old.id old.done call reply ∷ []) None
 
   pub is_answered : StartsWith mid old.front → ∥ Lawful p o after.front ∥₁ → count_of old.id mid ≡ old.done → old.stray ≡ None → IsAnswered old call reply after
   is_answered s l c none = record {
@@ -70,13 +70,13 @@ module _ (p : ProfileName) (o : Shown) (old : Token) (mid : List Entry) (call : 
       ∙ ap (λ cs. cs ++ call ∷ []) (sym (append-nil calls) ∙ ap (λ x. calls ++ lost_calls x) (sym none)))))
 
 -- the call was found after it was published
-pub finished : (p : ProfileName) (o : Shown) (old mid new : Token) (call : Call) (reply : Reply) → StartsWith mid.front old.front → mid.id ≡ old.id → mid.done ≡ old.done → count_of mid.id mid.front ≡ mid.done → old.stray ≡ None → old.done ≤ count_of old.id old.front
-    → new ≡ token mid.id (mid.done + 1) (mid.front ++ entry mid.id mid.done call reply ∷ []) None → ∥ Lawful p o new.front ∥₁ → IsAnswered old call reply new × (calls_made new ≡ calls_made old ++ call ∷ [])
+pub finished : (p : ProfileName) (o : Shown) (old mid new : ClientState) (call : Call) (reply : Reply) → StartsWith mid.front old.front → mid.id ≡ old.id → mid.done ≡ old.done → count_of mid.id mid.front ≡ mid.done → old.stray ≡ None → old.done ≤ count_of old.id old.front
+    → new ≡ client_state mid.id (mid.done + 1) (mid.front ++ entry mid.id mid.done call reply ∷ []) None → ∥ Lawful p o new.front ∥₁ → IsAnswered old call reply new × (calls_made new ≡ calls_made old ++ call ∷ [])
 finished p o old mid new call reply s mi md c none le e l =
-    let to : new ≡ token old.id (old.done + 1) (mid.front ++ entry old.id old.done call reply ∷ []) None = e
-    ∙ (ap (λ (k : ℕ). token k (mid.done + 1) (mid.front ++ entry k mid.done call reply ∷ []) None) mi
-    ∙ ap (λ (d : ℕ). token old.id (d + 1) (mid.front ++ entry old.id d call reply ∷ []) None) md) in
+    let to : new ≡ client_state old.id (old.done + 1) (mid.front ++ entry old.id old.done call reply ∷ []) None = e
+    ∙ (ap (λ (k : ℕ). client_state k (mid.done + 1) (mid.front ++ entry k mid.done call reply ∷ []) None) mi
+    ∙ ap (λ (d : ℕ). client_state old.id (d + 1) (mid.front ++ entry old.id d call reply ∷ []) None) md) in
     let c' : count_of old.id mid.front ≡ old.done = ap (λ k. count_of k mid.front) (sym mi) ∙ (c ∙ md) in
-    let l' = subst (λ (t : Token). ∥ Lawful p o t.front ∥₁) to l in
-    subst (λ (t : Token). IsAnswered old call reply t × (calls_made t ≡ calls_made old ++ call ∷ [])) (sym to)
+    let l' = subst (λ (t : ClientState). ∥ Lawful p o t.front ∥₁) to l in
+    subst (λ (t : ClientState). IsAnswered old call reply t × (calls_made t ≡ calls_made old ++ call ∷ [])) (sym to)
     (is_answered p o old mid.front call reply s l' c' none, calls_grow p o old mid.front call reply s l' c' le none)

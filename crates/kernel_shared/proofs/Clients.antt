@@ -13,7 +13,7 @@ use Rattle.std.proofs.lemmas.Option.{slice_get_within, get_or_from_slice_get}
 use Rattle.std.proofs.lemmas.Bool.Decides.{nat_tests}
 use Rattle.kernel_shared.specs.declared.stray.Stray.{Stray}
 use Rattle.kernel_shared.specs.Fronts.{StartsWith}
-use Rattle.kernel_shared.specs.Tokens.{IsClient, Token, Lost, token, lost, lost_of, stray_fits, strays}
+use Rattle.kernel_shared.specs.ClientStates.{IsClient, ClientState, Lost, client_state, lost, lost_of, stray_fits, strays}
 use Rattle.kernel_shared.proofs.Keeping.{starts_trans, take_same, longer}
 use Rattle.kernel_shared.proofs.Lawfully.{take_one}
 
@@ -91,16 +91,16 @@ client_finds p o id done parts amount seen stray log log' call reply c s law l e
   small = c.small;
 }
 
-pub found_token : (id done seen : ℕ) (stray : Option Stray) (log log' : List Entry) (call : Call) (reply : Reply) (old : Token) → token id done (take seen log) (lost_of stray log) ≡ old → StartsWith log' log → seen ≤ length log → slice_get log' seen ≡ Some (entry id done call reply)
-    → token id (done + 1) (take (seen + 1) log') None ≡ token old.id (old.done + 1) (old.front ++ entry old.id old.done call reply ∷ []) None
-found_token id done seen stray log log' call reply old e s le at =
-    subst (λ (u : Token). token id (done + 1) (take (seen + 1) log') None ≡ token u.id (u.done + 1) (u.front ++ entry u.id u.done call reply ∷ []) None) e
-    (ap (λ l. token id (done + 1) l None) (found_front id done seen log log' call reply s le at))
+pub found_state : (id done seen : ℕ) (stray : Option Stray) (log log' : List Entry) (call : Call) (reply : Reply) (old : ClientState) → client_state id done (take seen log) (lost_of stray log) ≡ old → StartsWith log' log → seen ≤ length log → slice_get log' seen ≡ Some (entry id done call reply)
+    → client_state id (done + 1) (take (seen + 1) log') None ≡ client_state old.id (old.done + 1) (old.front ++ entry old.id old.done call reply ∷ []) None
+found_state id done seen stray log log' call reply old e s le at =
+    subst (λ (u : ClientState). client_state id (done + 1) (take (seen + 1) log') None ≡ client_state u.id (u.done + 1) (u.front ++ entry u.id u.done call reply ∷ []) None) e
+    (ap (λ l. client_state id (done + 1) l None) (found_front id done seen log log' call reply s le at))
 
-pub same_token : (id done seen : ℕ) (stray : Option Stray) (log log' : List Entry) (now : Token) → token id done (take seen log) (lost_of stray log) ≡ now → StartsWith log' log → seen ≤ length log → stray_fits id done stray log
-    → token id done (take seen log') (lost_of stray log') ≡ now
-same_token id done seen stray log log' now e s le f =
-    ap (λ l. token id done l (lost_of stray log')) (take_same log' log seen s le) ∙ (ap (λ l. token id done (take seen log) l) (lost_same id done stray log log' s f) ∙ e)
+pub same_state : (id done seen : ℕ) (stray : Option Stray) (log log' : List Entry) (now : ClientState) → client_state id done (take seen log) (lost_of stray log) ≡ now → StartsWith log' log → seen ≤ length log → stray_fits id done stray log
+    → client_state id done (take seen log') (lost_of stray log') ≡ now
+same_state id done seen stray log log' now e s le f =
+    ap (λ l. client_state id done l (lost_of stray log')) (take_same log' log seen s le) ∙ (ap (λ l. client_state id done (take seen log) l) (lost_same id done stray log log' s f) ∙ e)
 
 -- the first entries of another history are what was seen
 pub begins_other : (seen : ℕ) (log log' other front : List Entry) → take seen log ≡ front → StartsWith log' log → seen ≤ length log → take seen log' ≡ take seen other → StartsWith other front
@@ -120,15 +120,15 @@ alike_at n xs ys None is lt e same = absurd (nothing_past xs n is lt)
 pub alike_more : (n : ℕ) (xs ys : List Entry) → n < length xs → slice_get xs n ≡ slice_get ys n → take n xs ≡ take n ys → take (n + 1) xs ≡ take (n + 1) ys
 alike_more n xs ys lt e same = alike_at n xs ys (slice_get xs n) refl lt e same
 
-begin_at : (log : List Entry) (items : List Token) (k : ℕ) (d : Token) → get_or items k d ≡ d → StartsWith log d.front → ((i : ℕ) (t : Token) → i < k → slice_get items i ≡ Some t → StartsWith log t.front) → (i : ℕ) (t : Token) → i < k + 1 → slice_get items i ≡ Some t
+begin_at : (log : List Entry) (items : List ClientState) (k : ℕ) (d : ClientState) → get_or items k d ≡ d → StartsWith log d.front → ((i : ℕ) (t : ClientState) → i < k → slice_get items i ≡ Some t → StartsWith log t.front) → (i : ℕ) (t : ClientState) → i < k + 1 → slice_get items i ≡ Some t
     → (b : Bool) → nat_lt i k ≡ b → StartsWith log t.front
 begin_at log items k d e s h i t lt at true is = h i t (grind (arith, nat_tests)) at
 begin_at log items k d e s h i t lt at false is =
     let same : i ≡ k = grind (arith, nat_tests) in
     let found : d ≡ t = sym e ∙ (ap (λ j. get_or items j d) (sym same) ∙ get_or_from_slice_get items i t d at) in
-    subst (λ (u : Token). StartsWith log u.front) found s
+    subst (λ (u : ClientState). StartsWith log u.front) found s
 
 -- one more client's front begins the log
-pub begin_more : (log : List Entry) (items : List Token) (k : ℕ) (d : Token) → get_or items k d ≡ d → StartsWith log d.front → ((i : ℕ) (t : Token) → i < k → slice_get items i ≡ Some t → StartsWith log t.front) → (i : ℕ) (t : Token) → i < k + 1 → slice_get items i ≡ Some t
+pub begin_more : (log : List Entry) (items : List ClientState) (k : ℕ) (d : ClientState) → get_or items k d ≡ d → StartsWith log d.front → ((i : ℕ) (t : ClientState) → i < k → slice_get items i ≡ Some t → StartsWith log t.front) → (i : ℕ) (t : ClientState) → i < k + 1 → slice_get items i ≡ Some t
     → StartsWith log t.front
 begin_more log items k d e s h i t lt at = begin_at log items k d e s h i t lt at (nat_lt i k) refl

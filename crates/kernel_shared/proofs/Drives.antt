@@ -8,12 +8,12 @@ use Rattle.kernel_shared.specs.declared.driving.Stop.{Stop}
 use Rattle.kernel_shared.specs.declared.end.End.{End}
 use Rattle.kernel_shared.specs.declared.end.End.TheVariants as E
 use Rattle.kernel_shared.specs.Fronts.{StartsWith}
-use Rattle.kernel_shared.specs.Tokens.{Token, Lost, lost, calls_made, lost_calls, newly_lost}
-use Rattle.kernel_shared.specs.Driving.{IsRun, IsRan, IsDriven, IsFinish, Ended}
+use Rattle.kernel_shared.specs.ClientStates.{ClientState, Lost, lost, calls_made, lost_calls, newly_lost}
+use Rattle.kernel_shared.specs.Driving.{IsRun, IsThreadResult, IsDriven, IsFinish, Ended}
 use Rattle.kernel_shared.proofs.Keeping.{starts_trans}
 
 -- what was made before a call of the list
-pub record IsMade (old : Token) (calls : List Call) (i : ℕ) (now : Token) : Type 0 where
+pub record IsMade (old : ClientState) (calls : List Call) (i : ℕ) (now : ClientState) : Type 0 where
   pub id : now.id ≡ old.id
   pub done : now.done ≡ old.done + i
   pub stray : now.stray ≡ old.stray
@@ -23,7 +23,7 @@ pub record IsMade (old : Token) (calls : List Call) (i : ℕ) (now : Token) : Ty
 some_call : (a b : Lost) → Some a ≡ Some b → a.call ≡ b.call
 some_call a b e = let d : a ≡ b = cc in ap (λ (l : Lost). l.call) d
 
-module _ (old now new : Token) (calls : List Call) (i : ℕ) (call : Call) where
+module _ (old now new : ClientState) (calls : List Call) (i : ℕ) (call : Call) where
   -- a call that was answered
   pub made_more : IsMade old calls i now → i < length calls → call ≡ get_or calls i call → new.id ≡ now.id → new.done ≡ now.done + 1 → (now.stray ≡ None) × (new.stray ≡ None) → StartsWith new.front now.front → calls_made new ≡ calls_made now ++ call ∷ []
       → IsMade old calls (i + 1) new
@@ -49,7 +49,7 @@ module _ (old now new : Token) (calls : List Call) (i : ℕ) (call : Call) where
   -- a call that was not
   pub ran_to : (ends : ℕ → ℕ → Type 0) (limit : ℕ) (end : End) → IsMade old calls i now → i < length calls → call ≡ get_or calls i call → new.id ≡ now.id → new.done ≡ now.done → StartsWith new.front now.front → end ≢ E.Done → Ended ends limit new end
       → (now.stray ≡ None → calls_made new ≡ calls_made now ++ lost_calls new.stray) → (now.stray ≡ None → (new.stray ≡ None) ⊎ (new.stray ≡ Some (lost call new.front))) → ((l : Lost) → now.stray ≡ Some l → new ≡ now)
-      → IsRan ends limit old calls new i end
+      → IsThreadResult ends limit old calls new i end
   ran_to ends limit end m lt at id done later stops told unmade or stuck = record {
     run = record {
       id = id ∙ m.id;
@@ -62,13 +62,13 @@ module _ (old now new : Token) (calls : List Call) (i : ℕ) (call : Call) where
     told = told;
   }
 
-pub ran_by : (ends : ℕ → ℕ → Type 0) (limit : ℕ) (old : Token) (calls : List Call) (new new' : Token) (made made' : ℕ) (end end' : End) → new' ≡ new → made' ≡ made → end' ≡ end → IsRan ends limit old calls new made end → IsRan ends limit old calls new' made' end'
+pub ran_by : (ends : ℕ → ℕ → Type 0) (limit : ℕ) (old : ClientState) (calls : List Call) (new new' : ClientState) (made made' : ℕ) (end end' : End) → new' ≡ new → made' ≡ made → end' ≡ end → IsThreadResult ends limit old calls new made end → IsThreadResult ends limit old calls new' made' end'
 ran_by ends limit old calls new new' made made' end end' p q r d =
-    subst (λ (t : Token). IsRan ends limit old calls t made' end') (sym p) (subst (λ (n : ℕ). IsRan ends limit old calls new n end') (sym q) (subst (λ (s : End). IsRan ends limit old calls new made s) (sym r) d))
+    subst (λ (t : ClientState). IsThreadResult ends limit old calls t made' end') (sym p) (subst (λ (n : ℕ). IsThreadResult ends limit old calls new n end') (sym q) (subst (λ (s : End). IsThreadResult ends limit old calls new made s) (sym r) d))
 
-pub finished_run : {N T : Type 0} (ends : ℕ → ℕ → Type 0) (limit : ℕ) (old : Token) (calls : List Call) (mid new : Token) (made new_made : ℕ) (end : End) (stopped : Option (Stop N T)) → IsRan ends limit old calls mid made end → IsFinish ends limit mid made end new new_made stopped → IsDriven ends limit old calls new new_made stopped
+pub finished_run : {N T : Type 0} (ends : ℕ → ℕ → Type 0) (limit : ℕ) (old : ClientState) (calls : List Call) (mid new : ClientState) (made new_made : ℕ) (end : End) (stopped : Option (Stop N T)) → IsThreadResult ends limit old calls mid made end → IsFinish ends limit mid made end new new_made stopped → IsDriven ends limit old calls new new_made stopped
 finished_run ends limit old calls mid new made new_made end stopped r f = record {
-  run = subst (λ (t : Token). IsRun old calls t new_made) (sym f.client_is) (subst (λ (n : ℕ). IsRun old calls mid n) (sym f.made_is) r.run);
+  run = subst (λ (t : ClientState). IsRun old calls t new_made) (sym f.client_is) (subst (λ (n : ℕ). IsRun old calls mid n) (sym f.made_is) r.run);
   ended = ((λ e. f.made_is ∙ r.ended.0 (f.ended.1 e)), (λ e. f.ended.0 (r.ended.1 (sym f.made_is ∙ e))));
   told = f.told r.told;
 }

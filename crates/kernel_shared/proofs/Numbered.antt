@@ -8,7 +8,7 @@ use Rattle.std.specs.Cmp.Derive.{both_true}
 use Rattle.kernel_book.specs.declared.entry.Entry.{Entry}
 use Rattle.kernel_book.specs.Laws.{count_of, is_numbered}
 use Rattle.kernel_book.proofs.Grows.{and_parts, count_append}
-use Rattle.kernel_shared.specs.Tokens.{is_below, is_numbered_as}
+use Rattle.kernel_shared.specs.ClientStates.{is_below, is_numbered_as}
 
 abbrev is_of : ℕ → Entry → Bool
 is_of id e = e.client == id

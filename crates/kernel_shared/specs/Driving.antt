@@ -7,7 +7,7 @@ use Rattle.kernel_shared.specs.declared.end.End.TheVariants as E
 use Rattle.kernel_shared.specs.declared.driving.Stop.{Stop}
 use Rattle.kernel_shared.specs.declared.driving.Stop.TheVariants.{Gate, Fault}
 use Rattle.kernel_shared.specs.Fronts.{StartsWith}
-use Rattle.kernel_shared.specs.Tokens.{Token, Lost, calls_made, newly_lost, holds_not}
+use Rattle.kernel_shared.specs.ClientStates.{ClientState, Lost, calls_made, newly_lost, holds_not}
 use Rattle.kernel_shared.specs.Faults.{Told}
 
 -- what holds at each place of three lists
@@ -16,7 +16,7 @@ EachThree {A} {B} {C} xs ys zs P =
     (i : ℕ) (x : A) (y : B) (z : C) → slice_get xs i ≡ Some x → slice_get ys i ≡ Some y → slice_get zs i ≡ Some z → P x y z
 
 -- what is known of the client where it ended
-abbrev pub Ended : (ℕ → ℕ → Type 0) → ℕ → Token → End → Type 0
+abbrev pub Ended : (ℕ → ℕ → Type 0) → ℕ → ClientState → End → Type 0
 Ended ends limit t E.Done = Unit {0}
 Ended ends limit t E.Gate = ends t.id t.done
 Ended ends limit t E.Full = (length t.front ≡ limit) × (t.stray ≡ None)
@@ -27,7 +27,7 @@ Ended ends limit t E.NoEntry = t.stray ≡ None
 
 -- A client made calls from the list, in order, until one was not answered: so many were answered, and after them one was
 -- lost where the client lost one.
-pub record IsRun (old : Token) (calls : List Call) (new : Token) (made : ℕ) : Type 0 where
+pub record IsRun (old : ClientState) (calls : List Call) (new : ClientState) (made : ℕ) : Type 0 where
   pub id : new.id ≡ old.id
   pub done : new.done ≡ old.done + made
   pub within : made ≤ length calls
@@ -35,25 +35,25 @@ pub record IsRun (old : Token) (calls : List Call) (new : Token) (made : ℕ) : 
   pub grown : calls_made new ≡ calls_made old ++ take (made + length (newly_lost old.stray new.stray)) calls
 
 -- it came to the end of its list exactly where nothing stopped it
-pub record IsRan (ends : ℕ → ℕ → Type 0) (limit : ℕ) (old : Token) (calls : List Call) (new : Token) (made : ℕ) (end : End) : Type 0 where
+pub record IsThreadResult (ends : ℕ → ℕ → Type 0) (limit : ℕ) (old : ClientState) (calls : List Call) (new : ClientState) (made : ℕ) (end : End) : Type 0 where
   pub run : IsRun old calls new made
   pub ended : (end ≡ E.Done) ↔ (made ≡ length calls)
   pub told : Ended ends limit new end
 
 module _ {N T : Type 0} where
-  abbrev pub Stopped : (ℕ → ℕ → Type 0) → ℕ → Token → Option (Stop N T) → Type 0
+  abbrev pub Stopped : (ℕ → ℕ → Type 0) → ℕ → ClientState → Option (Stop N T) → Type 0
   Stopped ends limit t None = Unit {0}
   Stopped ends limit t (Some Gate) = ends t.id t.done
   Stopped ends limit t (Some (Fault fault)) = Told limit t fault
 
   -- a client that was driven: its run, and what stopped it, where something did
-  pub record IsDriven (ends : ℕ → ℕ → Type 0) (limit : ℕ) (old : Token) (calls : List Call) (new : Token) (made : ℕ) (stopped : Option (Stop N T)) : Type 0 where
+  pub record IsDriven (ends : ℕ → ℕ → Type 0) (limit : ℕ) (old : ClientState) (calls : List Call) (new : ClientState) (made : ℕ) (stopped : Option (Stop N T)) : Type 0 where
     pub run : IsRun old calls new made
     pub ended : (stopped ≡ None) ↔ (made ≡ length calls)
     pub told : Stopped ends limit new stopped
 
   -- a run whose end got its front
-  pub record IsFinish (ends : ℕ → ℕ → Type 0) (limit : ℕ) (client : Token) (made : ℕ) (end : End) (new : Token) (new_made : ℕ) (stopped : Option (Stop N T)) : Type 0 where
+  pub record IsFinish (ends : ℕ → ℕ → Type 0) (limit : ℕ) (client : ClientState) (made : ℕ) (end : End) (new : ClientState) (new_made : ℕ) (stopped : Option (Stop N T)) : Type 0 where
     pub client_is : new ≡ client
     pub made_is : new_made ≡ made
     pub ended : (end ≡ E.Done) ↔ (stopped ≡ None)

@@ -4,6 +4,6 @@ pub mod Taking
 pub mod Fronts
 pub mod Readers
 pub mod Answers
-pub mod Tokens
+pub mod ClientStates
 pub mod Faults
 pub mod Driving

@@ -3,20 +3,20 @@ ghost use Rattle.std.specs.Prelude.{◌≡◌, ◌+◌, ◌≤◌, ◌<◌, ◌�
 ghost use Rattle.kernel_book.specs.Laws.{Lawful, count_of, entry};
 ghost use Rattle.kernel_shared.specs.Fronts.{StartsWith};
 ghost use Rattle.kernel_shared.specs.Answers.{IsAnswer};
-ghost use Rattle.kernel_shared.specs.Tokens.{lost, made, token};
+ghost use Rattle.kernel_shared.specs.ClientStates.{lost, made, client_state};
 ghost use Rattle.kernel_shared.specs.Faults.{Told};
 ghost use Rattle.left_right.specs.Sides.{view};
 ghost use Rattle.abstract_kernel.specs.declared.call.Call.{Call};
 
-use crate::desk::{Desk, Unmade};
 use crate::fault::SharedFault;
 use crate::front::Front;
+use crate::history_copy::HistoryCopy;
 use crate::query::{Answer, Query};
 use crate::request::Request;
 use crate::rule::{Published, SeesBook};
 use crate::stray::Stray;
 use crate::view::View;
-use crate::volume::Volume;
+use crate::writer_state::{NotPublished, WriterState};
 use abstract_kernel::{Call, Reply};
 use kernel_book::{Entry, Naming};
 use left_right::reader::Reader;
@@ -29,7 +29,7 @@ use std::sync::ledger::Share;
 /// Contracts see it as its number, how many of its calls were answered, the front that it saw last, and the call that was
 /// published and not found, where there is one.
 #[derive(Drop)]
-pub struct Client<N: Naming, T: Volume<N>> {
+pub struct Client<N: Naming, T: HistoryCopy<N>> {
     id: u32,
     done: u32,
     share: Share<N>,
@@ -38,14 +38,14 @@ pub struct Client<N: Naming, T: Volume<N>> {
     stray: Option<Stray>,
 }
 
-impl<N: Naming, T: Volume<N>> Model for Client<N, T> {
+impl<N: Naming, T: HistoryCopy<N>> Model for Client<N, T> {
     ghost use Rattle.std.specs.Prelude.{take};
     ghost use Rattle.kernel_shared.specs.Readers.{seen_of};
-    ghost use Rattle.kernel_shared.specs.Tokens.{Token, token, lost_of, IsClient};
+    ghost use Rattle.kernel_shared.specs.ClientStates.{ClientState, client_state, lost_of, IsClient};
 
-    ghost Value = { Token };
+    ghost Value = { ClientState };
 
-    ghost view = { λ c. token c.id c.done (take c.seen (seen_of c.reader)) (lost_of c.stray (seen_of c.reader)) };
+    ghost view = { λ c. client_state c.id c.done (take c.seen (seen_of c.reader)) (lost_of c.stray (seen_of c.reader)) };
 
     ghost invariant = { λ c. IsClient N.profile N.opening c.id c.done c.share.parts c.share.amount c.seen c.stray (seen_of c.reader) };
 }
@@ -57,12 +57,12 @@ struct Refresh {
     own: usize,
 }
 
-impl<N: Naming, T: Volume<N>> Client<N, T> {
+impl<N: Naming, T: HistoryCopy<N>> Client<N, T> {
     /// A client that saw nothing yet.
     pub fn new(id: u32, share: Share<N>, reader: Reader<T, View, Published>) -> Client<N, T>
         requires share { (share.parts ≡ 1) × (share.amount ≡ 0) }
         requires reader { view reader.place ≡ [] }
-        ensures { result ≡ token id 0 [] None }
+        ensures { result ≡ client_state id 0 [] None }
     {
         Client {
             id,
@@ -123,7 +123,7 @@ impl<N: Naming, T: Volume<N>> Client<N, T> {
         };
         match reader.enter_as::<SeesBook>() {
             Ok(reading) => {
-                reading.get().vouch();
+                reading.get().assert_lawful();
                 self.seen = reading.get().length();
                 let answer = reading.get().answer(query);
                 self.reader = Some(reading.leave());
@@ -137,7 +137,7 @@ impl<N: Naming, T: Volume<N>> Client<N, T> {
     }
 
     /// Nothing is done: a caller learns that the front is lawful, and has the entries of its calls.
-    pub fn vouch(&self)
+    pub fn assert_lawful(&self)
         ensures lawful { ∥ Lawful N.profile N.opening self.now.front ∥₁ }
         ensures done { self.now.done ≤ count_of self.now.id self.now.front }
     {
@@ -156,7 +156,7 @@ impl<N: Naming, T: Volume<N>> Client<N, T> {
         };
         match reader.enter_as::<SeesBook>() {
             Ok(reading) => {
-                reading.get().vouch();
+                reading.get().assert_lawful();
                 self.seen = reading.get().length();
                 let refresh = Refresh {
                     full: reading.get().is_full(),
@@ -176,12 +176,12 @@ impl<N: Naming, T: Volume<N>> Client<N, T> {
     fn publish<R: Wait>(
         &mut self,
         rt: &R,
-        desk: Desk<N, T>,
+        state: WriterState<N, T>,
         call: Call,
-    ) -> (Desk<N, T>, Result<(), Unmade>)
+    ) -> (WriterState<N, T>, Result<(), NotPublished>)
         requires whole { self.old.stray ≡ None }
         requires just { count_of self.old.id self.old.front ≡ self.old.done }
-        ensures ok { OnOk result.1 (self.new ≡ token self.old.id self.old.done self.old.front (Some (lost call self.old.front))) }
+        ensures ok { OnOk result.1 (self.new ≡ client_state self.old.id self.old.done self.old.front (Some (lost call self.old.front))) }
         ensures err { OnErr result.1 (self.new ≡ self.old) }
     {
         let request = Request {
@@ -189,23 +189,23 @@ impl<N: Naming, T: Volume<N>> Client<N, T> {
             number: self.done,
             call,
         };
-        let (desk, made) = desk.make(rt, request, &mut self.share);
+        let (state, made) = state.make(rt, request, &mut self.share);
         if made.is_ok() {
             self.stray = Some(Stray {
                 call,
                 seen: self.seen,
             });
         }
-        (desk, made)
+        (state, made)
     }
 
     /// Publishes a call under the lock, unless it is refused.
     pub fn ask<R: Wait>(
         &mut self,
         rt: &R,
-        desk: Desk<N, T>,
+        state: WriterState<N, T>,
         call: Call,
-    ) -> (Desk<N, T>, Result<(), SharedFault<N, T>>)
+    ) -> (WriterState<N, T>, Result<(), SharedFault<N, T>>)
         requires { self.old.stray ≡ None }
         ensures later { StartsWith self.new.front self.old.front }
         ensures same { (self.new.id ≡ self.old.id) × (self.new.done ≡ self.old.done) }
@@ -214,20 +214,20 @@ impl<N: Naming, T: Volume<N>> Client<N, T> {
         ensures told { IfErr result.1 (Told N.limit self.new) }
     {
         let Some(refresh) = self.refresh() else {
-            return (desk, Err(SharedFault::NoEntry));
+            return (state, Err(SharedFault::NoEntry));
         };
         if refresh.full {
-            return (desk, Err(SharedFault::Full));
+            return (state, Err(SharedFault::Full));
         }
-        self.vouch();
+        self.assert_lawful();
         if refresh.own != self.done as usize {
-            return (desk, Err(SharedFault::NameTaken(self.front())));
+            return (state, Err(SharedFault::NameTaken(self.front())));
         }
-        let (desk, made) = self.publish(rt, desk, call);
+        let (state, made) = self.publish(rt, state, call);
         match made {
-            Ok(()) => (desk, Ok(())),
-            Err(Unmade::Memory) => (desk, Err(SharedFault::Memory)),
-            Err(Unmade::Moved) => (desk, Err(SharedFault::NoEntry)),
+            Ok(()) => (state, Ok(())),
+            Err(NotPublished::Memory) => (state, Err(SharedFault::Memory)),
+            Err(NotPublished::Moved) => (state, Err(SharedFault::NoEntry)),
         }
     }
 
@@ -235,7 +235,7 @@ impl<N: Naming, T: Volume<N>> Client<N, T> {
     /// seen that entry too. `None` where the reader gave no entry, or that entry is another.
     pub fn confirm(&mut self, call: Call) -> Option<Reply>
         requires { self.old.stray ≡ Some (lost call self.old.front) }
-        ensures some { IfSome result (λ r. self.new ≡ token self.old.id (self.old.done + 1) (self.old.front ++ entry self.old.id self.old.done call r ∷ []) None) }
+        ensures some { IfSome result (λ r. self.new ≡ client_state self.old.id (self.old.done + 1) (self.old.front ++ entry self.old.id self.old.done call r ∷ []) None) }
         ensures none { IfNone result (self.new ≡ self.old) }
     {
         let Some(reader) = self.reader.take() else {
@@ -243,7 +243,7 @@ impl<N: Naming, T: Volume<N>> Client<N, T> {
         };
         match reader.enter_as::<SeesBook>() {
             Ok(reading) => {
-                reading.get().vouch();
+                reading.get().assert_lawful();
                 let request = Request {
                     client: self.id,
                     number: self.done,
@@ -276,7 +276,7 @@ impl<N: Naming, T: Volume<N>> Client<N, T> {
         };
         match reader.enter_as::<SeesBook>() {
             Ok(reading) => {
-                reading.get().vouch();
+                reading.get().assert_lawful();
                 let same = alike::<N, T>(reading.get(), book, self.seen);
                 self.reader = Some(reading.leave());
                 same
@@ -299,7 +299,7 @@ impl<N: Naming, T: Volume<N>> Client<N, T> {
 }
 
 /// The reply of the entry at a place, where that is a request's.
-fn found<N: Naming, T: Volume<N>>(book: &T, place: u32, request: Request) -> Option<Reply>
+fn found<N: Naming, T: HistoryCopy<N>>(book: &T, place: u32, request: Request) -> Option<Reply>
     ensures stands { IfSome result (λ r. slice_get (T.state book.now) place ≡ Some (entry request.client request.number request.call r)) }
     ensures fits { IfSome result (λ _. place + 1 < 2 ^ 32) }
 {
@@ -321,7 +321,7 @@ fn found<N: Naming, T: Volume<N>>(book: &T, place: u32, request: Request) -> Opt
 }
 
 /// Whether two copies have the same first entries, so many as were seen.
-fn alike<N: Naming, T: Volume<N>>(one: &T, other: &T, seen: u32) -> bool
+fn alike<N: Naming, T: HistoryCopy<N>>(one: &T, other: &T, seen: u32) -> bool
     requires { seen ≤ length (T.state one.now) }
     ensures { IsTrue result → take seen (T.state one.now) ≡ take seen (T.state other.now) }
 {

@@ -1,15 +1,15 @@
 //! One thread for each client.
 ghost use Rattle.std.specs.Prelude.{ℕ, ◌≡◌, ◌≢◌, ◌↔◌, ◌+◌, ◌<◌, ◌≤◌, IfOk, Some, None, length, slice_get, vec_len};
 ghost use Rattle.kernel_shared.specs.declared.end.End.TheVariants as E;
-ghost use Rattle.kernel_shared.specs.Tokens.{Token};
+ghost use Rattle.kernel_shared.specs.ClientStates.{ClientState};
 ghost use Rattle.kernel_shared.specs.Faults.{Told};
-ghost use Rattle.kernel_shared.specs.Driving.{EachThree, IsDriven, IsRan, IsFinish, Ended, Stopped};
+ghost use Rattle.kernel_shared.specs.Driving.{EachThree, IsDriven, IsThreadResult, IsFinish, Ended, Stopped};
 
 use crate::client::Client;
 use crate::end::End;
 use crate::fault::SharedFault;
+use crate::history_copy::HistoryCopy;
 use crate::shared::Shared;
-use crate::volume::Volume;
 use abstract_kernel::Call;
 use kernel_book::Naming;
 use std::alloc::Global;
@@ -35,7 +35,7 @@ pub trait Gate {
 
 /// Why a client stopped before the end of its list.
 #[derive(Drop)]
-pub enum Stop<N: Naming, T: Volume<N>> {
+pub enum Stop<N: Naming, T: HistoryCopy<N>> {
     /// The gate answered false.
     Gate,
     /// A call was not answered.
@@ -44,7 +44,7 @@ pub enum Stop<N: Naming, T: Volume<N>> {
 
 /// A client after its calls, of which so many were answered. `stopped` is `None` where all of its list were.
 #[derive(Drop)]
-pub struct Driven<N: Naming, T: Volume<N>> {
+pub struct Driven<N: Naming, T: HistoryCopy<N>> {
     pub client: Client<N, T>,
     pub made: u32,
     pub stopped: Option<Stop<N, T>>,
@@ -61,7 +61,7 @@ pub enum DriveFault {
 
 /// What a client's thread returns. A type that may hold a front is not shown to cross threads, so this holds none.
 #[derive(Drop)]
-struct Ran<N: Naming, T: Volume<N>> {
+struct ThreadResult<N: Naming, T: HistoryCopy<N>> {
     client: Client<N, T>,
     made: u32,
     end: End,
@@ -69,29 +69,33 @@ struct Ran<N: Naming, T: Volume<N>> {
 
 /// What a client's thread owes: the client as it was, and its calls.
 #[derive(Drop)]
-struct Owes<N: Naming, T: Volume<N>, G: Gate> {
+struct Owed<N: Naming, T: HistoryCopy<N>, G: Gate> {
     client: Snapshot<Client<N, T>>,
     calls: Snapshot<Vec<Call>>,
     gate: PhantomData<G>,
 }
 
-impl<N: Naming, T: Volume<N>, G: Gate> Promise<Ran<N, T>> for Owes<N, T, G> {
-    ghost kept_by = { λ p r. IsRan G.ends N.limit p.client.value p.calls.value.items r.client r.made r.end };
+impl<N: Naming, T: HistoryCopy<N>, G: Gate> Promise<ThreadResult<N, T>> for Owed<N, T, G> {
+    ghost kept_by = { λ p r. IsThreadResult G.ends N.limit p.client.value p.calls.value.items r.client r.made r.end };
 }
 
 /// A client's end.
-fn make_ran<N: Naming, T: Volume<N>>(client: Client<N, T>, made: u32, end: End) -> Ran<N, T>
+fn thread_result<N: Naming, T: HistoryCopy<N>>(
+    client: Client<N, T>,
+    made: u32,
+    end: End,
+) -> ThreadResult<N, T>
     ensures client { result.client ≡ client }
     ensures made { result.made ≡ made }
     ensures end { result.end ≡ end }
 {
-    Ran { client, made, end }
+    ThreadResult { client, made, end }
 }
 
 /// Why a call was not answered, without the front.
-fn end_of<N: Naming, T: Volume<N>, G: Gate>(fault: &SharedFault<N, T>) -> End
+fn end_of<N: Naming, T: HistoryCopy<N>, G: Gate>(fault: &SharedFault<N, T>) -> End
     ensures stops { result ≢ E.Done }
-    ensures told { (t : Token) → Told N.limit t fault.now → Ended G.ends N.limit t result }
+    ensures told { (t : ClientState) → Told N.limit t fault.now → Ended G.ends N.limit t result }
 {
     match fault {
         SharedFault::Full => End::Full,
@@ -103,14 +107,14 @@ fn end_of<N: Naming, T: Volume<N>, G: Gate>(fault: &SharedFault<N, T>) -> End
 }
 
 /// Makes the calls in order, until one is not answered.
-fn work<N: Naming, T: Volume<N>, R: Wait, G: Gate>(
+fn work<N: Naming, T: HistoryCopy<N>, R: Wait, G: Gate>(
     rt: &R,
     shared: &Shared<N, T>,
     client: Client<N, T>,
     calls: &[Call],
     gate: &G,
-) -> Ran<N, T>
-    ensures { IsRan G.ends N.limit client calls.now result.client result.made result.end }
+) -> ThreadResult<N, T>
+    ensures { IsThreadResult G.ends N.limit client calls.now result.client result.made result.end }
 {
     let first = client.done();
     let mut client = client;
@@ -118,28 +122,28 @@ fn work<N: Naming, T: Volume<N>, R: Wait, G: Gate>(
         let number = client.done();
         if !gate.before(client.id(), number) {
             let made = client.done() - first;
-            return make_ran(client, made, End::Gate);
+            return thread_result(client, made, End::Gate);
         }
         let reply = shared.call(rt, &mut client, *call);
         gate.after(client.id(), number);
         if let Err(fault) = reply {
             let made = client.done() - first;
             let end = end_of::<N, T, G>(&fault);
-            return make_ran(client, made, end);
+            return thread_result(client, made, end);
         }
     }
     let made = client.done() - first;
-    make_ran(client, made, End::Done)
+    thread_result(client, made, End::Done)
 }
 
 /// What stopped a client, with its front.
-fn finish<N: Naming, T: Volume<N>, G: Gate>(ran: Ran<N, T>) -> Driven<N, T>
+fn finish<N: Naming, T: HistoryCopy<N>, G: Gate>(ran: ThreadResult<N, T>) -> Driven<N, T>
     ensures client { result.client ≡ ran.client }
     ensures made { result.made ≡ ran.made }
     ensures ended { (ran.end ≡ E.Done) ↔ (result.stopped ≡ None) }
     ensures told { Ended G.ends N.limit ran.client ran.end → Stopped G.ends N.limit result.client result.stopped }
 {
-    let Ran { client, made, end } = ran;
+    let ThreadResult { client, made, end } = ran;
     let stopped = match end {
         End::Done => None,
         End::Gate => Some(Stop::Gate),
@@ -164,7 +168,7 @@ fn start_all<
     's,
     'e: 's,
     N: Naming + Send + Sync,
-    T: Volume<N> + Send + Sync,
+    T: HistoryCopy<N> + Send + Sync,
     R: Threads + Wait + Sync,
     G: Gate + Sync,
 >(
@@ -175,7 +179,7 @@ fn start_all<
     clients: Vec<Client<N, T>>,
     lists: &'e [Vec<Call>],
     gate: &'e G,
-) -> Result<Vec<PromisedHandle<Ran<N, T>, Owes<N, T, G>>>, DriveFault>
+) -> Result<Vec<PromisedHandle<ThreadResult<N, T>, Owed<N, T, G>>>, DriveFault>
     requires { vec_len clients ≤ length lists.now }
     ensures len { IfOk result (λ v. vec_len v ≡ vec_len clients) }
     ensures each { IfOk result (λ v. EachThree clients.items lists.now v.items (λ c l h. (h.promise.client.value ≡ c) × (h.promise.calls.value ≡ l))) }
@@ -186,7 +190,7 @@ fn start_all<
     let mut place = 0usize;
     for client in clients {
         let list = &lists[place];
-        let owes = Owes::<N, T, G> {
+        let owes = Owed::<N, T, G> {
             client: Snapshot::of(&client),
             calls: Snapshot::of(list),
             gate: PhantomData,
@@ -207,7 +211,7 @@ fn drive_in<
     's,
     'e: 's,
     N: Naming + Send + Sync,
-    T: Volume<N> + Send + Sync,
+    T: HistoryCopy<N> + Send + Sync,
     R: Threads + Wait + Sync,
     G: Gate + Sync,
 >(
@@ -218,10 +222,10 @@ fn drive_in<
     clients: Vec<Client<N, T>>,
     lists: &'e [Vec<Call>],
     gate: &'e G,
-) -> Result<Vec<Ran<N, T>>, DriveFault>
+) -> Result<Vec<ThreadResult<N, T>>, DriveFault>
     requires { vec_len clients ≤ length lists.now }
     ensures len { IfOk result (λ v. vec_len v ≡ vec_len clients) }
-    ensures each { IfOk result (λ v. EachThree clients.items lists.now v.items (λ c l d. IsRan G.ends N.limit c l.items d.client d.made d.end)) }
+    ensures each { IfOk result (λ v. EachThree clients.items lists.now v.items (λ c l d. IsThreadResult G.ends N.limit c l.items d.client d.made d.end)) }
 {
     let handles = start_all(scope, rt, alloc, shared, clients, lists, gate)?;
     match thread::join_promised(rt, handles) {
@@ -231,9 +235,9 @@ fn drive_in<
 }
 
 /// Gives each fault its front.
-fn finish_all<N: Naming, T: Volume<N>, G: Gate>(
+fn finish_all<N: Naming, T: HistoryCopy<N>, G: Gate>(
     alloc: Global,
-    all: Vec<Ran<N, T>>,
+    all: Vec<ThreadResult<N, T>>,
 ) -> Result<Vec<Driven<N, T>>, DriveFault>
     ensures len { IfOk result (λ v. vec_len v ≡ vec_len all) }
     ensures each { IfOk result (λ v. (i : ℕ) (r : _) (d : _) → slice_get all.items i ≡ Some r → slice_get v.items i ≡ Some d → IsFinish G.ends N.limit r.client r.made r.end d.client d.made d.stopped) }
@@ -258,7 +262,7 @@ fn finish_all<N: Naming, T: Volume<N>, G: Gate>(
 /// - `Thread` where a thread could not be started.
 pub fn drive<
     N: Naming + Send + Sync,
-    T: Volume<N> + Send + Sync,
+    T: HistoryCopy<N> + Send + Sync,
     R: Threads + Wait + Sync,
     G: Gate + Sync,
 >(
@@ -276,10 +280,10 @@ pub fn drive<
     let all = thread::scope(
         thread::scope_env(),
         rt,
-        |scope| -> Result<Vec<Ran<N, T>>, DriveFault>
+        |scope| -> Result<Vec<ThreadResult<N, T>>, DriveFault>
             requires { vec_len clients ≤ length lists.now }
             ensures len { IfOk result (λ v. vec_len v ≡ vec_len clients) }
-            ensures each { IfOk result (λ v. EachThree clients.items lists.entry.now v.items (λ c l d. IsRan G.ends N.limit c l.items d.client d.made d.end)) }
+            ensures each { IfOk result (λ v. EachThree clients.items lists.entry.now v.items (λ c l d. IsThreadResult G.ends N.limit c l.items d.client d.made d.end)) }
         { drive_in(scope, rt, alloc, shared, clients, lists, gate) },
     )?;
     finish_all::<N, T, G>(alloc, all)

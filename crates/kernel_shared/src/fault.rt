@@ -1,11 +1,11 @@
 //! Why a call was not answered.
 use crate::front::Front;
-use crate::volume::Volume;
+use crate::history_copy::HistoryCopy;
 use kernel_book::Naming;
 
 /// Why a call was not answered. All but `Stray` take no step.
 #[derive(Drop)]
-pub enum SharedFault<N: Naming, T: Volume<N>> {
+pub enum SharedFault<N: Naming, T: HistoryCopy<N>> {
     /// 300: the history has as many entries as it may.
     Full,
     /// 301: the call was published, and the reader gave no entry after it, or one that does not hold the call. The front

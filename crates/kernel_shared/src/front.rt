@@ -3,9 +3,9 @@ ghost use Rattle.std.specs.Prelude.{◌≡◌, ◌≤◌, length, take};
 ghost use Rattle.kernel_book.specs.Laws.{Lawful};
 ghost use Rattle.kernel_shared.specs.Readers.{seen_of};
 
+use crate::history_copy::HistoryCopy;
 use crate::rule::Published;
 use crate::view::View;
-use crate::volume::Volume;
 use kernel_book::Naming;
 use left_right::reader::Reader;
 use std::marker::{Model, PhantomData};
@@ -13,13 +13,13 @@ use std::snapshot::Snapshot;
 
 /// A lawful beginning of the history, of which only the length is kept. Contracts see it as its entries.
 #[derive(Drop)]
-pub struct Front<N: Naming, T: Volume<N>> {
+pub struct Front<N: Naming, T: HistoryCopy<N>> {
     entries: u32,
     of: Snapshot<Option<Reader<T, View, Published>>>,
     named: PhantomData<N>,
 }
 
-impl<N: Naming, T: Volume<N>> Model for Front<N, T> {
+impl<N: Naming, T: HistoryCopy<N>> Model for Front<N, T> {
     ghost use Rattle.std.specs.Prelude.{List, take, length, ◌≤◌};
     ghost use Rattle.kernel_book.specs.declared.entry.Entry.{Entry};
     ghost use Rattle.kernel_book.specs.Laws.{Lawful};
@@ -32,7 +32,7 @@ impl<N: Naming, T: Volume<N>> Model for Front<N, T> {
     ghost invariant = { λ f. (f.entries ≤ length (seen_of f.of.value)) × ∥ Lawful N.profile N.opening (seen_of f.of.value) ∥₁ };
 }
 
-impl<N: Naming, T: Volume<N>> Front<N, T> {
+impl<N: Naming, T: HistoryCopy<N>> Front<N, T> {
     /// So many of the entries that a reader saw.
     pub fn of(reader: &Option<Reader<T, View, Published>>, entries: u32) -> Front<N, T>
         requires within { entries ≤ length (seen_of reader.now) }

@@ -3,23 +3,23 @@
 //! copy that is not being written, and waits for nobody.
 #![tactic(auto)]
 
+pub mod book_copy;
 pub mod client;
-pub mod desk;
+pub mod client_count;
 pub mod driving;
 pub mod end;
 pub mod fault;
 pub mod front;
+pub mod history_copy;
 pub mod query;
 pub mod request;
 pub mod rule;
 pub mod settling;
 pub mod shared;
-pub mod shelf;
 pub mod start;
 pub mod stray;
-pub mod tie;
 pub mod view;
-pub mod volume;
+pub mod writer_state;
 
 pub use driving::{DriveFault, Gate, drive};
 pub use kernel_book::{Book, BookFault, Entry, Naming};
@@ -28,22 +28,22 @@ pub use settling::{SettleFault, settle};
 pub use start::StartFault;
 
 /// A kernel that client threads share.
-pub type SharedKernel<N, P, S, W> = shared::Shared<N, shelf::Shelf<N, P, S, W>>;
+pub type SharedKernel<N, P, S, W> = shared::Shared<N, book_copy::BookCopy<N, P, S, W>>;
 
 /// A client of a shared kernel.
-pub type Client<N, P, S, W> = client::Client<N, shelf::Shelf<N, P, S, W>>;
+pub type Client<N, P, S, W> = client::Client<N, book_copy::BookCopy<N, P, S, W>>;
 
 /// A lawful beginning of a shared kernel's history.
-pub type Front<N, P, S, W> = front::Front<N, shelf::Shelf<N, P, S, W>>;
+pub type Front<N, P, S, W> = front::Front<N, book_copy::BookCopy<N, P, S, W>>;
 
 /// Why a client's call was not answered.
-pub type SharedFault<N, P, S, W> = fault::SharedFault<N, shelf::Shelf<N, P, S, W>>;
+pub type SharedFault<N, P, S, W> = fault::SharedFault<N, book_copy::BookCopy<N, P, S, W>>;
 
 /// Why a client stopped before the end of its list.
-pub type Stop<N, P, S, W> = driving::Stop<N, shelf::Shelf<N, P, S, W>>;
+pub type Stop<N, P, S, W> = driving::Stop<N, book_copy::BookCopy<N, P, S, W>>;
 
 /// A client after its calls.
-pub type Driven<N, P, S, W> = driving::Driven<N, shelf::Shelf<N, P, S, W>>;
+pub type Driven<N, P, S, W> = driving::Driven<N, book_copy::BookCopy<N, P, S, W>>;
 
 /// What comes back where a shared kernel was not settled.
-pub type Unsettled<N, P, S, W> = settling::Unsettled<N, shelf::Shelf<N, P, S, W>>;
+pub type Unsettled<N, P, S, W> = settling::Unsettled<N, book_copy::BookCopy<N, P, S, W>>;

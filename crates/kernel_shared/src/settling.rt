@@ -1,13 +1,13 @@
 //! The end of a shared kernel.
 ghost use Rattle.std.specs.Prelude.{◌≡◌, ◌<◌, ◌≤◌, ◌↔◌, length, IfOk, IfErr, IsErr, IsTrue, sum_by, vec_len};
-ghost use Rattle.kernel_shared.specs.Tokens.{EachBegins, made};
+ghost use Rattle.kernel_shared.specs.ClientStates.{EachBegins, made};
 ghost use Rattle.kernel_shared.specs.declared.settling.SettleFault.TheVariants as Why;
 
+use crate::book_copy::BookCopy;
 use crate::client::Client;
-use crate::desk::Desk;
+use crate::history_copy::HistoryCopy;
 use crate::shared::Shared;
-use crate::shelf::Shelf;
-use crate::volume::Volume;
+use crate::writer_state::WriterState;
 use cap_core::Profile;
 use ipc_core::Waiters;
 use kernel_book::{Book, Naming};
@@ -26,13 +26,13 @@ pub enum SettleFault {
 }
 
 /// What comes back where a shared kernel was not settled. It is not `Drop`: give it up, or settle what it holds.
-pub struct Unsettled<N: Naming, T: Volume<N>> {
+pub struct Unsettled<N: Naming, T: HistoryCopy<N>> {
     pub why: SettleFault,
     pub shared: Shared<N, T>,
     pub clients: Vec<Client<N, T>>,
 }
 
-impl<N: Naming, T: Volume<N>> Unsettled<N, T> {
+impl<N: Naming, T: HistoryCopy<N>> Unsettled<N, T> {
     /// Ends the shared kernel without its book. It takes no memory.
     pub fn give_up<R: Wait>(self, rt: &R) {
         let Unsettled {
@@ -55,9 +55,9 @@ impl<N: Naming, T: Volume<N>> Unsettled<N, T> {
 /// - `NoEntry` where a client's reader gave no entry.
 pub fn settle<N: Naming, P: Profile, S: CapStore<P> + Drop, W: Waiters<P> + Drop, R: Wait>(
     rt: &R,
-    shared: Shared<N, Shelf<N, P, S, W>>,
-    clients: Vec<Client<N, Shelf<N, P, S, W>>>,
-) -> Result<Book<N, P, S, W>, Unsettled<N, Shelf<N, P, S, W>>>
+    shared: Shared<N, BookCopy<N, P, S, W>>,
+    clients: Vec<Client<N, BookCopy<N, P, S, W>>>,
+) -> Result<Book<N, P, S, W>, Unsettled<N, BookCopy<N, P, S, W>>>
     ensures entries { IfOk result (λ b. length b.history.items ≡ sum_by made clients.items) }
     ensures fronts { IfOk result (λ b. EachBegins b.history.items clients.items) }
     ensures missing { vec_len clients < N.parts → IsErr result }
@@ -65,13 +65,13 @@ pub fn settle<N: Naming, P: Profile, S: CapStore<P> + Drop, W: Waiters<P> + Drop
     ensures back { IfErr result (λ e. e.clients.items ≡ clients.items) }
 {
     match settle_copies(rt, shared, clients) {
-        Ok(shelf) => Ok(shelf.into_book()),
+        Ok(copy) => Ok(copy.into_book()),
         Err(unsettled) => Err(unsettled),
     }
 }
 
 /// The same over any copies.
-fn settle_copies<N: Naming, T: Volume<N>, R: Wait>(
+fn settle_copies<N: Naming, T: HistoryCopy<N>, R: Wait>(
     rt: &R,
     shared: Shared<N, T>,
     clients: Vec<Client<N, T>>,
@@ -82,7 +82,7 @@ fn settle_copies<N: Naming, T: Volume<N>, R: Wait>(
     ensures why { IfErr result (λ e. (e.why ≡ Why.Missing) ↔ (vec_len clients < N.parts)) }
     ensures back { IfErr result (λ e. e.clients.items ≡ clients.items) }
 {
-    if clients.len() < shared.tie().clients() as usize {
+    if clients.len() < shared.client_count().clients() as usize {
         return Err(Unsettled {
             why: SettleFault::Missing,
             shared,
@@ -91,13 +91,13 @@ fn settle_copies<N: Naming, T: Volume<N>, R: Wait>(
     }
     let mut clients = clients;
     match shared.opened() {
-        Ok((desk, tie)) => {
-            if all_begin(&mut clients, desk.writer.published()) {
-                Ok(counted(rt, desk, clients))
+        Ok((state, count)) => {
+            if all_begin(&mut clients, state.writer.published()) {
+                Ok(counted(rt, state, clients))
             } else {
                 Err(Unsettled {
                     why: SettleFault::NoEntry,
-                    shared: Shared::new(desk, tie),
+                    shared: Shared::new(state, count),
                     clients,
                 })
             }
@@ -111,7 +111,7 @@ fn settle_copies<N: Naming, T: Volume<N>, R: Wait>(
 }
 
 /// Whether what each client saw begins a book's history.
-fn all_begin<N: Naming, T: Volume<N>>(clients: &mut Vec<Client<N, T>>, book: &T) -> bool
+fn all_begin<N: Naming, T: HistoryCopy<N>>(clients: &mut Vec<Client<N, T>>, book: &T) -> bool
     ensures begin { IsTrue result → EachBegins (T.state book.now) clients.old.items }
     ensures same { clients.new.items ≡ clients.old.items }
 {
@@ -124,20 +124,20 @@ fn all_begin<N: Naming, T: Volume<N>>(clients: &mut Vec<Client<N, T>>, book: &T)
 }
 
 /// Ends the writer, whose ledger holds just what the clients made.
-fn counted<N: Naming, T: Volume<N>, R: Wait>(
+fn counted<N: Naming, T: HistoryCopy<N>, R: Wait>(
     rt: &R,
-    desk: Desk<N, T>,
+    state: WriterState<N, T>,
     clients: Vec<Client<N, T>>,
 ) -> T
     requires { N.parts ≤ vec_len clients }
     ensures entries { length (T.state result) ≡ sum_by made clients.items }
-    ensures book { result ≡ desk.writer.desk.shown.value }
+    ensures book { result ≡ state.writer.desk.shown.value }
 {
-    let Desk {
+    let WriterState {
         writer,
         mut made,
         none,
-    } = desk;
+    } = state;
     let mut all = none;
     for client in clients {
         all.merge(client.into_share());

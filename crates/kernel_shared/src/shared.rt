@@ -4,46 +4,46 @@ ghost use Rattle.kernel_book.specs.Laws.{count_of};
 ghost use Rattle.kernel_shared.specs.declared.fault.SharedFault.TheVariants as Fault;
 ghost use Rattle.kernel_shared.specs.Fronts.{StartsWith};
 ghost use Rattle.kernel_shared.specs.Faults.{Told};
-ghost use Rattle.kernel_shared.specs.Tokens.{Lost, IsAnswered, calls_made, lost, lost_calls};
+ghost use Rattle.kernel_shared.specs.ClientStates.{Lost, IsAnswered, calls_made, lost, lost_calls};
 
 use crate::client::Client;
-use crate::desk::Desk;
+use crate::client_count::ClientCount;
 use crate::fault::SharedFault;
-use crate::tie::Tie;
-use crate::volume::Volume;
+use crate::history_copy::HistoryCopy;
+use crate::writer_state::WriterState;
 use abstract_kernel::{Call, Reply};
 use kernel_book::Naming;
 use std::sync::{Mutex, MutexGuard, Wait};
 
 /// A kernel that client threads share: two copies of its book, of which one is read while the other is written, and one
 /// writer under a lock. It is not `Drop`: end it by `settle` or by `give_up`.
-pub struct Shared<N: Naming, T: Volume<N>> {
-    desk: Mutex<Option<Desk<N, T>>>,
-    tie: Tie<N>,
+pub struct Shared<N: Naming, T: HistoryCopy<N>> {
+    state: Mutex<Option<WriterState<N, T>>>,
+    count: ClientCount<N>,
 }
 
-impl<N: Naming, T: Volume<N>> Shared<N, T> {
-    /// Puts the desk under the lock.
-    pub fn new(desk: Desk<N, T>, tie: Tie<N>) -> Shared<N, T> {
+impl<N: Naming, T: HistoryCopy<N>> Shared<N, T> {
+    /// Puts the state under the lock.
+    pub fn new(state: WriterState<N, T>, count: ClientCount<N>) -> Shared<N, T> {
         Shared {
-            desk: Mutex::new(Some(desk)),
-            tie,
+            state: Mutex::new(Some(state)),
+            count,
         }
     }
 
     /// How many clients it was started with.
-    pub fn tie(&self) -> &Tie<N> {
-        &self.tie
+    pub fn client_count(&self) -> &ClientCount<N> {
+        &self.count
     }
 
     /// What lay under the lock, or the shared kernel again where nothing did, which never happens.
-    pub fn opened(self) -> Result<(Desk<N, T>, Tie<N>), Shared<N, T>> {
-        let Shared { desk, tie } = self;
-        match desk.into_inner() {
-            Some(desk) => Ok((desk, tie)),
+    pub fn opened(self) -> Result<(WriterState<N, T>, ClientCount<N>), Shared<N, T>> {
+        let Shared { state, count } = self;
+        match state.into_inner() {
+            Some(state) => Ok((state, count)),
             None => Err(Shared {
-                desk: Mutex::new(None),
-                tie,
+                state: Mutex::new(None),
+                count,
             }),
         }
     }
@@ -83,14 +83,14 @@ impl<N: Naming, T: Volume<N>> Shared<N, T> {
         if let Some(front) = client.stray() {
             return Err(SharedFault::Stray(front));
         }
-        client.vouch();
+        client.assert_lawful();
         let written = self.write(rt, client, call);
-        client.vouch();
+        client.assert_lawful();
         if let Err(fault) = written {
             return Err(fault);
         }
         let reply = client.confirm(call);
-        client.vouch();
+        client.assert_lawful();
         match reply {
             Some(reply) => Ok(reply),
             None => Err(SharedFault::Stray(client.front())),
@@ -111,13 +111,13 @@ impl<N: Naming, T: Volume<N>> Shared<N, T> {
         ensures err { OnErr result (client.new.stray ≡ None) }
         ensures told { IfErr result (Told N.limit client.new) }
     {
-        let mut guard = self.desk.lock(rt);
-        let Some(desk) = guard.take() else {
+        let mut guard = self.state.lock(rt);
+        let Some(state) = guard.take() else {
             MutexGuard::unlock(guard);
             return Err(SharedFault::NoEntry);
         };
-        let (desk, result) = client.ask(rt, desk, call);
-        match guard.replace(desk) {
+        let (state, result) = client.ask(rt, state, call);
+        match guard.replace(state) {
             Some(other) => other.give_up(rt),
             None => {}
         }
@@ -127,9 +127,9 @@ impl<N: Naming, T: Volume<N>> Shared<N, T> {
 
     /// Ends a shared kernel without its book. It takes no memory.
     pub fn give_up<R: Wait>(self, rt: &R) {
-        let Shared { desk, tie: _ } = self;
-        match desk.into_inner() {
-            Some(desk) => desk.give_up(rt),
+        let Shared { state, count: _ } = self;
+        match state.into_inner() {
+            Some(state) => state.give_up(rt),
             None => {}
         }
     }

@@ -1,14 +1,14 @@
 //! How a kernel comes to be shared.
 ghost use Rattle.std.specs.Prelude.{ℕ, ◌≡◌, ◌<◌, [], None, Some, slice_get, IfOk, vec_len};
 ghost use Rattle.kernel_book.specs.Laws.{Begins};
-ghost use Rattle.kernel_shared.specs.Tokens.{token};
+ghost use Rattle.kernel_shared.specs.ClientStates.{client_state};
 
+use crate::book_copy::BookCopy;
 use crate::client::Client;
-use crate::desk::Desk;
+use crate::client_count::ClientCount;
+use crate::history_copy::HistoryCopy;
 use crate::shared::Shared;
-use crate::shelf::Shelf;
-use crate::tie::Tie;
-use crate::volume::Volume;
+use crate::writer_state::WriterState;
 use cap_core::Profile;
 use ipc_core::MakeWaiters;
 use kernel_book::{Book, Naming};
@@ -39,7 +39,7 @@ impl From<AllocError> for StartFault {
 }
 
 /// Shares two copies among so many clients.
-pub fn share<N: Naming, T: Volume<N>, R: Wait>(
+pub fn share<N: Naming, T: HistoryCopy<N>, R: Wait>(
     rt: &R,
     alloc: Global,
     blank: Blank,
@@ -53,7 +53,7 @@ pub fn share<N: Naming, T: Volume<N>, R: Wait>(
     requires some { 0 < clients }
     requires empty { (T.state first ≡ []) × (T.state second ≡ []) }
     ensures len { IfOk result (λ r. vec_len r.1 ≡ clients) }
-    ensures each { IfOk result (λ r. (i : ℕ) (c : _) → slice_get r.1.items i ≡ Some c → c ≡ token i 0 [] None) }
+    ensures each { IfOk result (λ r. (i : ℕ) (c : _) → slice_get r.1.items i ≡ Some c → c ≡ client_state i 0 [] None) }
 {
     let mut all = Vec::with_capacity(alloc, clients as usize)?;
     let writer = Writer::new(alloc, first, second, clients as usize)?;
@@ -66,15 +66,15 @@ pub fn share<N: Naming, T: Volume<N>, R: Wait>(
         let share = rest.split_off(1, 0);
         all.push_reserved(Client::new(id, share, reader));
     }
-    let desk = Desk {
+    let state = WriterState {
         writer,
         made,
         none: rest,
     };
-    Ok((Shared::new(desk, Tie::new(clients)), all))
+    Ok((Shared::new(state, ClientCount::new(clients)), all))
 }
 
-impl<N: Naming, P: Profile, S: MakeStore<P>, W: MakeWaiters<P>> Shared<N, Shelf<N, P, S, W>> {
+impl<N: Naming, P: Profile, S: MakeStore<P>, W: MakeWaiters<P>> Shared<N, BookCopy<N, P, S, W>> {
     /// Shares a kernel among so many clients, numbered from 0, with room for a history of `limit` calls. The second copy is
     /// made here, and all room of the books.
     ///
@@ -94,8 +94,8 @@ impl<N: Naming, P: Profile, S: MakeStore<P>, W: MakeWaiters<P>> Shared<N, Shelf<
         limit: u32,
     ) -> Result<
         (
-            Shared<N, Shelf<N, P, S, W>>,
-            Vec<Client<N, Shelf<N, P, S, W>>>,
+            Shared<N, BookCopy<N, P, S, W>>,
+            Vec<Client<N, BookCopy<N, P, S, W>>>,
         ),
         StartFault,
     >
@@ -108,11 +108,11 @@ impl<N: Naming, P: Profile, S: MakeStore<P>, W: MakeWaiters<P>> Shared<N, Shelf<
         requires begins { ∥ Begins P.profile N.start N.opening ∥₁ }
         requires limit { limit ≡ N.limit }
         ensures len { IfOk result (λ r. vec_len r.1 ≡ clients) }
-        ensures each { IfOk result (λ r. (i : ℕ) (c : _) → slice_get r.1.items i ≡ Some c → c ≡ token i 0 [] None) }
+        ensures each { IfOk result (λ r. (i : ℕ) (c : _) → slice_get r.1.items i ≡ Some c → c ≡ client_state i 0 [] None) }
     {
         let copy = kernel.copy(alloc)?;
-        let first = Shelf::new(Book::<N, P, S, W>::open(alloc, kernel, limit)?);
-        let second = Shelf::new(Book::<N, P, S, W>::open(alloc, copy, limit)?);
+        let first = BookCopy::new(Book::<N, P, S, W>::open(alloc, kernel, limit)?);
+        let second = BookCopy::new(Book::<N, P, S, W>::open(alloc, copy, limit)?);
         share(rt, alloc, blank, first, second, clients)
     }
 }

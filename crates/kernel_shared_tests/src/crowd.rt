@@ -6,7 +6,7 @@ use ipc_core::MakeWaiters;
 use kernel_core::Call;
 use kernel_shared::driving::{Driven, Stop};
 use kernel_shared::fault::SharedFault;
-use kernel_shared::volume::Volume;
+use kernel_shared::history_copy::HistoryCopy;
 use kernel_shared::{Gate, Naming, drive};
 use slot_core::MakeStore;
 use std::alloc::{AllocError, Global};
@@ -17,7 +17,7 @@ use std::thread::Threads;
 type Ends = (u32, u32, u32);
 
 /// The ends of clients, counted.
-fn ends_of<N: Naming, T: Volume<N>>(all: &[Driven<N, T>]) -> Ends {
+fn ends_of<N: Naming, T: HistoryCopy<N>>(all: &[Driven<N, T>]) -> Ends {
     let (mut made, mut stopped, mut full) = (0u32, 0u32, 0u32);
     for driven in all {
         let is_full = matches!(driven.stopped, Some(Stop::Fault(SharedFault::Full)));
@@ -29,13 +29,13 @@ fn ends_of<N: Naming, T: Volume<N>>(all: &[Driven<N, T>]) -> Ends {
 }
 
 /// A client, whatever stopped it.
-fn client_after<N: Naming, T: Volume<N>>(driven: Driven<N, T>) -> CallerOver<N, T> {
+fn client_after<N: Naming, T: HistoryCopy<N>>(driven: Driven<N, T>) -> CallerOver<N, T> {
     let Driven { client, .. } = driven;
     client
 }
 
 /// The clients themselves.
-fn clients_of<N: Naming, T: Volume<N>>(
+fn clients_of<N: Naming, T: HistoryCopy<N>>(
     alloc: Global,
     all: Vec<Driven<N, T>>,
 ) -> Option<Vec<CallerOver<N, T>>> {
@@ -49,7 +49,7 @@ fn clients_of<N: Naming, T: Volume<N>>(
 /// Drives the clients, where there is a list for each: they themselves, and how they ended.
 pub fn driven<
     N: Naming + Send + Sync,
-    T: Volume<N> + Send + Sync,
+    T: HistoryCopy<N> + Send + Sync,
     R: Threads + Wait + Sync,
     G: Gate + Sync,
 >(
@@ -138,7 +138,7 @@ fn settles<N: Naming, S: MakeStore<Wide>, W: MakeWaiters<Wide>, R: Wait>(
 /// Drives a crowd: its clients, where they ended as they should.
 fn crowd_after_its_calls<
     N: Naming + Send + Sync,
-    T: Volume<N> + Send + Sync,
+    T: HistoryCopy<N> + Send + Sync,
     R: Threads + Wait + Sync,
 >(
     rt: &R,

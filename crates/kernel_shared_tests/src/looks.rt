@@ -7,8 +7,8 @@ use cap_core::{Badge, Cap, Rights, Wide};
 use ipc_core::MakeWaiters;
 use kernel_core::{Call, Inbox, Op, Reply, ThreadState};
 use kernel_shared::fault::SharedFault;
+use kernel_shared::history_copy::HistoryCopy;
 use kernel_shared::settling::Unsettled;
-use kernel_shared::volume::Volume;
 use kernel_shared::{Answer, Entry, Naming, Query, SettleFault, settle};
 use slot_core::MakeStore;
 use std::sync::Wait;
@@ -140,7 +140,7 @@ pub const TWO_CLIENTS: Script = Script {
 };
 
 /// Whether a step comes out as it should.
-fn comes_out<N: Naming, T: Volume<N>, R: Wait>(
+fn comes_out<N: Naming, T: HistoryCopy<N>, R: Wait>(
     rt: &R,
     shared: &SharedOver<N, T>,
     client: &mut CallerOver<N, T>,
@@ -154,7 +154,7 @@ fn comes_out<N: Naming, T: Volume<N>, R: Wait>(
 }
 
 /// Whether a call finds the history full.
-fn finds_full<N: Naming, T: Volume<N>, R: Wait>(
+fn finds_full<N: Naming, T: HistoryCopy<N>, R: Wait>(
     rt: &R,
     shared: &SharedOver<N, T>,
     client: &mut CallerOver<N, T>,
@@ -164,7 +164,7 @@ fn finds_full<N: Naming, T: Volume<N>, R: Wait>(
 }
 
 /// How many steps come out as they should, up to the first that does not.
-fn follow<N: Naming, T: Volume<N>, R: Wait>(
+fn follow<N: Naming, T: HistoryCopy<N>, R: Wait>(
     rt: &R,
     shared: &SharedOver<N, T>,
     clients: &mut Vec<CallerOver<N, T>>,

@@ -10,7 +10,7 @@ use crate::setup::{
 use cap_core::{Rights, Wide};
 use ipc_core::MakeWaiters;
 use kernel_core::{BootPlan, Call, Kernel, Op};
-use kernel_shared::volume::Volume;
+use kernel_shared::history_copy::HistoryCopy;
 use kernel_shared::{Answer, Naming, Query};
 use slot_core::MakeStore;
 use std::alloc::{AllocError, Global};
@@ -72,13 +72,16 @@ fn lists(alloc: Global) -> Result<Vec<Vec<Call>>, AllocError> {
 
 /// An observer at its end: whether each look showed no less than the one before it, and an entry at its last place.
 #[derive(Drop)]
-struct Observer<N: Naming, T: Volume<N>> {
+struct Observer<N: Naming, T: HistoryCopy<N>> {
     client: CallerOver<N, T>,
     kept: bool,
 }
 
 /// How many entries a look shows, where it is no fewer than before and the last of them is there.
-fn seen_since<N: Naming, T: Volume<N>>(client: &mut CallerOver<N, T>, before: u32) -> Option<u32> {
+fn seen_since<N: Naming, T: HistoryCopy<N>>(
+    client: &mut CallerOver<N, T>,
+    before: u32,
+) -> Option<u32> {
     let Some(Answer::Length(entries)) = client.look(Query::Length) else {
         return None;
     };
@@ -90,7 +93,10 @@ fn seen_since<N: Naming, T: Volume<N>>(client: &mut CallerOver<N, T>, before: u3
 }
 
 /// Looks until all is over: whether each look showed no less than the one before it.
-fn looks_until<N: Naming, T: Volume<N>>(client: &mut CallerOver<N, T>, over: &AtomicBool) -> bool {
+fn looks_until<N: Naming, T: HistoryCopy<N>>(
+    client: &mut CallerOver<N, T>,
+    over: &AtomicBool,
+) -> bool {
     let mut entries = 0;
     for _ in 0..TURNS {
         let Some(now) = seen_since(client, entries) else {
@@ -105,7 +111,7 @@ fn looks_until<N: Naming, T: Volume<N>>(client: &mut CallerOver<N, T>, over: &At
 }
 
 /// Looks until all is over, and gives the client back.
-fn observe<N: Naming, T: Volume<N>>(
+fn observe<N: Naming, T: HistoryCopy<N>>(
     mut client: CallerOver<N, T>,
     over: &AtomicBool,
 ) -> Observer<N, T> {
@@ -114,7 +120,11 @@ fn observe<N: Naming, T: Volume<N>>(
 }
 
 /// Drives the callers, and says then that all is over: they themselves, where each call was made.
-fn drive_to_the_end<N: Naming + Send + Sync, T: Volume<N> + Send + Sync, R: Threads + Wait + Sync>(
+fn drive_to_the_end<
+    N: Naming + Send + Sync,
+    T: HistoryCopy<N> + Send + Sync,
+    R: Threads + Wait + Sync,
+>(
     rt: &R,
     alloc: Global,
     shared: &SharedOver<N, T>,
@@ -129,7 +139,7 @@ fn drive_to_the_end<N: Naming + Send + Sync, T: Volume<N> + Send + Sync, R: Thre
 }
 
 /// Puts an observer's client behind the others: whether each look showed no less than the one before it.
-fn put_back<N: Naming, T: Volume<N>>(
+fn put_back<N: Naming, T: HistoryCopy<N>>(
     clients: &mut Vec<CallerOver<N, T>>,
     observer: Observer<N, T>,
 ) -> bool {
@@ -138,7 +148,7 @@ fn put_back<N: Naming, T: Volume<N>>(
 }
 
 /// The callers with the observers behind them, where the observers kept what they saw.
-fn all_back<N: Naming, T: Volume<N>>(
+fn all_back<N: Naming, T: HistoryCopy<N>>(
     mut clients: Vec<CallerOver<N, T>>,
     first: Observer<N, T>,
     second: Observer<N, T>,
@@ -150,7 +160,11 @@ fn all_back<N: Naming, T: Volume<N>>(
 
 /// Drives the callers while the observers look, and gives all clients back, or `None` where a call was not made or a look
 /// went back.
-fn drive_observed<N: Naming + Send + Sync, T: Volume<N> + Send + Sync, R: Threads + Wait + Sync>(
+fn drive_observed<
+    N: Naming + Send + Sync,
+    T: HistoryCopy<N> + Send + Sync,
+    R: Threads + Wait + Sync,
+>(
     rt: &R,
     alloc: Global,
     shared: &SharedOver<N, T>,
@@ -223,7 +237,7 @@ fn shows_the_same<S: MakeStore<Wide>, W: MakeWaiters<Wide>>(
 /// Drives callers and observers by the lists of calls.
 fn driven_under_looks<
     N: Naming + Send + Sync,
-    T: Volume<N> + Send + Sync,
+    T: HistoryCopy<N> + Send + Sync,
     R: Threads + Wait + Sync,
 >(
     rt: &R,

@@ -10,7 +10,8 @@ use cap_core::{Badge, Message, Wide};
 use ipc_core::MakeWaiters;
 use kernel_core::{BootPlan, Call, Kernel, Op, Reply};
 use kernel_shared::{
-    Answer, Client, Naming, Query, SharedKernel, StartFault, client, fault, settle, shared, volume,
+    Answer, Client, Naming, Query, SharedKernel, StartFault, client, fault, history_copy, settle,
+    shared,
 };
 use slot_core::MakeStore;
 use std::alloc::Global;
@@ -70,7 +71,7 @@ const WRONG: SharedOutcomes = SharedOutcomes {
 
 /// Makes a call: whether it is answered so, or `None` where it was out of memory and the history, which has so many
 /// entries, has no more than before.
-fn call<N: Naming, T: volume::Volume<N>, R: Wait>(
+fn call<N: Naming, T: history_copy::HistoryCopy<N>, R: Wait>(
     rt: &R,
     shared: &shared::Shared<N, T>,
     client: &mut client::Client<N, T>,
@@ -89,7 +90,7 @@ fn call<N: Naming, T: volume::Volume<N>, R: Wait>(
 }
 
 /// How the calls end, each made once more where it was out of memory.
-fn make_calls<N: Naming, T: volume::Volume<N>, R: Wait>(
+fn make_calls<N: Naming, T: history_copy::HistoryCopy<N>, R: Wait>(
     rt: &R,
     shared: &shared::Shared<N, T>,
     client: &mut client::Client<N, T>,

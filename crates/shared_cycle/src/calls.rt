@@ -1,8 +1,8 @@
 //! Calls that are taken, made and looked at.
 use crate::kernel::{DROPPED_SEND, LinkedBook};
 use kernel_shared::client::Client;
+use kernel_shared::history_copy::HistoryCopy;
 use kernel_shared::shared::Shared;
-use kernel_shared::volume::Volume;
 use kernel_shared::{Naming, Query};
 use std::sync::Wait;
 use std::sync::atomic::{AtomicBool, AtomicU64, Ordering};
@@ -22,7 +22,7 @@ pub fn take_all<N: Naming>(book: &mut LinkedBook<N>, calls: u32) -> bool {
 }
 
 /// Makes so many calls of one client: whether each was answered.
-pub fn call_all<N: Naming, T: Volume<N>, R: Wait>(
+pub fn call_all<N: Naming, T: HistoryCopy<N>, R: Wait>(
     rt: &R,
     shared: &Shared<N, T>,
     client: &mut Client<N, T>,
@@ -36,7 +36,7 @@ pub fn call_all<N: Naming, T: Volume<N>, R: Wait>(
 }
 
 /// Looks until all is over: how many looks were answered.
-fn looks_until<N: Naming, T: Volume<N>>(client: &mut Client<N, T>, over: &AtomicBool) -> u64 {
+fn looks_until<N: Naming, T: HistoryCopy<N>>(client: &mut Client<N, T>, over: &AtomicBool) -> u64 {
     let mut answered = 0u64;
     for _ in 0..MOST_LOOKS {
         if over.load(Ordering::Relaxed) {
@@ -50,7 +50,7 @@ fn looks_until<N: Naming, T: Volume<N>>(client: &mut Client<N, T>, over: &Atomic
 }
 
 /// Looks until all is over, adds how many looks were answered, and gives the client back.
-fn look_until<N: Naming, T: Volume<N>>(
+fn look_until<N: Naming, T: HistoryCopy<N>>(
     mut client: Client<N, T>,
     over: &AtomicBool,
     looks: &AtomicU64,
@@ -60,12 +60,11 @@ fn look_until<N: Naming, T: Volume<N>>(
 }
 
 /// The last client makes so many calls while the others look: how many looks were answered, where each call was.
-pub fn looks_beside<N: Naming + Send + Sync, T: Volume<N> + Send + Sync, R: Threads + Wait + Sync>(
-    rt: &R,
-    shared: &Shared<N, T>,
-    mut clients: Vec<Client<N, T>>,
-    calls: u32,
-) -> Option<u64> {
+pub fn looks_beside<
+    N: Naming + Send + Sync,
+    T: HistoryCopy<N> + Send + Sync,
+    R: Threads + Wait + Sync,
+>(rt: &R, shared: &Shared<N, T>, mut clients: Vec<Client<N, T>>, calls: u32) -> Option<u64> {
     let mut caller = clients.pop()?;
     let is_over = AtomicBool::new(false);
     let answered = AtomicU64::new(0);

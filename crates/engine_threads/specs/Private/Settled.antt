@@ -5,15 +5,15 @@ use Rattle.kernel_shared.specs.declared.driving.Driven.{Driven}
 use Rattle.kernel_shared.specs.declared.driving.Stop.{Stop}
 use Rattle.kernel_shared.specs.declared.driving.Stop.TheVariants.{Gate, Fault}
 use Rattle.kernel_shared.specs.declared.fault.SharedFault.TheVariants.{Full, Memory}
-use Rattle.kernel_shared.specs.Tokens.{Token, EachBegins, made}
+use Rattle.kernel_shared.specs.ClientStates.{ClientState, EachBegins, made}
 use Rattle.engine_core.specs.declared.fault.RunFault.{RunFault}
 use Rattle.engine_core.specs.declared.fault.RunFault.TheVariants.{Reading, Writing}
 
 -- it has as many entries as the clients made, it begins with what each of them saw, and no client lost sight of a call
-pub record AreSettled (history : List Entry) (clients : List Token) : Type 0 where
+pub record AreSettled (history : List Entry) (clients : List ClientState) : Type 0 where
   pub entries : length history ≡ sum_by made clients
   pub fronts : EachBegins history clients
-  pub whole : All (λ (t : Token). t.stray ≡ None) clients
+  pub whole : All (λ (t : ClientState). t.stray ≡ None) clients
 
 -- nothing stopped the client before the end of its calls, or the history was full, or the gate ended it
 abbrev pub IsFinished : {N T : Type 0} → Option (Stop N T) → Type 0

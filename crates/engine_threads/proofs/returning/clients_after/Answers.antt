@@ -5,7 +5,7 @@ use Rattle.std.proofs.lemmas.Grind.{common_steps}
 use Rattle.std.proofs.lemmas.Iterator.Consumers.{YieldsList-end}
 use Rattle.std.proofs.lemmas.Iterator.Adapters.{YieldsList-from_vec}
 use Rattle.kernel_shared.specs.declared.driving.Driven.{Driven}
-use Rattle.kernel_shared.specs.Tokens.{Token}
+use Rattle.kernel_shared.specs.ClientStates.{ClientState}
 use Rattle.engine_threads.specs.Private.Settled.{IsFinished}
 use Rattle.engine_threads.proofs.returning.clients_after.Goals as goal
 
@@ -14,7 +14,7 @@ loop-driven-preserved g c =
     let f = λ (d : Driven g.row.N.Denot g.row.T.Denot). d.client in
     let before = c.loop-driven.invariant in
     let pushed = c.push_reserved.ensures.items in
-    let client : Token = c.in_ok-client_after.field-0 in
+    let client : ClientState = c.in_ok-client_after.field-0 in
     let is : client ≡ c.in-Some.driven.client = c.in_ok-client_after.ensures.same in
     let kept : client.stray ≡ None = c.in_ok-client_after.ensures.whole in
     record {
@@ -22,9 +22,9 @@ loop-driven-preserved g c =
       room = grind (arith, common_steps);
       same =
           pushed
-          ∙ (ap (λ (l : List Token). l ++ client ∷ []) before.same
-          ∙ (ap (λ (t : Token). map f c.loop-driven.yielded ++ t ∷ []) is ∙ sym (map_push f c.loop-driven.yielded c.in-Some.driven)));
-      whole = subst (λ (l : List Token). All (λ (t : Token). t.stray ≡ None) l) (sym pushed) (All-push (λ (t : Token). t.stray ≡ None) c.loop-driven.clients.items client before.whole kept);
+          ∙ (ap (λ (l : List ClientState). l ++ client ∷ []) before.same
+          ∙ (ap (λ (t : ClientState). map f c.loop-driven.yielded ++ t ∷ []) is ∙ sym (map_push f c.loop-driven.yielded c.in-Some.driven)));
+      whole = subst (λ (l : List ClientState). All (λ (t : ClientState). t.stray ≡ None) l) (sym pushed) (All-push (λ (t : ClientState). t.stray ≡ None) c.loop-driven.clients.items client before.whole kept);
       finished = All-push (λ (d : Driven g.row.N.Denot g.row.T.Denot). IsFinished d.stopped) c.loop-driven.yielded c.in-Some.driven before.finished c.in_ok-client_after.ensures.finished;
     }
 

@@ -15,7 +15,7 @@ returns-in-Err g c =
     let v = c.loop-call.invariant in
     let m : IsMade c.args.client c.args.calls.now c.loop-call.call-index c.loop-call.client = record { id = v.id; done = v.done; stray = v.stray; later = v.later; grown = v.grown } in
     let e = c.in-Err.ensures in
-    let d = c.make_ran-in-Err.ensures in
+    let d = c.thread_result-in-Err.ensures in
     let r = ran_to c.args.client c.loop-call.client c.call-reply.new.client c.args.calls.now c.loop-call.call-index _ g.G.Gate.ends g.N.Naming.limit c.end_of-end.result m (search rules) (search rules) e.id e.unanswered e.later c.end_of-end.ensures.stops (c.end_of-end.ensures.told _ e.told) e.unmade e.lost (λ l is. (e.stuck l is).1) in
-    let n : c.make_ran-in-Err.result.made ≡ c.loop-call.call-index = search rules in
+    let n : c.thread_result-in-Err.result.made ≡ c.loop-call.call-index = search rules in
     ran_by g.G.Gate.ends g.N.Naming.limit c.args.client c.args.calls.now _ _ _ _ _ _ d.client n d.end r

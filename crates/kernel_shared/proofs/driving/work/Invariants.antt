@@ -1,6 +1,6 @@
 use Rattle.std.proofs.Common.{◌≡◌, ◌+◌, ◌++◌, take}
 use Rattle.kernel_shared.specs.Fronts.{StartsWith}
-use Rattle.kernel_shared.specs.Tokens.{calls_made}
+use Rattle.kernel_shared.specs.ClientStates.{calls_made}
 use Rattle.kernel_shared.proofs.driving.work.Given as goal
 
 abbrev pub invariant-loop-call : goal.invariant-loop-call

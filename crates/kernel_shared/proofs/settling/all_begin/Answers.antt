@@ -2,7 +2,7 @@ use Rattle.std.proofs.Common.{rules, ◌≤◌, length, slice_set, arith, ap, sy
 use Rattle.std.proofs.lemmas.Option.{slice_get_within}
 use Rattle.std.proofs.lemmas.List.{set-get_or}
 use Rattle.kernel_shared.specs.Fronts.{StartsWith}
-use Rattle.kernel_shared.specs.Tokens.{Token}
+use Rattle.kernel_shared.specs.ClientStates.{ClientState}
 use Rattle.kernel_shared.proofs.Clients.{begin_more}
 use Rattle.kernel_shared.proofs.settling.all_begin.Goals as goal
 
@@ -10,7 +10,7 @@ pub loop-place-preserved : goal.loop-place-preserved
 loop-place-preserved g c =
     let items = c.loop-place.clients.items in
     let k = c.loop-place.place in
-    let w : Token = c.index_mut.result.now in
+    let w : ClientState = c.index_mut.result.now in
     let whole = c.loop-place.invariant.same in
     let starts : StartsWith (g.T.Absorb.state c.args.book.now) w.front = search rules in
     record {

@@ -1,5 +1,5 @@
 use Rattle.std.proofs.Common.{◌≡◌, ◌≤◌, length, sum_by}
-use Rattle.kernel_shared.specs.Tokens.{made}
+use Rattle.kernel_shared.specs.ClientStates.{made}
 use Rattle.kernel_shared.proofs.settling.counted.Given as goal
 
 abbrev pub invariant-loop-client : goal.invariant-loop-client

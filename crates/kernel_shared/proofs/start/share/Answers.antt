@@ -1,7 +1,7 @@
 use Rattle.std.proofs.Common.{rules, ℕ, ◌≡◌, [], None, arith}
 use Rattle.std.proofs.lemmas.Grind.{common_steps}
 use Rattle.kernel_shared.proofs.Places.{each_pushed}
-use Rattle.kernel_shared.specs.Tokens.{Token, token}
+use Rattle.kernel_shared.specs.ClientStates.{ClientState, client_state}
 use Rattle.kernel_shared.proofs.Keeping.{keeps_snoc, starts_nil}
 use Rattle.kernel_shared.proofs.start.share.Goals as goal
 
@@ -14,5 +14,5 @@ loop-id-preserved g c = record {
   amount = grind (arith, common_steps);
   len = search rules;
   room = search rules;
-  each = each_pushed (λ (i : ℕ) (c : Token). c ≡ token i 0 [] None) _ _ _ _ c.push_reserved.ensures.items c.loop-id.invariant.len c.loop-id.invariant.each c.new-in-loop-id.ensures;
+  each = each_pushed (λ (i : ℕ) (c : ClientState). c ≡ client_state i 0 [] None) _ _ _ _ c.push_reserved.ensures.items c.loop-id.invariant.len c.loop-id.invariant.each c.new-in-loop-id.ensures;
 }

@@ -1,5 +1,5 @@
 use Rattle.std.proofs.Common.{ℕ, ◌≡◌, ◌+◌, [], None, Some, slice_get, length, vec_capacity}
-use Rattle.kernel_shared.specs.Tokens.{Token, token}
+use Rattle.kernel_shared.specs.ClientStates.{ClientState, client_state}
 use Rattle.kernel_shared.proofs.start.share.Given as goal
 
 abbrev pub invariant-loop-id : goal.invariant-loop-id
@@ -8,5 +8,5 @@ invariant-loop-id g l = record {
   amount : l.rest.amount ≡ 0;
   len : length l.all.items ≡ l.id;
   room : vec_capacity l.all ≡ l.clients;
-  each : (i : ℕ) (c : Token) → slice_get l.all.items i ≡ Some c → c ≡ token i 0 [] None;
+  each : (i : ℕ) (c : ClientState) → slice_get l.all.items i ≡ Some c → c ≡ client_state i 0 [] None;
 }

@@ -2,9 +2,9 @@ use Rattle.std.proofs.Common.{rules, ◌≡◌, ◌∙◌, ap, sym}
 use Rattle.left_right.specs.Sides.{view}
 use Rattle.kernel_book.specs.Laws.{Lawful}
 use Rattle.kernel_shared.specs.Readers.{seen_of}
-use Rattle.kernel_shared.specs.Tokens.{Token}
+use Rattle.kernel_shared.specs.ClientStates.{ClientState}
 use Rattle.kernel_shared.proofs.Keeping.{turns, starts_refl, starts_by}
-use Rattle.kernel_shared.proofs.Clients.{client_same, same_token, begins_other}
+use Rattle.kernel_shared.proofs.Clients.{client_same, same_state, begins_other}
 use Rattle.kernel_shared.proofs.client.Client.begins.Goals as goal
 
 pub enter_as-requires : goal.enter_as-requires
@@ -26,7 +26,7 @@ returns-in-Ok-clause-begins g c so =
     let sees = (rw c.in-Ok.is at c.enter_as.ensures).1 in
     let was : seen_of i.reader ≡ view c.in-Some.reader.place = ap seen_of (sym c.take.ensures.value ∙ c.in-Some.is) in
     let s = starts_by _ (g.T.Absorb.state c.get-in-Ok.result.now) _ (seen_of i.reader) (ap g.T.Absorb.state c.get-in-Ok.ensures ∙ sym sees.is) was sees.later in
-    begins_other i.seen (seen_of i.reader) (g.T.Absorb.state c.get-in-Ok.result.now) (g.T.Absorb.state c.args.book.now) c.args.self.now.front (ap (λ (t : Token). t.front) c.self.view_is) s c.self.invariant.within (c.alike-same.ensures so)
+    begins_other i.seen (seen_of i.reader) (g.T.Absorb.state c.get-in-Ok.result.now) (g.T.Absorb.state c.args.book.now) c.args.self.now.front (ap (λ (t : ClientState). t.front) c.self.view_is) s c.self.invariant.within (c.alike-same.ensures so)
 
 pub returns-in-Ok-clause-same : goal.returns-in-Ok-clause-same
 returns-in-Ok-clause-same g c =
@@ -34,4 +34,4 @@ returns-in-Ok-clause-same g c =
     let sees = (rw c.in-Ok.is at c.enter_as.ensures).1 in
     let was : seen_of i.reader ≡ view c.in-Some.reader.place = ap seen_of (sym c.take.ensures.value ∙ c.in-Some.is) in
     let s = starts_by _ (view c.leave.result.place) _ (seen_of i.reader) c.leave.ensures.1 was sees.later in
-    same_token i.id i.done i.seen i.stray (seen_of i.reader) (view c.leave.result.place) c.args.self.now c.self.view_is s c.self.invariant.within c.self.invariant.fits
+    same_state i.id i.done i.seen i.stray (seen_of i.reader) (view c.leave.result.place) c.args.self.now c.self.view_is s c.self.invariant.within c.self.invariant.fits

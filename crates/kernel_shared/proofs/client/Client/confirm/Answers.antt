@@ -2,9 +2,9 @@ use Rattle.std.proofs.Common.{rules, ◌≡◌, Some, slice_get, ◌∙◌, ap, 
 use Rattle.left_right.specs.Sides.{view}
 use Rattle.kernel_book.specs.Laws.{Lawful, entry}
 use Rattle.kernel_shared.specs.Readers.{seen_of}
-use Rattle.kernel_shared.specs.Tokens.{Token}
+use Rattle.kernel_shared.specs.ClientStates.{ClientState}
 use Rattle.kernel_shared.proofs.Keeping.{turns, starts_refl, starts_by}
-use Rattle.kernel_shared.proofs.Clients.{client_finds, found_token}
+use Rattle.kernel_shared.proofs.Clients.{client_finds, found_state}
 use Rattle.kernel_shared.proofs.client.Client.confirm.Goals as goal
 
 pub enter_as-requires : goal.enter_as-requires
@@ -19,7 +19,7 @@ invariant_of-self-in-Ok g c =
     let is : view c.leave.result.place ≡ g.T.Absorb.state c.in-Ok.reading.part.value = c.leave.ensures.1 ∙ sees.is in
     let law : ∥ Lawful g.N.Naming.profile g.N.Naming.opening (view c.leave.result.place) ∥₁ = search rules in
     let at : slice_get (view c.leave.result.place) i.seen ≡ Some (entry i.id i.done c.args.call c.in-Some-reply.reply) = search rules in
-    client_finds g.N.Naming.profile g.N.Naming.opening i.id i.done i.share.parts i.share.amount i.seen i.stray (seen_of i.reader) (view c.leave.result.place) c.args.call c.in-Some-reply.reply c.self.invariant s law _ (ap (λ (t : Token). t.stray) c.self.view_is ∙ c.requires) at
+    client_finds g.N.Naming.profile g.N.Naming.opening i.id i.done i.share.parts i.share.amount i.seen i.stray (seen_of i.reader) (view c.leave.result.place) c.args.call c.in-Some-reply.reply c.self.invariant s law _ (ap (λ (t : ClientState). t.stray) c.self.view_is ∙ c.requires) at
 
 pub returns-in-Some-reply-clause-some : goal.returns-in-Some-reply-clause-some
 returns-in-Some-reply-clause-some g c =
@@ -29,4 +29,4 @@ returns-in-Some-reply-clause-some g c =
     let s = starts_by _ (view c.leave.result.place) _ (seen_of i.reader) c.leave.ensures.1 was sees.later in
     let is : view c.leave.result.place ≡ g.T.Absorb.state c.in-Ok.reading.part.value = c.leave.ensures.1 ∙ sees.is in
     let at : slice_get (view c.leave.result.place) i.seen ≡ Some (entry i.id i.done c.args.call c.in-Some-reply.reply) = search rules in
-    found_token i.id i.done i.seen i.stray (seen_of i.reader) (view c.leave.result.place) c.args.call c.in-Some-reply.reply c.args.self.now c.self.view_is s c.self.invariant.within at
+    found_state i.id i.done i.seen i.stray (seen_of i.reader) (view c.leave.result.place) c.args.call c.in-Some-reply.reply c.args.self.now c.self.view_is s c.self.invariant.within at

@@ -1,10 +1,10 @@
 use Rattle.std.proofs.Common.{List, subst, ap}
 use Rattle.kernel_book.specs.declared.entry.Entry.{Entry}
 use Rattle.kernel_book.specs.Laws.{Lawful}
-use Rattle.kernel_shared.specs.Tokens.{Token}
+use Rattle.kernel_shared.specs.ClientStates.{ClientState}
 use Rattle.kernel_shared.proofs.Lawfully.{lawful_take}
 use Rattle.kernel_shared.proofs.client.Client.front.Goals as goal
 
 pub returns-clause-lawful : goal.returns-clause-lawful
 returns-clause-lawful g c =
-    subst (λ (h : List Entry). ∥ Lawful g.N.Naming.profile g.N.Naming.opening h ∥₁) (ap (λ (t : Token). t.front) c.self.view_is) (lawful_take _ _ c.self.inside.seen _ c.self.invariant.lawful)
+    subst (λ (h : List Entry). ∥ Lawful g.N.Naming.profile g.N.Naming.opening h ∥₁) (ap (λ (t : ClientState). t.front) c.self.view_is) (lawful_take _ _ c.self.inside.seen _ c.self.invariant.lawful)

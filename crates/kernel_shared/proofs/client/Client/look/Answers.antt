@@ -3,7 +3,7 @@ use Rattle.kernel_book.specs.declared.entry.Entry.{Entry}
 use Rattle.left_right.specs.Sides.{view}
 use Rattle.kernel_shared.specs.Fronts.{StartsWith}
 use Rattle.kernel_shared.specs.Readers.{seen_of}
-use Rattle.kernel_shared.specs.Tokens.{Token}
+use Rattle.kernel_shared.specs.ClientStates.{ClientState}
 use Rattle.kernel_shared.proofs.Keeping.{turns, starts_refl, starts_by}
 use Rattle.kernel_shared.proofs.Clients.{looks_later}
 use Rattle.kernel_shared.proofs.client.Client.look.Goals as goal
@@ -17,4 +17,4 @@ returns-in-Ok-clause-later g c =
     let was : seen_of c.self.inside.reader ≡ view c.in-Some.reader.place = ap seen_of (sym c.take.ensures.value ∙ c.in-Some.is) in
     let s = starts_by _ (view c.leave.result.place) _ (seen_of c.self.inside.reader) c.leave.ensures.1 was sees.later in
     let n : c.length-self-inside.result ≡ length (view c.leave.result.place) = search rules in
-    subst (λ (h : List Entry). StartsWith (take c.length-self-inside.result (view c.leave.result.place)) h) (ap (λ (t : Token). t.front) c.self.view_is) (looks_later c.self.inside.seen _ (seen_of c.self.inside.reader) (view c.leave.result.place) s n)
+    subst (λ (h : List Entry). StartsWith (take c.length-self-inside.result (view c.leave.result.place)) h) (ap (λ (t : ClientState). t.front) c.self.view_is) (looks_later c.self.inside.seen _ (seen_of c.self.inside.reader) (view c.leave.result.place) s n)

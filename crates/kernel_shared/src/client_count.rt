@@ -6,18 +6,18 @@ use std::marker::PhantomData;
 
 /// The number of clients, which is that of the ledger's parts.
 #[derive(Drop)]
-pub struct Tie<N: Naming> {
+pub struct ClientCount<N: Naming> {
     clients: u32,
     of: PhantomData<N>,
     ghost all: { clients ≡ N.parts },
 }
 
-impl<N: Naming> Tie<N> {
+impl<N: Naming> ClientCount<N> {
     /// The ledger has a part for each client.
-    pub fn new(clients: u32) -> Tie<N>
+    pub fn new(clients: u32) -> ClientCount<N>
         requires { clients ≡ N.parts }
     {
-        Tie {
+        ClientCount {
             clients,
             of: PhantomData,
         }

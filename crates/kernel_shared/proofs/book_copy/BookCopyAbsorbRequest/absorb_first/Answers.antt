@@ -1,7 +1,7 @@
 use Rattle.std.proofs.Common.{ap, ◌∙◌, sym}
 use Rattle.kernel_shared.specs.Taking.{taken}
 use Rattle.kernel_shared.proofs.Taken.{taken_is}
-use Rattle.kernel_shared.proofs.shelf.ShelfAbsorbRequest.absorb_first.Goals as goal
+use Rattle.kernel_shared.proofs.book_copy.BookCopyAbsorbRequest.absorb_first.Goals as goal
 
 pub returns-clause-absorbed : goal.returns-clause-absorbed
 returns-clause-absorbed g c =

@@ -3,9 +3,9 @@ ghost use Rattle.std.specs.Prelude.{◌≡◌, refl};
 ghost use Rattle.kernel_book.specs.Laws.{Begins};
 ghost use Rattle.kernel_shared.specs.Taking.{taken};
 
+use crate::history_copy::HistoryCopy;
 use crate::query::{Answer, Query};
 use crate::request::Request;
-use crate::volume::Volume;
 use cap_core::Profile;
 use ipc_core::Waiters;
 use kernel_book::{Book, Entry, Naming};
@@ -16,12 +16,12 @@ use std::marker::Model;
 
 /// A book whose opening stands for the state that its name names. Contracts see its history.
 #[derive(Drop)]
-pub struct Shelf<N: Naming, P: Profile, S: CapStore<P> + Drop, W: Waiters<P> + Drop> {
+pub struct BookCopy<N: Naming, P: Profile, S: CapStore<P> + Drop, W: Waiters<P> + Drop> {
     book: Book<N, P, S, W>,
 }
 
 impl<N: Naming, P: Profile, S: CapStore<P> + Drop, W: Waiters<P> + Drop> Model
-    for Shelf<N, P, S, W> {
+    for BookCopy<N, P, S, W> {
     ghost use Rattle.std.specs.Prelude.{◌≡◌, List};
     ghost use Rattle.kernel_book.specs.declared.entry.Entry.{Entry};
     ghost use Rattle.kernel_book.specs.Laws.{Begins};
@@ -34,7 +34,7 @@ impl<N: Naming, P: Profile, S: CapStore<P> + Drop, W: Waiters<P> + Drop> Model
 }
 
 impl<N: Naming, P: Profile, S: CapStore<P> + Drop, W: Waiters<P> + Drop> Absorb<Request>
-    for Shelf<N, P, S, W> {
+    for BookCopy<N, P, S, W> {
     // A clause reads an array as a list, of any length.
     type State = [Entry; 0];
 
@@ -47,7 +47,7 @@ impl<N: Naming, P: Profile, S: CapStore<P> + Drop, W: Waiters<P> + Drop> Absorb<
     fn absorb_first(
         &mut self,
         operation: &Request,
-        _other: &Shelf<N, P, S, W>,
+        _other: &BookCopy<N, P, S, W>,
     ) -> Result<(), AllocError> {
         let _ = self
             .book
@@ -56,27 +56,27 @@ impl<N: Naming, P: Profile, S: CapStore<P> + Drop, W: Waiters<P> + Drop> Absorb<
     }
 }
 
-impl<N: Naming, P: Profile, S: CapStore<P> + Drop, W: Waiters<P> + Drop> Shelf<N, P, S, W> {
+impl<N: Naming, P: Profile, S: CapStore<P> + Drop, W: Waiters<P> + Drop> BookCopy<N, P, S, W> {
     /// A book as a copy.
-    pub fn new(book: Book<N, P, S, W>) -> Shelf<N, P, S, W>
+    pub fn new(book: Book<N, P, S, W>) -> BookCopy<N, P, S, W>
         requires begins { ∥ Begins P.profile N.start N.opening ∥₁ }
         requires profile { N.profile ≡ P.profile }
         ensures { result ≡ book.history.items }
     {
-        Shelf { book }
+        BookCopy { book }
     }
 
     /// The book.
     pub fn into_book(self) -> Book<N, P, S, W>
         ensures { result.history.items ≡ self }
     {
-        let Shelf { book } = self;
+        let BookCopy { book } = self;
         book
     }
 }
 
-impl<N: Naming, P: Profile, S: CapStore<P> + Drop, W: Waiters<P> + Drop> Volume<N>
-    for Shelf<N, P, S, W> {
+impl<N: Naming, P: Profile, S: CapStore<P> + Drop, W: Waiters<P> + Drop> HistoryCopy<N>
+    for BookCopy<N, P, S, W> {
     fn length(&self) -> u32 {
         self.book.length()
     }
@@ -107,7 +107,7 @@ impl<N: Naming, P: Profile, S: CapStore<P> + Drop, W: Waiters<P> + Drop> Volume<
         }
     }
 
-    fn vouch(&self) {
+    fn assert_lawful(&self) {
         let _ = &self.book;
     }
 

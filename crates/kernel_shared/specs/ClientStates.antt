@@ -15,7 +15,7 @@ pub record Lost : Type 0 where
   pub front : List Entry
 
 -- its number, how many of its calls were answered, the front that it saw last, and the call that was lost
-pub record Token : Type 0 where
+pub record ClientState : Type 0 where
   pub id : ℕ
   pub done : ℕ
   pub front : List Entry
@@ -24,8 +24,8 @@ pub record Token : Type 0 where
 abbrev pub lost : Call → List Entry → Lost
 lost call front = record { call = call; front = front }
 
-abbrev pub token : ℕ → ℕ → List Entry → Option Lost → Token
-token id done front stray = record { id = id; done = done; front = front; stray = stray }
+abbrev pub client_state : ℕ → ℕ → List Entry → Option Lost → ClientState
+client_state id done front stray = record { id = id; done = done; front = front; stray = stray }
 
 -- a client's entry with a number below this one
 abbrev pub is_below : ℕ → ℕ → Entry → Bool
@@ -40,11 +40,11 @@ lost_calls None = []
 lost_calls (Some l) = l.call ∷ []
 
 -- the calls that the client made: those of its entries that were answered, in order, and then the one that was lost
-abbrev pub calls_made : Token → List Call
+abbrev pub calls_made : ClientState → List Call
 calls_made t = calls_of (filter (is_below t.id t.done) t.front) ++ lost_calls t.stray
 
 -- how many it made: its share of the ledger
-abbrev pub made : Token → ℕ
+abbrev pub made : ClientState → ℕ
 made t = t.done + length (lost_calls t.stray)
 
 -- the call that was lost since
@@ -83,7 +83,7 @@ pub record IsClient (p : ProfileName) (opening : Shown) (id done parts amount se
 
 -- A call was answered. The front then begins with all that was seen; past that stands the call with its reply, once; and of
 -- the client's entries the front has just those of the calls that it made.
-pub record IsAnswered (old : Token) (call : Call) (reply : Reply) (new : Token) : Type 0 where
+pub record IsAnswered (old : ClientState) (call : Call) (reply : Reply) (new : ClientState) : Type 0 where
   pub later : StartsWith new.front old.front
   pub place : ℕ
   pub past : length old.front ≤ place
@@ -94,5 +94,5 @@ pub record IsAnswered (old : Token) (call : Call) (reply : Reply) (new : Token) 
   pub whole : (old.stray ≡ None) × (new.stray ≡ None)
 
 -- the front of each client begins the history
-abbrev pub EachBegins : List Entry → List Token → Type 0
-EachBegins h clients = (place : ℕ) (c : Token) → slice_get clients place ≡ Some c → StartsWith h c.front
+abbrev pub EachBegins : List Entry → List ClientState → Type 0
+EachBegins h clients = (place : ℕ) (c : ClientState) → slice_get clients place ≡ Some c → StartsWith h c.front

@@ -8,7 +8,7 @@ use Rattle.kernel_shared.specs.declared.query.Query.TheVariants as q
 use Rattle.kernel_shared.specs.declared.query.Answer.TheVariants as a
 use Rattle.kernel_shared.specs.Answers.{IsAnswer, waiting_thread}
 use Rattle.kernel_shared.proofs.Shows.{read_is, state_set, inbox_set, cap_set, thread_set}
-use Rattle.kernel_shared.proofs.shelf.ShelfVolume.answer.Goals as goal
+use Rattle.kernel_shared.proofs.book_copy.BookCopyHistoryCopy.answer.Goals as goal
 
 pub returns-in-State : goal.returns-in-State
 returns-in-State g c =

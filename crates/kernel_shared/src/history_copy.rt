@@ -6,7 +6,7 @@ use left_right::Absorb;
 
 /// A copy of a book: its state is the history, and a request is taken as a book takes a call. None of its calls takes
 /// memory.
-pub trait Volume<N: Naming>: Absorb<Request, State = [Entry; 0]> + Drop {
+pub trait HistoryCopy<N: Naming>: Absorb<Request, State = [Entry; 0]> + Drop {
     ghost use Rattle.std.specs.Prelude.{◌≡◌, ◌↔◌, IsTrue, List, length, slice_get};
     ghost use Rattle.kernel_book.specs.declared.entry.Entry.{Entry};
     ghost use Rattle.kernel_book.specs.Laws.{Lawful, count_of};
@@ -35,7 +35,7 @@ pub trait Volume<N: Naming>: Absorb<Request, State = [Entry; 0]> + Drop {
         ensures { IsAnswer N.profile N.opening (Self.state self.now) query result };
 
     /// Nothing is done: a caller learns that every copy's history is lawful.
-    fn vouch(&self)
+    fn assert_lawful(&self)
         ensures { ∥ Lawful N.profile N.opening (Self.state self.now) ∥₁ };
 
     ghost applies: { (h : List Entry) (r : Request) → Self.applied h r ≡ taken N.profile N.start N.limit h r };
