@@ -61,6 +61,6 @@ boot p plan =
       sends = [];
       receives = [];
       is_cancelled = λ number. false;
-      is_idle = λ thread. false;
+      is_inactive = λ thread. false;
       count = 0;
     }

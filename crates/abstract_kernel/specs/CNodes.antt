@@ -15,34 +15,34 @@ use Rattle.abstract_kernel.specs.declared.invocation.Change.TheVariants.{Copy, M
 use Rattle.abstract_kernel.specs.declared.invocation.CapPlacement.{CapPlacement}
 use Rattle.abstract_kernel.specs.declared.invocation.SlotArguments.{SlotArguments}
 use Rattle.cap_core.specs.Checks.{◌>>=◌}
-use Rattle.abstract_kernel.specs.Lookups.{extra_cap, where_kind, empty_slot, full_slot}
+use Rattle.abstract_kernel.specs.Lookups.{extra_cap, ensure_kind, dest_slot, source_slot}
 use Rattle.abstract_kernel.specs.Shown.{has_child}
 
 -- a capability whose data could be set
-abbrev pub where_set : Option Cap → Result Cap Refusal
-where_set (Some cap) = Ok cap
-where_set None = Err IllegalOperation
+abbrev pub ensure_set : Option Cap → Result Cap Refusal
+ensure_set (Some cap) = Ok cap
+ensure_set None = Err IllegalOperation
 
 -- a capability that may be derived from the one in a slot: an untyped one where nothing was derived from it
-abbrev pub where_derivable : Forest Entry → ℕ → Cap → Result Cap Refusal
-where_derivable f source cap = cond (is_untyped cap && has_child source f) (Err RevokeFirst) (Ok cap)
+abbrev pub ensure_derivable : Forest Entry → ℕ → Cap → Result Cap Refusal
+ensure_derivable f source cap = cond (is_untyped cap && has_child source f) (Err RevokeFirst) (Ok cap)
 
 -- the new capability, from the one in the source's slot
 abbrev pub changed_cap : ProfileName → Forest Entry → ℕ → Change → Cap → Result Cap Refusal
-changed_cap p f source (Copy rights) cap = where_derivable f source (masked rights cap)
+changed_cap p f source (Copy rights) cap = ensure_derivable f source (masked rights cap)
 changed_cap p f source (Mint rights word) cap =
-    where_set (with_data p false word (masked rights cap)) >>= where_derivable f source
+    ensure_set (with_data p false word (masked rights cap)) >>= ensure_derivable f source
 changed_cap p f source Move cap = Ok cap
-changed_cap p f source (Mutate word) cap = where_set (with_data p true word cap)
+changed_cap p f source (Mutate word) cap = ensure_set (with_data p true word cap)
 
 -- the checks in their order, the same for all four
 abbrev pub decoded_placement :
     ProfileName → Forest Entry → ℕ → Cap → SlotArguments → Change → Result CapPlacement Refusal
 decoded_placement p f thread invoked asked change =
-    where_kind kind.CNode invoked >>= λ node.
+    ensure_kind kind.CNode invoked >>= λ node.
     extra_cap p f thread asked.src_root >>= λ root.
-    empty_slot p f node asked.index asked.depth >>= λ slot.
-    full_slot p f root asked.src_index asked.src_depth >>= λ source.
+    dest_slot p f node asked.index asked.depth >>= λ slot.
+    source_slot p f root asked.src_index asked.src_depth >>= λ source.
     changed_cap p f source change (cap_at f source) >>= λ cap.
     Ok (record { source = source; slot = slot; cap = cap })
 

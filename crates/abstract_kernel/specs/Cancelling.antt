@@ -62,10 +62,10 @@ is_badged_send e badge s = not (badge.0 == 0) && (same_instance s.endpoint e && 
 abbrev pub cancelling_thread : State → Instance → State
 cancelling_thread A t = cancelling A (is_sent_by t) (is_received_by t)
 
--- a thread waits no more, and is idle or not: suspended it is, resumed it is not
+-- a thread waits no more, and is inactive or not: suspended it is, resumed it is not
 abbrev pub stopping : State → Instance → Bool → State
-stopping A t idle =
-    record (cancelling_thread A t) { is_idle = λ m. cond (same_instance m t) idle (A.is_idle m) }
+stopping A t inactive =
+    record (cancelling_thread A t) { is_inactive = λ m. cond (same_instance m t) inactive (A.is_inactive m) }
 
 abbrev pub suspending : State → Instance → State
 suspending A t = stopping A t true

@@ -127,13 +127,13 @@ decoded_invocation p f thread (op.Suspend cap) slot = decoded_tcb (cap_at f slot
 decoded_invocation p f thread (op.Resume cap) slot = decoded_tcb (cap_at f slot) >>= λ tcb. Ok (invocation.Resume tcb)
 
 -- a thread that is not ready makes no calls
-abbrev pub where_ready : ThreadState → Result Invocation Refusal → Result Invocation Refusal
-where_ready Ready found = found
-where_ready state found = Err NotReady
+abbrev pub ensure_ready : ThreadState → Result Invocation Refusal → Result Invocation Refusal
+ensure_ready Ready found = found
+ensure_ready state found = Err NotReady
 
-abbrev pub where_live : Option ThreadView → Result Invocation Refusal → Result Invocation Refusal
-where_live None found = Err NoThread
-where_live (Some thread) found = where_ready thread.state found
+abbrev pub ensure_live : Option ThreadView → Result Invocation Refusal → Result Invocation Refusal
+ensure_live None found = Err NoThread
+ensure_live (Some thread) found = ensure_ready thread.state found
 
 -- the slot that the service word names, and then the operation's own checks
 abbrev pub decoded_op : ProfileName → Forest Entry → ℕ → Op → Result Invocation Refusal
@@ -142,4 +142,4 @@ decoded_op p f thread op = invoked_slot p f thread (service_word op) >>= decoded
 -- the first check that fails, or what the call does: the thread is live and ready, the word leads to a capability, and the
 -- capability serves the operation
 abbrev pub decoded_call : ProfileName → Shown → Call → Result Invocation Refusal
-decoded_call p v call = where_live (get v.threads call.thread) (decoded_op p v.derivations call.thread call.op)
+decoded_call p v call = ensure_live (get v.threads call.thread) (decoded_op p v.derivations call.thread call.op)

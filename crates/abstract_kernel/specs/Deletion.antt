@@ -12,22 +12,22 @@ use Rattle.derivation.specs.Entries.{Entry, cap_at}
 use Rattle.cspace_core.specs.Target.{target_slot}
 use Rattle.abstract_kernel.specs.declared.invocation.Service.{Service}
 use Rattle.cap_core.specs.Checks.{◌>>=◌}
-use Rattle.abstract_kernel.specs.Lookups.{where_kind}
+use Rattle.abstract_kernel.specs.Lookups.{ensure_kind}
 
 -- the slot that is named by an index and a depth from the invoked CNode; an empty one is no refusal
 abbrev pub decoded_slot : ProfileName → Forest Entry → Cap → ℕ → ℕ → Result ℕ Refusal
 decoded_slot p f invoked index depth =
-    where_kind kind.CNode invoked >>= λ node.
+    ensure_kind kind.CNode invoked >>= λ node.
     target_slot p (cap_at f) node index depth
 
 -- an endpoint's capability with all rights
-abbrev pub where_all_rights : Cap → Result Service Refusal
-where_all_rights (Endpoint base badge rights) =
+abbrev pub ensure_all_rights : Cap → Result Service Refusal
+ensure_all_rights (Endpoint base badge rights) =
     cond (rights.0 == all_rights.0) (Ok (record { endpoint = base; badge = badge })) (Err IllegalOperation)
-where_all_rights cap = Err IllegalOperation
+ensure_all_rights cap = Err IllegalOperation
 
 -- the endpoint and the badge of the capability in the slot that is named
 abbrev pub decoded_badge : ProfileName → Forest Entry → Cap → ℕ → ℕ → Result Service Refusal
 decoded_badge p f invoked index depth =
     decoded_slot p f invoked index depth >>= λ slot.
-    where_all_rights (cap_at f slot)
+    ensure_all_rights (cap_at f slot)

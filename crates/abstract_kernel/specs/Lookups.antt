@@ -50,22 +50,22 @@ is_of_kind kind.Endpoint cap = is_some (endpoint_base cap)
 is_of_kind kind.CNode cap = is_cnode cap
 
 -- the invoked capability, where it is of the kind that the operation asks for
-abbrev pub where_kind : Kind → Cap → Result Cap Refusal
-where_kind kind cap =
+abbrev pub ensure_kind : Kind → Cap → Result Cap Refusal
+ensure_kind kind cap =
     cond (is_null cap) (Err InvalidCapability) (cond (is_of_kind kind cap) (Ok cap) (Err IllegalOperation))
 
 -- a slot that was found, where it is empty, and where it is full
-abbrev pub where_empty : Forest Entry → Result ℕ Refusal → Result ℕ Refusal
-where_empty f (Ok slot) = cond (is_null (cap_at f slot)) (Ok slot) (Err DeleteFirst)
-where_empty f (Err refusal) = Err refusal
+abbrev pub ensure_empty : Forest Entry → Result ℕ Refusal → Result ℕ Refusal
+ensure_empty f (Ok slot) = cond (is_null (cap_at f slot)) (Ok slot) (Err DeleteFirst)
+ensure_empty f (Err refusal) = Err refusal
 
-abbrev pub where_full : Forest Entry → Result ℕ Refusal → Result ℕ Refusal
-where_full f (Ok slot) = cond (is_null (cap_at f slot)) (Err (FailedLookup MissingCapability)) (Ok slot)
-where_full f (Err refusal) = Err refusal
+abbrev pub ensure_full : Forest Entry → Result ℕ Refusal → Result ℕ Refusal
+ensure_full f (Ok slot) = cond (is_null (cap_at f slot)) (Err (FailedLookup MissingCapability)) (Ok slot)
+ensure_full f (Err refusal) = Err refusal
 
 -- the empty slot that is named by an index and a depth from a CNode, and the full one
-abbrev pub empty_slot : ProfileName → Forest Entry → Cap → ℕ → ℕ → Result ℕ Refusal
-empty_slot p f node index depth = where_empty f (target_slot p (cap_at f) node index depth)
+abbrev pub dest_slot : ProfileName → Forest Entry → Cap → ℕ → ℕ → Result ℕ Refusal
+dest_slot p f node index depth = ensure_empty f (target_slot p (cap_at f) node index depth)
 
-abbrev pub full_slot : ProfileName → Forest Entry → Cap → ℕ → ℕ → Result ℕ Refusal
-full_slot p f node index depth = where_full f (target_slot p (cap_at f) node index depth)
+abbrev pub source_slot : ProfileName → Forest Entry → Cap → ℕ → ℕ → Result ℕ Refusal
+source_slot p f node index depth = ensure_full f (target_slot p (cap_at f) node index depth)

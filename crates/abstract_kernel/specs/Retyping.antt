@@ -22,7 +22,7 @@ use Rattle.cspace_core.specs.Target.{target_slot}
 use Rattle.abstract_kernel.specs.declared.invocation.NewObjects.{NewObjects}
 use Rattle.abstract_kernel.specs.declared.invocation.RetypeArguments.{RetypeArguments}
 use Rattle.cap_core.specs.Checks.{◌>>=◌}
-use Rattle.abstract_kernel.specs.Lookups.{held_in, extra_cap, where_kind}
+use Rattle.abstract_kernel.specs.Lookups.{held_in, extra_cap, ensure_kind}
 use Rattle.abstract_kernel.specs.Shown.{has_child}
 
 -- the capability of the CNode whose slots are filled: the root itself at depth 0, else what the slot holds that is named
@@ -39,12 +39,12 @@ abbrev pub some_full : ProfileName → Forest Entry → ℕ → ℕ → Bool
 some_full p f first count = list_any (λ i. not (is_null (cap_at f (slot_of p first i)))) (range_with_len 0 count)
 
 -- the first of the slots that are filled, where all of them are empty
-abbrev pub where_all_empty : ProfileName → Forest Entry → ℕ → ℕ → Result ℕ Refusal
-where_all_empty p f first count = cond (some_full p f first count) (Err DeleteFirst) (Ok first)
+abbrev pub ensure_all_empty : ProfileName → Forest Entry → ℕ → ℕ → Result ℕ Refusal
+ensure_all_empty p f first count = cond (some_full p f first count) (Err DeleteFirst) (Ok first)
 
 abbrev pub first_slot : ProfileName → Forest Entry → ℕ → ℕ → Cap → Result ℕ Refusal
 first_slot p f offset count (CNode base radix guard) =
-    cond (are_slots radix offset count) (where_all_empty p f (slot_of p base offset) count) (Err RangeError)
+    cond (are_slots radix offset count) (ensure_all_empty p f (slot_of p base offset) count) (Err RangeError)
 first_slot p f offset count cap = Err (FailedLookup MissingCapability)
 
 -- the rest of the checks of a retype, of the objects' slots and of the room for them
@@ -59,7 +59,7 @@ decoded_objects p f slot untyped root shape asked =
 -- the checks in their order, of a retype by the untyped capability in a slot
 abbrev pub decoded_retype : ProfileName → Forest Entry → ℕ → ℕ → Cap → RetypeArguments → Result NewObjects Refusal
 decoded_retype p f thread slot invoked asked =
-    where_kind kind.Untyped invoked >>= λ untyped.
+    ensure_kind kind.Untyped invoked >>= λ untyped.
     extra_cap p f thread asked.root >>= λ root.
     shape_of p asked.kind asked.size_bits >>= λ shape.
     decoded_objects p f slot untyped root shape asked

@@ -22,7 +22,7 @@ pub record State : Type 0 where
   -- whether the send or the receive of the call with a number was cancelled
   pub is_cancelled : ℕ → Bool
   -- whether a thread was made and not resumed, or was suspended
-  pub is_idle : Instance → Bool
+  pub is_inactive : Instance → Bool
   -- the calls so far, refused ones too; a call's number is the count after it
   pub count : ℕ
 
@@ -70,7 +70,7 @@ first_of None None other = other
 abbrev pub state_of : State → Instance → ThreadState
 state_of A t =
     first_of (find (is_sending A t) (endpoints_of A.derivations)) (find (is_receiving A t) (endpoints_of A.derivations))
-    (cond (A.is_idle t) Inactive Ready)
+    (cond (A.is_inactive t) Inactive Ready)
 
 -- a pair is completed by the later of its two calls
 abbrev pub completion : SendRecord × ReceiveRecord → ℕ

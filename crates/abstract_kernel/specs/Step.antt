@@ -29,8 +29,8 @@ pub record Outcome : Type 0 where
   pub state : State
 
 -- the state after one more call, which changed nothing else
-abbrev pub counted : State → State
-counted A = record A { count = A.count + 1 }
+abbrev pub next_call : State → State
+next_call A = record A { count = A.count + 1 }
 
 -- a send of this call, with the badge of the invoked capability; a receive of this call
 abbrev pub send_record : State → ℕ → Service → Message → SendRecord
@@ -62,7 +62,7 @@ send_accepted A thread service message =
     let s = send_record A thread service message in
     record {
       reply = reply_to_send s (slice_get (receives_of A s.endpoint) (length (sends_to A s.endpoint)));
-      state = record (counted A) { sends = A.sends ++ s ∷ [] };
+      state = record (next_call A) { sends = A.sends ++ s ∷ [] };
     }
 
 abbrev pub receive_accepted : State → ℕ → Service → Outcome
@@ -70,7 +70,7 @@ receive_accepted A thread service =
     let a = receive_record A thread service in
     record {
       reply = reply_to_receive a (slice_get (sends_to A a.endpoint) (length (receives_of A a.endpoint)));
-      state = record (counted A) { receives = A.receives ++ a ∷ [] };
+      state = record (next_call A) { receives = A.receives ++ a ∷ [] };
     }
 
 -- whether a receive waits for the next send to an endpoint, and whether a send waits for the next receive
@@ -82,11 +82,11 @@ is_receive_awaited A e = nat_lt (length (receives_of A e)) (length (sends_to A e
 
 -- an operation that does not wait is accepted only where it is awaited; otherwise nothing but the count changes
 abbrev pub where_awaited : State → Bool → Outcome → Reply → Outcome
-where_awaited A awaited accepted reply = cond awaited accepted (record { reply = reply; state = counted A })
+where_awaited A awaited accepted reply = cond awaited accepted (record { reply = reply; state = next_call A })
 
 -- the capabilities change, and nothing else
 abbrev pub rearranged : State → Forest Entry → Outcome
-rearranged A f = record { reply = Done; state = record (counted A) { derivations = f } }
+rearranged A f = record { reply = Done; state = record (next_call A) { derivations = f } }
 
 -- the number of this call where an object stands at one of these addresses, and else its former birth
 abbrev pub born_at : State → List ℕ → (ℕ → ℕ) → ℕ → ℕ
@@ -101,17 +101,17 @@ abbrev pub objects_made : ProfileName → State → NewObjects → Outcome
 objects_made p A new =
     record {
       reply = Done;
-      state = record (counted A) {
+      state = record (next_call A) {
         derivations = with_objects p new A.derivations;
         endpoint_birth = born_at A (new_bases endpoint_base p new) A.endpoint_birth;
         thread_birth = born_at A (new_bases tcb_base p new) A.thread_birth;
-        is_idle = λ t. A.is_idle t || is_made A (new_bases tcb_base p new) t;
+        is_inactive = λ t. A.is_inactive t || is_made A (new_bases tcb_base p new) t;
       };
     }
 
 -- it is done, and the state has one more call
 abbrev pub changed_to : State → Outcome
-changed_to A = record { reply = Done; state = counted A }
+changed_to A = record { reply = Done; state = next_call A }
 
 -- the capabilities become those of a forest, and what is open and then not live is cancelled
 abbrev pub objects_ended : State → Forest Entry → Outcome
@@ -136,7 +136,7 @@ performed p A thread (Suspend tcb) = changed_to (suspending A (thread_at A tcb))
 performed p A thread (Resume tcb) = changed_to (resuming A (thread_at A tcb))
 
 abbrev pub outcome : ProfileName → State → ℕ → Result Invocation Refusal → Outcome
-outcome p A thread (Err refusal) = record { reply = Refused refusal; state = counted A }
+outcome p A thread (Err refusal) = record { reply = Refused refusal; state = next_call A }
 outcome p A thread (Ok invocation) = performed p A thread invocation
 
 -- one call: where a check fails it is refused, and nothing but the count changes

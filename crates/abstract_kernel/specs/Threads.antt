@@ -16,7 +16,7 @@ use Rattle.cspace_core.specs.Resolution.{is_cnode}
 use Rattle.abstract_kernel.specs.declared.invocation.NewSpace.{NewSpace}
 use Rattle.cap_core.specs.Checks.{◌>>=◌}
 use Rattle.abstract_kernel.specs.Lookups.{invoked_slot}
-use Rattle.abstract_kernel.specs.CNodes.{where_set}
+use Rattle.abstract_kernel.specs.CNodes.{ensure_set}
 
 -- the address of the thread control block that the invoked capability names
 abbrev pub decoded_tcb : Cap → Result ℕ Refusal
@@ -26,7 +26,7 @@ decoded_tcb cap = cond (is_null cap) (Err InvalidCapability) (Err IllegalOperati
 -- a CNode's capability, with the guard that a word holds where it is not 0
 abbrev pub space_cap : ProfileName → ℕ → Cap → Result Cap Refusal
 space_cap p word cap =
-    cond (is_cnode cap) (cond (word == 0) (Ok cap) (where_set (with_data p false word cap))) (Err IllegalOperation)
+    cond (is_cnode cap) (cond (word == 0) (Ok cap) (ensure_set (with_data p false word cap))) (Err IllegalOperation)
 
 -- the checks in their order, of the setting of a space by the capability in a slot
 abbrev pub decoded_space : ProfileName → Forest Entry → ℕ → ℕ → Cap → ℕ → ℕ → Result NewSpace Refusal

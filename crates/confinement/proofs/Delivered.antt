@@ -23,7 +23,7 @@ use Rattle.abstract_kernel.specs.Threads.{with_space}
 use Rattle.abstract_kernel.specs.Shown.{waiting_at}
 use Rattle.abstract_kernel.specs.State.{State, shown, endpoint_at, thread_at, sends_to, receives_of, waiting_sends, waiting_receives, waiters}
 use Rattle.abstract_kernel.specs.Cancelling.{cancelling, is_send_ended, is_receive_ended, is_sent_by, is_received_by, is_badged_send}
-use Rattle.abstract_kernel.specs.Step.{Outcome, counted, outcome, performed, where_awaited, is_send_awaited, is_receive_awaited, send_accepted, receive_accepted, send_record, receive_record, reply_to_send, reply_to_receive, step, state_after, replies_of}
+use Rattle.abstract_kernel.specs.Step.{Outcome, next_call, outcome, performed, where_awaited, is_send_awaited, is_receive_awaited, send_accepted, receive_accepted, send_record, receive_record, reply_to_send, reply_to_receive, step, state_after, replies_of}
 use Rattle.abstract_kernel.specs.Reached.{IsReached}
 use Rattle.abstract_kernel.proofs.Lists.Paired.{drop_get, all_kept}
 use Rattle.abstract_kernel.proofs.Lists.Rising.{all_joined, all_dropped_more, all_dropped_push}
@@ -71,7 +71,7 @@ module _ (p : ProfileName) (parts : Parts) (A : State) where
     fresh : B.is_cancelled (B.count + 1) ≡ false
     fresh = inv.fresh (B.count + 1) (omega arith)
 
-    still : Wait (counted B)
+    still : Wait (next_call B)
     still = record { sends = wait.sends; receives = wait.receives }
 
     cancelled : (S : SendRecord → Bool) (Q : ReceiveRecord → Bool) → Wait (cancelling B S Q)

@@ -6,9 +6,9 @@ ghost use Rattle.derivation.specs.Entries.{cap_at};
 ghost use Rattle.slot_core.specs.Places.{address_of};
 ghost use Rattle.ipc_core.specs.Waits.{IsThreadAddress};
 ghost use Rattle.cap_core.specs.Minting.{with_data};
-ghost use Rattle.abstract_kernel.specs.CNodes.{decoded_placement, changed_cap, where_derivable, where_set};
+ghost use Rattle.abstract_kernel.specs.CNodes.{decoded_placement, changed_cap, ensure_derivable, ensure_set};
 
-use crate::lookup::{empty_slot, extra_capability, full_slot, of_kind};
+use crate::lookup::{dest_slot, extra_capability, of_kind, source_slot};
 use abstract_kernel::invocation::{CapPlacement, Change, SlotArguments};
 use cap_core::limits::MAX_MEMORY_BITS;
 use cap_core::{Cap, Kind, Profile, Refusal, mask, set_data};
@@ -32,8 +32,8 @@ pub fn decode_placement<P: Profile, S: CapStore<P>>(
 {
     let node = of_kind(invoked, Kind::CNode)?;
     let root = extra_capability::<P, S>(store, thread, asked.src_root)?;
-    let slot = empty_slot::<P, S>(store, node, asked.index, asked.depth)?;
-    let source = full_slot::<P, S>(store, root, asked.src_index, asked.src_depth)?;
+    let slot = dest_slot::<P, S>(store, node, asked.index, asked.depth)?;
+    let source = source_slot::<P, S>(store, root, asked.src_index, asked.src_depth)?;
     let cap = changed::<P, S>(store, source, change)?;
     Ok(CapPlacement {
         source: source.address::<P>(),
@@ -66,7 +66,7 @@ fn changed<P: Profile, S: CapStore<P>>(
 /// A capability with its data set by a word, where it has such data.
 #[inline(always)]
 pub fn with_word<P: Profile>(preserve: bool, word: u64, cap: Cap) -> Result<Cap, Refusal>
-    ensures { result ≡ where_set (with_data P.profile preserve word cap) }
+    ensures { result ≡ ensure_set (with_data P.profile preserve word cap) }
 {
     set_data::<P>(preserve, word, cap).ok_or(Refusal::IllegalOperation)
 }
@@ -74,7 +74,7 @@ pub fn with_word<P: Profile>(preserve: bool, word: u64, cap: Cap) -> Result<Cap,
 /// A capability that may be derived from the one in a slot: an untyped one where nothing was derived from it.
 #[inline(always)]
 fn derivable<P: Profile, S: CapStore<P>>(store: &S, source: Slot, cap: Cap) -> Result<Cap, Refusal>
-    ensures { result ≡ where_derivable (S.forest store.now) (address_of P.profile source) cap }
+    ensures { result ≡ ensure_derivable (S.forest store.now) (address_of P.profile source) cap }
 {
     match cap {
         Cap::Untyped { .. } => {

@@ -5,7 +5,7 @@ ghost use Rattle.cap_core.specs.declared.capability.Cap.TheVariants.{Null};
 ghost use Rattle.cspace_core.specs.Target.{target_seen};
 ghost use Rattle.derivation.specs.Entries.{cap_at};
 ghost use Rattle.abstract_kernel.specs.declared.invocation.Invocation.TheVariants.{Delete, Revoke, CancelBadged};
-ghost use Rattle.abstract_kernel.specs.Deletion.{decoded_slot, decoded_badge, where_all_rights};
+ghost use Rattle.abstract_kernel.specs.Deletion.{decoded_slot, decoded_badge, ensure_all_rights};
 ghost use Rattle.decode.specs.Private.Invoked.{invokes};
 
 use crate::lookup::of_kind;
@@ -77,7 +77,7 @@ fn decode_slot<P: Profile, S: CapStore<P>>(
 
 /// The endpoint and the badge of an endpoint's capability with all rights.
 fn with_all_rights(cap: Cap) -> Result<Service, Refusal>
-    ensures { result ≡ where_all_rights cap }
+    ensures { result ≡ ensure_all_rights cap }
 {
     match cap {
         Cap::Endpoint {

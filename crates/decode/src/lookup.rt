@@ -2,7 +2,7 @@
 ghost use Rattle.std.specs.Prelude.{◌≡◌, ◌≤◌, ◌⊎◌, IfOk};
 ghost use Rattle.slot_core.specs.Places.{address_of};
 ghost use Rattle.ipc_core.specs.Waits.{IsThreadAddress};
-ghost use Rattle.abstract_kernel.specs.Lookups.{invoked_slot, extra_cap, where_kind, empty_slot as empty_slot_of, full_slot as full_slot_of};
+ghost use Rattle.abstract_kernel.specs.Lookups.{invoked_slot, extra_cap, ensure_kind, dest_slot as dest_slot_of, source_slot as source_slot_of};
 ghost use Rattle.cap_core.specs.Objects.{IsLawful};
 ghost use Rattle.cap_core.specs.declared.capability.Cap.TheVariants.{Null};
 ghost use Rattle.cspace_core.specs.Target.{target_seen};
@@ -51,7 +51,7 @@ pub fn extra_capability<P: Profile, S: CapStore<P>>(
 
 /// The invoked capability, where it is of the kind that the operation asks for.
 pub fn of_kind(invoked: Cap, kind: Kind) -> Result<Cap, Refusal>
-    ensures { result ≡ where_kind kind invoked }
+    ensures { result ≡ ensure_kind kind invoked }
 {
     let is_wanted = match invoked {
         Cap::Null => return Err(Refusal::InvalidCapability),
@@ -69,14 +69,14 @@ pub fn of_kind(invoked: Cap, kind: Kind) -> Result<Cap, Refusal>
 
 /// The empty slot that an operation names by an index and a depth from a capability.
 #[inline(always)]
-pub fn empty_slot<P: Profile, S: CapStore<P>>(
+pub fn dest_slot<P: Profile, S: CapStore<P>>(
     store: &S,
     node: Cap,
     index: u64,
     depth: u64,
 ) -> Result<Slot, Refusal>
     requires lawful { (node ≡ Null) ⊎ IsLawful P.profile (S.memory_bits store.now) node }
-    ensures slot { target_seen P.profile result ≡ empty_slot_of P.profile (S.forest store.now) node index depth }
+    ensures slot { target_seen P.profile result ≡ dest_slot_of P.profile (S.forest store.now) node index depth }
     ensures inside { IfOk result (λ slot. LiesInCNode P.profile (cap_at (S.forest store.now)) node (address_of P.profile slot)) }
 {
     let slot = target::<P, S>(store, node, index, depth)?;
@@ -88,14 +88,14 @@ pub fn empty_slot<P: Profile, S: CapStore<P>>(
 
 /// The full slot that an operation names by an index and a depth from a capability.
 #[inline(always)]
-pub fn full_slot<P: Profile, S: CapStore<P>>(
+pub fn source_slot<P: Profile, S: CapStore<P>>(
     store: &S,
     node: Cap,
     index: u64,
     depth: u64,
 ) -> Result<Slot, Refusal>
     requires lawful { (node ≡ Null) ⊎ IsLawful P.profile (S.memory_bits store.now) node }
-    ensures { target_seen P.profile result ≡ full_slot_of P.profile (S.forest store.now) node index depth }
+    ensures { target_seen P.profile result ≡ source_slot_of P.profile (S.forest store.now) node index depth }
 {
     let slot = target::<P, S>(store, node, index, depth)?;
     match store.get(slot) {

@@ -69,9 +69,9 @@ abbrev pub root : {A : Type 0} → A → Forest A → Forest A
 root x f = join f (tree x none none)
 
 -- each thing, in preorder, with the number of its descendants
-abbrev pub counted : {A : Type 0} → Forest A → List (A × ℕ)
-counted none = []
-counted (tree a under others) = (a, length (preorder under)) ∷ (counted under ++ counted others)
+abbrev pub with_descendant_counts : {A : Type 0} → Forest A → List (A × ℕ)
+with_descendant_counts none = []
+with_descendant_counts (tree a under others) = (a, length (preorder under)) ∷ (with_descendant_counts under ++ with_descendant_counts others)
 
 -- each of a list, with the length of the longest run of followers that pass its test
 abbrev pub runs : {A : Type 0} → (A → A → Bool) → List A → List (A × ℕ)
@@ -81,17 +81,17 @@ runs t (a ∷ l) = (a, prefix_len (t a) l) ∷ runs t l
 -- a list and a test stand for a forest: the list is its preorder, and the descendants of each are the longest run of
 -- followers that pass
 abbrev pub StandsFor : {A : Type 0} → (A → A → Bool) → List A → Forest A → Type 0
-StandsFor t l f = counted f ≡ runs t l
+StandsFor t l f = with_descendant_counts f ≡ runs t l
 
 -- the forest that a list and a test stand for: from the last on, each takes the trees in front whose tops pass its test
-abbrev pub taken : {A : Type 0} → (A → Bool) → Forest A → Forest A
-taken p none = none
-taken p (tree a under others) = cond (p a) (tree a under (taken p others)) none
+abbrev pub front_trees : {A : Type 0} → (A → Bool) → Forest A → Forest A
+front_trees p none = none
+front_trees p (tree a under others) = cond (p a) (tree a under (front_trees p others)) none
 
-abbrev pub left : {A : Type 0} → (A → Bool) → Forest A → Forest A
-left p none = none
-left p (tree a under others) = cond (p a) (left p others) (tree a under others)
+abbrev pub trees_behind : {A : Type 0} → (A → Bool) → Forest A → Forest A
+trees_behind p none = none
+trees_behind p (tree a under others) = cond (p a) (trees_behind p others) (tree a under others)
 
 abbrev pub build : {A : Type 0} → (A → A → Bool) → List A → Forest A
 build t [] = none
-build t (a ∷ l) = let f = build t l in tree a (taken (t a) f) (left (t a) f)
+build t (a ∷ l) = let f = build t l in tree a (front_trees (t a) f) (trees_behind (t a) f)

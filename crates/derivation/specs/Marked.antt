@@ -6,7 +6,7 @@ use Rattle.cap_core.specs.declared.capability.Cap.{Cap}
 use Rattle.cap_core.specs.declared.capability.Cap.TheVariants.{Null}
 use Rattle.cap_core.specs.Numbers.{slot_size}
 use Rattle.cap_core.specs.Objects.{is_untyped, badge_of, same_object, in_region, IsLawful}
-use Rattle.derivation.specs.Forest.{Forest, preorder, descendants, counted, runs, renamed, build}
+use Rattle.derivation.specs.Forest.{Forest, preorder, descendants, with_descendant_counts, runs, renamed, build}
 use Rattle.derivation.specs.Entries.{Entry, entry, is_at, first_child}
 use Rattle.derivation.specs.Derivation.{is_last}
 use Rattle.derivation.specs.Disjoint.{IsDisjoint}
@@ -114,7 +114,7 @@ next_in place (r ∷ l) = cond (r.place == place) (first_place l) (next_in place
 -- the list stands for a forest of entries: it is the forest's preorder, where revocable is originality, and the descendants of
 -- each are the longest run of followers that it is parent of
 abbrev pub StandsForEntries : ProfileName → List Marked → Forest Entry → Type 0
-StandsForEntries p l f = counted f ≡ map (λ (r : Marked × ℕ). (entry_of p r.0, r.1)) (runs (is_parent p) l)
+StandsForEntries p l f = with_descendant_counts f ≡ map (λ (r : Marked × ℕ). (entry_of p r.0, r.1)) (runs (is_parent p) l)
 
 -- of the capabilities that name one object, an original one with no badge has all others below it
 abbrev pub HasOthersBelow : Forest Entry → Type 0

@@ -6,7 +6,7 @@ ghost use Rattle.ipc_core.specs.Representation.Linked.{IsLinked, waits_in};
 ghost use Rattle.ipc_core.specs.Representation.TablesAgree.{tables_agree};
 ghost use Rattle.ipc_core.specs.Representation.Alike.{linked-prop, alike-prop};
 
-use crate::tables::{EndpointRow, Tables, ThreadRow};
+use crate::tables::{EndpointRow, QueueRow, Tables};
 use crate::waiter::{Offer, Received, Role, Sent};
 use crate::waiters::{MakeWaiters, Waiters};
 use cap_core::{Badge, Message, Profile};
@@ -50,7 +50,7 @@ impl<P: Profile> Waiters<P> for LinkedWaiters<P> {
                 Sent::Delivered { to }
             },
             None if block => {
-                let row = ThreadRow::sending(endpoint, badge, message);
+                let row = QueueRow::sending(endpoint, badge, message);
                 self.tables.wait_last::<P>(endpoint, thread, row);
                 Sent::Waiting
             },
@@ -70,7 +70,7 @@ impl<P: Profile> Waiters<P> for LinkedWaiters<P> {
                 }
             },
             None if block => {
-                let row = ThreadRow::receiving(endpoint);
+                let row = QueueRow::receiving(endpoint);
                 self.tables.wait_last::<P>(endpoint, thread, row);
                 Received::Waiting
             },
@@ -116,7 +116,7 @@ impl<P: Profile> MakeWaiters<P> for LinkedWaiters<P> {
             last: None,
         };
         let tables = Tables {
-            threads: vec![in alloc; ThreadRow::free(); threads]?,
+            threads: vec![in alloc; QueueRow::free(); threads]?,
             endpoints: vec![in alloc; idle; endpoints]?,
         };
         Ok(LinkedWaiters {

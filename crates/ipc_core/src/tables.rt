@@ -15,7 +15,7 @@ use cap_core::{Badge, Message, Profile};
 ///
 /// Where it does not wait, the other fields mean nothing.
 #[derive(Clone, Copy)]
-pub struct ThreadRow {
+pub struct QueueRow {
     pub role: Option<Role>,
     pub badge: Badge,
     pub message: Message,
@@ -23,12 +23,12 @@ pub struct ThreadRow {
     pub next: Option<u64>,
 }
 
-impl ThreadRow {
+impl QueueRow {
     /// The row of a thread that waits nowhere.
-    pub fn free() -> ThreadRow
+    pub fn free() -> QueueRow
         ensures { result ≡ free_row }
     {
-        ThreadRow {
+        QueueRow {
             role: None,
             badge: Badge(0),
             message: Message {
@@ -42,10 +42,10 @@ impl ThreadRow {
     }
 
     /// A row of a thread that sends; its links are to be set.
-    pub fn sending(endpoint: u64, badge: Badge, message: Message) -> ThreadRow
+    pub fn sending(endpoint: u64, badge: Badge, message: Message) -> QueueRow
         ensures { result ≡ sending_row endpoint badge message }
     {
-        ThreadRow {
+        QueueRow {
             role: Some(Role::Sending(endpoint)),
             badge,
             message,
@@ -55,12 +55,12 @@ impl ThreadRow {
     }
 
     /// A row of a thread that receives; its links are to be set.
-    pub fn receiving(endpoint: u64) -> ThreadRow
+    pub fn receiving(endpoint: u64) -> QueueRow
         ensures { result ≡ receiving_row endpoint }
     {
-        ThreadRow {
+        QueueRow {
             role: Some(Role::Receiving(endpoint)),
-            ..ThreadRow::free()
+            ..QueueRow::free()
         }
     }
 
@@ -107,7 +107,7 @@ pub struct EndpointRow {
 /// The rows of threads and of endpoints, row k for the k-th place where one can stand.
 #[derive(Drop)]
 pub struct Tables {
-    pub threads: Vec<ThreadRow>,
+    pub threads: Vec<QueueRow>,
     pub endpoints: Vec<EndpointRow>,
 }
 
@@ -125,7 +125,7 @@ fn endpoint_place<P: Profile>(endpoint: u64) -> usize
 
 impl Tables {
     /// A thread's row.
-    pub fn thread<P: Profile>(&self, thread: u64) -> ThreadRow
+    pub fn thread<P: Profile>(&self, thread: u64) -> QueueRow
         requires { HasRow (tcb_size P.profile) self.now.threads.items thread }
         ensures { result ≡ (links_of P.profile self.now).thread thread }
     {
@@ -170,7 +170,7 @@ impl Tables {
         row.role = role;
     }
 
-    fn set_thread<P: Profile>(&mut self, thread: u64, row: ThreadRow)
+    fn set_thread<P: Profile>(&mut self, thread: u64, row: QueueRow)
         requires { HasRow (tcb_size P.profile) self.old.threads.items thread }
         ensures links { links_of P.profile self.new ≡ set_row thread (λ _. row) (links_of P.profile self.old) }
         ensures threads { length self.new.threads.items ≡ length self.old.threads.items }
@@ -248,7 +248,7 @@ impl Tables {
     }
 
     /// A thread that waits nowhere waits, after all others of an endpoint.
-    pub fn wait_last<P: Profile>(&mut self, endpoint: u64, thread: u64, row: ThreadRow)
+    pub fn wait_last<P: Profile>(&mut self, endpoint: u64, thread: u64, row: QueueRow)
         requires endpoint { HasRow (endpoint_size P.profile) self.old.endpoints.items endpoint }
         requires thread { HasRow (tcb_size P.profile) self.old.threads.items thread }
         requires linked { IsLinked P.profile self.old }
@@ -262,7 +262,7 @@ impl Tables {
         let last = self.endpoint::<P>(endpoint).last;
         self.set_thread::<P>(
             thread,
-            ThreadRow {
+            QueueRow {
                 previous: last,
                 next: None,
                 ..row

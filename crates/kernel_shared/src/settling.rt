@@ -93,7 +93,7 @@ fn settle_copies<N: Naming, T: HistoryCopy<N>, R: Wait>(
     match shared.opened() {
         Ok((state, count)) => {
             if all_begin(&mut clients, state.writer.published()) {
-                Ok(counted(rt, state, clients))
+                Ok(settle_ledger(rt, state, clients))
             } else {
                 Err(Unsettled {
                     why: SettleFault::NoEntry,
@@ -124,7 +124,7 @@ fn all_begin<N: Naming, T: HistoryCopy<N>>(clients: &mut Vec<Client<N, T>>, book
 }
 
 /// Ends the writer, whose ledger holds just what the clients made.
-fn counted<N: Naming, T: HistoryCopy<N>, R: Wait>(
+fn settle_ledger<N: Naming, T: HistoryCopy<N>, R: Wait>(
     rt: &R,
     state: WriterState<N, T>,
     clients: Vec<Client<N, T>>,

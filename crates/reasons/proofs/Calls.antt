@@ -22,32 +22,32 @@ use Rattle.reasons.specs.declared.reason.Reason.{Reason}
 use Rattle.reasons.specs.Reasons.{refusal_of, with_refusal}
 use Rattle.reasons.specs.Facts.{TellsTruly, AreThere, told_by}
 use Rattle.reasons.specs.Operations.{explained_op}
-use Rattle.reasons.specs.Calls.{where_ready, where_live, explained_call, reason_in, reason_of, refusal_in}
+use Rattle.reasons.specs.Calls.{ensure_ready, ensure_live, explained_call, reason_in, reason_of, refusal_in}
 use Rattle.reasons.proofs.Refusals.{op_is}
 use Rattle.reasons.proofs.Truths.{op_truly}
 
-ready_is : (s : ThreadState) (m : Result Invocation Reason) → with_refusal (where_ready s m) ≡ plain.where_ready s (with_refusal m)
+ready_is : (s : ThreadState) (m : Result Invocation Reason) → with_refusal (ensure_ready s m) ≡ plain.ensure_ready s (with_refusal m)
 ready_is state.Ready m = refl
 ready_is state.Inactive m = refl
 ready_is (state.Sending e) m = refl
 ready_is (state.Receiving e) m = refl
 
-live_is : (o : Option ThreadView) (m : Result Invocation Reason) → with_refusal (where_live o m) ≡ plain.where_live o (with_refusal m)
+live_is : (o : Option ThreadView) (m : Result Invocation Reason) → with_refusal (ensure_live o m) ≡ plain.ensure_live o (with_refusal m)
 live_is None m = refl
 live_is (Some thread) m = ready_is thread.state m
 
 pub call_is : (p : ProfileName) (v : Shown) (call : Call) → with_refusal (explained_call p v call) ≡ decoded_call p v call
 call_is p v call =
     live_is (get v.threads call.thread) (explained_op p v.derivations call.thread call.op)
-    ∙ ap (plain.where_live (get v.threads call.thread)) (op_is p v.derivations call.thread call.op)
+    ∙ ap (plain.ensure_live (get v.threads call.thread)) (op_is p v.derivations call.thread call.op)
 
-ready_truly : (f : Forest Entry) (s : ThreadState) (m : Result Invocation Reason) → TellsTruly f m → TellsTruly f (where_ready s m)
+ready_truly : (f : Forest Entry) (s : ThreadState) (m : Result Invocation Reason) → TellsTruly f m → TellsTruly f (ensure_ready s m)
 ready_truly f state.Ready m h = h
 ready_truly f state.Inactive m h = tt
 ready_truly f (state.Sending e) m h = tt
 ready_truly f (state.Receiving e) m h = tt
 
-live_truly : (f : Forest Entry) (o : Option ThreadView) (m : Result Invocation Reason) → TellsTruly f m → TellsTruly f (where_live o m)
+live_truly : (f : Forest Entry) (o : Option ThreadView) (m : Result Invocation Reason) → TellsTruly f m → TellsTruly f (ensure_live o m)
 live_truly f None m h = tt
 live_truly f (Some thread) m h = ready_truly f thread.state m h
 

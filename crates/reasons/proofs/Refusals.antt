@@ -35,7 +35,7 @@ use Rattle.abstract_kernel.specs.declared.invocation.RetypeArguments.{RetypeArgu
 use Rattle.abstract_kernel.specs.declared.invocation.Invocation.{Invocation}
 use Rattle.abstract_kernel.specs.declared.invocation.Invocation.TheVariants as invocation
 use Rattle.abstract_kernel.specs.Lookups as plain
-use Rattle.abstract_kernel.specs.Lookups.{slot_found, slot_named, looked_up, invoked_slot, held_in, extra_cap, where_kind, is_of_kind}
+use Rattle.abstract_kernel.specs.Lookups.{slot_found, slot_named, looked_up, invoked_slot, held_in, extra_cap, ensure_kind, is_of_kind}
 use Rattle.abstract_kernel.specs.CNodes as cnodes
 use Rattle.abstract_kernel.specs.CNodes.{decoded_placement, changed_cap}
 use Rattle.abstract_kernel.specs.Deletion.{decoded_slot, decoded_badge}
@@ -53,12 +53,12 @@ use Rattle.reasons.specs.declared.reason.Miss.{Miss}
 use Rattle.reasons.specs.declared.reason.Reason.{Reason}
 use Rattle.reasons.specs.declared.reason.Reason.TheVariants.{NoSize, TooLarge, TooSmall, NoOffset, NoCount, FewSlots}
 use Rattle.reasons.specs.Reasons.{refusal_of, with_refusal, with_fault, held_at}
-use Rattle.reasons.specs.Lookups.{chosen_by_radix, chosen_after_guard, chosen, walked_on, walked_within, walked, reached, slot_by_word, reached_whole, slot_by_index, where_empty, where_full}
+use Rattle.reasons.specs.Lookups.{chosen_by_radix, chosen_after_guard, chosen, walked_on, walked_within, walked, reached, slot_by_word, reached_whole, slot_by_index, ensure_empty, ensure_full}
 use Rattle.reasons.specs.Messages.{right_bit, service_in}
-use Rattle.reasons.specs.CNodes.{no_data, where_set, where_childless, where_derivable, changed, explained_placement}
-use Rattle.reasons.specs.Deletion.{explained_slot, where_all_rights, explained_badge}
+use Rattle.reasons.specs.CNodes.{no_data, ensure_set, ensure_childless, ensure_derivable, changed, explained_placement}
+use Rattle.reasons.specs.Deletion.{explained_slot, ensure_all_rights, explained_badge}
 use Rattle.reasons.specs.Threads.{explained_tcb, space_of, explained_space}
-use Rattle.reasons.specs.Retyping.{because, least_of, no_shape, explained_shape, node_slot, node_word, first_full, where_none_full, first_slot, no_room, explained_objects, explained_retype}
+use Rattle.reasons.specs.Retyping.{because, least_of, no_shape, explained_shape, node_slot, node_word, first_full, ensure_none_full, first_slot, no_room, explained_objects, explained_retype}
 use Rattle.reasons.specs.Operations.{invoking, explained_invocation, explained_op}
 
 -- one check after another
@@ -147,13 +147,13 @@ slot_by_index_is p cap_in word root index depth =
     (with_refusal_cond deep _ _ ∙ ap (λ r. cond deep r no_depth)
     (reached_whole_is cap_in word (held_at cap_in root) m ∙ ap found_whole (walked_is p cap_in root (low_bits depth index))))
 
-where_empty_is : (f : Forest Entry) (m : Result ℕ Reason) → with_refusal (where_empty f m) ≡ plain.where_empty f (with_refusal m)
-where_empty_is f (Ok slot) = with_refusal_cond (is_null (cap_at f slot)) _ _
-where_empty_is f (Err reason) = refl
+ensure_empty_is : (f : Forest Entry) (m : Result ℕ Reason) → with_refusal (ensure_empty f m) ≡ plain.ensure_empty f (with_refusal m)
+ensure_empty_is f (Ok slot) = with_refusal_cond (is_null (cap_at f slot)) _ _
+ensure_empty_is f (Err reason) = refl
 
-where_full_is : (f : Forest Entry) (m : Result ℕ Reason) → with_refusal (where_full f m) ≡ plain.where_full f (with_refusal m)
-where_full_is f (Ok slot) = with_refusal_cond (is_null (cap_at f slot)) _ _
-where_full_is f (Err reason) = refl
+ensure_full_is : (f : Forest Entry) (m : Result ℕ Reason) → with_refusal (ensure_full f m) ≡ plain.ensure_full f (with_refusal m)
+ensure_full_is f (Ok slot) = with_refusal_cond (is_null (cap_at f slot)) _ _
+ensure_full_is f (Err reason) = refl
 
 -- the invoked capability is the one that passes
 kind_cases : {Y : Type 0} (t u : Bool) (cap : Cap) (r r' : Reason) (k : Cap → Result Y Reason) (k' : Cap → Result Y Refusal) →
@@ -191,37 +191,37 @@ no_data_is p of word slot (Endpoint base badge rights) = refl
 no_data_is p of word slot (CNode base radix guard) = refl
 no_data_is p of word slot (Tcb base) = refl
 
-where_set_is : (r : Reason) (o : Option Cap) → refusal_of r ≡ refusal.IllegalOperation → with_refusal (where_set r o) ≡ cnodes.where_set o
-where_set_is r None e = ap Err e
-where_set_is r (Some cap) e = refl
+ensure_set_is : (r : Reason) (o : Option Cap) → refusal_of r ≡ refusal.IllegalOperation → with_refusal (ensure_set r o) ≡ cnodes.ensure_set o
+ensure_set_is r None e = ap Err e
+ensure_set_is r (Some cap) e = refl
 
 childless_is : (source : Held) (cap : Cap) (t : Bool) (o : Option ℕ) →
-    with_refusal (cond t (where_childless source cap o) (Ok cap)) ≡ cond (t && is_some o) (Err refusal.RevokeFirst) (Ok cap)
+    with_refusal (cond t (ensure_childless source cap o) (Ok cap)) ≡ cond (t && is_some o) (Err refusal.RevokeFirst) (Ok cap)
 childless_is source cap true None = refl
 childless_is source cap true (Some child) = refl
 childless_is source cap false o = refl
 
-derivable_is : (f : Forest Entry) (source : ℕ) (cap : Cap) → with_refusal (where_derivable f source cap) ≡ cnodes.where_derivable f source cap
+derivable_is : (f : Forest Entry) (source : ℕ) (cap : Cap) → with_refusal (ensure_derivable f source cap) ≡ cnodes.ensure_derivable f source cap
 derivable_is f source cap = childless_is (held_at (cap_at f) source) cap (is_untyped cap) (first_child source f)
 
 changed_is : (p : ProfileName) (f : Forest Entry) (source : ℕ) (change : Change) (cap : Cap) → with_refusal (changed p f source change cap) ≡ changed_cap p f source change cap
 changed_is p f source (Copy rights) cap = derivable_is f source (masked rights cap)
 changed_is p f source (Mint rights word) cap =
-    after (where_set (no_data p SourceIndex word source cap) (with_data p false word (masked rights cap))) (cnodes.where_set (with_data p false word (masked rights cap)))
-    (where_derivable f source) (cnodes.where_derivable f source)
-    (where_set_is (no_data p SourceIndex word source cap) (with_data p false word (masked rights cap)) (no_data_is p SourceIndex word source cap)) (derivable_is f source)
+    after (ensure_set (no_data p SourceIndex word source cap) (with_data p false word (masked rights cap))) (cnodes.ensure_set (with_data p false word (masked rights cap)))
+    (ensure_derivable f source) (cnodes.ensure_derivable f source)
+    (ensure_set_is (no_data p SourceIndex word source cap) (with_data p false word (masked rights cap)) (no_data_is p SourceIndex word source cap)) (derivable_is f source)
 changed_is p f source Move cap = refl
-changed_is p f source (Mutate word) cap = where_set_is (no_data p SourceIndex word source cap) (with_data p true word cap) (no_data_is p SourceIndex word source cap)
+changed_is p f source (Mutate word) cap = ensure_set_is (no_data p SourceIndex word source cap) (with_data p true word cap) (no_data_is p SourceIndex word source cap)
 
 pub placement_is : (p : ProfileName) (f : Forest Entry) (thread at : ℕ) (asked : SlotArguments) (change : Change) →
     with_refusal (explained_placement p f thread at asked change) ≡ decoded_placement p f thread (cap_at f at) asked change
 placement_is p f thread at asked change =
     kind_cases (is_null (cap_at f at)) (is_of_kind kind.CNode (cap_at f at)) (cap_at f at) _ _ _ _
     (extra_after f (slot_by_word p f SourceRoot thread asked.src_root) _ _ _ (slot_by_word_is p f SourceRoot thread asked.src_root) (λ root.
-    after (where_empty f (slot_by_index p (cap_at f) Index at asked.index asked.depth)) _ _ _
-    (where_empty_is f (slot_by_index p (cap_at f) Index at asked.index asked.depth) ∙ ap (plain.where_empty f) (slot_by_index_is p (cap_at f) Index at asked.index asked.depth)) (λ slot.
-    after (where_full f (slot_by_index p (cap_at f) SourceIndex root asked.src_index asked.src_depth)) _ _ _
-    (where_full_is f (slot_by_index p (cap_at f) SourceIndex root asked.src_index asked.src_depth) ∙ ap (plain.where_full f) (slot_by_index_is p (cap_at f) SourceIndex root asked.src_index asked.src_depth)) (λ source.
+    after (ensure_empty f (slot_by_index p (cap_at f) Index at asked.index asked.depth)) _ _ _
+    (ensure_empty_is f (slot_by_index p (cap_at f) Index at asked.index asked.depth) ∙ ap (plain.ensure_empty f) (slot_by_index_is p (cap_at f) Index at asked.index asked.depth)) (λ slot.
+    after (ensure_full f (slot_by_index p (cap_at f) SourceIndex root asked.src_index asked.src_depth)) _ _ _
+    (ensure_full_is f (slot_by_index p (cap_at f) SourceIndex root asked.src_index asked.src_depth) ∙ ap (plain.ensure_full f) (slot_by_index_is p (cap_at f) SourceIndex root asked.src_index asked.src_depth)) (λ source.
     after (changed p f source change (cap_at f source)) _ _ _ (changed_is p f source change (cap_at f source)) (λ cap. refl)))))
 
 -- The others
@@ -230,7 +230,7 @@ pub slot_is : (p : ProfileName) (f : Forest Entry) (at index depth : ℕ) → wi
 slot_is p f at index depth =
     kind_cases (is_null (cap_at f at)) (is_of_kind kind.CNode (cap_at f at)) (cap_at f at) _ _ _ _ (slot_by_index_is p (cap_at f) Index at index depth)
 
-all_rights_is : (slot : ℕ) (cap : Cap) → with_refusal (where_all_rights slot cap) ≡ deletion.where_all_rights cap
+all_rights_is : (slot : ℕ) (cap : Cap) → with_refusal (ensure_all_rights slot cap) ≡ deletion.ensure_all_rights cap
 all_rights_is slot Null = refl
 all_rights_is slot (Untyped base bits free) = refl
 all_rights_is slot (Endpoint base badge rights) = with_refusal_cond _ _ _
@@ -249,9 +249,9 @@ tcb_is slot (CNode base radix guard) = refl
 tcb_is slot (Tcb base) = refl
 
 space_cases : (t u : Bool) (cap : Cap) (r r' : Reason) (o : Option Cap) → refusal_of r ≡ refusal.IllegalOperation → refusal_of r' ≡ refusal.IllegalOperation →
-    with_refusal (cond t (cond u (Ok cap) (where_set r o)) (Err r')) ≡ cond t (cond u (Ok cap) (cnodes.where_set o)) (Err refusal.IllegalOperation)
+    with_refusal (cond t (cond u (Ok cap) (ensure_set r o)) (Err r')) ≡ cond t (cond u (Ok cap) (cnodes.ensure_set o)) (Err refusal.IllegalOperation)
 space_cases true true cap r r' o e e' = refl
-space_cases true false cap r r' o e e' = where_set_is r o e
+space_cases true false cap r r' o e e' = ensure_set_is r o e
 space_cases false u cap r r' o e e' = ap Err e'
 
 pub space_is : (p : ProfileName) (f : Forest Entry) (thread slot root word : ℕ) →
@@ -302,12 +302,12 @@ found_any test [] = refl
 found_any test (x ∷ xs) = is_some_or (test x) x (find test xs) (list_any test xs) (found_any test xs)
 
 none_full : (p : ProfileName) (f : Forest Entry) (word : Word) (node : Held) (offset first : ℕ) (o : Option ℕ) →
-    with_refusal (where_none_full p f word node offset first o) ≡ cond (is_some o) (Err refusal.DeleteFirst) (Ok first)
+    with_refusal (ensure_none_full p f word node offset first o) ≡ cond (is_some o) (Err refusal.DeleteFirst) (Ok first)
 none_full p f word node offset first None = refl
 none_full p f word node offset first (Some i) = refl
 
 all_empty_is : (p : ProfileName) (f : Forest Entry) (word : Word) (node : Held) (offset count first : ℕ) →
-    with_refusal (where_none_full p f word node offset first (first_full p f first count)) ≡ retyping.where_all_empty p f first count
+    with_refusal (ensure_none_full p f word node offset first (first_full p f first count)) ≡ retyping.ensure_all_empty p f first count
 all_empty_is p f word node offset count first =
     none_full p f word node offset first (first_full p f first count)
     ∙ ap (λ t. cond t (Err refusal.DeleteFirst) (Ok first)) (found_any (λ i. not (is_null (cap_at f (slot_of p first i)))) (range_with_len 0 count))
@@ -327,8 +327,8 @@ first_is p f word offset count slot (CNode base radix guard) =
     first = slot_of p base offset
 
     within : (a b c d : Bool) → with_refusal (cond a (cond (b && c) (cond d (Ok first) (Err (FewSlots word node))) (Err (NoCount max_retype_count))) (Err (NoOffset word node))
-        >>= λ slot. where_none_full p f word node offset slot (first_full p f slot count))
-        ≡ cond (a && (b && (c && d))) (retyping.where_all_empty p f first count) (Err refusal.RangeError)
+        >>= λ slot. ensure_none_full p f word node offset slot (first_full p f slot count))
+        ≡ cond (a && (b && (c && d))) (retyping.ensure_all_empty p f first count) (Err refusal.RangeError)
     within true true true true = all_empty_is p f word node offset count first
     within true true true false = refl
     within true true false d = refl

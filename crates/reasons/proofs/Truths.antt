@@ -41,12 +41,12 @@ use Rattle.reasons.specs.declared.reason.Reason.{Reason}
 use Rattle.reasons.specs.declared.reason.Reason.TheVariants.{NoCapability, IsEmpty, OtherKind, NoRight, NoSize, TooLarge, TooSmall}
 use Rattle.reasons.specs.Reasons.{held_at}
 use Rattle.reasons.specs.Facts.{told_by, IsThere, AreThere, TellsTruly, MissesTruly}
-use Rattle.reasons.specs.Lookups.{chosen_after_guard, chosen, walked_on, walked_within, walked, reached, slot_by_word, reached_whole, slot_by_index, where_empty, where_full}
+use Rattle.reasons.specs.Lookups.{chosen_after_guard, chosen, walked_on, walked_within, walked, reached, slot_by_word, reached_whole, slot_by_index, ensure_empty, ensure_full}
 use Rattle.reasons.specs.Messages.{right_bit, service_in}
-use Rattle.reasons.specs.CNodes.{no_data, where_set, where_childless, where_derivable, changed, explained_placement}
-use Rattle.reasons.specs.Deletion.{explained_slot, where_all_rights, explained_badge}
+use Rattle.reasons.specs.CNodes.{no_data, ensure_set, ensure_childless, ensure_derivable, changed, explained_placement}
+use Rattle.reasons.specs.Deletion.{explained_slot, ensure_all_rights, explained_badge}
 use Rattle.reasons.specs.Threads.{explained_tcb, space_of, explained_space}
-use Rattle.reasons.specs.Retyping.{because, least_of, no_shape, explained_shape, node_slot, node_word, within_node, first_full, where_none_full, first_slot, no_room, explained_objects, explained_retype}
+use Rattle.reasons.specs.Retyping.{because, least_of, no_shape, explained_shape, node_slot, node_word, within_node, first_full, ensure_none_full, first_slot, no_room, explained_objects, explained_retype}
 use Rattle.reasons.specs.Operations.{invoking, explained_invocation, explained_op}
 
 tells_then : {X Y : Type 0} (f : Forest Entry) (m : Result X Reason) (k : X → Result Y Reason) →
@@ -111,7 +111,7 @@ slot_by_index_truly p f word root index depth =
     (whole_truly f word root (walked p (cap_at f) root (low_bits depth index)) (walked_truly p f root (low_bits depth index))) (refl, tt))
     (refl, tt)
 
-empty_truly : (f : Forest Entry) (m : Result ℕ Reason) → TellsTruly f m → TellsTruly f (where_empty f m)
+empty_truly : (f : Forest Entry) (m : Result ℕ Reason) → TellsTruly f m → TellsTruly f (ensure_empty f m)
 empty_truly f (Ok slot) so = tells_cond f (is_null (cap_at f slot)) _ _ tt (refl, tt)
 empty_truly f (Err reason) so = so
 
@@ -126,7 +126,7 @@ full_cases : (f : Forest Entry) (slot : ℕ) (t : Bool) → is_null (cap_at f sl
 full_cases f slot true h = (null_is (cap_at f slot) h, tt)
 full_cases f slot false h = tt
 
-full_truly : (f : Forest Entry) (m : Result ℕ Reason) → TellsTruly f m → TellsTruly f (where_full f m)
+full_truly : (f : Forest Entry) (m : Result ℕ Reason) → TellsTruly f m → TellsTruly f (ensure_full f m)
 full_truly f (Ok slot) so = full_cases f slot (is_null (cap_at f slot)) refl
 full_truly f (Err reason) so = so
 
@@ -152,21 +152,21 @@ no_data_truly p f of word slot (Endpoint base badge rights) h = (h, tt)
 no_data_truly p f of word slot (CNode base radix guard) h = (h, tt)
 no_data_truly p f of word slot (Tcb base) h = (h, tt)
 
-set_truly : (f : Forest Entry) (reason : Reason) (o : Option Cap) → AreThere f (told_by reason) → TellsTruly f (where_set reason o)
+set_truly : (f : Forest Entry) (reason : Reason) (o : Option Cap) → AreThere f (told_by reason) → TellsTruly f (ensure_set reason o)
 set_truly f reason None so = so
 set_truly f reason (Some cap) so = tt
 
-childless_truly : (f : Forest Entry) (source : ℕ) (cap : Cap) (o : Option ℕ) → TellsTruly f (where_childless (held_at (cap_at f) source) cap o)
+childless_truly : (f : Forest Entry) (source : ℕ) (cap : Cap) (o : Option ℕ) → TellsTruly f (ensure_childless (held_at (cap_at f) source) cap o)
 childless_truly f source cap None = tt
 childless_truly f source cap (Some child) = (refl, tt)
 
-derivable_truly : (f : Forest Entry) (source : ℕ) (cap : Cap) → TellsTruly f (where_derivable f source cap)
+derivable_truly : (f : Forest Entry) (source : ℕ) (cap : Cap) → TellsTruly f (ensure_derivable f source cap)
 derivable_truly f source cap = tells_cond f (is_untyped cap) _ _ (childless_truly f source cap (first_child source f)) tt
 
 changed_truly : (p : ProfileName) (f : Forest Entry) (source : ℕ) (change : Change) (cap : Cap) → cap ≡ cap_at f source → TellsTruly f (changed p f source change cap)
 changed_truly p f source (Copy rights) cap h = derivable_truly f source (masked rights cap)
 changed_truly p f source (Mint rights word) cap h =
-    tells_then f (where_set (no_data p SourceIndex word source cap) (with_data p false word (masked rights cap))) (where_derivable f source)
+    tells_then f (ensure_set (no_data p SourceIndex word source cap) (with_data p false word (masked rights cap))) (ensure_derivable f source)
     (set_truly f (no_data p SourceIndex word source cap) (with_data p false word (masked rights cap)) (no_data_truly p f SourceIndex word source cap h)) (derivable_truly f source)
 changed_truly p f source Move cap h = tt
 changed_truly p f source (Mutate word) cap h = set_truly f (no_data p SourceIndex word source cap) (with_data p true word cap) (no_data_truly p f SourceIndex word source cap h)
@@ -175,9 +175,9 @@ placement_truly : (p : ProfileName) (f : Forest Entry) (thread at : ℕ) (asked 
 placement_truly p f thread at asked change =
     kind_truly f (is_null (cap_at f at)) (is_of_kind kind.CNode (cap_at f at)) kind.CNode at _ refl
     (tells_then f (slot_by_word p f SourceRoot thread asked.src_root) _ (slot_by_word_truly p f SourceRoot thread asked.src_root) (λ root.
-    tells_then f (where_empty f (slot_by_index p (cap_at f) Index at asked.index asked.depth)) _
+    tells_then f (ensure_empty f (slot_by_index p (cap_at f) Index at asked.index asked.depth)) _
     (empty_truly f (slot_by_index p (cap_at f) Index at asked.index asked.depth) (slot_by_index_truly p f Index at asked.index asked.depth)) (λ slot.
-    tells_then f (where_full f (slot_by_index p (cap_at f) SourceIndex root asked.src_index asked.src_depth)) _
+    tells_then f (ensure_full f (slot_by_index p (cap_at f) SourceIndex root asked.src_index asked.src_depth)) _
     (full_truly f (slot_by_index p (cap_at f) SourceIndex root asked.src_index asked.src_depth) (slot_by_index_truly p f SourceIndex root asked.src_index asked.src_depth)) (λ source.
     tells_then f (changed p f source change (cap_at f source)) _ (changed_truly p f source change (cap_at f source) refl) (λ cap. tt)))))
 
@@ -185,7 +185,7 @@ slot_truly : (p : ProfileName) (f : Forest Entry) (at index depth : ℕ) → Tel
 slot_truly p f at index depth =
     kind_truly f (is_null (cap_at f at)) (is_of_kind kind.CNode (cap_at f at)) kind.CNode at _ refl (slot_by_index_truly p f Index at index depth)
 
-rights_truly : (f : Forest Entry) (slot : ℕ) (cap : Cap) → cap ≡ cap_at f slot → TellsTruly f (where_all_rights slot cap)
+rights_truly : (f : Forest Entry) (slot : ℕ) (cap : Cap) → cap ≡ cap_at f slot → TellsTruly f (ensure_all_rights slot cap)
 rights_truly f slot Null h = (h, tt)
 rights_truly f slot (Untyped base bits free) h = (h, tt)
 rights_truly f slot (Endpoint base badge rights) h = tells_cond f (rights.0 == all_rights.0) _ _ tt (h, tt)
@@ -227,7 +227,7 @@ because_truly f reason (Ok x) h = tt
 because_truly f reason (Err r) h = h
 
 none_full_truly : (p : ProfileName) (f : Forest Entry) (word : Word) (node : Held) (offset first : ℕ) (o : Option ℕ) → IsThere f node →
-    TellsTruly f (where_none_full p f word node offset first o)
+    TellsTruly f (ensure_none_full p f word node offset first o)
 none_full_truly p f word node offset first None h = tt
 none_full_truly p f word node offset first (Some i) h = (h, (refl, tt))
 
@@ -237,7 +237,7 @@ first_truly p f word offset count slot (Untyped base bits free) h = (h, tt)
 first_truly p f word offset count slot (Endpoint base badge rights) h = (h, tt)
 first_truly p f word offset count slot (CNode base radix guard) h =
     tells_then f (within_node word (record { slot = slot; cap = CNode base radix guard }) radix offset count (slot_of p base offset))
-    (λ first. where_none_full p f word (record { slot = slot; cap = CNode base radix guard }) offset first (first_full p f first count))
+    (λ first. ensure_none_full p f word (record { slot = slot; cap = CNode base radix guard }) offset first (first_full p f first count))
     (tells_cond f (nat_lt offset (2 ^ radix)) _ _
     (tells_cond f (nat_le 1 count && nat_le count max_retype_count) _ _ (tells_cond f (nat_le count (2 ^ radix - offset)) _ _ tt (h, tt)) tt) (h, tt))
     (λ first. none_full_truly p f word (record { slot = slot; cap = CNode base radix guard }) offset first (first_full p f first count) h)

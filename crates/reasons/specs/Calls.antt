@@ -15,17 +15,17 @@ use Rattle.reasons.specs.declared.reason.Reason.TheVariants.{NoThread, NotReady}
 use Rattle.reasons.specs.Operations.{explained_op}
 
 -- a thread that is not ready makes no calls
-abbrev pub where_ready : ThreadState → Result Invocation Reason → Result Invocation Reason
-where_ready Ready found = found
-where_ready state found = Err (NotReady state)
+abbrev pub ensure_ready : ThreadState → Result Invocation Reason → Result Invocation Reason
+ensure_ready Ready found = found
+ensure_ready state found = Err (NotReady state)
 
-abbrev pub where_live : Option ThreadView → Result Invocation Reason → Result Invocation Reason
-where_live None found = Err NoThread
-where_live (Some thread) found = where_ready thread.state found
+abbrev pub ensure_live : Option ThreadView → Result Invocation Reason → Result Invocation Reason
+ensure_live None found = Err NoThread
+ensure_live (Some thread) found = ensure_ready thread.state found
 
 -- the first check of a call that fails, with its reason, or what the call does
 abbrev pub explained_call : ProfileName → Shown → Call → Result Invocation Reason
-explained_call p v call = where_live (get v.threads call.thread) (explained_op p v.derivations call.thread call.op)
+explained_call p v call = ensure_live (get v.threads call.thread) (explained_op p v.derivations call.thread call.op)
 
 -- why a call is refused; None where it is not
 abbrev pub reason_in : Result Invocation Reason → Option Reason

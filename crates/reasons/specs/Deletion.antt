@@ -22,13 +22,13 @@ explained_slot p f at index depth =
     slot_by_index p (cap_at f) Index at index depth
 
 -- the endpoint and the badge of the capability in a slot, where it is an endpoint's with all rights
-abbrev pub where_all_rights : ℕ → Cap → Result Service Reason
-where_all_rights slot (Endpoint base badge rights) =
+abbrev pub ensure_all_rights : ℕ → Cap → Result Service Reason
+ensure_all_rights slot (Endpoint base badge rights) =
     cond (rights.0 == all_rights.0) (Ok (record { endpoint = base; badge = badge }))
     (Err (NotAllRights (record { slot = slot; cap = Endpoint base badge rights })))
-where_all_rights slot cap = Err (NotAllRights (record { slot = slot; cap = cap }))
+ensure_all_rights slot cap = Err (NotAllRights (record { slot = slot; cap = cap }))
 
 abbrev pub explained_badge : ProfileName → Forest Entry → ℕ → ℕ → ℕ → Result Service Reason
 explained_badge p f at index depth =
     explained_slot p f at index depth >>= λ slot.
-    where_all_rights slot (cap_at f slot)
+    ensure_all_rights slot (cap_at f slot)

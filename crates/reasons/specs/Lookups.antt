@@ -82,13 +82,13 @@ of_kind kind held =
     cond (is_null held.cap) (Err (NoCapability held.slot kind))
     (cond (is_of_kind kind held.cap) (Ok held.cap) (Err (OtherKind held kind)))
 
-abbrev pub where_empty : Forest Entry → Result ℕ Reason → Result ℕ Reason
-where_empty f (Ok slot) = cond (is_null (cap_at f slot)) (Ok slot) (Err (IsFull (held_at (cap_at f) slot)))
-where_empty f (Err reason) = Err reason
+abbrev pub ensure_empty : Forest Entry → Result ℕ Reason → Result ℕ Reason
+ensure_empty f (Ok slot) = cond (is_null (cap_at f slot)) (Ok slot) (Err (IsFull (held_at (cap_at f) slot)))
+ensure_empty f (Err reason) = Err reason
 
-abbrev pub where_full : Forest Entry → Result ℕ Reason → Result ℕ Reason
-where_full f (Ok slot) = cond (is_null (cap_at f slot)) (Err (IsEmpty slot)) (Ok slot)
-where_full f (Err reason) = Err reason
+abbrev pub ensure_full : Forest Entry → Result ℕ Reason → Result ℕ Reason
+ensure_full f (Ok slot) = cond (is_null (cap_at f slot)) (Err (IsEmpty slot)) (Ok slot)
+ensure_full f (Err reason) = Err reason
 
 -- results of the code, with slots by their addresses
 abbrev pub slot_seen : ProfileName → Result Slot Reason → Result ℕ Reason

@@ -76,15 +76,15 @@ within_node word node radix offset count first =
 abbrev pub first_full : ProfileName → Forest Entry → ℕ → ℕ → Option ℕ
 first_full p f first count = find (λ i. not (is_null (cap_at f (slot_of p first i)))) (range_with_len 0 count)
 
-abbrev pub where_none_full : ProfileName → Forest Entry → Word → Held → ℕ → ℕ → Option ℕ → Result ℕ Reason
-where_none_full p f word node offset first None = Ok first
-where_none_full p f word node offset first (Some i) =
+abbrev pub ensure_none_full : ProfileName → Forest Entry → Word → Held → ℕ → ℕ → Option ℕ → Result ℕ Reason
+ensure_none_full p f word node offset first None = Ok first
+ensure_none_full p f word node offset first (Some i) =
     Err (SomeFull word node (offset + i) (held_at (cap_at f) (slot_of p first i)))
 
 abbrev pub first_slot : ProfileName → Forest Entry → Word → ℕ → ℕ → ℕ → Cap → Result ℕ Reason
 first_slot p f word offset count slot (CNode base radix guard) =
     within_node word (record { slot = slot; cap = CNode base radix guard }) radix offset count (slot_of p base offset) >>= λ first.
-    where_none_full p f word (record { slot = slot; cap = CNode base radix guard }) offset first (first_full p f first count)
+    ensure_none_full p f word (record { slot = slot; cap = CNode base radix guard }) offset first (first_full p f first count)
 first_slot p f word offset count slot cap = Err (NoNode word (record { slot = slot; cap = cap }))
 
 -- why an untyped region has no room for objects of 2^b bytes: what counts as used, and how many of them fit

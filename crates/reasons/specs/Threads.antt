@@ -15,7 +15,7 @@ use Rattle.reasons.specs.declared.reason.Word.TheVariants.{Root}
 use Rattle.reasons.specs.declared.reason.Reason.{Reason}
 use Rattle.reasons.specs.declared.reason.Reason.TheVariants.{NoCapability, OtherKind, NoSpace}
 use Rattle.reasons.specs.Lookups.{slot_by_word}
-use Rattle.reasons.specs.CNodes.{no_data, where_set}
+use Rattle.reasons.specs.CNodes.{no_data, ensure_set}
 
 -- the thread whose control block the capability in a slot names
 abbrev pub explained_tcb : ℕ → Cap → Result ℕ Reason
@@ -25,7 +25,7 @@ explained_tcb slot cap = cond (is_null cap) (Err (NoCapability slot kind.Tcb)) (
 -- the CNode's capability in a slot, with the guard that a word other than 0 holds
 abbrev pub space_of : ProfileName → ℕ → ℕ → Cap → Result Cap Reason
 space_of p word slot cap =
-    cond (is_cnode cap) (cond (word == 0) (Ok cap) (where_set (no_data p Root word slot cap) (with_data p false word cap)))
+    cond (is_cnode cap) (cond (word == 0) (Ok cap) (ensure_set (no_data p Root word slot cap) (with_data p false word cap)))
     (Err (NoSpace (record { slot = slot; cap = cap })))
 
 -- the checks in their order, by the capability in the slot `slot`

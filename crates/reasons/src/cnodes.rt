@@ -4,9 +4,9 @@ ghost use Rattle.cap_core.specs.Minting.{with_data};
 ghost use Rattle.derivation.specs.Entries.{cap_at};
 ghost use Rattle.slot_core.specs.Places.{address_of};
 ghost use Rattle.ipc_core.specs.Waits.{IsThreadAddress};
-ghost use Rattle.reasons.specs.CNodes.{no_data, where_set, where_derivable, changed as changed_by, explained_placement};
+ghost use Rattle.reasons.specs.CNodes.{no_data, ensure_set, ensure_derivable, changed as changed_by, explained_placement};
 
-use crate::lookup::{empty_slot, full_slot, held, of_kind, slot_by_word};
+use crate::lookup::{dest_slot, held, of_kind, slot_by_word, source_slot};
 use crate::reason::{Held, Reason, Word};
 use abstract_kernel::invocation::{CapPlacement, Change, SlotArguments};
 use cap_core::limits::MAX_MEMORY_BITS;
@@ -28,8 +28,8 @@ pub fn explain_placement<P: Profile, S: CapStore<P>>(
 {
     let _node = of_kind(held::<P, S>(store, at), Kind::CNode)?;
     let root = slot_by_word::<P, S>(store, Word::SourceRoot, thread, asked.src_root)?;
-    let slot = empty_slot::<P, S>(store, Word::Index, at, asked.index, asked.depth)?;
-    let source = full_slot::<P, S>(
+    let slot = dest_slot::<P, S>(store, Word::Index, at, asked.index, asked.depth)?;
+    let source = source_slot::<P, S>(
         store,
         Word::SourceIndex,
         root,
@@ -80,7 +80,7 @@ pub fn with_word<P: Profile>(
     cap: Cap,
     found: Held,
 ) -> Result<Cap, Reason>
-    ensures { result ≡ where_set (no_data P.profile of word found.slot found.cap) (with_data P.profile preserve word cap) }
+    ensures { result ≡ ensure_set (no_data P.profile of word found.slot found.cap) (with_data P.profile preserve word cap) }
 {
     set_data::<P>(preserve, word, cap).ok_or(refused_data::<P>(of, word, found))
 }
@@ -108,7 +108,7 @@ fn refused_data<P: Profile>(of: Word, word: u64, found: Held) -> Reason
 /// A capability that may be derived from the one in a slot: an untyped one where nothing was derived from it.
 #[inline(always)]
 fn derivable<P: Profile, S: CapStore<P>>(store: &S, source: Slot, cap: Cap) -> Result<Cap, Reason>
-    ensures { result ≡ where_derivable (S.forest store.now) (address_of P.profile source) cap }
+    ensures { result ≡ ensure_derivable (S.forest store.now) (address_of P.profile source) cap }
 {
     match cap {
         Cap::Untyped { .. } => match store.first_child(source) {

@@ -2,7 +2,7 @@
 ghost use Rattle.std.specs.Prelude.{◌≡◌};
 ghost use Rattle.slot_core.specs.Places.{address_of};
 ghost use Rattle.reasons.specs.Lookups.{slot_seen};
-ghost use Rattle.reasons.specs.Deletion.{explained_slot, where_all_rights, explained_badge};
+ghost use Rattle.reasons.specs.Deletion.{explained_slot, ensure_all_rights, explained_badge};
 
 use crate::lookup::{held, of_kind, slot_by_index};
 use crate::reason::{Held, Reason, Word};
@@ -39,7 +39,7 @@ pub fn explain_badge<P: Profile, S: CapStore<P>>(
 }
 
 fn with_all_rights(found: Held) -> Result<Service, Reason>
-    ensures { result ≡ where_all_rights found.slot found.cap }
+    ensures { result ≡ ensure_all_rights found.slot found.cap }
 {
     match found.cap {
         Cap::Endpoint {

@@ -8,7 +8,7 @@ ghost use Rattle.slot_core.specs.Places.{address_of};
 ghost use Rattle.ipc_core.specs.Waits.{IsThreadAddress};
 ghost use Rattle.cspace_core.specs.Bits.{low_bits};
 ghost use Rattle.reasons.specs.Reasons.{held_at};
-ghost use Rattle.reasons.specs.Lookups.{chosen, choice_seen, walked, found_seen, slot_seen, slot_by_word as slot_by_word_of, slot_by_index as slot_by_index_of, of_kind as of_kind_in, where_empty, where_full};
+ghost use Rattle.reasons.specs.Lookups.{chosen, choice_seen, walked, found_seen, slot_seen, slot_by_word as slot_by_word_of, slot_by_index as slot_by_index_of, of_kind as of_kind_in, ensure_empty, ensure_full};
 
 use crate::reason::{Held, Miss, Reason, Word};
 use cap_core::limits::MAX_MEMORY_BITS;
@@ -199,14 +199,14 @@ pub fn of_kind(held: Held, kind: Kind) -> Result<Cap, Reason>
 
 /// The empty slot that an operation names.
 #[inline(always)]
-pub fn empty_slot<P: Profile, S: CapStore<P>>(
+pub fn dest_slot<P: Profile, S: CapStore<P>>(
     store: &S,
     word: Word,
     root: Slot,
     index: u64,
     depth: u64,
 ) -> Result<Slot, Reason>
-    ensures { slot_seen P.profile result ≡ where_empty (S.forest store.now) (slot_by_index_of P.profile (cap_at (S.forest store.now)) word (address_of P.profile root) index depth) }
+    ensures { slot_seen P.profile result ≡ ensure_empty (S.forest store.now) (slot_by_index_of P.profile (cap_at (S.forest store.now)) word (address_of P.profile root) index depth) }
 {
     let slot = slot_by_index::<P, S>(store, word, root, index, depth)?;
     let found = held::<P, S>(store, slot);
@@ -218,14 +218,14 @@ pub fn empty_slot<P: Profile, S: CapStore<P>>(
 
 /// The full slot that an operation names.
 #[inline(always)]
-pub fn full_slot<P: Profile, S: CapStore<P>>(
+pub fn source_slot<P: Profile, S: CapStore<P>>(
     store: &S,
     word: Word,
     root: Slot,
     index: u64,
     depth: u64,
 ) -> Result<Slot, Reason>
-    ensures { slot_seen P.profile result ≡ where_full (S.forest store.now) (slot_by_index_of P.profile (cap_at (S.forest store.now)) word (address_of P.profile root) index depth) }
+    ensures { slot_seen P.profile result ≡ ensure_full (S.forest store.now) (slot_by_index_of P.profile (cap_at (S.forest store.now)) word (address_of P.profile root) index depth) }
 {
     let slot = slot_by_index::<P, S>(store, word, root, index, depth)?;
     match store.get(slot) {

@@ -15,12 +15,12 @@ use Rattle.abstract_kernel.specs.Boot.{boot}
 use Rattle.abstract_kernel.specs.Shown.{Shown}
 use Rattle.abstract_kernel.specs.State.{State, shown}
 use Rattle.abstract_kernel.specs.Decode.{decoded_call}
-use Rattle.abstract_kernel.specs.Step.{Outcome, counted, outcome, performed, send_record, receive_record, reply_to_send, reply_to_receive, send_accepted, receive_accepted, where_awaited, step, replies_of, state_after}
+use Rattle.abstract_kernel.specs.Step.{Outcome, next_call, outcome, performed, send_record, receive_record, reply_to_send, reply_to_receive, send_accepted, receive_accepted, where_awaited, step, replies_of, state_after}
 use Rattle.abstract_kernel.specs.Reached.{IsReached, StepsTo}
 use Rattle.setup_format.specs.Views.{CallView}
 use Rattle.trace_lines.specs.Views.{Follows}
 
-counted_shows : (A : State) → shown (counted A) ≡ shown A
+counted_shows : (A : State) → shown (next_call A) ≡ shown A
 unfolding shown
 counted_shows A = refl
 
@@ -44,7 +44,7 @@ received_follows : (A : State) (t : ℕ) (service : Service) → OutcomeFollows 
 unfolding shown
 received_follows A t service = receive_follows (receive_record A t service) _ (shown A) (shown (receive_accepted A t service).state) refl
 
-awaited_follows : (A : State) (b : Bool) (accepted : Outcome) (reply : Reply) → OutcomeFollows A accepted → Follows reply (shown A) (shown (counted A)) → OutcomeFollows A (where_awaited A b accepted reply)
+awaited_follows : (A : State) (b : Bool) (accepted : Outcome) (reply : Reply) → OutcomeFollows A accepted → Follows reply (shown A) (shown (next_call A)) → OutcomeFollows A (where_awaited A b accepted reply)
 awaited_follows A true accepted reply h k = h
 awaited_follows A false accepted reply h k = k
 

@@ -186,7 +186,7 @@ module _ (A : State) (base : ℕ) (badge : Badge) (inv : Invariant A) (live : li
           | inl w ↦ subst (λ (n : ℕ). is_sending left m n ≡ is_sending A m n) (sym w.1) (sending_here ∙ ap (λ (b : Bool). cond b false (is_sending A m base)) is)
           | inr w ↦ sending_elsewhere q w.1
         ] in
-        λ i. first_of (find (λ q. sends q i) (endpoints_of A.derivations)) (find (λ q. receiving_same q i) (endpoints_of A.derivations)) (cond (A.is_idle m) Inactive Ready)
+        λ i. first_of (find (λ q. sends q i) (endpoints_of A.derivations)) (find (λ q. receiving_same q i) (endpoints_of A.derivations)) (cond (A.is_inactive m) Inactive Ready)
 
     state_ready : was_named ≡ true → state_of left m ≡ Ready
     state_ready is =
@@ -244,7 +244,7 @@ module _ (A : State) (base : ℕ) (badge : Badge) (inv : Invariant A) (none : (b
       state = first_of
           (find (λ q. list_any (λ (s : SendRecord). same_instance s.thread (thread_at A t)) (sends_kept (endpoint_at A q) i)) (endpoints_of A.derivations))
           (find (λ q. list_any (λ (a : ReceiveRecord). same_instance a.thread (thread_at A t)) (receives_kept (endpoint_at A q) i)) (endpoints_of A.derivations))
-          (cond (A.is_idle (thread_at A t)) Inactive Ready);
+          (cond (A.is_inactive (thread_at A t)) Inactive Ready);
       inbox = inbox_same A (is_badged_send (endpoint_at A base) badge) (λ _. false) inv.sends_rising inv.rising inv.unshared (thread_at A t) i;
     });
     endpoints = table (endpoints_of A.derivations) (λ b. map sender (sends_kept (endpoint_at A b) i) ++ map receiver (receives_kept (endpoint_at A b) i));

@@ -92,8 +92,8 @@ module _ (A : State) (g : Forest Entry) (inv : Invariant A)
         let f = endpoints_of A.derivations in
         let sends = find_among (is_sending A m) (is_sending left m) f (endpoints_of g) endpoints same_sending (sends_on_one A inv m) in
         let receives = find_among (is_receiving A m) (is_receiving left m) f (endpoints_of g) endpoints same_receiving (receives_on_one A inv m) in
-        (λ i. first_of (sends i) (receives i) (cond (A.is_idle m) Inactive Ready))
-        ∙ state_found (endpoints_of g) (find (is_sending A m) f) (find (is_receiving A m) f) (A.is_idle m)
+        (λ i. first_of (sends i) (receives i) (cond (A.is_inactive m) Inactive Ready))
+        ∙ state_found (endpoints_of g) (find (is_sending A m) f) (find (is_receiving A m) f) (A.is_inactive m)
         (λ e found. let there = (find_found (is_sending A m) f e found).1 in ((sender_open A inv (endpoint_at A e) m there).awake, sends_alone A inv m e there))
         (λ e found. (receiver_open A inv (endpoint_at A e) m (find_found (is_receiving A m) f e found).1).awake)
 

@@ -20,7 +20,7 @@ tally_filter : {X : Type 0} (p f : X → Bool) (xs : List X) → tally p (filter
 tally_filter p f [] = omega arith
 tally_filter p f (x ∷ xs) = let le = tally_filter p f xs in elim (f x) as (λ b. tally p (cond b (x ∷ filter f xs) (filter f xs)) ≤ tally p (x ∷ xs)) [ true ↦ omega (arith, le) | false ↦ omega (arith, le) ]
 
--- a cancellation, after which other objects may be live and other threads idle
+-- a cancellation, after which other objects may be live and other threads inactive
 module _ (A : State) (S : SendRecord → Bool) (Q : ReceiveRecord → Bool) (inv : Invariant A) where
   abbrev pub left : State
   left = cancelling A S Q
@@ -47,13 +47,13 @@ module _ (A : State) (S : SendRecord → Bool) (Q : ReceiveRecord → Bool) (inv
       let ql = tally_filter (λ (a : ReceiveRecord). same_instance a.thread m) (λ (a : ReceiveRecord). not (Q a)) (waiting_receives A (endpoint_at A b)) in
       omega (arith, ss, qs, sl, ql)
 
-  -- where what is not named stays open, with these capabilities and these idle threads
-  module _ (g : Forest Entry) (idle : Instance → Bool)
+  -- where what is not named stays open, with these capabilities and these inactive threads
+  module _ (g : Forest Entry) (inactive : Instance → Bool)
       (endpoints : (q : ℕ) → list_any (λ k. q == k) (endpoints_of g) ≡ true → list_any (λ k. q == k) (endpoints_of A.derivations) ≡ true)
-      (sends_stay : (s : SendRecord) → SendIsOpen A s → S s ≡ false → SendIsOpen (record left { derivations = g; is_idle = idle }) s)
-      (receives_stay : (a : ReceiveRecord) → ReceiveIsOpen A a → Q a ≡ false → ReceiveIsOpen (record left { derivations = g; is_idle = idle }) a) where
+      (sends_stay : (s : SendRecord) → SendIsOpen A s → S s ≡ false → SendIsOpen (record left { derivations = g; is_inactive = inactive }) s)
+      (receives_stay : (a : ReceiveRecord) → ReceiveIsOpen A a → Q a ≡ false → ReceiveIsOpen (record left { derivations = g; is_inactive = inactive }) a) where
     abbrev after : State
-    after = record left { derivations = g; is_idle = idle }
+    after = record left { derivations = g; is_inactive = inactive }
 
     pub inv_left : Invariant after
     inv_left = record {
@@ -83,7 +83,7 @@ module _ (A : State) (S : SendRecord → Bool) (Q : ReceiveRecord → Bool) (inv
 
 -- a cancellation alone
 pub inv_cancelling : (A : State) (S : SendRecord → Bool) (Q : ReceiveRecord → Bool) → Invariant A → Invariant (cancelling A S Q)
-inv_cancelling A S Q inv = inv_left A S Q inv A.derivations A.is_idle (λ q live. live)
+inv_cancelling A S Q inv = inv_left A S Q inv A.derivations A.is_inactive (λ q live. live)
     (λ s o unnamed. record { endpoint_is = o.endpoint_is; endpoint_live = o.endpoint_live; thread_is = o.thread_is; thread_live = o.thread_live; awake = o.awake })
     (λ a o unnamed. record { endpoint_is = o.endpoint_is; endpoint_live = o.endpoint_live; thread_is = o.thread_is; thread_live = o.thread_live; awake = o.awake })
 
@@ -100,7 +100,7 @@ lives true false c d h = absurd (false≢true (sym h))
 -- the end of objects: those that are live after were live
 pub inv_ending : (A : State) (g : Forest Entry) → Invariant A →
     ((q : ℕ) → list_any (λ k. q == k) (endpoints_of g) ≡ true → list_any (λ k. q == k) (endpoints_of A.derivations) ≡ true) → Invariant (ending A g)
-inv_ending A g inv endpoints = inv_left A _ _ inv g A.is_idle endpoints (λ s o unnamed. stays s.endpoint s.thread o unnamed) (λ a o unnamed. stays a.endpoint a.thread o unnamed)
+inv_ending A g inv endpoints = inv_left A _ _ inv g A.is_inactive endpoints (λ s o unnamed. stays s.endpoint s.thread o unnamed) (λ a o unnamed. stays a.endpoint a.thread o unnamed)
   where
     stays : (e t : Instance) → IsOpen A e t → is_ended A g e t ≡ false → IsOpen (ending A g) e t
     stays e t o unnamed =
@@ -108,14 +108,14 @@ inv_ending A g inv endpoints = inv_left A _ _ inv g A.is_idle endpoints (λ s o 
         record { endpoint_is = o.endpoint_is; endpoint_live = w.0; thread_is = o.thread_is; thread_live = w.1; awake = o.awake }
 
 -- a thread waits no more
-pub inv_stopping : (A : State) (t : Instance) (idle : Bool) → Invariant A → Invariant (stopping A t idle)
-inv_stopping A t idle inv = inv_left A _ _ inv A.derivations (λ m. cond (same_instance m t) idle (A.is_idle m)) (λ q live. live) (λ s o unnamed. stays s.endpoint s.thread o unnamed) (λ a o unnamed. stays a.endpoint a.thread o unnamed)
+pub inv_stopping : (A : State) (t : Instance) (inactive : Bool) → Invariant A → Invariant (stopping A t inactive)
+inv_stopping A t inactive inv = inv_left A _ _ inv A.derivations (λ m. cond (same_instance m t) inactive (A.is_inactive m)) (λ q live. live) (λ s o unnamed. stays s.endpoint s.thread o unnamed) (λ a o unnamed. stays a.endpoint a.thread o unnamed)
   where
-    stays : (e m : Instance) → IsOpen A e m → same_instance m t ≡ false → IsOpen (stopping A t idle) e m
+    stays : (e m : Instance) → IsOpen A e m → same_instance m t ≡ false → IsOpen (stopping A t inactive) e m
     stays e m o unnamed = record {
       endpoint_is = o.endpoint_is;
       endpoint_live = o.endpoint_live;
       thread_is = o.thread_is;
       thread_live = o.thread_live;
-      awake = ap (λ (b : Bool). cond b idle (A.is_idle m)) unnamed ∙ o.awake;
+      awake = ap (λ (b : Bool). cond b inactive (A.is_inactive m)) unnamed ∙ o.awake;
     }

@@ -47,7 +47,7 @@ module _ (A : State) (g : Forest Entry) (inv : Invariant A)
       state = first_of
           (find (λ q. list_any (λ (s : SendRecord). same_instance s.thread (thread_at A t)) (sends_stay (endpoint_at A q) i)) (endpoints_of g))
           (find (λ q. list_any (λ (a : ReceiveRecord). same_instance a.thread (thread_at A t)) (receives_stay (endpoint_at A q) i)) (endpoints_of g))
-          (cond (A.is_idle (thread_at A t)) Inactive Ready);
+          (cond (A.is_inactive (thread_at A t)) Inactive Ready);
       inbox = inbox_same A (is_send_ended A g) (is_receive_ended A g) inv.sends_rising inv.rising inv.unshared (thread_at A t) i;
     });
     endpoints = table (endpoints_of g) (λ b. map sender (sends_stay (endpoint_at A b) i) ++ map receiver (receives_stay (endpoint_at A b) i));

@@ -24,12 +24,12 @@ use Rattle.abstract_kernel.proofs.Retype.ObjectsMade.{get_threads}
 use Rattle.abstract_kernel.proofs.Cancelling.Ended.{list_less, row_shown}
 
 -- what was found is still there
-state_stays : (keys : List ℕ) (s r : Option ℕ) (idle : Bool) → ((e : ℕ) → s ≡ Some e → list_any (λ k. e == k) keys ≡ true) → ((e : ℕ) → r ≡ Some e → list_any (λ k. e == k) keys ≡ true) →
-    state_among keys (first_of s r (cond idle Inactive Ready)) ≡ first_of s r (cond idle Inactive Ready)
+state_stays : (keys : List ℕ) (s r : Option ℕ) (inactive : Bool) → ((e : ℕ) → s ≡ Some e → list_any (λ k. e == k) keys ≡ true) → ((e : ℕ) → r ≡ Some e → list_any (λ k. e == k) keys ≡ true) →
+    state_among keys (first_of s r (cond inactive Inactive Ready)) ≡ first_of s r (cond inactive Inactive Ready)
 state_stays keys None None true sends receives = refl
 state_stays keys None None false sends receives = refl
-state_stays keys None (Some e) idle sends receives = ap (λ (b : Bool). cond b (Receiving e) Ready) (receives e refl)
-state_stays keys (Some e) r idle sends receives = ap (λ (b : Bool). cond b (Sending e) Ready) (sends e refl)
+state_stays keys None (Some e) inactive sends receives = ap (λ (b : Bool). cond b (Receiving e) Ready) (receives e refl)
+state_stays keys (Some e) r inactive sends receives = ap (λ (b : Bool). cond b (Sending e) Ready) (sends e refl)
 
 module _ (p : ProfileName) (A : State) (new : NewObjects) (inv : Invariant A) (full : is_full new.untyped A.derivations ≡ true)
     (endpoints_new : (b : ℕ) → list_any (λ k. b == k) (new_bases endpoint_base p new) ≡ true → list_any (λ k. b == k) (endpoints_of A.derivations) ≡ false)
@@ -54,7 +54,7 @@ module _ (p : ProfileName) (A : State) (new : NewObjects) (inv : Invariant A) (f
   view_stays q live =
       let m = thread_at A q in
       let f = endpoints_of A.derivations in
-      let state = state_stays (endpoints_of g) (find (is_sending A m) f) (find (is_receiving A m) f) (A.is_idle m)
+      let state = state_stays (endpoints_of g) (find (is_sending A m) f) (find (is_receiving A m) f) (A.is_inactive m)
       (λ e found. endpoint_stays e (find_found (is_sending A m) f e found).0) (λ e found. endpoint_stays e (find_found (is_receiving A m) f e found).0) in
       ap (view_among (endpoints_of g)) (row_shown A q live) ∙ (λ i. record { state = state i; inbox = (thread_view A q).inbox })
 

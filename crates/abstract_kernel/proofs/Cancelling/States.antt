@@ -45,18 +45,18 @@ module _ (p p' : ℕ → Bool) (keys keys' : List ℕ)
       by None none = none_among none
       by (Some e) found = by_key e (list_any (λ k. e == k) keys') found refl
 
--- what a thread does, by what was found: one that waits is not idle, and waits in one way
-pub state_found : (keys : List ℕ) (s r : Option ℕ) (idle : Bool) → ((e : ℕ) → s ≡ Some e → (idle ≡ false) × (r ≡ None)) → ((e : ℕ) → r ≡ Some e → idle ≡ false) →
-    first_of (among keys s) (among keys r) (cond idle Inactive Ready) ≡ state_among keys (first_of s r (cond idle Inactive Ready))
+-- what a thread does, by what was found: one that waits is not inactive, and waits in one way
+pub state_found : (keys : List ℕ) (s r : Option ℕ) (inactive : Bool) → ((e : ℕ) → s ≡ Some e → (inactive ≡ false) × (r ≡ None)) → ((e : ℕ) → r ≡ Some e → inactive ≡ false) →
+    first_of (among keys s) (among keys r) (cond inactive Inactive Ready) ≡ state_among keys (first_of s r (cond inactive Inactive Ready))
 state_found keys None None true sends receives = refl
 state_found keys None None false sends receives = refl
-state_found keys None (Some e) idle sends receives = by (list_any (λ k. e == k) keys)
+state_found keys None (Some e) inactive sends receives = by (list_any (λ k. e == k) keys)
   where
-    by : (b : Bool) → first_of None (cond b (Some e) None) (cond idle Inactive Ready) ≡ cond b (Receiving e) Ready
+    by : (b : Bool) → first_of None (cond b (Some e) None) (cond inactive Inactive Ready) ≡ cond b (Receiving e) Ready
     by true = refl
     by false = ap (λ (b : Bool). cond b Inactive Ready) (receives e refl)
-state_found keys (Some e) r idle sends receives = by (list_any (λ k. e == k) keys)
+state_found keys (Some e) r inactive sends receives = by (list_any (λ k. e == k) keys)
   where
-    by : (b : Bool) → first_of (cond b (Some e) None) (among keys r) (cond idle Inactive Ready) ≡ cond b (Sending e) Ready
+    by : (b : Bool) → first_of (cond b (Some e) None) (among keys r) (cond inactive Inactive Ready) ≡ cond b (Sending e) Ready
     by true = refl
     by false = let w = sends e refl in (λ i. first_of None (among keys (w.1 i)) (cond (w.0 i) Inactive Ready))

@@ -30,9 +30,9 @@ same_thread_at A x q = elim (eqb_tells x q) [
   | inr w ↦ not_same (thread_at A x) (thread_at A q) w.1 ∙ sym w.0
 ]
 
-module _ (A : State) (t : ℕ) (idle : Bool) (inv : Invariant A) (live : list_any (λ k. t == k) (threads_of A.derivations) ≡ true) where
+module _ (A : State) (t : ℕ) (inactive : Bool) (inv : Invariant A) (live : list_any (λ k. t == k) (threads_of A.derivations) ≡ true) where
   abbrev left : State
-  left = stopping A (thread_at A t) idle
+  left = stopping A (thread_at A t) inactive
 
   -- whether a thread is the one
   module _ (m : Instance) (c : Bool) (is : same_instance m (thread_at A t) ≡ c) where
@@ -52,13 +52,13 @@ module _ (A : State) (t : ℕ) (idle : Bool) (inv : Invariant A) (live : list_an
   inbox_left m = inbox_same A (is_sent_by (thread_at A t)) (is_received_by (thread_at A t)) inv.sends_rising inv.rising inv.unshared m
 
   -- the thread itself
-  state_here : state_of left (thread_at A t) ≡ cond idle Inactive Ready
+  state_here : state_of left (thread_at A t) ≡ cond inactive Inactive Ready
   state_here =
       let m = thread_at A t in
       let itself = same_itself m in
       let sends = find_nothing (is_sending left m) (endpoints_of A.derivations) (λ k there. sending_left m true itself k) in
       let receives = find_nothing (is_receiving left m) (endpoints_of A.derivations) (λ k there. receiving_left m true itself k) in
-      λ i. first_of (sends i) (receives i) (cond (cond (itself i) idle (A.is_idle m)) Inactive Ready)
+      λ i. first_of (sends i) (receives i) (cond (cond (itself i) inactive (A.is_inactive m)) Inactive Ready)
 
   -- every other
   view_else : (q : ℕ) → q ≢ t → thread_view left q ≡ thread_view A q
@@ -66,7 +66,7 @@ module _ (A : State) (t : ℕ) (idle : Bool) (inv : Invariant A) (live : list_an
       let m = thread_at A q in
       let other = not_same m (thread_at A t) ne in
       λ i. record {
-        state = first_of (find (λ b. sending_left m false other b i) (endpoints_of A.derivations)) (find (λ b. receiving_left m false other b i) (endpoints_of A.derivations)) (cond (cond (other i) idle (A.is_idle m)) Inactive Ready);
+        state = first_of (find (λ b. sending_left m false other b i) (endpoints_of A.derivations)) (find (λ b. receiving_left m false other b i) (endpoints_of A.derivations)) (cond (cond (other i) inactive (A.is_inactive m)) Inactive Ready);
         inbox = inbox_left m i;
       }
 
@@ -84,7 +84,7 @@ module _ (A : State) (t : ℕ) (idle : Bool) (inv : Invariant A) (live : list_an
       by_address : (m : Instance) → m ≡ thread_at A m.base → same_instance m (thread_at A t) ≡ (m.base == t)
       by_address m is = ap (λ (x : Instance). same_instance x (thread_at A t)) is ∙ same_thread_at A m.base t
 
-  pub stopping_shown : shown (stopping A (thread_at A t) idle) ≡ after_stop (shown A) t (cond idle Inactive Ready)
+  pub stopping_shown : shown (stopping A (thread_at A t) inactive) ≡ after_stop (shown A) t (cond inactive Inactive Ready)
   unfolding shown
   stopping_shown =
       let inbox : inbox_of left (thread_at A t) ≡ inbox_at (shown A) t = inbox_left (thread_at A t) ∙ sym (inbox_shown A t live) in

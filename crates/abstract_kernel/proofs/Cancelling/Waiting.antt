@@ -42,7 +42,7 @@ some_passes P p C f (x ∷ xs) h there = elim (p x) as (λ b. p x ≡ b → (b |
 ] refl there
 
 module _ (A : State) (inv : Invariant A) where
-  -- where a thread waits, both are live, and it is not idle
+  -- where a thread waits, both are live, and it is not inactive
   pub sender_open : (e m : Instance) → list_any (λ (s : SendRecord). same_instance s.thread m) (waiting_sends A e) ≡ true → IsOpen A e m
   sender_open e m there = some_passes (λ (s : SendRecord). SendIsOpen A s × (s.endpoint ≡ e)) (λ (s : SendRecord). same_instance s.thread m) (IsOpen A e m)
       (λ s w is. subst (λ (x : Instance). IsOpen A x m) w.1 (subst (λ (x : Instance). IsOpen A s.endpoint x) (same_is s.thread m is) w.0))
@@ -144,10 +144,10 @@ module _ (A : State) (inv : Invariant A) where
     receives_alone b h = find_nothing (is_sending A m) (endpoints_of A.derivations) (λ k live. passes_not (is_sending A m k) (λ there. not_both k b there h))
 
     pub sends_there : (b : ℕ) → is_sending A m b ≡ true → state_of A m ≡ Sending b
-    sends_there b h = let found = found_sending b h in λ i. first_of (found i) (find (is_receiving A m) (endpoints_of A.derivations)) (cond (A.is_idle m) Inactive Ready)
+    sends_there b h = let found = found_sending b h in λ i. first_of (found i) (find (is_receiving A m) (endpoints_of A.derivations)) (cond (A.is_inactive m) Inactive Ready)
 
     pub receives_there : (b : ℕ) → is_receiving A m b ≡ true → state_of A m ≡ Receiving b
-    receives_there b h = let found = found_receiving b h in let none = receives_alone b h in λ i. first_of (none i) (found i) (cond (A.is_idle m) Inactive Ready)
+    receives_there b h = let found = found_receiving b h in let none = receives_alone b h in λ i. first_of (none i) (found i) (cond (A.is_inactive m) Inactive Ready)
 
   -- each open record is one that its thread's state tells of
   pub senders_told : (e : Instance) → AllByRecursion (λ (s : SendRecord). state_of A s.thread ≡ Sending e.base) (waiting_sends A e)

@@ -8,7 +8,7 @@ use Rattle.ipc_core.specs.Records.{Instance, SendRecord, ReceiveRecord, same_ins
 use Rattle.abstract_kernel.specs.declared.call.ThreadState.TheVariants.{Ready, Inactive}
 use Rattle.abstract_kernel.specs.Shown.{threads_of, endpoints_of, waiting_at}
 use Rattle.abstract_kernel.specs.State.{State, endpoint_at, thread_at, first_of, is_sending, is_receiving, inbox_of, thread_view, shown, waiters, waiting_sends, waiting_receives}
-use Rattle.abstract_kernel.specs.Step.{counted}
+use Rattle.abstract_kernel.specs.Step.{next_call}
 use Rattle.abstract_kernel.specs.Step as spec
 use Rattle.abstract_kernel.specs.Private.Effects.{done, rearranged}
 use Rattle.abstract_kernel.proofs.Messages.DeliveredSend.{pending}
@@ -40,7 +40,7 @@ module _ (A : State) (f : Forest Entry) (inv : Invariant A)
     (threads : (q : ℕ) → list_any (λ k. q == k) (threads_of f) ≡ list_any (λ k. q == k) (threads_of A.derivations))
     (endpoints : (q : ℕ) → list_any (λ k. q == k) (endpoints_of f) ≡ list_any (λ k. q == k) (endpoints_of A.derivations)) where
   abbrev after_rearranged : State
-  after_rearranged = record (counted A) { derivations = f }
+  after_rearranged = record (next_call A) { derivations = f }
 
   same_sending : (m : Instance) → find (is_sending A m) (endpoints_of f) ≡ find (is_sending A m) (endpoints_of A.derivations)
   same_sending m = find_agrees (is_sending A m) (is_sending A m) (endpoints_of A.derivations) (endpoints_of f) (λ k live h. (endpoints k ∙ live, h)) (λ k live h. (sym (endpoints k) ∙ live, h)) (sends_once A inv m)
@@ -50,7 +50,7 @@ module _ (A : State) (f : Forest Entry) (inv : Invariant A)
 
   same_view : (q : ℕ) → thread_view after_rearranged q ≡ thread_view A q
   same_view q = λ i. record {
-    state = first_of (same_sending (thread_at A q) i) (same_receiving (thread_at A q) i) (cond (A.is_idle (thread_at A q)) Inactive Ready);
+    state = first_of (same_sending (thread_at A q) i) (same_receiving (thread_at A q) i) (cond (A.is_inactive (thread_at A q)) Inactive Ready);
     inbox = inbox_of A (thread_at A q);
   }
 

@@ -21,7 +21,7 @@ use Rattle.cap_core.specs.declared.capability.Kind.{Kind}
 use Rattle.abstract_kernel.specs.declared.invocation.Invocation.{Invocation}
 use Rattle.cap_core.specs.Checks.{◌>>=◌}
 use Rattle.abstract_kernel.specs.Memory.{IsSlotAddress}
-use Rattle.abstract_kernel.specs.Lookups.{is_of_kind, where_kind, where_empty, where_full, held_in}
+use Rattle.abstract_kernel.specs.Lookups.{is_of_kind, ensure_kind, ensure_empty, ensure_full, held_in}
 
 -- where a check passes, so did those before it
 pub passed : {X Y : Type 0} (r : Result X Refusal) (next : X → Result Y Refusal) (y : Y) → (r >>= next) ≡ Ok y → (x : X) × ((r ≡ Ok x) × (next x ≡ Ok y))
@@ -52,7 +52,7 @@ whatever H (Ok x) h = h
 whatever H (Err y) h = tt
 
 -- the invoked capability is of the kind that is asked for
-pub kind_passed : (kind : Kind) (cap found : Cap) → where_kind kind cap ≡ Ok found → (is_of_kind kind cap ≡ true) × (cap ≡ found)
+pub kind_passed : (kind : Kind) (cap found : Cap) → ensure_kind kind cap ≡ Ok found → (is_of_kind kind cap ≡ true) × (cap ≡ found)
 kind_passed kind cap found h =
     let full = cond_failed (is_null cap) (cond (is_of_kind kind cap) (Ok cap) (Err IllegalOperation)) InvalidCapability found h in
     let is = cond_passed (is_of_kind kind cap) (Ok cap) IllegalOperation found full.1 in
@@ -97,14 +97,14 @@ pub full_at : (f : Forest Entry) (slot : ℕ) → is_null (cap_at f slot) ≡ fa
 full_at f slot full = full_in slot (preorder f) full
 
 -- a slot that was found, and is empty or full
-pub empty_passed : (f : Forest Entry) (r : Result ℕ Refusal) (slot : ℕ) → where_empty f r ≡ Ok slot → (is_null (cap_at f slot) ≡ true) × (r ≡ Ok slot)
+pub empty_passed : (f : Forest Entry) (r : Result ℕ Refusal) (slot : ℕ) → ensure_empty f r ≡ Ok slot → (is_null (cap_at f slot) ≡ true) × (r ≡ Ok slot)
 empty_passed f (Err refusal) slot h = cc
 empty_passed f (Ok found) slot h =
     let null = cond_passed (is_null (cap_at f found)) (Ok found) _ slot h in
     let same : found ≡ slot = ok_same found slot null.1 in
     (subst (λ s. is_null (cap_at f s) ≡ true) same null.0, ap Ok same)
 
-pub full_passed : (f : Forest Entry) (r : Result ℕ Refusal) (slot : ℕ) → where_full f r ≡ Ok slot → is_null (cap_at f slot) ≡ false
+pub full_passed : (f : Forest Entry) (r : Result ℕ Refusal) (slot : ℕ) → ensure_full f r ≡ Ok slot → is_null (cap_at f slot) ≡ false
 full_passed f (Err refusal) slot h = cc
 full_passed f (Ok found) slot h =
     let full = cond_failed (is_null (cap_at f found)) (Ok found) _ slot h in

@@ -18,7 +18,7 @@ use Rattle.abstract_kernel.specs.declared.invocation.Invocation.{Invocation}
 use Rattle.abstract_kernel.specs.declared.invocation.Invocation.TheVariants.{Send, Receive, Retype, Derive, Move, Delete, Revoke, CancelBadged, SetSpace, Suspend, Resume}
 use Rattle.abstract_kernel.specs.Shown.{tcb_base, endpoint_base, threads_of, endpoints_of}
 use Rattle.abstract_kernel.specs.Decode.{service_of, has_right, decoded_invocation}
-use Rattle.abstract_kernel.specs.Deletion.{decoded_slot, where_all_rights, decoded_badge}
+use Rattle.abstract_kernel.specs.Deletion.{decoded_slot, ensure_all_rights, decoded_badge}
 use Rattle.abstract_kernel.proofs.Checks.FoundSlots.{passed, made_passed}
 
 service_at : (b : Bool) (base : ℕ) (badge : Badge) (service : Service) (refusal : Refusal) →
@@ -41,7 +41,7 @@ service_endpoint right (Endpoint base badge rights) service h =
 service_endpoint right (CNode base radix guard) service h = cc
 service_endpoint right (Tcb base) service h = cc
 
-badged_endpoint : (cap : Cap) (service : Service) → where_all_rights cap ≡ Ok service →
+badged_endpoint : (cap : Cap) (service : Service) → ensure_all_rights cap ≡ Ok service →
     endpoint_base cap ≡ Some service.endpoint
 badged_endpoint Null service h = cc
 badged_endpoint (Untyped base bits free) service h = cc
@@ -91,7 +91,7 @@ badged_live : (p : ProfileName) (f : Forest Entry) (slot index depth : ℕ) (ser
     decoded_badge p f (cap_at f slot) index depth ≡ Ok service →
     list_any (λ k. service.endpoint == k) (endpoints_of f) ≡ true
 badged_live p f slot index depth service h =
-    let named = passed (decoded_slot p f (cap_at f slot) index depth) (λ s. where_all_rights (cap_at f s)) service h in
+    let named = passed (decoded_slot p f (cap_at f slot) index depth) (λ s. ensure_all_rights (cap_at f s)) service h in
     live_at f named.0 service.endpoint (badged_endpoint (cap_at f named.0) service named.1.1)
 
 invocation_live : (p : ProfileName) (f : Forest Entry) (thread : ℕ) (op : Op) (slot : ℕ) (invocation : Invocation) → decoded_invocation p f thread op slot ≡ Ok invocation → HasLiveEndpoint f invocation

@@ -22,8 +22,8 @@ use Rattle.abstract_kernel.specs.declared.invocation.SlotArguments.{SlotArgument
 use Rattle.abstract_kernel.specs.Regions.{free_of}
 use Rattle.abstract_kernel.specs.Memory.{IsSlotAddress}
 use Rattle.abstract_kernel.specs.Shown.{has_child}
-use Rattle.abstract_kernel.specs.Lookups.{extra_cap, where_kind, empty_slot, full_slot}
-use Rattle.abstract_kernel.specs.CNodes.{where_set, where_derivable, changed_cap, decoded_placement}
+use Rattle.abstract_kernel.specs.Lookups.{extra_cap, ensure_kind, dest_slot, source_slot}
+use Rattle.abstract_kernel.specs.CNodes.{ensure_set, ensure_derivable, changed_cap, decoded_placement}
 use Rattle.abstract_kernel.specs.Private.Invocations.{IsPlacement, IsDerivation, IsMove}
 use Rattle.clearing.specs.Housed.{is_housed}
 use Rattle.abstract_kernel.proofs.Checks.FoundSlots.{passed, cond_failed, ok_same, kind_passed, lawful_at, lawful_full, empty_at, full_at, empty_passed, full_passed, target_passed}
@@ -132,7 +132,7 @@ mutated p word (Tcb base) made full h =
     let same = some_same (Tcb base) made h in
     (subst (IsRemade p (Tcb base)) same (itself_remade p (Tcb base) refl), kept_same (Tcb base) made same)
 
-pub set_passed : (o : Option Cap) (cap : Cap) → where_set o ≡ Ok cap → o ≡ Some cap
+pub set_passed : (o : Option Cap) (cap : Cap) → ensure_set o ≡ Ok cap → o ≡ Some cap
 set_passed (Some made) cap h = ap Some (ok_same made cap h)
 set_passed None cap h = cc
 
@@ -145,7 +145,7 @@ both_false true b h e = h
 both_false false b h e = absurd (false≢true e)
 
 -- an untyped capability is derived from one that has no children
-derivable_passed : (f : Forest Entry) (source : ℕ) (cap made : Cap) → where_derivable f source cap ≡ Ok made →
+derivable_passed : (f : Forest Entry) (source : ℕ) (cap made : Cap) → ensure_derivable f source cap ≡ Ok made →
     (cap ≡ made) × (is_untyped made ≡ true → first_child source f ≡ None)
 derivable_passed f source cap made h =
     let free = cond_failed (is_untyped cap && has_child source f) (Ok cap) RevokeFirst made h in
@@ -171,7 +171,7 @@ copied p f source rights cap made full h =
 minted_changed : (p : ProfileName) (f : Forest Entry) (source : ℕ) (rights : Rights) (word : ℕ) (cap made : Cap) → is_null cap ≡ false →
     changed_cap p f source (Mint rights word) cap ≡ Ok made → IsChanged p f source cap made
 minted_changed p f source rights word cap made full h =
-    let set = passed (where_set (with_data p false word (masked rights cap))) (where_derivable f source) made h in
+    let set = passed (ensure_set (with_data p false word (masked rights cap))) (ensure_derivable f source) made h in
     let derivable = derivable_passed f source set.0 made set.1.1 in
     let is : with_data p false word (masked rights cap) ≡ Some made = set_passed _ set.0 set.1.0 ∙ ap Some derivable.0 in
     let new = minted p word rights cap made full is in
@@ -188,10 +188,10 @@ record IsFound (p : ProfileName) (f : Forest Entry) (change : Change) (placement
 placement_found : (p : ProfileName) (f : Forest Entry) (thread slot : ℕ) (asked : SlotArguments) (change : Change) (placement : CapPlacement) →
     decoded_placement p f thread (cap_at f slot) asked change ≡ Ok placement → IsFound p f change placement
 placement_found p f thread slot asked change placement h =
-    let node = passed (where_kind kind.CNode (cap_at f slot)) _ placement h in
+    let node = passed (ensure_kind kind.CNode (cap_at f slot)) _ placement h in
     let root = passed (extra_cap p f thread asked.src_root) _ placement node.1.1 in
-    let target = passed (empty_slot p f node.0 asked.index asked.depth) _ placement root.1.1 in
-    let source = passed (full_slot p f root.0 asked.src_index asked.src_depth) _ placement target.1.1 in
+    let target = passed (dest_slot p f node.0 asked.index asked.depth) _ placement root.1.1 in
+    let source = passed (source_slot p f root.0 asked.src_index asked.src_depth) _ placement target.1.1 in
     let made = passed (changed_cap p f source.0 change (cap_at f source.0)) _ placement source.1.1 in
     let found : CapPlacement = record { source = source.0; slot = target.0; cap = made.0 } in
     let same : found ≡ placement = ok_same found placement made.1.1 in

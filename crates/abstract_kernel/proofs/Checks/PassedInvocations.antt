@@ -24,8 +24,8 @@ use Rattle.abstract_kernel.specs.Memory.{IsSlotAddress}
 use Rattle.cap_core.specs.declared.limits.TheConstants.{MAX_RETYPE_COUNT}
 use Rattle.abstract_kernel.specs.Shown.{has_child}
 use Rattle.abstract_kernel.specs.Decode.{service_word, objects_asked, slots_named}
-use Rattle.abstract_kernel.specs.Lookups.{invoked_slot, extra_cap, held_in, where_kind}
-use Rattle.abstract_kernel.specs.Retyping.{node_cap, are_slots, some_full, where_all_empty, first_slot, decoded_retype}
+use Rattle.abstract_kernel.specs.Lookups.{invoked_slot, extra_cap, held_in, ensure_kind}
+use Rattle.abstract_kernel.specs.Retyping.{node_cap, are_slots, some_full, ensure_all_empty, first_slot, decoded_retype}
 use Rattle.mem_core.specs.Plans.{placed_in}
 use Rattle.abstract_kernel.specs.Decode.{decoded_invocation, decoded_op}
 use Rattle.abstract_kernel.specs.Private.Invocations.{IsRetype, IsDerivation, IsMove, IsNamedSlot, IsLiveThread, IsSpace}
@@ -53,7 +53,7 @@ first_passed p f offset count first Null h = cc
 first_passed p f offset count first (Untyped base bits free) h = cc
 first_passed p f offset count first (Endpoint base badge rights) h = cc
 first_passed p f offset count first (CNode base radix guard) h =
-    let range = cond_passed (are_slots radix offset count) (where_all_empty p f (slot_of p base offset) count) RangeError first h in
+    let range = cond_passed (are_slots radix offset count) (ensure_all_empty p f (slot_of p base offset) count) RangeError first h in
     let empty = cond_failed (some_full p f (slot_of p base offset) count) (Ok (slot_of p base offset)) DeleteFirst first range.1 in
     let there = slots_there radix offset count range.0 in
     subst (λ n. AreFilled p f n count (CNode base radix guard)) (ok_same (slot_of p base offset) first empty.1)
@@ -81,7 +81,7 @@ node_held p f root node index depth false held h = held_passed f (target_slot p 
 retype_shows : (p : ProfileName) (memory : ℕ) (f : Forest Entry) → All (IsLawful p memory) (caps f) → (thread slot : ℕ) (asked : RetypeArguments) (new : NewObjects) →
     decoded_retype p f thread slot (cap_at f slot) asked ≡ Ok new → IsRetype p f new
 retype_shows p memory f all thread slot asked new h =
-    let untyped = passed (where_kind kind.Untyped (cap_at f slot)) _ new h in
+    let untyped = passed (ensure_kind kind.Untyped (cap_at f slot)) _ new h in
     let root = passed (extra_cap p f thread asked.root) _ new untyped.1.1 in
     let shape = passed (shape_of p asked.kind asked.size_bits) _ new root.1.1 in
     let node = passed (node_cap p f root.0 asked.index asked.depth) _ new shape.1.1 in

@@ -16,8 +16,8 @@ use Rattle.cspace_core.specs.Resolution.{is_cnode}
 use Rattle.abstract_kernel.specs.declared.invocation.NewSpace.{NewSpace}
 use Rattle.abstract_kernel.specs.Memory.{IsSlotAddress}
 use Rattle.abstract_kernel.specs.Shown.{tcb_base}
-use Rattle.abstract_kernel.specs.Lookups.{invoked_slot, where_kind}
-use Rattle.abstract_kernel.specs.CNodes.{where_set}
+use Rattle.abstract_kernel.specs.Lookups.{invoked_slot, ensure_kind}
+use Rattle.abstract_kernel.specs.CNodes.{ensure_set}
 use Rattle.abstract_kernel.specs.Deletion.{decoded_slot}
 use Rattle.abstract_kernel.specs.Threads.{decoded_tcb, space_cap, decoded_space}
 use Rattle.abstract_kernel.specs.Private.Invocations.{IsNamedSlot, IsLiveThread, IsSpace}
@@ -29,7 +29,7 @@ use Rattle.abstract_kernel.proofs.Checks.PassedCNodeChecks.{IsRemade, itself_rem
 pub slot_shows : (p : ProfileName) (f : Forest Entry) (slot index depth target : ℕ) →
     decoded_slot p f (cap_at f slot) index depth ≡ Ok target → IsNamedSlot p f target
 slot_shows p f slot index depth target h memory all =
-    let node = passed (where_kind kind.CNode (cap_at f slot)) _ target h in
+    let node = passed (ensure_kind kind.CNode (cap_at f slot)) _ target h in
     let found = kind_passed kind.CNode (cap_at f slot) node.0 node.1.0 in
     target_passed p memory f node.0 index depth target all
     (subst (λ cap. (cap ≡ Null) ⊎ IsLawful p memory cap) found.1 (lawful_at p memory f all slot)) node.1.1
@@ -77,7 +77,7 @@ space_made p word (Endpoint base badge rights) made h = cc
 space_made p word (CNode base radix guard) made h = by (word == 0) h
   where
     by : (none : Bool) →
-        cond none (Ok (CNode base radix guard)) (where_set (guarded p base radix (guard_held p word))) ≡ Ok made →
+        cond none (Ok (CNode base radix guard)) (ensure_set (guarded p base radix (guard_held p word))) ≡ Ok made →
         IsSpaceCap p (CNode base radix guard) made
     by true h =
         let same = ok_same (CNode base radix guard) made h in

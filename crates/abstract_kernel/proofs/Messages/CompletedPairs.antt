@@ -24,7 +24,7 @@ use Rattle.clearing.specs.Revoke.{revoke}
 use Rattle.abstract_kernel.specs.Cancelling.{is_send_ended, is_receive_ended, is_badged_send, is_sent_by, is_received_by, cancelling, stopping}
 use Rattle.abstract_kernel.proofs.Cancelling.Records.{pairs_same}
 use Rattle.abstract_kernel.specs.Decode.{decoded_call}
-use Rattle.abstract_kernel.specs.Step.{Outcome, counted, is_send_awaited, is_receive_awaited, send_accepted, receive_accepted, where_awaited, objects_made, objects_ended, changed_to, rearranged, step, outcome, performed, send_record, receive_record, reply_to_send, reply_to_receive, replies_of, state_after}
+use Rattle.abstract_kernel.specs.Step.{Outcome, next_call, is_send_awaited, is_receive_awaited, send_accepted, receive_accepted, where_awaited, objects_made, objects_ended, changed_to, rearranged, step, outcome, performed, send_record, receive_record, reply_to_send, reply_to_receive, replies_of, state_after}
 use Rattle.abstract_kernel.specs.Reached.{IsReached}
 use Rattle.abstract_kernel.specs.Deliveries.{is_live, is_delivery, delivery, delivered}
 use Rattle.abstract_kernel.proofs.Lists.Paired.{zip_more_some, zip_some_right, all_get}
@@ -151,7 +151,7 @@ own_record A e xs i s got = all_get (λ (r : SendRecord). r.endpoint.base ≡ e.
 
 awaited_grows : (A : State) (e : Instance) (b : Bool) (accepted : Outcome) (reply : Reply) → is_delivery e.base reply ≡ false → Grows A e accepted → Grows A e (where_awaited A b accepted reply)
 awaited_grows A e true accepted reply silent grows = grows
-awaited_grows A e false accepted reply silent grows = same_pairs A e (record { reply = reply; state = counted A }) refl silent
+awaited_grows A e false accepted reply silent grows = same_pairs A e (record { reply = reply; state = next_call A }) refl silent
 
 sends_grow : (p : ProfileName) (A : State) (t : ℕ) (service : Service) (message : Message) (block : Bool) → Invariant A → Passes A t (Send service message block) → (e : Instance) → Grows A e (performed p A t (Send service message block))
 sends_grow p A t service message true inv pass e = send_grows A t service message inv pass.endpoint_live _ refl e
@@ -172,10 +172,10 @@ cancelling_grows : (A : State) (S : SendRecord → Bool) (Q : ReceiveRecord → 
 cancelling_grows A S Q inv e =
     same_pairs A e (changed_to (cancelling A S Q)) (pairs_same A S Q inv.sends_rising inv.rising inv.unshared e) refl
 
-stopping_grows : (A : State) (t : ℕ) (idle : Bool) → Invariant A → (e : Instance) →
-    Grows A e (changed_to (stopping A (thread_at A t) idle))
-stopping_grows A t idle inv e =
-    same_pairs A e (changed_to (stopping A (thread_at A t) idle))
+stopping_grows : (A : State) (t : ℕ) (inactive : Bool) → Invariant A → (e : Instance) →
+    Grows A e (changed_to (stopping A (thread_at A t) inactive))
+stopping_grows A t inactive inv e =
+    same_pairs A e (changed_to (stopping A (thread_at A t) inactive))
     (pairs_same A (is_sent_by (thread_at A t))
     (is_received_by (thread_at A t)) inv.sends_rising inv.rising inv.unshared e) refl
 

@@ -122,7 +122,7 @@ module _ (A : State) (t : ℕ) (service : Service) (fresh : A.is_cancelled (A.co
       | inr w ↦ (let m = mine in let o = alone s.thread b service.endpoint there live w.1 in zero_none (λ (x : ReceiveRecord). same_instance x.thread s.thread) (waiting_receives A (endpoint_at A b)) (omega arith))
     ]
 
-    served_ready : A.is_idle s.thread ≡ false → state_of A' s.thread ≡ Ready
+    served_ready : A.is_inactive s.thread ≡ false → state_of A' s.thread ≡ Ready
     served_ready awake =
         let q = find_nothing (is_receiving A' s.thread) (endpoints_of A.derivations) nowhere_receiving in
         let k = find_nothing (is_sending A' s.thread) (endpoints_of A.derivations) nowhere_sending in
@@ -136,7 +136,7 @@ module _ (A : State) (t : ℕ) (service : Service) (fresh : A.is_cancelled (A.co
         absurd (omega arith)
 
     -- what is shown after a receive that is delivered
-    pub shown_serves : A.is_idle s.thread ≡ false → s.thread ≡ thread_at A s.thread.base → list_any (λ k. s.thread.base == k) (threads_of A.derivations) ≡ true → list_any (λ k. t == k) (threads_of A.derivations) ≡ true →
+    pub shown_serves : A.is_inactive s.thread ≡ false → s.thread ≡ thread_at A s.thread.base → list_any (λ k. s.thread.base == k) (threads_of A.derivations) ≡ true → list_any (λ k. t == k) (threads_of A.derivations) ≡ true →
         (let v = shown A in
         shown A' ≡ changed (record v { threads = insert v.threads s.thread.base (record { state = Ready; inbox = inbox_of A s.thread }) }) t (with_message s.badge s.message) service.endpoint (drop 1 (waiters A e)))
     unfolding shown
@@ -149,7 +149,7 @@ module _ (A : State) (t : ℕ) (service : Service) (fresh : A.is_cancelled (A.co
         let row : thread_view A' s.thread.base ≡ from =
         ap (λ (m : Instance). record { state = state_of A' m; inbox = inbox_of A' m }) (sym known)
         ∙ (λ i. record { state = served_ready awake i; inbox = inbox_else s.thread (not_same (thread_at A t) s.thread (λ d. ne (sym d))) i }) in
-        let stays : (q : ℕ) → q ≢ s.thread.base → state_of A' (thread_at A q) ≡ state_of A (thread_at A q) = λ q n. (λ i. first_of (find (λ b. sending_at (thread_at A q) b (not_same s.thread (thread_at A q) (λ d. n (sym d))) i) (endpoints_of A.derivations)) (find (λ b. receiving_at (thread_at A q) b i) (endpoints_of A.derivations)) (cond (A.is_idle (thread_at A q)) Inactive Ready)) in
+        let stays : (q : ℕ) → q ≢ s.thread.base → state_of A' (thread_at A q) ≡ state_of A (thread_at A q) = λ q n. (λ i. first_of (find (λ b. sending_at (thread_at A q) b (not_same s.thread (thread_at A q) (λ d. n (sym d))) i) (endpoints_of A.derivations)) (find (λ b. receiving_at (thread_at A q) b i) (endpoints_of A.derivations)) (cond (A.is_inactive (thread_at A q)) Inactive Ready)) in
         let here : thread_view A' t ≡ with_message s.badge s.message = λ i. record { state = (stays t (λ d. ne (sym d)) ∙ ready) i; inbox = inbox_filled i } in
         let others : (q : ℕ) → q ≢ t → thread_view A' q ≡ mid q = λ q n. elim (eqb_tells q s.thread.base) [
           | inl w ↦ subst (λ (k : ℕ). thread_view A' k ≡ mid k) (sym w.1) (row ∙ sym mid_from)

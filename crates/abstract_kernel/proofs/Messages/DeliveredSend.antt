@@ -152,14 +152,14 @@ module _ (A : State) (t : ℕ) (service : Service) (message : Message) (fresh : 
       | inr w ↦ (let m = mine in let o = alone a.thread b service.endpoint there live w.1 in zero_none (λ (x : SendRecord). same_instance x.thread a.thread) (waiting_sends A (endpoint_at A b)) (omega arith))
     ]
 
-    served_ready : A.is_idle a.thread ≡ false → state_of A' a.thread ≡ Ready
+    served_ready : A.is_inactive a.thread ≡ false → state_of A' a.thread ≡ Ready
     served_ready awake =
         let r = find_nothing (is_receiving A' a.thread) (endpoints_of A.derivations) nowhere_receiving in
         let k = find_nothing (is_sending A' a.thread) (endpoints_of A.derivations) nowhere_sending in
         λ i. first_of (k i) (r i) (cond (awake i) Inactive Ready)
 
     -- what is shown after a send that is delivered
-    pub shown_delivers : A.is_idle a.thread ≡ false → a.thread ≡ thread_at A a.thread.base → list_any (λ k. a.thread.base == k) (threads_of A.derivations) ≡ true →
+    pub shown_delivers : A.is_inactive a.thread ≡ false → a.thread ≡ thread_at A a.thread.base → list_any (λ k. a.thread.base == k) (threads_of A.derivations) ≡ true →
         shown A' ≡ changed (shown A) a.thread.base (with_message service.badge message) service.endpoint (drop 1 (waiters A e))
     unfolding shown
     shown_delivers awake known thread =
@@ -168,7 +168,7 @@ module _ (A : State) (t : ℕ) (service : Service) (message : Message) (fresh : 
         let others : (q : ℕ) → q ≢ a.thread.base → thread_view A' q ≡ thread_view A q = λ q ne.
         (let other : same_instance a.thread (thread_at A q) ≡ false = not_same a.thread (thread_at A q) (λ d. ne (sym d)) in
         λ i. record {
-          state = first_of (find (λ b. sending_at (thread_at A q) b i) (endpoints_of A.derivations)) (find (λ b. receiving_at (thread_at A q) b other i) (endpoints_of A.derivations)) (cond (A.is_idle (thread_at A q)) Inactive Ready);
+          state = first_of (find (λ b. sending_at (thread_at A q) b i) (endpoints_of A.derivations)) (find (λ b. receiving_at (thread_at A q) b other i) (endpoints_of A.derivations)) (cond (A.is_inactive (thread_at A q)) Inactive Ready);
           inbox = inbox_else (thread_at A q) other i;
         }) in
         let rows = table_changed (threads_of A.derivations) (thread_view A) (thread_view A') a.thread.base (in_table _ _ _ thread) others ∙ ap (insert (table (threads_of A.derivations) (thread_view A)) a.thread.base) row in

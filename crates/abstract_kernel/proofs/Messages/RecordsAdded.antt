@@ -169,10 +169,10 @@ pub receives_step : (p : ProfileName) (A : State) (t : ℕ) (service : Service) 
 receives_step p A t service true inv pass = receive_steps A t service inv pass.ready pass.thread_live pass.endpoint_live _ refl
 receives_step p A t service false inv pass = nb_receive_steps A t service inv pass.ready pass.thread_live pass.endpoint_live _ refl
 
--- a ready thread is not idle
-ready_awake : (o r : Option ℕ) (idle : Bool) → first_of o r (cond idle Inactive Ready) ≡ Ready → idle ≡ false
-ready_awake (Some e) r idle h = cc
-ready_awake None (Some e) idle h = cc
+-- a ready thread is not inactive
+ready_awake : (o r : Option ℕ) (inactive : Bool) → first_of o r (cond inactive Inactive Ready) ≡ Ready → inactive ≡ false
+ready_awake (Some e) r inactive h = cc
+ready_awake None (Some e) inactive h = cc
 ready_awake None None true h = cc
 ready_awake None None false h = refl
 

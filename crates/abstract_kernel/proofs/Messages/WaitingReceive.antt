@@ -14,7 +14,7 @@ use Rattle.abstract_kernel.specs.declared.call.ThreadState.TheVariants.{Ready, I
 use Rattle.abstract_kernel.specs.declared.invocation.Service.{Service}
 use Rattle.ipc_core.specs.Records.{ReceiveRecord, Instance, SendRecord, receiver, same_instance, sender, waiting_list}
 use Rattle.abstract_kernel.specs.State.{State, receives_of, endpoint_at, first_of, inbox_of, inbox_with, is_receiving, is_sending, last_completed, pair_of, pairs, sends_to, shown, state_of, thread_at, thread_view, waiters, waiting_receives}
-use Rattle.abstract_kernel.specs.Step.{receive_record, counted}
+use Rattle.abstract_kernel.specs.Step.{receive_record, next_call}
 use Rattle.abstract_kernel.specs.Private.Effects.{changed}
 use Rattle.abstract_kernel.specs.Shown.{endpoints_of, table, threads_of}
 use Rattle.ipc_core.specs.Waits.{first_sender}
@@ -71,7 +71,7 @@ module _ (A : State) (t : ℕ) (service : Service) (fresh : A.is_cancelled (A.co
 
   -- the state after the receive
   abbrev pub after_receive : State
-  after_receive = record (counted A) { receives = A.receives ++ record_received ∷ [] }
+  after_receive = record (next_call A) { receives = A.receives ++ record_received ∷ [] }
 
   pub receives_here : receives_of after_receive record_received.endpoint ≡ receives_of A record_received.endpoint ++ record_received ∷ []
   receives_here =
@@ -151,7 +151,7 @@ module _ (A : State) (t : ℕ) (service : Service) (fresh : A.is_cancelled (A.co
 
     pub row_kept : (q : ℕ) → q ≢ t → thread_view after_receive q ≡ thread_view A q
     row_kept q ne = λ i. record {
-      state = first_of (find (λ base. sending_kept (thread_at A q) base i) (endpoints_of A.derivations)) (find (λ base. others_kept q base ne i) (endpoints_of A.derivations)) (cond (A.is_idle (thread_at A q)) Inactive Ready);
+      state = first_of (find (λ base. sending_kept (thread_at A q) base i) (endpoints_of A.derivations)) (find (λ base. others_kept q base ne i) (endpoints_of A.derivations)) (cond (A.is_inactive (thread_at A q)) Inactive Ready);
       inbox = inbox_kept (thread_at A q) i;
     }
 
@@ -162,7 +162,7 @@ module _ (A : State) (t : ℕ) (service : Service) (fresh : A.is_cancelled (A.co
         let sends : find (is_sending after_receive (thread_at A t)) (endpoints_of A.derivations) ≡ None = (λ i. find (λ base. sending_kept (thread_at A t) base i) (endpoints_of A.derivations)) ∙ before.0 in
         let found = find_one (is_receiving A (thread_at A t)) (is_receiving after_receive (thread_at A t)) (endpoints_of A.derivations) service.endpoint before.1 (elsewhere_kept (thread_at A t)) receives_now live in
         λ i. record {
-          state = first_of (sends i) (found i) (cond (A.is_idle (thread_at A t)) Inactive Ready);
+          state = first_of (sends i) (found i) (cond (A.is_inactive (thread_at A t)) Inactive Ready);
           inbox = inbox_kept (thread_at A t) i;
         }
 

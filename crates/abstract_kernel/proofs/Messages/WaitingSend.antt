@@ -16,7 +16,7 @@ use Rattle.cap_core.specs.declared.message.Message.{Message}
 use Rattle.abstract_kernel.specs.State.{State, receives_of, endpoint_at, first_of, inbox_of, inbox_with, is_receiving, is_sending, last_completed, pairs, sends_to, shown, state_of, thread_at, thread_view, waiters, waiting_sends}
 use Rattle.ipc_core.specs.declared.waiter.Waiter.{Waiter}
 use Rattle.abstract_kernel.specs.Private.Effects.{changed}
-use Rattle.abstract_kernel.specs.Step.{counted, send_record}
+use Rattle.abstract_kernel.specs.Step.{next_call, send_record}
 use Rattle.abstract_kernel.specs.Shown.{endpoints_of, table, threads_of}
 use Rattle.ipc_core.specs.Waits.{first_receiver}
 
@@ -91,7 +91,7 @@ module _ (A : State) (t : ℕ) (service : Service) (message : Message) (fresh : 
 
   -- the state after the send
   abbrev pub after_send : State
-  after_send = record (counted A) { sends = A.sends ++ record_sent ∷ [] }
+  after_send = record (next_call A) { sends = A.sends ++ record_sent ∷ [] }
 
   pub sends_here : sends_to after_send record_sent.endpoint ≡ sends_to A record_sent.endpoint ++ record_sent ∷ []
   sends_here =
@@ -156,7 +156,7 @@ module _ (A : State) (t : ℕ) (service : Service) (message : Message) (fresh : 
 
     pub row_stays : (q : ℕ) → q ≢ t → thread_view after_send q ≡ thread_view A q
     row_stays q ne = λ i. record {
-      state = first_of (find (λ base. others_stay q base ne i) (endpoints_of A.derivations)) (find (λ base. receiving_stays (thread_at A q) base i) (endpoints_of A.derivations)) (cond (A.is_idle (thread_at A q)) Inactive Ready);
+      state = first_of (find (λ base. others_stay q base ne i) (endpoints_of A.derivations)) (find (λ base. receiving_stays (thread_at A q) base i) (endpoints_of A.derivations)) (cond (A.is_inactive (thread_at A q)) Inactive Ready);
       inbox = inbox_stays (thread_at A q) i;
     }
 
@@ -165,7 +165,7 @@ module _ (A : State) (t : ℕ) (service : Service) (message : Message) (fresh : 
     row_waits ready live =
         let found = find_one (is_sending A (thread_at A t)) (is_sending after_send (thread_at A t)) (endpoints_of A.derivations) service.endpoint (none_found _ _ _ ready) (elsewhere_stays (thread_at A t)) sends_now live in
         λ i. record {
-          state = (ap (λ (o : Option ℕ). first_of o (find (is_receiving after_send (thread_at A t)) (endpoints_of A.derivations)) (cond (A.is_idle (thread_at A t)) Inactive Ready)) found) i;
+          state = (ap (λ (o : Option ℕ). first_of o (find (is_receiving after_send (thread_at A t)) (endpoints_of A.derivations)) (cond (A.is_inactive (thread_at A t)) Inactive Ready)) found) i;
           inbox = inbox_stays (thread_at A t) i;
         }
 

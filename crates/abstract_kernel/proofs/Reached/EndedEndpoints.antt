@@ -100,19 +100,19 @@ module _ (A : State) (e : Instance) (born : e.birth ≤ A.count) (ended : is_liv
     pairs_same = pairs_same A (is_send_ended A g) (is_receive_ended A g) inv.sends_rising inv.rising inv.unshared e;
   }
 
-  -- a cancellation, after which other threads may be idle
-  by_cancelling : (S : SendRecord → Bool) (Q : ReceiveRecord → Bool) (idle : Instance → Bool) → Invariant A →
-      StaysEnded A e (changed_to (record (cancelling A S Q) { is_idle = idle }))
-  by_cancelling S Q idle inv = record {
+  -- a cancellation, after which other threads may be inactive
+  by_cancelling : (S : SendRecord → Bool) (Q : ReceiveRecord → Bool) (inactive : Instance → Bool) → Invariant A →
+      StaysEnded A e (changed_to (record (cancelling A S Q) { is_inactive = inactive }))
+  by_cancelling S Q inactive inv = record {
     born = omega (arith, born);
     ended = ended;
     pairs_same = pairs_same A S Q inv.sends_rising inv.rising inv.unshared e;
   }
 
-  by_stopping : (t : ℕ) (idle : Bool) → Invariant A → StaysEnded A e (changed_to (stopping A (thread_at A t) idle))
-  by_stopping t idle inv =
+  by_stopping : (t : ℕ) (inactive : Bool) → Invariant A → StaysEnded A e (changed_to (stopping A (thread_at A t) inactive))
+  by_stopping t inactive inv =
       by_cancelling (is_sent_by (thread_at A t)) (is_received_by (thread_at A t))
-      (stopping A (thread_at A t) idle).is_idle inv
+      (stopping A (thread_at A t) inactive).is_inactive inv
 
   by_invocation : (p : ProfileName) (memory t : ℕ) → Reached p memory A → (invocation : Invocation) → Passes A t invocation → IsEdit p A.derivations invocation → StaysEnded A e (performed p A t invocation)
   by_invocation p memory t reached (Send service message true) pass edit = by_send t service message reached.records pass.endpoint_live
@@ -130,7 +130,7 @@ module _ (A : State) (e : Instance) (born : e.birth ≤ A.count) (ended : is_liv
       by_ending (revoke p slot A.derivations) reached.records (λ q. live-revoke endpoint_base q p slot A.derivations)
   by_invocation p memory t reached (CancelBadged service) pass edit =
       by_cancelling (is_badged_send (endpoint_at A service.endpoint) service.badge)
-      (λ _. false) A.is_idle reached.records
+      (λ _. false) A.is_inactive reached.records
   by_invocation p memory t reached (SetSpace new) pass edit =
       by_ending (with_space p new A.derivations) reached.records (space_endpoints p memory A t reached new edit)
   by_invocation p memory t reached (Suspend tcb) pass edit = by_stopping tcb true reached.records

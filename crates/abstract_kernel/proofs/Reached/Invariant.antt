@@ -19,23 +19,23 @@ use Rattle.cap_core.specs.declared.refusal.Refusal.{Refusal}
 use Rattle.abstract_kernel.specs.Shown.{ThreadView, endpoints_of, inbox_at, threads_of, waiting_at}
 use Rattle.abstract_kernel.specs.State.{State, endpoint_at, inbox_of, shown, state_of, thread_at, thread_view, waiters, waiting_receives, waiting_sends}
 use Rattle.ipc_core.specs.declared.waiter.Waiter.{Waiter}
-use Rattle.abstract_kernel.specs.Step.{Outcome, counted}
+use Rattle.abstract_kernel.specs.Step.{Outcome, next_call}
 use Rattle.abstract_kernel.specs.Boot.{boot}
 use Rattle.abstract_kernel.specs.Decode.{service_word}
 use Rattle.abstract_kernel.specs.Lookups.{invoked_slot}
-use Rattle.abstract_kernel.specs.Decode.{decoded_call, decoded_op, where_live, where_ready}
+use Rattle.abstract_kernel.specs.Decode.{decoded_call, decoded_op, ensure_live, ensure_ready}
 
 -- no send and no receive have a number in common
 abbrev pub Unshared : State → Type 0
 Unshared A = (n : ℕ) → has_number send_number A.sends n ≡ true → has_number receive_number A.receives n ≡ false
 
--- a record that is open: its endpoint and its thread are live and were not made anew, and its thread is not idle
+-- a record that is open: its endpoint and its thread are live and were not made anew, and its thread is not inactive
 pub record IsOpen (A : State) (endpoint thread : Instance) : Type 0 where
   pub endpoint_is : endpoint ≡ endpoint_at A endpoint.base
   pub endpoint_live : list_any (λ k. endpoint.base == k) (endpoints_of A.derivations) ≡ true
   pub thread_is : thread ≡ thread_at A thread.base
   pub thread_live : list_any (λ k. thread.base == k) (threads_of A.derivations) ≡ true
-  pub awake : A.is_idle thread ≡ false
+  pub awake : A.is_inactive thread ≡ false
 
 abbrev pub SendIsOpen : State → SendRecord → Type 0
 SendIsOpen A s = IsOpen A s.endpoint s.thread
@@ -68,13 +68,13 @@ pub record Passes (A : State) (thread : ℕ) (invocation : Invocation) : Type 0 
   pub thread_live : list_any (λ k. thread == k) (threads_of A.derivations) ≡ true
   pub endpoint_live : HasLiveEndpoint A.derivations invocation
 
-allowed : (s : ThreadState) (found : Result Invocation Refusal) (invocation : Invocation) → where_ready s found ≡ Ok invocation → (s ≡ Ready) × (found ≡ Ok invocation)
+allowed : (s : ThreadState) (found : Result Invocation Refusal) (invocation : Invocation) → ensure_ready s found ≡ Ok invocation → (s ≡ Ready) × (found ≡ Ok invocation)
 allowed Ready found invocation h = (refl, h)
 allowed Inactive found invocation h = cc
 allowed (Sending e) found invocation h = cc
 allowed (Receiving e) found invocation h = cc
 
-ready_passes : (b : Bool) (row : ThreadView) (found : Result Invocation Refusal) (invocation : Invocation) → where_live (cond b (Some row) None) found ≡ Ok invocation → (b ≡ true) × (row.state ≡ Ready) × (found ≡ Ok invocation)
+ready_passes : (b : Bool) (row : ThreadView) (found : Result Invocation Refusal) (invocation : Invocation) → ensure_live (cond b (Some row) None) found ≡ Ok invocation → (b ≡ true) × (row.state ≡ Ready) × (found ≡ Ok invocation)
 ready_passes true row found invocation h = let w = allowed row.state found invocation h in (refl, w.0, w.1)
 ready_passes false row found invocation h = cc
 
@@ -83,7 +83,7 @@ unfolding shown
 passes p A call invocation h =
     let found : Result Invocation Refusal = decoded_op p A.derivations call.thread call.op in
     let w = ready_passes (list_any (λ k. call.thread == k) (threads_of A.derivations)) (thread_view A call.thread) found invocation
-    (sym (ap (λ (o : Option ThreadView). where_live o found) (get_table (threads_of A.derivations) (thread_view A) call.thread)) ∙ h) in
+    (sym (ap (λ (o : Option ThreadView). ensure_live o found) (get_table (threads_of A.derivations) (thread_view A) call.thread)) ∙ h) in
     record {
       ready = w.1;
       thread_live = w.0;
@@ -149,10 +149,10 @@ sends_born_later n [] h = tt
 sends_born_later n (s ∷ sends) h = let e = h.0.0 in let t = h.0.1 in ((omega arith, omega arith), sends_born_later n sends h.1)
 
 -- an open record, in a state with more or other things
-open_counted : (A : State) (e t : Instance) → IsOpen A e t → IsOpen (counted A) e t
-open_counted A e t o = record { endpoint_is = o.endpoint_is; endpoint_live = o.endpoint_live; thread_is = o.thread_is; thread_live = o.thread_live; awake = o.awake }
+open_at_next_call : (A : State) (e t : Instance) → IsOpen A e t → IsOpen (next_call A) e t
+open_at_next_call A e t o = record { endpoint_is = o.endpoint_is; endpoint_live = o.endpoint_live; thread_is = o.thread_is; thread_live = o.thread_live; awake = o.awake }
 
-pub inv_refused : (A : State) → Invariant A → Invariant (counted A)
+pub inv_refused : (A : State) → Invariant A → Invariant (next_call A)
 inv_refused A inv = record {
   fresh = λ n lt. inv.fresh n (omega arith);
   numbered = receives_later A.count A.receives inv.numbered;
@@ -166,8 +166,8 @@ inv_refused A inv = record {
   sends_born = sends_born_later A.count A.sends inv.sends_born;
   younger = inv.younger;
   sends_younger = inv.sends_younger;
-  receives_open = λ e. all_weaker (ReceiveIsOpen A) (ReceiveIsOpen (counted A)) (λ a o. open_counted A a.endpoint a.thread o) (waiting_receives A e) (inv.receives_open e);
-  sends_open = λ e. all_weaker (SendIsOpen A) (SendIsOpen (counted A)) (λ s o. open_counted A s.endpoint s.thread o) (waiting_sends A e) (inv.sends_open e);
+  receives_open = λ e. all_weaker (ReceiveIsOpen A) (ReceiveIsOpen (next_call A)) (λ a o. open_at_next_call A a.endpoint a.thread o) (waiting_receives A e) (inv.receives_open e);
+  sends_open = λ e. all_weaker (SendIsOpen A) (SendIsOpen (next_call A)) (λ s o. open_at_next_call A s.endpoint s.thread o) (waiting_sends A e) (inv.sends_open e);
   once = inv.once;
   alone = inv.alone;
 }

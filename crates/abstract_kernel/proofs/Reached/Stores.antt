@@ -11,7 +11,7 @@ use Rattle.abstract_kernel.specs.declared.call.ThreadState.TheVariants.{Ready, I
 use Rattle.abstract_kernel.specs.declared.invocation.Invocation.{Invocation}
 use Rattle.abstract_kernel.specs.declared.invocation.Invocation.TheVariants.{Send, Receive, Retype, Derive, Move, Delete, Revoke, CancelBadged, SetSpace, Suspend, Resume}
 use Rattle.abstract_kernel.specs.declared.invocation.NewObjects.{NewObjects}
-use Rattle.abstract_kernel.specs.Decode.{decoded_call, decoded_op, where_live, where_ready}
+use Rattle.abstract_kernel.specs.Decode.{decoded_call, decoded_op, ensure_live, ensure_ready}
 use Rattle.abstract_kernel.specs.Retyping.{with_objects}
 use Rattle.abstract_kernel.specs.Private.Stores.{IsKernelStore}
 use Rattle.abstract_kernel.specs.Shown.{ThreadView}
@@ -91,13 +91,13 @@ performed_housed p memory A t (Suspend tcb) edit store h = h
 performed_housed p memory A t (Resume tcb) edit store h = h
 
 -- what passed the checks passed those of its operation
-ready_found : (s : ThreadState) (found : Result Invocation Refusal) (invocation : Invocation) → where_ready s found ≡ Ok invocation → found ≡ Ok invocation
+ready_found : (s : ThreadState) (found : Result Invocation Refusal) (invocation : Invocation) → ensure_ready s found ≡ Ok invocation → found ≡ Ok invocation
 ready_found Ready found invocation h = h
 ready_found Inactive found invocation h = cc
 ready_found (Sending e) found invocation h = cc
 ready_found (Receiving e) found invocation h = cc
 
-live_found : (o : Option ThreadView) (found : Result Invocation Refusal) (invocation : Invocation) → where_live o found ≡ Ok invocation → found ≡ Ok invocation
+live_found : (o : Option ThreadView) (found : Result Invocation Refusal) (invocation : Invocation) → ensure_live o found ≡ Ok invocation → found ≡ Ok invocation
 live_found None found invocation h = cc
 live_found (Some thread) found invocation h = ready_found thread.state found invocation h
 

@@ -177,20 +177,20 @@ module _ (p : ProfileName) (A : State) (new : NewObjects) (inv : Invariant A) (f
       (λ none. (was_endpoint k none live, sym (same_receiving m k none) ∙ h)))
       (receives_once A inv m)
 
-  idle_kept : (m : Instance) → list_any (λ k. m.base == k) (new_bases tcb_base p new) ≡ false → after_made.is_idle m ≡ A.is_idle m
-  idle_kept m none = ap (λ (b : Bool). A.is_idle m || (b && (m.birth == A.count + 1))) none ∙ or_false (A.is_idle m)
+  inactive_kept : (m : Instance) → list_any (λ k. m.base == k) (new_bases tcb_base p new) ≡ false → after_made.is_inactive m ≡ A.is_inactive m
+  inactive_kept m none = ap (λ (b : Bool). A.is_inactive m || (b && (m.birth == A.count + 1))) none ∙ or_false (A.is_inactive m)
 
-  idle_made : (m : Instance) → list_any (λ k. m.base == k) (new_bases tcb_base p new) ≡ true → m.birth ≡ A.count + 1 → after_made.is_idle m ≡ true
-  idle_made m made at =
-      ap (λ (b : Bool). A.is_idle m || (b && (m.birth == A.count + 1))) made
-      ∙ ap (λ (b : Bool). A.is_idle m || b) (eq-eqb m.birth (A.count + 1) at)
-      ∙ or_true (A.is_idle m)
+  inactive_made : (m : Instance) → list_any (λ k. m.base == k) (new_bases tcb_base p new) ≡ true → m.birth ≡ A.count + 1 → after_made.is_inactive m ≡ true
+  inactive_made m made at =
+      ap (λ (b : Bool). A.is_inactive m || (b && (m.birth == A.count + 1))) made
+      ∙ ap (λ (b : Bool). A.is_inactive m || b) (eq-eqb m.birth (A.count + 1) at)
+      ∙ or_true (A.is_inactive m)
 
   view_kept : (q : ℕ) → list_any (λ k. q == k) (new_bases tcb_base p new) ≡ false → thread_view after_made q ≡ thread_view A q
   view_kept q none =
       ap (view_as after_made) (same_thread q none)
       ∙ (λ i. record {
-        state = first_of (sending_found (thread_at A q) i) (receiving_found (thread_at A q) i) (cond (idle_kept (thread_at A q) none i) Inactive Ready);
+        state = first_of (sending_found (thread_at A q) i) (receiving_found (thread_at A q) i) (cond (inactive_kept (thread_at A q) none i) Inactive Ready);
         inbox = inbox_of A (thread_at A q);
       })
 
@@ -200,9 +200,9 @@ module _ (p : ProfileName) (A : State) (new : NewObjects) (inv : Invariant A) (f
       let at = thread_born q made in
       let sending : find (is_sending after_made m) (endpoints_of (with_objects p new A.derivations)) ≡ None = find_nothing (is_sending after_made m) (endpoints_of (with_objects p new A.derivations)) (λ k live. sends_nowhere m at k) in
       let receiving : find (is_receiving after_made m) (endpoints_of (with_objects p new A.derivations)) ≡ None = find_nothing (is_receiving after_made m) (endpoints_of (with_objects p new A.derivations)) (λ k live. receives_nowhere m at k) in
-      let idle : after_made.is_idle m ≡ true = idle_made m made at in
+      let inactive : after_made.is_inactive m ≡ true = inactive_made m made at in
       let inbox = inbox_none m at in
-      λ i. record { state = first_of (sending i) (receiving i) (cond (idle i) Inactive Ready); inbox = inbox i }
+      λ i. record { state = first_of (sending i) (receiving i) (cond (inactive i) Inactive Ready); inbox = inbox i }
 
   threads_shown : (q : ℕ) → get (table (threads_of (with_objects p new A.derivations)) (thread_view after_made)) q ≡ get (with_threads (new_bases tcb_base p new) (table (threads_of A.derivations) (thread_view A))) q
   threads_shown q =
@@ -275,5 +275,5 @@ module _ (p : ProfileName) (A : State) (new : NewObjects) (inv : Invariant A) (f
         endpoint_live = still_endpoint e.base o.endpoint_live;
         thread_is = o.thread_is ∙ sym (same_thread m.base (old_thread m.base o.thread_live));
         thread_live = still_thread m.base o.thread_live;
-        awake = idle_kept m (old_thread m.base o.thread_live) ∙ o.awake;
+        awake = inactive_kept m (old_thread m.base o.thread_live) ∙ o.awake;
       }

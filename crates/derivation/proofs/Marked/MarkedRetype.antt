@@ -6,7 +6,7 @@ use Rattle.cap_core.specs.declared.capability.Cap.{Cap}
 use Rattle.cap_core.specs.Numbers.{slot_size}
 use Rattle.cap_core.specs.Objects.{is_untyped, same_object, contains, in_region}
 use Rattle.std.proofs.lemmas.Bool.{eqb-true}
-use Rattle.derivation.specs.Forest.{Forest, preorder, below_those, ancestors, below, renamed, taken, build}
+use Rattle.derivation.specs.Forest.{Forest, preorder, below_those, ancestors, below, renamed, front_trees, build}
 use Rattle.derivation.specs.Entries.{Entry, entry, is_at}
 use Rattle.derivation.specs.Marked.{Marked, is_parent, entry_of, forest_of, IsFront, IsGathered, stands_at}
 use Rattle.derivation.proofs.Trees.Forests.{contains-below_old, ancestors-below}
@@ -116,7 +116,7 @@ retype_outside p pre u post n cap r others own apart =
         let whole : first ++ a ∷ behind ≡ l = sym (append_assoc first (a ∷ rest) (u ∷ post)) ∙ ap (λ (m : List Marked). m ++ u ∷ post) e in
         let rest_part : Absent (stands_at p u.place) rest = last_part first (let Q : List Marked → Type 0 = Absent (stands_at p u.place) in subst Q (sym e) r.front) in
         let ab : Absent (stands_at p a.place) behind = joined rest (apart first a rest e).1 in
-        let g : Forest Marked = taken (t a) (build t behind) in
+        let g : Forest Marked = front_trees (t a) (build t behind) in
         let all : Each (λ (c : Marked). t a c ≡ true) (preorder g) = each-taken (t a) (build t behind) (whole-nested t (parent-transitive p) a (build t behind) (nested-build t (parent-transitive p) behind)) in
         let ones : Each (λ (c : Marked). stands_at p u.place c ≡ true → in_region p a.cap c.cap ≡ false) (preorder g) =
         each-taken_part (λ (c : Marked). stands_at p u.place c ≡ true → in_region p a.cap c.cap ≡ false) (t a) (build t behind)

@@ -8,7 +8,7 @@ use Rattle.cap_core.specs.declared.capability.Cap.{Cap}
 use Rattle.cap_core.specs.declared.capability.Cap.TheVariants.{Null}
 use Rattle.cap_core.specs.Numbers.{slot_size}
 use Rattle.cap_core.specs.Objects.{is_null, is_untyped, badge_of, same_object, in_region, IsLawful}
-use Rattle.derivation.specs.Forest.{Forest, tops, below, after, renamed, taken, build}
+use Rattle.derivation.specs.Forest.{Forest, tops, below, after, renamed, front_trees, build}
 use Rattle.derivation.specs.Entries.{Entry, is_at, cap_at, cap_in, is_original, original_in, first_child, first_slot}
 use Rattle.derivation.specs.Derivation.{derived, is_new_original, names_same}
 use Rattle.derivation.specs.Disjoint.{IsDisjoint}
@@ -55,8 +55,8 @@ child_standing p pre s post a b =
     let is : Entry → Bool = is_at (s.place * slot_size p) in
     ap (λ f. first_slot (tops f)) (renamed-below_those (entry_of p) is (build (is_parent p) (pre ++ s ∷ post)))
     ∙ ap (λ f. first_slot (tops (renamed (entry_of p) f))) (build-below_those (is_parent p) (stands_at p s.place) pre s post (same_number (s.place * slot_size p)) a b)
-    ∙ ap first_slot (tops-renamed (entry_of p) (taken (is_parent p s) (build (is_parent p) post)))
-    ∙ first_renamed p (tops (taken (is_parent p s) (build (is_parent p) post)))
+    ∙ ap first_slot (tops-renamed (entry_of p) (front_trees (is_parent p s) (build (is_parent p) post)))
+    ∙ first_renamed p (tops (front_trees (is_parent p s) (build (is_parent p) post)))
     ∙ ap (option_map (λ (r : Marked). r.place * slot_size p)) (tops-taken (is_parent p) (is_parent p s) post)
 
 pub child_nowhere : (p : ProfileName) (n : ℕ) (l : List Marked) → Absent (stands_at p n) l → first_child (n * slot_size p) (forest_of p l) ≡ None

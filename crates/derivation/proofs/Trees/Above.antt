@@ -2,7 +2,7 @@
 use Rattle.std.proofs.Common.{◌≡◌, Bool, true, false, cond, ◌||◌, List, [], ◌∷◌, ◌++◌, refl, sym, ◌∙◌, ap, subst}
 use Rattle.std.specs.List.{AllByRecursion as Each, list_any}
 use Rattle.std.proofs.lemmas.List.Folds.{list_any-append}
-use Rattle.derivation.specs.Forest.{Forest, none, tree, preorder, join, below_those, has, ancestors, below, taken, left, build}
+use Rattle.derivation.specs.Forest.{Forest, none, tree, preorder, join, below_those, has, ancestors, below, front_trees, trees_behind, build}
 use Rattle.derivation.proofs.Trees.Forests.{preorder-join, each-append, each-left_part, each-right_part, each-join}
 use Rattle.derivation.proofs.Trees.Built.{Absent, Once, preorder-build, once-right_part, once-split, fixed-below}
 use Rattle.derivation.proofs.Trees.BuiltOut.{each-left}
@@ -26,11 +26,11 @@ each-ancestors {A} P q (tree a k r) h =
     let hr : Each P (preorder r) = each-right_part P (preorder k) (preorder r) h.1 in
     elim (has q k) as (λ c. Each P (cond c (a ∷ ancestors q k) (ancestors q r))) [ true ↦ (h.0, each-ancestors P q k hk) | false ↦ each-ancestors P q r hr ]
 
-pub each-taken_part : {A : Type 0} (P : A → Type 0) (q : A → Bool) (f : Forest A) → Each P (preorder f) → Each P (preorder (taken q f))
+pub each-taken_part : {A : Type 0} (P : A → Type 0) (q : A → Bool) (f : Forest A) → Each P (preorder f) → Each P (preorder (front_trees q f))
 each-taken_part P q none h = tt
 each-taken_part P q (tree a k r) h =
-    elim (q a) as (λ b. Each P (preorder (cond b (tree a k (taken q r)) none))) [
-      | true ↦ (h.0, each-append P (preorder k) (preorder (taken q r)) (each-left_part P (preorder k) (preorder r) h.1) (each-taken_part P q r (each-right_part P (preorder k) (preorder r) h.1)))
+    elim (q a) as (λ b. Each P (preorder (cond b (tree a k (front_trees q r)) none))) [
+      | true ↦ (h.0, each-append P (preorder k) (preorder (front_trees q r)) (each-left_part P (preorder k) (preorder r) h.1) (each-taken_part P q r (each-right_part P (preorder k) (preorder r) h.1)))
       | false ↦ tt
     ]
 
@@ -66,18 +66,18 @@ has_absent is k r o h = any_absent is (preorder k) (preorder r) o (sym (has-any 
 
 -- what stands above an element of a list comes before it
 
-ancestors-taken : {A : Type 0} (P : A → Type 0) (is q : A → Bool) (f : Forest A) → Each P (ancestors is f) → Each P (ancestors is (taken q f))
+ancestors-taken : {A : Type 0} (P : A → Type 0) (is q : A → Bool) (f : Forest A) → Each P (ancestors is f) → Each P (ancestors is (front_trees q f))
 ancestors-taken P is q none h = tt
 ancestors-taken {A} P is q (tree a k r) h =
-    elim (q a) as (λ b. Each P (ancestors is (cond b (tree a k (taken q r)) none))) [
-      | true ↦ (elim (has is k) as (λ c. Each P (cond c (a ∷ ancestors is k) (ancestors is r)) → Each P (cond c (a ∷ ancestors is k) (ancestors is (taken q r)))) [ true ↦ λ g. g | false ↦ λ g. ancestors-taken P is q r g ]) h
+    elim (q a) as (λ b. Each P (ancestors is (cond b (tree a k (front_trees q r)) none))) [
+      | true ↦ (elim (has is k) as (λ c. Each P (cond c (a ∷ ancestors is k) (ancestors is r)) → Each P (cond c (a ∷ ancestors is k) (ancestors is (front_trees q r)))) [ true ↦ λ g. g | false ↦ λ g. ancestors-taken P is q r g ]) h
       | false ↦ tt
     ]
 
-ancestors-left : {A : Type 0} (P : A → Type 0) (is q : A → Bool) (f : Forest A) → Once is (preorder f) → Each P (ancestors is f) → Each P (ancestors is (left q f))
+ancestors-left : {A : Type 0} (P : A → Type 0) (is q : A → Bool) (f : Forest A) → Once is (preorder f) → Each P (ancestors is f) → Each P (ancestors is (trees_behind q f))
 ancestors-left P is q none o h = tt
 ancestors-left {A} P is q (tree a k r) o h =
-    elim (q a) as (λ b. Each P (ancestors is (cond b (left q r) (tree a k r)))) [
+    elim (q a) as (λ b. Each P (ancestors is (cond b (trees_behind q r) (tree a k r)))) [
       | true ↦ ancestors-left P is q r (once-right_part is (preorder k) (preorder r) o.1)
           ((elim (has is k) as (λ c. has is k ≡ c → Each P (cond c (a ∷ ancestors is k) (ancestors is r)) → Each P (ancestors is r)) [
             | true ↦ λ e g. (let z : ancestors is r ≡ [] = no_ancestors is r (has_absent is k r o.1 e) in let Q : List A → Type 0 = Each P in subst Q (sym z) tt)
@@ -91,14 +91,14 @@ pub ancestors_before : {A : Type 0} (P : A → Type 0) (t : A → A → Bool) (i
 ancestors_before {A} P t is [] s post a b h =
     let f : Forest A = build t post in
     let n : Absent is (preorder f) = let Q : List A → Type 0 = Absent is in subst Q (sym (preorder-build t post)) b in
-    let k : has is (taken (t s) f) ≡ false = no_has is (taken (t s) f) (each-taken_part (λ c. is c ≡ false) (t s) f n) in
-    let r : ancestors is (left (t s) f) ≡ [] = no_ancestors is (left (t s) f) (each-left (λ c. is c ≡ false) (t s) f n) in
+    let k : has is (front_trees (t s) f) ≡ false = no_has is (front_trees (t s) f) (each-taken_part (λ c. is c ≡ false) (t s) f n) in
+    let r : ancestors is (trees_behind (t s) f) ≡ [] = no_ancestors is (trees_behind (t s) f) (each-left (λ c. is c ≡ false) (t s) f n) in
     rw (k, r) tt
 ancestors_before {A} P t is (q ∷ pre) s post a b h =
     let f : Forest A = build t (pre ++ s ∷ post) in
     let o : Once is (preorder f) = let Q : List A → Type 0 = Once is in subst Q (sym (preorder-build t (pre ++ s ∷ post))) (once-split is pre s post a.1 b) in
     let ih : Each P (ancestors is f) = ancestors_before P t is pre s post a.1 b h.1 in
-    elim (has is (taken (t q) f)) as (λ c. Each P (cond c (q ∷ ancestors is (taken (t q) f)) (ancestors is (left (t q) f)))) [
+    elim (has is (front_trees (t q) f)) as (λ c. Each P (cond c (q ∷ ancestors is (front_trees (t q) f)) (ancestors is (trees_behind (t q) f)))) [
       | true ↦ (h.0, ancestors-taken P is (t q) f ih)
       | false ↦ ancestors-left P is (t q) f o ih
     ]

@@ -2,14 +2,14 @@
 use Rattle.std.proofs.Common.{◌≡◌, Bool, true, false, cond, List, [], ◌∷◌, ◌++◌, map, Option, Some, None, refl, sym, ◌∙◌, ap, subst, arith}
 use Rattle.std.specs.List.{AllByRecursion as Each}
 use Rattle.std.proofs.lemmas.List.{map-append}
-use Rattle.derivation.specs.Forest.{Forest, none, tree, preorder, join, tops, below_those, below, after, renamed, root, taken, left, build}
+use Rattle.derivation.specs.Forest.{Forest, none, tree, preorder, join, tops, below_those, below, after, renamed, root, front_trees, trees_behind, build}
 use Rattle.derivation.proofs.Trees.Forests.{preorder-join, each-left_part, each-right_part}
 
--- the trees taken and the trees left are the trees
-pub taken-left : {A : Type 0} (p : A → Bool) (f : Forest A) → join (taken p f) (left p f) ≡ f
+-- the trees front_trees and the trees trees_behind are the trees
+pub taken-left : {A : Type 0} (p : A → Bool) (f : Forest A) → join (front_trees p f) (trees_behind p f) ≡ f
 taken-left p none = refl
 taken-left p (tree a k r) =
-    elim (p a) as (λ b. join (cond b (tree a k (taken p r)) none) (cond b (left p r) (tree a k r)) ≡ tree a k r) [
+    elim (p a) as (λ b. join (cond b (tree a k (front_trees p r)) none) (cond b (trees_behind p r) (tree a k r)) ≡ tree a k r) [
       | true ↦ ap (tree a k) (taken-left p r)
       | false ↦ refl
     ]
@@ -18,14 +18,14 @@ taken-left p (tree a k r) =
 pub preorder-build : {A : Type 0} (t : A → A → Bool) (l : List A) → preorder (build t l) ≡ l
 preorder-build t [] = refl
 preorder-build t (a ∷ l) =
-    ap (λ m. a ∷ m) (sym (preorder-join (taken (t a) (build t l)) (left (t a) (build t l)))
+    ap (λ m. a ∷ m) (sym (preorder-join (front_trees (t a) (build t l)) (trees_behind (t a) (build t l)))
     ∙ ap preorder (taken-left (t a) (build t l)) ∙ preorder-build t l)
 
-pub taken-below : {A : Type 0} (p is : A → Bool) (x : A) (f : Forest A) → taken p (below is x f) ≡ below is x (taken p f)
+pub taken-below : {A : Type 0} (p is : A → Bool) (x : A) (f : Forest A) → front_trees p (below is x f) ≡ below is x (front_trees p f)
 taken-below p is x none = refl
 taken-below p is x (tree a k r) = taken-below_step p is x a k r (taken-below p is x r)
   where
-    taken-below_step : {A : Type 0} (p is : A → Bool) (x a : A) (k r : Forest A) → taken p (below is x r) ≡ below is x (taken p r) → taken p (below is x (tree a k r)) ≡ below is x (taken p (tree a k r))
+    taken-below_step : {A : Type 0} (p is : A → Bool) (x a : A) (k r : Forest A) → front_trees p (below is x r) ≡ below is x (front_trees p r) → front_trees p (below is x (tree a k r)) ≡ below is x (front_trees p (tree a k r))
     taken-below_step p is x a k r h = grind arith
 
 -- no element is the one
@@ -63,11 +63,11 @@ at_one {A} is P [] s ys hx hy h = ((λ e. h), never ys hy)
     never (c ∷ l) n = ((λ e. absurd (let f : is c ≡ false = n.0 in cc)), never l n.1)
 at_one is P (x ∷ xs) s ys hx hy h = ((λ e. absurd (let f : is x ≡ false = hx.0 in cc)), at_one is P xs s ys hx.1 hy h)
 
-pub taken_none : {A : Type 0} (p : A → Bool) (f : Forest A) → StopsAtOnce p (preorder f) → taken p f ≡ none
+pub taken_none : {A : Type 0} (p : A → Bool) (f : Forest A) → StopsAtOnce p (preorder f) → front_trees p f ≡ none
 taken_none p none h = refl
 taken_none p (tree a k r) h = rw h
 
-pub left_all : {A : Type 0} (p : A → Bool) (f : Forest A) → StopsAtOnce p (preorder f) → left p f ≡ f
+pub left_all : {A : Type 0} (p : A → Bool) (f : Forest A) → StopsAtOnce p (preorder f) → trees_behind p f ≡ f
 left_all p none h = refl
 left_all p (tree a k r) h = rw h
 
@@ -85,27 +85,27 @@ fixed-after is x (tree a k r) h =
     let er : after is x r ≡ r = fixed-after is x r (each-right_part (λ b. is b ≡ false) (preorder k) (preorder r) h.1) in
     rw (h.0, ek, er)
 
-pub left-below : {A : Type 0} (p is : A → Bool) (x : A) (f : Forest A) → Once is (preorder f) → left p (below is x f) ≡ below is x (left p f)
+pub left-below : {A : Type 0} (p is : A → Bool) (x : A) (f : Forest A) → Once is (preorder f) → trees_behind p (below is x f) ≡ below is x (trees_behind p f)
 left-below p is x none o = refl
 left-below p is x (tree a k r) o =
     step p is x a k r (λ e. fixed-below is x r (each-right_part (λ b. is b ≡ false) (preorder k) (preorder r) (o.0 e))) (left-below p is x r (once-right_part is (preorder k) (preorder r) o.1))
   where
-    step : {A : Type 0} (p is : A → Bool) (x a : A) (k r : Forest A) → (is a ≡ true → below is x r ≡ r) → left p (below is x r) ≡ below is x (left p r) → left p (below is x (tree a k r)) ≡ below is x (left p (tree a k r))
+    step : {A : Type 0} (p is : A → Bool) (x a : A) (k r : Forest A) → (is a ≡ true → below is x r ≡ r) → trees_behind p (below is x r) ≡ below is x (trees_behind p r) → trees_behind p (below is x (tree a k r)) ≡ below is x (trees_behind p (tree a k r))
     step p is x a k r fixed h = grind arith
 
-pub taken-after : {A : Type 0} (p is : A → Bool) (x : A) (f : Forest A) → Each (λ a. is a ≡ true → p a ≡ true → p x ≡ true) (preorder f) → taken p (after is x f) ≡ after is x (taken p f)
+pub taken-after : {A : Type 0} (p is : A → Bool) (x : A) (f : Forest A) → Each (λ a. is a ≡ true → p a ≡ true → p x ≡ true) (preorder f) → front_trees p (after is x f) ≡ after is x (front_trees p f)
 taken-after p is x none g = refl
 taken-after p is x (tree a k r) g = step p is x a k r g.0 (taken-after p is x r (each-right_part (λ c. is c ≡ true → p c ≡ true → p x ≡ true) (preorder k) (preorder r) g.1))
   where
-    step : {A : Type 0} (p is : A → Bool) (x a : A) (k r : Forest A) → (is a ≡ true → p a ≡ true → p x ≡ true) → taken p (after is x r) ≡ after is x (taken p r) → taken p (after is x (tree a k r)) ≡ after is x (taken p (tree a k r))
+    step : {A : Type 0} (p is : A → Bool) (x a : A) (k r : Forest A) → (is a ≡ true → p a ≡ true → p x ≡ true) → front_trees p (after is x r) ≡ after is x (front_trees p r) → front_trees p (after is x (tree a k r)) ≡ after is x (front_trees p (tree a k r))
     step p is x a k r g h = grind arith
 
-pub left-after : {A : Type 0} (p is : A → Bool) (x : A) (f : Forest A) → Each (λ a. is a ≡ true → p a ≡ true → p x ≡ true) (preorder f) → Once is (preorder f) → left p (after is x f) ≡ after is x (left p f)
+pub left-after : {A : Type 0} (p is : A → Bool) (x : A) (f : Forest A) → Each (λ a. is a ≡ true → p a ≡ true → p x ≡ true) (preorder f) → Once is (preorder f) → trees_behind p (after is x f) ≡ after is x (trees_behind p f)
 left-after p is x none g o = refl
 left-after p is x (tree a k r) g o =
     step p is x a k r g.0 (λ e. fixed-after is x r (each-right_part (λ b. is b ≡ false) (preorder k) (preorder r) (o.0 e))) (left-after p is x r (each-right_part (λ c. is c ≡ true → p c ≡ true → p x ≡ true) (preorder k) (preorder r) g.1) (once-right_part is (preorder k) (preorder r) o.1))
   where
-    step : {A : Type 0} (p is : A → Bool) (x a : A) (k r : Forest A) → (is a ≡ true → p a ≡ true → p x ≡ true) → (is a ≡ true → after is x r ≡ r) → left p (after is x r) ≡ after is x (left p r) → left p (after is x (tree a k r)) ≡ after is x (left p (tree a k r))
+    step : {A : Type 0} (p is : A → Bool) (x a : A) (k r : Forest A) → (is a ≡ true → p a ≡ true → p x ≡ true) → (is a ≡ true → after is x r ≡ r) → trees_behind p (after is x r) ≡ after is x (trees_behind p r) → trees_behind p (after is x (tree a k r)) ≡ after is x (trees_behind p (tree a k r))
     step p is x a k r g fixed h = grind arith
 
 -- x is put directly after s, whose test it passes, and takes nothing: x is then the first child of s
@@ -115,8 +115,8 @@ pub build-below : {A : Type 0} (t : A → A → Bool) (is : A → Bool) (pre : L
 build-below {A} t is [] s x post e a b h stop =
     let f : Forest A = build t post in
     let stop' : StopsAtOnce (t x) (preorder f) = let P : List A → Type 0 = StopsAtOnce (t x) in subst P (sym (preorder-build t post)) stop in
-    let e1 : taken (t x) f ≡ none = taken_none (t x) f stop' in
-    let e2 : left (t x) f ≡ f = left_all (t x) f stop' in
+    let e1 : front_trees (t x) f ≡ none = taken_none (t x) f stop' in
+    let e2 : trees_behind (t x) f ≡ f = left_all (t x) f stop' in
     rw (e1, e2, h, e)
 build-below {A} t is (p ∷ pre) s x post e a b h stop =
     let f : Forest A = build t (pre ++ s ∷ post) in
@@ -132,10 +132,10 @@ build-after {A} t is [] s x post e a b h leaf stop also =
     let f : Forest A = build t post in
     let stop' : StopsAtOnce (t x) (preorder f) = let P : List A → Type 0 = StopsAtOnce (t x) in subst P (sym (preorder-build t post)) stop in
     let leaf' : StopsAtOnce (t s) (preorder f) = let P : List A → Type 0 = StopsAtOnce (t s) in subst P (sym (preorder-build t post)) leaf in
-    let e1 : taken (t x) f ≡ none = taken_none (t x) f stop' in
-    let e2 : left (t x) f ≡ f = left_all (t x) f stop' in
-    let e3 : taken (t s) f ≡ none = taken_none (t s) f leaf' in
-    let e4 : left (t s) f ≡ f = left_all (t s) f leaf' in
+    let e1 : front_trees (t x) f ≡ none = taken_none (t x) f stop' in
+    let e2 : trees_behind (t x) f ≡ f = left_all (t x) f stop' in
+    let e3 : front_trees (t s) f ≡ none = taken_none (t s) f leaf' in
+    let e4 : trees_behind (t s) f ≡ f = left_all (t s) f leaf' in
     rw (e1, e2, e3, e4, h, e)
 build-after {A} t is (p ∷ pre) s x post e a b h leaf stop also =
     let f : Forest A = build t (pre ++ s ∷ post) in
@@ -143,15 +143,15 @@ build-after {A} t is (p ∷ pre) s x post e a b h leaf stop also =
     let g : Each (λ c. is c ≡ true → t p c ≡ true → t p x ≡ true) (preorder f) = let P : List A → Type 0 = λ m. Each (λ c. is c ≡ true → t p c ≡ true → t p x ≡ true) m in subst P (sym (preorder-build t (pre ++ s ∷ post))) (at_one is (λ c. t p c ≡ true → t p x ≡ true) pre s post a.1 b also.0) in
     rw (build-after t is pre s x post e a.1 b h leaf stop also.1, a.0, taken-after (t p) is x f g, left-after (t p) is x f g o)
 
-pub taken-root : {A : Type 0} (q : A → Bool) (x : A) (f : Forest A) → q x ≡ false → taken q (root x f) ≡ taken q f
+pub taken-root : {A : Type 0} (q : A → Bool) (x : A) (f : Forest A) → q x ≡ false → front_trees q (root x f) ≡ front_trees q f
 taken-root q x none h = rw h
 taken-root q x (tree a k r) h = rw (taken-root q x r h)
 
-pub left-root : {A : Type 0} (q : A → Bool) (x : A) (f : Forest A) → q x ≡ false → left q (root x f) ≡ root x (left q f)
+pub left-root : {A : Type 0} (q : A → Bool) (x : A) (f : Forest A) → q x ≡ false → trees_behind q (root x f) ≡ root x (trees_behind q f)
 left-root q x none h = rw h
 left-root q x (tree a k r) h = step q x a k r (left-root q x r h)
   where
-    step : {A : Type 0} (q : A → Bool) (x a : A) (k r : Forest A) → left q (root x r) ≡ root x (left q r) → left q (root x (tree a k r)) ≡ root x (left q (tree a k r))
+    step : {A : Type 0} (q : A → Bool) (x a : A) (k r : Forest A) → trees_behind q (root x r) ≡ root x (trees_behind q r) → trees_behind q (root x (tree a k r)) ≡ root x (trees_behind q (tree a k r))
     step q x a k r h = grind arith
 
 -- x is put at the end, and passes nothing's test: it is then a tree of its own, the last
@@ -176,26 +176,26 @@ pub join-nothing : {A : Type 0} (f : Forest A) → join f none ≡ f
 join-nothing none = refl
 join-nothing (tree a k r) = ap (tree a k) (join-nothing r)
 
-pub absent-left : {A : Type 0} (is p : A → Bool) (f : Forest A) → Absent is (preorder f) → Absent is (preorder (left p f))
+pub absent-left : {A : Type 0} (is p : A → Bool) (f : Forest A) → Absent is (preorder f) → Absent is (preorder (trees_behind p f))
 absent-left {A} is p f h =
     let Q : List A → Type 0 = Absent is in
-    let e : preorder f ≡ preorder (taken p f) ++ preorder (left p f) = ap preorder (sym (taken-left p f)) ∙ preorder-join (taken p f) (left p f) in
-    each-right_part (λ b. is b ≡ false) (preorder (taken p f)) (preorder (left p f)) (subst Q e h)
+    let e : preorder f ≡ preorder (front_trees p f) ++ preorder (trees_behind p f) = ap preorder (sym (taken-left p f)) ∙ preorder-join (front_trees p f) (trees_behind p f) in
+    each-right_part (λ b. is b ≡ false) (preorder (front_trees p f)) (preorder (trees_behind p f)) (subst Q e h)
 
-pub below_those-parts : {A : Type 0} (is p : A → Bool) (f : Forest A) → Once is (preorder f) → join (below_those is (taken p f)) (below_those is (left p f)) ≡ below_those is f
+pub below_those-parts : {A : Type 0} (is p : A → Bool) (f : Forest A) → Once is (preorder f) → join (below_those is (front_trees p f)) (below_those is (trees_behind p f)) ≡ below_those is f
 below_those-parts is p none o = refl
 below_those-parts {A} is p (tree a k r) o =
-    let ih : join (below_those is (taken p r)) (below_those is (left p r)) ≡ below_those is r = below_those-parts is p r (once-right_part is (preorder k) (preorder r) o.1) in
-    elim (p a) as (λ c. join (below_those is (cond c (tree a k (taken p r)) none)) (below_those is (cond c (left p r) (tree a k r))) ≡ cond (is a) k (join (below_those is k) (below_those is r))) [
-      | true ↦ (elim (is a) as (λ d. is a ≡ d → join (cond d k (join (below_those is k) (below_those is (taken p r)))) (below_those is (left p r)) ≡ cond d k (join (below_those is k) (below_those is r))) [
-        | true ↦ λ e. ap (join k) (below_those_none is (left p r) (absent-left is p r (each-right_part (λ b. is b ≡ false) (preorder k) (preorder r) (o.0 e)))) ∙ join-nothing k
-        | false ↦ λ e. join-assoc (below_those is k) (below_those is (taken p r)) (below_those is (left p r)) ∙ ap (join (below_those is k)) ih
+    let ih : join (below_those is (front_trees p r)) (below_those is (trees_behind p r)) ≡ below_those is r = below_those-parts is p r (once-right_part is (preorder k) (preorder r) o.1) in
+    elim (p a) as (λ c. join (below_those is (cond c (tree a k (front_trees p r)) none)) (below_those is (cond c (trees_behind p r) (tree a k r))) ≡ cond (is a) k (join (below_those is k) (below_those is r))) [
+      | true ↦ (elim (is a) as (λ d. is a ≡ d → join (cond d k (join (below_those is k) (below_those is (front_trees p r)))) (below_those is (trees_behind p r)) ≡ cond d k (join (below_those is k) (below_those is r))) [
+        | true ↦ λ e. ap (join k) (below_those_none is (trees_behind p r) (absent-left is p r (each-right_part (λ b. is b ≡ false) (preorder k) (preorder r) (o.0 e)))) ∙ join-nothing k
+        | false ↦ λ e. join-assoc (below_those is k) (below_those is (front_trees p r)) (below_those is (trees_behind p r)) ∙ ap (join (below_those is k)) ih
       ]) refl
       | false ↦ refl
     ]
 
 pub build-below_those : {A : Type 0} (t : A → A → Bool) (is : A → Bool) (pre : List A) (s : A) (post : List A) → is s ≡ true → Absent is pre → Absent is post
-    → below_those is (build t (pre ++ s ∷ post)) ≡ taken (t s) (build t post)
+    → below_those is (build t (pre ++ s ∷ post)) ≡ front_trees (t s) (build t post)
 build-below_those t is [] s post e a b = rw e
 build-below_those {A} t is (q ∷ pre) s post e a b =
     let f : Forest A = build t (pre ++ s ∷ post) in
@@ -211,10 +211,10 @@ abbrev pub first_of : {A : Type 0} → List A → Option A
 first_of [] = None
 first_of (a ∷ l) = Some a
 
-pub tops-taken : {A : Type 0} (t : A → A → Bool) (p : A → Bool) (l : List A) → first_of (tops (taken p (build t l))) ≡ next_passing p l
+pub tops-taken : {A : Type 0} (t : A → A → Bool) (p : A → Bool) (l : List A) → first_of (tops (front_trees p (build t l))) ≡ next_passing p l
 tops-taken t p [] = refl
 tops-taken t p (a ∷ l) =
-    elim (p a) as (λ c. first_of (tops (cond c (tree a (taken (t a) (build t l)) (taken p (left (t a) (build t l)))) none)) ≡ cond c (Some a) None) [ true ↦ refl | false ↦ refl ]
+    elim (p a) as (λ c. first_of (tops (cond c (tree a (front_trees (t a) (build t l)) (front_trees p (trees_behind (t a) (build t l)))) none)) ≡ cond c (Some a) None) [ true ↦ refl | false ↦ refl ]
 
 -- under other names
 

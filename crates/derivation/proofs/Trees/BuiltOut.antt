@@ -1,7 +1,7 @@
--- What is built of a list from which an element is taken out: what stood below it takes its place.
+-- What is built of a list from which an element is front_trees out: what stood below it takes its place.
 use Rattle.std.proofs.Common.{◌≡◌, Bool, true, false, cond, List, [], ◌∷◌, ◌++◌, refl, sym, ◌∙◌, ap, subst, arith}
 use Rattle.std.specs.List.{AllByRecursion as Each}
-use Rattle.derivation.specs.Forest.{Forest, none, tree, preorder, join, out, renamed, taken, left, build}
+use Rattle.derivation.specs.Forest.{Forest, none, tree, preorder, join, out, renamed, front_trees, trees_behind, build}
 use Rattle.derivation.proofs.Trees.Forests.{preorder-join, each-left_part, each-right_part, each-weaker}
 use Rattle.derivation.proofs.Trees.Built.{Absent, Once, StopsAtOnce, taken-left, preorder-build, once-right_part, once-split, at_one, taken_none, left_all, renamed-join}
 use Rattle.derivation.proofs.Trees.Nested.{IsTransitive, Whole, whole-nested, nested-build}
@@ -14,35 +14,35 @@ fixed-out is (tree a k r) h =
     rw (h.0, ek, er)
 
 -- trees whose tops all pass, in front
-pub taken-join : {A : Type 0} (q : A → Bool) (k r : Forest A) → Each (λ b. q b ≡ true) (preorder k) → taken q (join k r) ≡ join k (taken q r)
+pub taken-join : {A : Type 0} (q : A → Bool) (k r : Forest A) → Each (λ b. q b ≡ true) (preorder k) → front_trees q (join k r) ≡ join k (front_trees q r)
 taken-join q none r h = refl
 taken-join q (tree a k k') r h = rw (h.0, taken-join q k' r (each-right_part (λ b. q b ≡ true) (preorder k) (preorder k') h.1))
 
-pub left-join : {A : Type 0} (q : A → Bool) (k r : Forest A) → Each (λ b. q b ≡ true) (preorder k) → left q (join k r) ≡ left q r
+pub left-join : {A : Type 0} (q : A → Bool) (k r : Forest A) → Each (λ b. q b ≡ true) (preorder k) → trees_behind q (join k r) ≡ trees_behind q r
 left-join q none r h = refl
 left-join q (tree a k k') r h = rw (h.0, left-join q k' r (each-right_part (λ b. q b ≡ true) (preorder k) (preorder k') h.1))
 
 -- two tests that agree take the same trees
-pub taken-same : {A : Type 0} (q q' : A → Bool) (f : Forest A) → Each (λ b. q' b ≡ q b) (preorder f) → taken q' f ≡ taken q f
+pub taken-same : {A : Type 0} (q q' : A → Bool) (f : Forest A) → Each (λ b. q' b ≡ q b) (preorder f) → front_trees q' f ≡ front_trees q f
 taken-same q q' none h = refl
 taken-same q q' (tree a k r) h = rw (h.0, taken-same q q' r (each-right_part (λ b. q' b ≡ q b) (preorder k) (preorder r) h.1))
 
-pub left-same : {A : Type 0} (q q' : A → Bool) (f : Forest A) → Each (λ b. q' b ≡ q b) (preorder f) → left q' f ≡ left q f
+pub left-same : {A : Type 0} (q q' : A → Bool) (f : Forest A) → Each (λ b. q' b ≡ q b) (preorder f) → trees_behind q' f ≡ trees_behind q f
 left-same q q' none h = refl
 left-same q q' (tree a k r) h = rw (h.0, left-same q q' r (each-right_part (λ b. q' b ≡ q b) (preorder k) (preorder r) h.1))
 
-pub each-left : {A : Type 0} (P : A → Type 0) (q : A → Bool) (f : Forest A) → Each P (preorder f) → Each P (preorder (left q f))
+pub each-left : {A : Type 0} (P : A → Type 0) (q : A → Bool) (f : Forest A) → Each P (preorder f) → Each P (preorder (trees_behind q f))
 each-left P q none h = tt
 each-left P q (tree a k r) h =
-    elim (q a) as (λ b. Each P (preorder (cond b (left q r) (tree a k r)))) [ true ↦ each-left P q r (each-right_part P (preorder k) (preorder r) h.1) | false ↦ h ]
+    elim (q a) as (λ b. Each P (preorder (cond b (trees_behind q r) (tree a k r)))) [ true ↦ each-left P q r (each-right_part P (preorder k) (preorder r) h.1) | false ↦ h ]
 
 -- where s passes: the tests agree on all but s
-pub taken-out_yes : {A : Type 0} (q q' is : A → Bool) (f : Forest A) → Each (λ a. is a ≡ true → q a ≡ true) (preorder f) → Whole q f → Once is (preorder f) → Each (λ b. is b ≡ false → q' b ≡ q b) (preorder f) → (taken q' (out is f) ≡ out is (taken q f)) × (left q' (out is f) ≡ out is (left q f))
+pub taken-out_yes : {A : Type 0} (q q' is : A → Bool) (f : Forest A) → Each (λ a. is a ≡ true → q a ≡ true) (preorder f) → Whole q f → Once is (preorder f) → Each (λ b. is b ≡ false → q' b ≡ q b) (preorder f) → (front_trees q' (out is f) ≡ out is (front_trees q f)) × (trees_behind q' (out is f) ≡ out is (trees_behind q f))
 taken-out_yes q q' is none pass w o ag = (refl, refl)
 taken-out_yes {A} q q' is (tree a k r) pass w o ag =
-    let ih : (taken q' (out is r) ≡ out is (taken q r)) × (left q' (out is r) ≡ out is (left q r)) =
+    let ih : (front_trees q' (out is r) ≡ out is (front_trees q r)) × (trees_behind q' (out is r) ≡ out is (trees_behind q r)) =
     taken-out_yes q q' is r (each-right_part (λ b. is b ≡ true → q b ≡ true) (preorder k) (preorder r) pass.1) w.1 (once-right_part is (preorder k) (preorder r) o.1) (each-right_part (λ b. is b ≡ false → q' b ≡ q b) (preorder k) (preorder r) ag.1) in
-    (elim (is a) as (λ c. is a ≡ c → (taken q' (out is (tree a k r)) ≡ out is (taken q (tree a k r))) × (left q' (out is (tree a k r)) ≡ out is (left q (tree a k r)))) [
+    (elim (is a) as (λ c. is a ≡ c → (front_trees q' (out is (tree a k r)) ≡ out is (front_trees q (tree a k r))) × (trees_behind q' (out is (tree a k r)) ≡ out is (trees_behind q (tree a k r)))) [
       | true ↦ λ e.
           let qa : q a ≡ true = pass.0 e in
           let absent : Absent is (preorder k ++ preorder r) = o.0 e in
@@ -50,7 +50,7 @@ taken-out_yes {A} q q' is (tree a k r) pass w o ag =
           let rs : Each (λ b. q' b ≡ q b) (preorder r) = each-right_part (λ b. q' b ≡ q b) (preorder k) (preorder r) agree in
           let ks : Each (λ b. q' b ≡ true) (preorder k) = chained (preorder k) (each-left_part (λ b. q' b ≡ q b) (preorder k) (preorder r) agree) (w.0 qa) in
           let ra : Absent is (preorder r) = each-right_part (λ b. is b ≡ false) (preorder k) (preorder r) absent in
-          let l : out is (left q r) ≡ left q r = fixed-out is (left q r) (each-left (λ b. is b ≡ false) q r ra) in
+          let l : out is (trees_behind q r) ≡ trees_behind q r = fixed-out is (trees_behind q r) (each-left (λ b. is b ≡ false) q r ra) in
           (rw (e, qa, e) (taken-join q' k r ks ∙ ap (join k) (taken-same q q' r rs)), rw (e, qa) (left-join q' k r ks ∙ left-same q q' r rs ∙ sym l))
       | false ↦ λ e. step q q' is a k r e (ag.0 e) ih
     ]) refl
@@ -63,7 +63,7 @@ taken-out_yes {A} q q' is (tree a k r) pass w o ag =
     chained [] h g = tt
     chained (b ∷ l) h g = (h.0 ∙ g.0, chained l h.1 g.1)
 
-    step : {A : Type 0} (q q' is : A → Bool) (a : A) (k r : Forest A) → is a ≡ false → q' a ≡ q a → (taken q' (out is r) ≡ out is (taken q r)) × (left q' (out is r) ≡ out is (left q r)) → (taken q' (out is (tree a k r)) ≡ out is (taken q (tree a k r))) × (left q' (out is (tree a k r)) ≡ out is (left q (tree a k r)))
+    step : {A : Type 0} (q q' is : A → Bool) (a : A) (k r : Forest A) → is a ≡ false → q' a ≡ q a → (front_trees q' (out is r) ≡ out is (front_trees q r)) × (trees_behind q' (out is r) ≡ out is (trees_behind q r)) → (front_trees q' (out is (tree a k r)) ≡ out is (front_trees q (tree a k r))) × (trees_behind q' (out is (tree a k r)) ≡ out is (trees_behind q (tree a k r)))
     step q q' is a k r e g h = grind (arith, h.0, h.1)
 
 -- the tests agree until s, and behind s the second stops at once
@@ -76,16 +76,16 @@ stops-right_part is q q' [] ys n h = h
 stops-right_part is q q' (x ∷ xs) ys n h = stops-right_part is q q' xs ys n.1 (h.1 n.0).1
 
 -- where s does not pass
-pub taken-out_no : {A : Type 0} (q q' is : A → Bool) (f : Forest A) → Each (λ a. is a ≡ true → q a ≡ false) (preorder f) → Whole q f → StopsAfter is q q' (preorder f) → (taken q' (out is f) ≡ out is (taken q f)) × (left q' (out is f) ≡ out is (left q f))
+pub taken-out_no : {A : Type 0} (q q' is : A → Bool) (f : Forest A) → Each (λ a. is a ≡ true → q a ≡ false) (preorder f) → Whole q f → StopsAfter is q q' (preorder f) → (front_trees q' (out is f) ≡ out is (front_trees q f)) × (trees_behind q' (out is f) ≡ out is (trees_behind q f))
 taken-out_no q q' is none fails w ag = (refl, refl)
 taken-out_no {A} q q' is (tree a k r) fails w ag =
-    (elim (is a) as (λ c. is a ≡ c → (taken q' (out is (tree a k r)) ≡ out is (taken q (tree a k r))) × (left q' (out is (tree a k r)) ≡ out is (left q (tree a k r)))) [
+    (elim (is a) as (λ c. is a ≡ c → (front_trees q' (out is (tree a k r)) ≡ out is (front_trees q (tree a k r))) × (trees_behind q' (out is (tree a k r)) ≡ out is (trees_behind q (tree a k r)))) [
       | true ↦ λ e.
           let qa : q a ≡ false = fails.0 e in
           let stop : StopsAtOnce q' (preorder (join k r)) = let P : List A → Type 0 = StopsAtOnce q' in subst P (sym (preorder-join k r)) (ag.0 e) in
           (rw (e, qa) (taken_none q' (join k r) stop), rw (e, qa, e) (left_all q' (join k r) stop))
       | false ↦ λ e.
-          let ih : q a ≡ true → (taken q' (out is r) ≡ out is (taken q r)) × (left q' (out is r) ≡ out is (left q r)) =
+          let ih : q a ≡ true → (front_trees q' (out is r) ≡ out is (front_trees q r)) × (trees_behind q' (out is r) ≡ out is (trees_behind q r)) =
           λ d. taken-out_no q q' is r (each-right_part (λ b. is b ≡ true → q b ≡ false) (preorder k) (preorder r) fails.1) w.1 (stops-right_part is q q' (preorder k) (preorder r) (never (preorder k) (w.0 d) (each-left_part (λ b. is b ≡ true → q b ≡ false) (preorder k) (preorder r) fails.1)) (ag.1 e).1) in
           step q q' is a k r e (ag.1 e).0 (λ d. fixed-out is k (never (preorder k) (w.0 d) (each-left_part (λ b. is b ≡ true → q b ≡ false) (preorder k) (preorder r) fails.1))) (λ d. (ih d).0) (λ d. (ih d).1)
     ]) refl
@@ -95,7 +95,7 @@ taken-out_no {A} q q' is (tree a k r) fails w ag =
     never (b ∷ l) h n =
         ((elim (is b) as (λ c. is b ≡ c → is b ≡ false) [ true ↦ λ e. (let d : q b ≡ false = n.0 e in let d' : q b ≡ true = h.0 in cc) | false ↦ λ e. e ]) refl, never l h.1 n.1)
 
-    step : {A : Type 0} (q q' is : A → Bool) (a : A) (k r : Forest A) → is a ≡ false → q' a ≡ q a → (q a ≡ true → out is k ≡ k) → (q a ≡ true → taken q' (out is r) ≡ out is (taken q r)) → (q a ≡ true → left q' (out is r) ≡ out is (left q r)) → (taken q' (out is (tree a k r)) ≡ out is (taken q (tree a k r))) × (left q' (out is (tree a k r)) ≡ out is (left q (tree a k r)))
+    step : {A : Type 0} (q q' is : A → Bool) (a : A) (k r : Forest A) → is a ≡ false → q' a ≡ q a → (q a ≡ true → out is k ≡ k) → (q a ≡ true → front_trees q' (out is r) ≡ out is (front_trees q r)) → (q a ≡ true → trees_behind q' (out is r) ≡ out is (trees_behind q r)) → (front_trees q' (out is (tree a k r)) ≡ out is (front_trees q (tree a k r))) × (trees_behind q' (out is (tree a k r)) ≡ out is (trees_behind q (tree a k r)))
     step q q' is a k r e g fixed h h' = grind arith
 
 -- the tests agree on each and its followers
@@ -126,8 +126,8 @@ build-out {A} t t' tr is (p ∷ pre) s post e a b h =
     let o : Once is (preorder f) = let P : List A → Type 0 = Once is in subst P (sym (preorder-build t (pre ++ s ∷ post))) (once-split is pre s post a.1 b) in
     let w : Whole (t p) f = whole-nested t tr p f (nested-build t tr (pre ++ s ∷ post)) in
     let ih : build t' (pre ++ post) ≡ out is f = build-out t t' tr is pre s post e a.1 b h.2 in
-    let both : (taken (t' p) (out is f) ≡ out is (taken (t p) f)) × (left (t' p) (out is f) ≡ out is (left (t p) f)) =
-    (elim (t p s) as (λ c. t p s ≡ c → (taken (t' p) (out is f) ≡ out is (taken (t p) f)) × (left (t' p) (out is f) ≡ out is (left (t p) f))) [
+    let both : (front_trees (t' p) (out is f) ≡ out is (front_trees (t p) f)) × (trees_behind (t' p) (out is f) ≡ out is (trees_behind (t p) f)) =
+    (elim (t p s) as (λ c. t p s ≡ c → (front_trees (t' p) (out is f) ≡ out is (front_trees (t p) f)) × (trees_behind (t' p) (out is f) ≡ out is (trees_behind (t p) f))) [
       | true ↦ λ g.
           let ag : Each (λ c. is c ≡ false → t' p c ≡ t p c) (preorder f) = let P : List A → Type 0 = λ m. Each (λ c. is c ≡ false → t' p c ≡ t p c) m in subst P (sym (preorder-build t (pre ++ s ∷ post))) (around pre (h.0 g)) in
           taken-out_yes (t p) (t' p) is f (let P : List A → Type 0 = λ m. Each (λ c. is c ≡ true → t p c ≡ true) m in subst P (sym (preorder-build t (pre ++ s ∷ post))) (at_one is (λ c. t p c ≡ true) pre s post a.1 b g)) w o ag

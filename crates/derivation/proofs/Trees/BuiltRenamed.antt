@@ -1,22 +1,22 @@
 -- What is built of a list under new names: the same forest under the new names.
 use Rattle.std.proofs.Common.{◌≡◌, Bool, List, [], ◌∷◌, map, refl, sym, subst, arith}
 use Rattle.std.specs.List.{AllByRecursion as Each}
-use Rattle.derivation.specs.Forest.{Forest, none, tree, preorder, renamed, taken, left, build}
+use Rattle.derivation.specs.Forest.{Forest, none, tree, preorder, renamed, front_trees, trees_behind, build}
 use Rattle.derivation.proofs.Trees.Forests.{each-right_part}
 use Rattle.derivation.proofs.Trees.Built.{preorder-build}
 
-pub taken-renamed : {A B : Type 0} (g : A → B) (q : A → Bool) (q' : B → Bool) (f : Forest A) → Each (λ b. q' (g b) ≡ q b) (preorder f) → taken q' (renamed g f) ≡ renamed g (taken q f)
+pub taken-renamed : {A B : Type 0} (g : A → B) (q : A → Bool) (q' : B → Bool) (f : Forest A) → Each (λ b. q' (g b) ≡ q b) (preorder f) → front_trees q' (renamed g f) ≡ renamed g (front_trees q f)
 taken-renamed g q q' none h = refl
 taken-renamed {A} g q q' (tree a k r) h = step g q q' a k r h.0 (taken-renamed g q q' r (each-right_part (λ b. q' (g b) ≡ q b) (preorder k) (preorder r) h.1))
   where
-    step : {A B : Type 0} (g : A → B) (q : A → Bool) (q' : B → Bool) (a : A) (k r : Forest A) → q' (g a) ≡ q a → taken q' (renamed g r) ≡ renamed g (taken q r) → taken q' (renamed g (tree a k r)) ≡ renamed g (taken q (tree a k r))
+    step : {A B : Type 0} (g : A → B) (q : A → Bool) (q' : B → Bool) (a : A) (k r : Forest A) → q' (g a) ≡ q a → front_trees q' (renamed g r) ≡ renamed g (front_trees q r) → front_trees q' (renamed g (tree a k r)) ≡ renamed g (front_trees q (tree a k r))
     step g q q' a k r e h = grind arith
 
-pub left-renamed : {A B : Type 0} (g : A → B) (q : A → Bool) (q' : B → Bool) (f : Forest A) → Each (λ b. q' (g b) ≡ q b) (preorder f) → left q' (renamed g f) ≡ renamed g (left q f)
+pub left-renamed : {A B : Type 0} (g : A → B) (q : A → Bool) (q' : B → Bool) (f : Forest A) → Each (λ b. q' (g b) ≡ q b) (preorder f) → trees_behind q' (renamed g f) ≡ renamed g (trees_behind q f)
 left-renamed g q q' none h = refl
 left-renamed {A} g q q' (tree a k r) h = step g q q' a k r h.0 (left-renamed g q q' r (each-right_part (λ b. q' (g b) ≡ q b) (preorder k) (preorder r) h.1))
   where
-    step : {A B : Type 0} (g : A → B) (q : A → Bool) (q' : B → Bool) (a : A) (k r : Forest A) → q' (g a) ≡ q a → left q' (renamed g r) ≡ renamed g (left q r) → left q' (renamed g (tree a k r)) ≡ renamed g (left q (tree a k r))
+    step : {A B : Type 0} (g : A → B) (q : A → Bool) (q' : B → Bool) (a : A) (k r : Forest A) → q' (g a) ≡ q a → trees_behind q' (renamed g r) ≡ renamed g (trees_behind q r) → trees_behind q' (renamed g (tree a k r)) ≡ renamed g (trees_behind q (tree a k r))
     step g q q' a k r e h = grind arith
 
 abbrev pub AgreeUnder : {A B : Type 0} → (g : A → B) → (t : A → A → Bool) → (t' : B → B → Bool) → List A → Type 0

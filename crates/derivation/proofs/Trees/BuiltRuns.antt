@@ -1,7 +1,7 @@
--- What is built of a list from which an element is taken out, where two tests agree only along the runs that pass.
+-- What is built of a list from which an element is front_trees out, where two tests agree only along the runs that pass.
 use Rattle.std.proofs.Common.{◌≡◌, Bool, true, false, List, [], ◌∷◌, ◌++◌, refl, sym, ◌∙◌, subst, arith}
 use Rattle.std.specs.List.{AllByRecursion as Each}
-use Rattle.derivation.specs.Forest.{Forest, none, tree, preorder, out, taken, left, build}
+use Rattle.derivation.specs.Forest.{Forest, none, tree, preorder, out, front_trees, trees_behind, build}
 use Rattle.derivation.proofs.Trees.Built.{Absent, Once, StopsAtOnce, taken-left, preorder-build, once-split, at_one}
 use Rattle.derivation.proofs.Trees.Nested.{IsTransitive, Whole, whole-nested, nested-build}
 use Rattle.derivation.proofs.Trees.BuiltOut.{StopsAfter, taken-out_yes, taken-out_no}
@@ -19,19 +19,19 @@ pub run-right_part : {A : Type 0} (q q' : A → Bool) (xs ys : List A) → Each 
 run-right_part q q' [] ys h g = g
 run-right_part q q' (x ∷ xs) ys h g = run-right_part q q' xs ys h.1 (g.1 h.0)
 
-pub same-run : {A : Type 0} (q q' : A → Bool) (f : Forest A) → Whole q f → AgreeRun q q' (preorder f) → (taken q' f ≡ taken q f) × (left q' f ≡ left q f)
+pub same-run : {A : Type 0} (q q' : A → Bool) (f : Forest A) → Whole q f → AgreeRun q q' (preorder f) → (front_trees q' f ≡ front_trees q f) × (trees_behind q' f ≡ trees_behind q f)
 same-run q q' none w g = (refl, refl)
 same-run {A} q q' (tree a k r) w g =
     step q q' a k r g.0 (λ e. (same-run q q' r w.1 (run-right_part q q' (preorder k) (preorder r) (w.0 e) (g.1 e))).0) (λ e. (same-run q q' r w.1 (run-right_part q q' (preorder k) (preorder r) (w.0 e) (g.1 e))).1)
   where
-    step : {A : Type 0} (q q' : A → Bool) (a : A) (k r : Forest A) → q' a ≡ q a → (q a ≡ true → taken q' r ≡ taken q r) → (q a ≡ true → left q' r ≡ left q r) → (taken q' (tree a k r) ≡ taken q (tree a k r)) × (left q' (tree a k r) ≡ left q (tree a k r))
+    step : {A : Type 0} (q q' : A → Bool) (a : A) (k r : Forest A) → q' a ≡ q a → (q a ≡ true → front_trees q' r ≡ front_trees q r) → (q a ≡ true → trees_behind q' r ≡ trees_behind q r) → (front_trees q' (tree a k r) ≡ front_trees q (tree a k r)) × (trees_behind q' (tree a k r) ≡ trees_behind q (tree a k r))
     step q q' a k r e h h' = grind arith
 
 pub build-runs : {A : Type 0} (t t' : A → A → Bool) → IsTransitive t → (l : List A) → AgreeRuns t t' l → build t' l ≡ build t l
 build-runs t t' tr [] h = refl
 build-runs {A} t t' tr (a ∷ l) h =
     let f : Forest A = build t l in
-    let both : (taken (t' a) f ≡ taken (t a) f) × (left (t' a) f ≡ left (t a) f) =
+    let both : (front_trees (t' a) f ≡ front_trees (t a) f) × (trees_behind (t' a) f ≡ trees_behind (t a) f) =
     same-run (t a) (t' a) f (whole-nested t tr a f (nested-build t tr l)) (let P : List A → Type 0 = AgreeRun (t a) (t' a) in subst P (sym (preorder-build t l)) h.0) in
     rw (build-runs t t' tr l h.1, both.0, both.1)
 
@@ -50,8 +50,8 @@ build-out_runs {A} t t' tr is (p ∷ pre) s post e a b h =
     let o : Once is (preorder f) = let P : List A → Type 0 = Once is in subst P (sym (preorder-build t (pre ++ s ∷ post))) (once-split is pre s post a.1 b) in
     let w : Whole (t p) f = whole-nested t tr p f (nested-build t tr (pre ++ s ∷ post)) in
     let ih : build t' (pre ++ post) ≡ out is f = build-out_runs t t' tr is pre s post e a.1 b h.2 in
-    let both : (taken (t' p) (out is f) ≡ out is (taken (t p) f)) × (left (t' p) (out is f) ≡ out is (left (t p) f)) =
-    (elim (t p s) as (λ c. t p s ≡ c → (taken (t' p) (out is f) ≡ out is (taken (t p) f)) × (left (t' p) (out is f) ≡ out is (left (t p) f))) [
+    let both : (front_trees (t' p) (out is f) ≡ out is (front_trees (t p) f)) × (trees_behind (t' p) (out is f) ≡ out is (trees_behind (t p) f)) =
+    (elim (t p s) as (λ c. t p s ≡ c → (front_trees (t' p) (out is f) ≡ out is (front_trees (t p) f)) × (trees_behind (t' p) (out is f) ≡ out is (trees_behind (t p) f))) [
       | true ↦ λ g.
           let ag : Each (λ c. is c ≡ false → t' p c ≡ t p c) (preorder f) = let P : List A → Type 0 = λ m. Each (λ c. is c ≡ false → t' p c ≡ t p c) m in subst P (sym (preorder-build t (pre ++ s ∷ post))) (around pre (h.0 g)) in
           taken-out_yes (t p) (t' p) is f (let P : List A → Type 0 = λ m. Each (λ c. is c ≡ true → t p c ≡ true) m in subst P (sym (preorder-build t (pre ++ s ∷ post))) (at_one is (λ c. t p c ≡ true) pre s post a.1 b g)) w o ag

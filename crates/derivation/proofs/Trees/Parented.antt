@@ -2,7 +2,7 @@
 use Rattle.std.proofs.Common.{◌≡◌, ℕ, suc, ◌-◌, Bool, true, false, cond, List, [], ◌∷◌, ◌++◌, map, reverse, length, Option, Some, None, refl, sym, ◌∙◌, ap, arith}
 use Rattle.std.proofs.lemmas.List.{append_assoc, map-append, reverse-append}
 use Rattle.std.specs.Prelude.{option_map, slice_get}
-use Rattle.derivation.specs.Forest.{Forest, none, tree, taken, left, build, parented, renamed}
+use Rattle.derivation.specs.Forest.{Forest, none, tree, front_trees, trees_behind, build, parented, renamed}
 use Rattle.derivation.specs.Entries.{Entry, slot_of, derivations_of}
 
 -- those of a stack, the innermost first, from the first on that passes
@@ -22,7 +22,7 @@ walked t stack (b ∷ l) = let above = still_above t b stack in (b, innermost ab
 -- the trees that come after a stack was entered: those whose tops pass stand below its innermost, the others further out
 abbrev pub spread : {A : Type 0} → (A → A → Bool) → List A → Forest A → List (A × Option A)
 spread t [] f = parented None f
-spread t (s ∷ stack) f = parented (Some s) (taken (t s) f) ++ spread t stack (left (t s) f)
+spread t (s ∷ stack) f = parented (Some s) (front_trees (t s) f) ++ spread t stack (trees_behind (t s) f)
 
 spread-none : {A : Type 0} (t : A → A → Bool) (stack : List A) → spread t stack none ≡ []
 spread-none t [] = refl
@@ -33,9 +33,9 @@ entered : {A : Type 0} (t : A → A → Bool) (stack : List A) (b : A) (under ot
     → spread t stack (tree b under others) ≡ (b, innermost (still_above t b stack)) ∷ (parented (Some b) under ++ spread t (still_above t b stack) others)
 entered t [] b under others = refl
 entered t (s ∷ stack) b under others =
-    elim (t s b) as (λ p. parented (Some s) (cond p (tree b under (taken (t s) others)) none) ++ spread t stack (cond p (left (t s) others) (tree b under others))
+    elim (t s b) as (λ p. parented (Some s) (cond p (tree b under (front_trees (t s) others)) none) ++ spread t stack (cond p (trees_behind (t s) others) (tree b under others))
     ≡ (b, innermost (cond p (s ∷ stack) (still_above t b stack))) ∷ (parented (Some b) under ++ spread t (cond p (s ∷ stack) (still_above t b stack)) others)) [
-      | true ↦ ap (λ m. (b, Some s) ∷ m) (append_assoc (parented (Some b) under) (parented (Some s) (taken (t s) others)) (spread t stack (left (t s) others)))
+      | true ↦ ap (λ m. (b, Some s) ∷ m) (append_assoc (parented (Some b) under) (parented (Some s) (front_trees (t s) others)) (spread t stack (trees_behind (t s) others)))
       | false ↦ entered t stack b under others
     ]
 
@@ -44,7 +44,7 @@ walked-spread t stack [] = sym (spread-none t stack)
 walked-spread t stack (b ∷ l) =
     let above = still_above t b stack in
     ap (λ m. (b, innermost above) ∷ m) (walked-spread t (b ∷ above) l)
-    ∙ sym (entered t stack b (taken (t b) (build t l)) (left (t b) (build t l)))
+    ∙ sym (entered t stack b (front_trees (t b) (build t l)) (trees_behind (t b) (build t l)))
 
 -- the walk tells for each what it stands right below in the forest that the list and the test stand for
 pub walked-parented : {A : Type 0} (t : A → A → Bool) (l : List A) → walked t [] l ≡ parented None (build t l)

@@ -2,19 +2,19 @@
 use Rattle.std.proofs.Common.{suc, zero-add, ◌≡◌, ℕ, ◌+◌, Bool, true, false, cond, List, [], ◌∷◌, ◌++◌, map, length, take, refl, sym, ◌∙◌, ap, arith, append_assoc, length-append}
 use Rattle.std.specs.List.{prefix_len, AllByRecursion as Each}
 use Rattle.std.proofs.lemmas.List.{map-append, length-map}
-use Rattle.derivation.specs.Forest.{Forest, none, tree, preorder, join, counted, renamed, runs, StandsFor, taken, left, build}
+use Rattle.derivation.specs.Forest.{Forest, none, tree, preorder, join, with_descendant_counts, renamed, runs, StandsFor, front_trees, trees_behind, build}
 use Rattle.derivation.proofs.Trees.Built.{taken-left, preorder-build, preorder-renamed}
 use Rattle.derivation.proofs.Trees.Nested.{IsTransitive, Whole, whole-nested, nested-build}
 
-counted-join : {A : Type 0} (f g : Forest A) → counted (join f g) ≡ counted f ++ counted g
+counted-join : {A : Type 0} (f g : Forest A) → with_descendant_counts (join f g) ≡ with_descendant_counts f ++ with_descendant_counts g
 counted-join none g = refl
-counted-join (tree a k r) g = ap (λ l. (a, length (preorder k)) ∷ (counted k ++ l)) (counted-join r g) ∙ ap (λ l. (a, length (preorder k)) ∷ l) (sym (append_assoc (counted k) (counted r) (counted g)))
+counted-join (tree a k r) g = ap (λ l. (a, length (preorder k)) ∷ (with_descendant_counts k ++ l)) (counted-join r g) ∙ ap (λ l. (a, length (preorder k)) ∷ l) (sym (append_assoc (with_descendant_counts k) (with_descendant_counts r) (with_descendant_counts g)))
 
-length-counted : {A : Type 0} (f : Forest A) → length (counted f) ≡ length (preorder f)
+length-counted : {A : Type 0} (f : Forest A) → length (with_descendant_counts f) ≡ length (preorder f)
 length-counted none = refl
 length-counted (tree a k r) =
-    let ek : length (counted k) ≡ length (preorder k) = length-counted k in
-    let er : length (counted r) ≡ length (preorder r) = length-counted r in
+    let ek : length (with_descendant_counts k) ≡ length (preorder k) = length-counted k in
+    let er : length (with_descendant_counts r) ≡ length (preorder r) = length-counted r in
     simp length-append (omega arith)
 
 -- at most one forest fits
@@ -31,7 +31,7 @@ front_same (x ∷ a) (y ∷ b) c d n e =
     let s : a ≡ b = both.0 in
     (cc, both.1)
 
-pub one_fits : {A : Type 0} (f g : Forest A) → counted f ≡ counted g → f ≡ g
+pub one_fits : {A : Type 0} (f g : Forest A) → with_descendant_counts f ≡ with_descendant_counts g → f ≡ g
 one_fits none none e = refl
 one_fits none (tree b k r) e = cc
 one_fits (tree a k r) none e = cc
@@ -39,9 +39,9 @@ one_fits {A} (tree a k r) (tree b k' r') e =
     let pair : (a, length (preorder k)) ≡ (b, length (preorder k')) = cc in
     let top : a ≡ b = ap (λ (q : A × ℕ). q.0) pair in
     let n : length (preorder k) ≡ length (preorder k') = ap (λ (q : A × ℕ). q.1) pair in
-    let m : length (counted k) ≡ length (counted k') = length-counted k ∙ n ∙ sym (length-counted k') in
-    let rest : counted k ++ counted r ≡ counted k' ++ counted r' = cc in
-    let both : (counted k ≡ counted k') × (counted r ≡ counted r') = front_same (counted k) (counted k') (counted r) (counted r') m rest in
+    let m : length (with_descendant_counts k) ≡ length (with_descendant_counts k') = length-counted k ∙ n ∙ sym (length-counted k') in
+    let rest : with_descendant_counts k ++ with_descendant_counts r ≡ with_descendant_counts k' ++ with_descendant_counts r' = cc in
+    let both : (with_descendant_counts k ≡ with_descendant_counts k') × (with_descendant_counts r ≡ with_descendant_counts r') = front_same (with_descendant_counts k) (with_descendant_counts k') (with_descendant_counts r) (with_descendant_counts r') m rest in
     let ks : k ≡ k' = one_fits k k' both.0 in
     let rs : r ≡ r' = one_fits r r' both.1 in
     cc
@@ -54,14 +54,14 @@ prefix-each p (x ∷ xs) ys h =
     let ih : prefix_len p (xs ++ ys) ≡ length xs + prefix_len p ys = prefix-each p xs ys h.1 in
     rw h.0 (omega arith)
 
-prefix-taken : {A : Type 0} (p : A → Bool) (f : Forest A) → Whole p f → prefix_len p (preorder f) ≡ length (preorder (taken p f))
+prefix-taken : {A : Type 0} (p : A → Bool) (f : Forest A) → Whole p f → prefix_len p (preorder f) ≡ length (preorder (front_trees p f))
 prefix-taken p none w = refl
 prefix-taken {A} p (tree a k r) w =
-    (elim (p a) as (λ c. p a ≡ c → cond c (1 + prefix_len p (preorder k ++ preorder r)) 0 ≡ length (preorder (cond c (tree a k (taken p r)) none))) [
+    (elim (p a) as (λ c. p a ≡ c → cond c (1 + prefix_len p (preorder k ++ preorder r)) 0 ≡ length (preorder (cond c (tree a k (front_trees p r)) none))) [
       | true ↦ λ e.
-          let ih : prefix_len p (preorder r) ≡ length (preorder (taken p r)) = prefix-taken p r w.1 in
+          let ih : prefix_len p (preorder r) ≡ length (preorder (front_trees p r)) = prefix-taken p r w.1 in
           let here : prefix_len p (preorder k ++ preorder r) ≡ length (preorder k) + prefix_len p (preorder r) = prefix-each p (preorder k) (preorder r) (w.0 e) in
-          let both : length (preorder k ++ preorder (taken p r)) ≡ length (preorder k) + length (preorder (taken p r)) = length-append (preorder k) (preorder (taken p r)) in
+          let both : length (preorder k ++ preorder (front_trees p r)) ≡ length (preorder k) + length (preorder (front_trees p r)) = length-append (preorder k) (preorder (front_trees p r)) in
           omega arith
       | false ↦ λ e. refl
     ]) refl
@@ -71,20 +71,20 @@ stands-build t tr [] = refl
 stands-build {A} t tr (a ∷ l) =
     let f : Forest A = build t l in
     let w : Whole (t a) f = whole-nested t tr a f (nested-build t tr l) in
-    let n : length (preorder (taken (t a) f)) ≡ prefix_len (t a) l = sym (prefix-taken (t a) f w) ∙ ap (prefix_len (t a)) (preorder-build t l) in
-    let rest : counted (taken (t a) f) ++ counted (left (t a) f) ≡ runs t l = sym (counted-join (taken (t a) f) (left (t a) f)) ∙ ap counted (taken-left (t a) f) ∙ stands-build t tr l in
-    ap (λ m. (a, m) ∷ (counted (taken (t a) f) ++ counted (left (t a) f))) n ∙ ap (λ m. (a, prefix_len (t a) l) ∷ m) rest
+    let n : length (preorder (front_trees (t a) f)) ≡ prefix_len (t a) l = sym (prefix-taken (t a) f w) ∙ ap (prefix_len (t a)) (preorder-build t l) in
+    let rest : with_descendant_counts (front_trees (t a) f) ++ with_descendant_counts (trees_behind (t a) f) ≡ runs t l = sym (counted-join (front_trees (t a) f) (trees_behind (t a) f)) ∙ ap with_descendant_counts (taken-left (t a) f) ∙ stands-build t tr l in
+    ap (λ m. (a, m) ∷ (with_descendant_counts (front_trees (t a) f) ++ with_descendant_counts (trees_behind (t a) f))) n ∙ ap (λ m. (a, prefix_len (t a) l) ∷ m) rest
 
 -- under other names
-pub counted-renamed : {A B : Type 0} (w : A → B) (f : Forest A) → counted (renamed w f) ≡ map (λ (r : A × ℕ). (w r.0, r.1)) (counted f)
+pub counted-renamed : {A B : Type 0} (w : A → B) (f : Forest A) → with_descendant_counts (renamed w f) ≡ map (λ (r : A × ℕ). (w r.0, r.1)) (with_descendant_counts f)
 counted-renamed w none = refl
 counted-renamed {A} {B} w (tree a k r) =
     let v : A × ℕ → B × ℕ = λ q. (w q.0, q.1) in
     let n : length (preorder (renamed w k)) ≡ length (preorder k) = ap length (preorder-renamed w k) ∙ length-map (preorder k) w in
-    ap (λ m. (w a, m) ∷ (counted (renamed w k) ++ counted (renamed w r))) n
-    ∙ ap (λ l. (w a, length (preorder k)) ∷ l) (rw (counted-renamed w k, counted-renamed w r) (sym (map-append v (counted k) (counted r))))
+    ap (λ m. (w a, m) ∷ (with_descendant_counts (renamed w k) ++ with_descendant_counts (renamed w r))) n
+    ∙ ap (λ l. (w a, length (preorder k)) ∷ l) (rw (counted-renamed w k, counted-renamed w r) (sym (map-append v (with_descendant_counts k) (with_descendant_counts r))))
 
--- what is taken is the longest run that passes
+-- what is front_trees is the longest run that passes
 
 pub take-one : {X : Type 0} (m : ℕ) (x : X) (l : List X) → take (1 + m) (x ∷ l) ≡ x ∷ take m l
 take-one m x l = let e : 1 + m ≡ suc m = omega arith in ap (λ n. take n (x ∷ l)) e
@@ -95,10 +95,10 @@ take-part (x ∷ xs) ys n =
     let e : length (x ∷ xs) + n ≡ 1 + (length xs + n) = omega arith in
     rw e (take-one (length xs + n) x (xs ++ ys) ∙ ap (λ l. x ∷ l) (take-part xs ys n))
 
-preorder-taken : {A : Type 0} (p : A → Bool) (f : Forest A) → Whole p f → preorder (taken p f) ≡ take (prefix_len p (preorder f)) (preorder f)
+preorder-taken : {A : Type 0} (p : A → Bool) (f : Forest A) → Whole p f → preorder (front_trees p f) ≡ take (prefix_len p (preorder f)) (preorder f)
 preorder-taken p none w = refl
 preorder-taken {A} p (tree a k r) w =
-    (elim (p a) as (λ c. p a ≡ c → preorder (cond c (tree a k (taken p r)) none) ≡ take (cond c (1 + prefix_len p (preorder k ++ preorder r)) 0) (a ∷ (preorder k ++ preorder r))) [
+    (elim (p a) as (λ c. p a ≡ c → preorder (cond c (tree a k (front_trees p r)) none) ≡ take (cond c (1 + prefix_len p (preorder k ++ preorder r)) 0) (a ∷ (preorder k ++ preorder r))) [
       | true ↦ λ e.
           let here : prefix_len p (preorder k ++ preorder r) ≡ length (preorder k) + prefix_len p (preorder r) = prefix-each p (preorder k) (preorder r) (w.0 e) in
           ap (λ l. a ∷ l) (ap (λ l. preorder k ++ l) (preorder-taken p r w.1) ∙ sym (take-part (preorder k) (preorder r) (prefix_len p (preorder r))) ∙ ap (λ n. take n (preorder k ++ preorder r)) (sym here))
@@ -106,7 +106,7 @@ preorder-taken {A} p (tree a k r) w =
       | false ↦ λ e. refl
     ]) refl
 
-pub taken_run : {A : Type 0} (t : A → A → Bool) → IsTransitive t → (a : A) (l : List A) → preorder (taken (t a) (build t l)) ≡ take (prefix_len (t a) l) l
+pub taken_run : {A : Type 0} (t : A → A → Bool) → IsTransitive t → (a : A) (l : List A) → preorder (front_trees (t a) (build t l)) ≡ take (prefix_len (t a) l) l
 taken_run {A} t tr a l =
     preorder-taken (t a) (build t l) (whole-nested t tr a (build t l) (nested-build t tr l))
     ∙ ap (λ (m : List A). take (prefix_len (t a) m) m) (preorder-build t l)

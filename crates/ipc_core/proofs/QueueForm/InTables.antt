@@ -5,7 +5,7 @@ use Rattle.std.proofs.lemmas.List.{get_or_past}
 use Rattle.cap_core.specs.declared.profile.ProfileName.{ProfileName}
 use Rattle.cap_core.specs.Numbers.{tcb_size, endpoint_size}
 use Rattle.ipc_core.specs.declared.waiter.Role.{Role}
-use Rattle.ipc_core.specs.declared.tables.ThreadRow.{ThreadRow}
+use Rattle.ipc_core.specs.declared.tables.QueueRow.{QueueRow}
 use Rattle.ipc_core.specs.declared.tables.EndpointRow.{EndpointRow}
 use Rattle.ipc_core.specs.declared.tables.Tables.{Tables}
 use Rattle.ipc_core.specs.Waits.{changed, endpoint_of, queued}
@@ -70,13 +70,13 @@ module _ (p : ProfileName) (old : Tables) (linked : IsLinked p old) (s : ℕ) (r
       (λ t is. thread_there (endpoint_of r) t (next_waits (tcb_size p) (length old.threads.items) l (orders_in p old) linked s r waits t is))
 
   -- the links of the tables after the three writes
-  pub out_links : (row : ThreadRow) (e : ℕ) (a b new : Tables) → row ≡ l.thread s → e ≡ endpoint_of r →
+  pub out_links : (row : QueueRow) (e : ℕ) (a b new : Tables) → row ≡ l.thread s → e ≡ endpoint_of r →
       links_of p a ≡ led e row.previous row.next l → links_of p b ≡ led_back e row.next row.previous (links_of p a) → links_of p new ≡ set_row s (with_role None) (links_of p b) →
       links_of p new ≡ without (endpoint_of r) s l
   out_links row e a b new row_is e_is first second third =
       third ∙ ap (set_row s (with_role None))
       (second ∙ ap (led_back e row.next row.previous) first
-      ∙ ap (λ (w : ThreadRow). led_back e w.next w.previous (led e w.previous w.next l)) row_is
+      ∙ ap (λ (w : QueueRow). led_back e w.next w.previous (led e w.previous w.next l)) row_is
       ∙ ap (λ k. led_back k (l.thread s).next (l.thread s).previous (led k (l.thread s).previous (l.thread s).next l)) e_is)
 
   pub out : (new : Tables) → links_of p new ≡ without (endpoint_of r) s l → length new.threads.items ≡ length old.threads.items →
@@ -92,7 +92,7 @@ module _ (p : ProfileName) (old : Tables) (linked : IsLinked p old) (s : ℕ) (r
       ap (λ (k : Links). waiter_of (k.thread t) t) links ∙ waiter_away (tcb_size p) (length old.threads.items) l (orders_in p old) linked s r waits t ne
 
 -- a thread that waits nowhere is put last into a queue
-module _ (p : ProfileName) (old : Tables) (linked : IsLinked p old) (e t : ℕ) (row : ThreadRow) (free : ((links_of p old).thread t).role ≡ None) (role : option_map endpoint_of row.role ≡ Some e) (has : HasRow (tcb_size p) old.threads.items t) where
+module _ (p : ProfileName) (old : Tables) (linked : IsLinked p old) (e t : ℕ) (row : QueueRow) (free : ((links_of p old).thread t).role ≡ None) (role : option_map endpoint_of row.role ≡ Some e) (has : HasRow (tcb_size p) old.threads.items t) where
   abbrev m : Links
   m = links_of p old
 

@@ -2,7 +2,7 @@
 use Rattle.std.proofs.Common.{◌≡◌, ◌≢◌, ℕ, cond, Option, Some, None, inl, inr, refl, sym, ap, ◌∙◌, eq-eqb}
 use Rattle.std.proofs.lemmas.Bool.{ne_eqb}
 use Rattle.std.proofs.lemmas.Bool.Decides.{eqb_tells}
-use Rattle.ipc_core.specs.declared.tables.ThreadRow.{ThreadRow}
+use Rattle.ipc_core.specs.declared.tables.QueueRow.{QueueRow}
 use Rattle.ipc_core.specs.declared.tables.EndpointRow.{EndpointRow}
 use Rattle.ipc_core.specs.Waits.{changed}
 use Rattle.ipc_core.specs.Representation.Linked.{Links, with_next, with_previous, led, led_back}
@@ -21,7 +21,7 @@ changed_keeps h f k x same i = elim (eqb_tells i k) [
 ]
 
 module _ (e : ℕ) (x : Option ℕ) (l : Links) where
-  pub led-thread_keeps : {Y : Type 0} (p : Option ℕ) (h : ThreadRow → Y) → ((row : ThreadRow) → h (with_next x row) ≡ h row) → (i : ℕ) → h ((led e p x l).thread i) ≡ h (l.thread i)
+  pub led-thread_keeps : {Y : Type 0} (p : Option ℕ) (h : QueueRow → Y) → ((row : QueueRow) → h (with_next x row) ≡ h row) → (i : ℕ) → h ((led e p x l).thread i) ≡ h (l.thread i)
   led-thread_keeps None h same i = refl
   led-thread_keeps (Some k) h same i = changed_keeps h l.thread k (with_next x (l.thread k)) (same (l.thread k)) i
 
@@ -31,7 +31,7 @@ module _ (e : ℕ) (x : Option ℕ) (l : Links) where
 
   pub led-next : (p : Option ℕ) (k : ℕ) → p ≡ Some k → ((led e p x l).thread k).next ≡ x
   led-next p k is =
-      ap (λ o. ((led e o x l).thread k).next) is ∙ ap (λ (row : ThreadRow). row.next) (changed_here l.thread k (with_next x (l.thread k)))
+      ap (λ o. ((led e o x l).thread k).next) is ∙ ap (λ (row : QueueRow). row.next) (changed_here l.thread k (with_next x (l.thread k)))
 
   pub led-endpoint : (p : Option ℕ) (q : ℕ) → q ≢ e → (led e p x l).endpoint q ≡ l.endpoint q
   led-endpoint None q ne = changed_away l.endpoint e (record { first = x; last = (l.endpoint e).last }) q ne
@@ -49,7 +49,7 @@ module _ (e : ℕ) (x : Option ℕ) (l : Links) where
   led-last None q = changed_keeps (λ (row : EndpointRow). row.last) l.endpoint e (record { first = x; last = (l.endpoint e).last }) refl q
   led-last (Some k) q = refl
 
-  pub led_back-thread_keeps : {Y : Type 0} (p : Option ℕ) (h : ThreadRow → Y) → ((row : ThreadRow) → h (with_previous x row) ≡ h row) → (i : ℕ) → h ((led_back e p x l).thread i) ≡ h (l.thread i)
+  pub led_back-thread_keeps : {Y : Type 0} (p : Option ℕ) (h : QueueRow → Y) → ((row : QueueRow) → h (with_previous x row) ≡ h row) → (i : ℕ) → h ((led_back e p x l).thread i) ≡ h (l.thread i)
   led_back-thread_keeps None h same i = refl
   led_back-thread_keeps (Some k) h same i = changed_keeps h l.thread k (with_previous x (l.thread k)) (same (l.thread k)) i
 
@@ -59,7 +59,7 @@ module _ (e : ℕ) (x : Option ℕ) (l : Links) where
 
   pub led_back-previous : (p : Option ℕ) (k : ℕ) → p ≡ Some k → ((led_back e p x l).thread k).previous ≡ x
   led_back-previous p k is =
-      ap (λ o. ((led_back e o x l).thread k).previous) is ∙ ap (λ (row : ThreadRow). row.previous) (changed_here l.thread k (with_previous x (l.thread k)))
+      ap (λ o. ((led_back e o x l).thread k).previous) is ∙ ap (λ (row : QueueRow). row.previous) (changed_here l.thread k (with_previous x (l.thread k)))
 
   pub led_back-endpoint : (p : Option ℕ) (q : ℕ) → q ≢ e → (led_back e p x l).endpoint q ≡ l.endpoint q
   led_back-endpoint None q ne = changed_away l.endpoint e (record { first = (l.endpoint e).first; last = x }) q ne

@@ -6,7 +6,7 @@ use Rattle.cap_core.specs.declared.profile.ProfileName.{ProfileName}
 use Rattle.ipc_core.specs.declared.waiter.Offer.{Offer}
 use Rattle.ipc_core.specs.declared.waiter.Role.{Role}
 use Rattle.ipc_core.specs.declared.waiter.Role.TheVariants.{Sending, Receiving}
-use Rattle.ipc_core.specs.declared.tables.ThreadRow.{ThreadRow}
+use Rattle.ipc_core.specs.declared.tables.QueueRow.{QueueRow}
 use Rattle.ipc_core.specs.declared.tables.Tables.{Tables}
 use Rattle.ipc_core.specs.Waits.{thread_of}
 use Rattle.ipc_core.specs.Offers as waits
@@ -36,7 +36,7 @@ pub queue_offer : (p : ProfileName) (tables : Tables) → IsLinked p tables → 
     offer_in t ((links_of p tables).thread t) ≡ waits.offer_of (waits_in p tables) t
 queue_offer p tables linked t = by row.role refl
   where
-    row : ThreadRow
+    row : QueueRow
     row = (links_of p tables).thread t
 
     by : (r : Option Role) → row.role ≡ r → offer_by t row.badge row.message r ≡ waits.offer_as r t (waits_in p tables)

@@ -4,7 +4,7 @@ use Rattle.std.specs.List.{AllByRecursion as Each}
 use Rattle.std.proofs.lemmas.Bool.Decides.{eqb_tells}
 use Rattle.std.proofs.lemmas.List.{map-append}
 use Rattle.ipc_core.specs.declared.waiter.Role.{Role}
-use Rattle.ipc_core.specs.declared.tables.ThreadRow.{ThreadRow}
+use Rattle.ipc_core.specs.declared.tables.QueueRow.{QueueRow}
 use Rattle.ipc_core.specs.declared.tables.EndpointRow.{EndpointRow}
 use Rattle.ipc_core.specs.Waits.{changed, endpoint_of, queued}
 use Rattle.ipc_core.specs.Representation.Chains.{IsChain, Lacks, IsApart}
@@ -22,15 +22,15 @@ apart_last [] t apart lacks = (tt, tt)
 apart_last (i ∷ list) t apart lacks = (each_last (λ j. j ≢ i) list t apart.0 (λ same. lacks.0 (sym same)), apart_last list t apart.1 lacks.1)
 
 -- the row that is put in, behind the one that was last
-abbrev pub last_row : Option ℕ → ThreadRow → ThreadRow
+abbrev pub last_row : Option ℕ → QueueRow → QueueRow
 last_row last row = record { role = row.role; badge = row.badge; message = row.message; previous = last; next = None }
 
 -- the links once t is put last on e
-abbrev pub with_last : ℕ → ℕ → ThreadRow → Links → Links
+abbrev pub with_last : ℕ → ℕ → QueueRow → Links → Links
 with_last e t row l =
     led_back e None (Some t) (led e (l.endpoint e).last (Some t) (set_row t (λ _. last_row (l.endpoint e).last row) l))
 
-module _ (size n : ℕ) (l : Links) (orders : ℕ → List ℕ) (linked : AreLinked size n l orders) (e t : ℕ) (row : ThreadRow) (r : Role) (free : (l.thread t).role ≡ None) (role : row.role ≡ Some r) (on : endpoint_of r ≡ e) (aligned : t % size ≡ 0) (within : t / size < n) where
+module _ (size n : ℕ) (l : Links) (orders : ℕ → List ℕ) (linked : AreLinked size n l orders) (e t : ℕ) (row : QueueRow) (r : Role) (free : (l.thread t).role ≡ None) (role : row.role ≡ Some r) (on : endpoint_of r ≡ e) (aligned : t % size ≡ 0) (within : t / size < n) where
   abbrev last : Option ℕ
   last = (l.endpoint e).last
 
@@ -63,34 +63,34 @@ module _ (size n : ℕ) (l : Links) (orders : ℕ → List ℕ) (linked : AreLin
   thread_here : after.thread t ≡ last_row last row
   thread_here = led-thread e (Some t) put last t not_last ∙ changed_here l.thread t (last_row last row)
 
-  thread_away : {Y : Type 0} (h : ThreadRow → Y) → ((x : Option ℕ) (row : ThreadRow) → h (record { role = row.role; badge = row.badge; message = row.message; previous = row.previous; next = x }) ≡ h row) →
+  thread_away : {Y : Type 0} (h : QueueRow → Y) → ((x : Option ℕ) (row : QueueRow) → h (record { role = row.role; badge = row.badge; message = row.message; previous = row.previous; next = x }) ≡ h row) →
       (i : ℕ) → i ≢ t → h (after.thread i) ≡ h (l.thread i)
   thread_away h nexts i ne =
       led-thread_keeps e (Some t) put last h (nexts (Some t)) i ∙ ap h (changed_away l.thread t (last_row last row) i ne)
 
   role_away : (i : ℕ) → i ≢ t → (after.thread i).role ≡ (l.thread i).role
-  role_away i ne = thread_away (λ (row : ThreadRow). row.role) (λ x row. refl) i ne
+  role_away i ne = thread_away (λ (row : QueueRow). row.role) (λ x row. refl) i ne
 
   waiter_away : (i : ℕ) → i ≢ t → waiter_of (after.thread i) i ≡ waiter_of (l.thread i) i
   waiter_away i ne = thread_away (λ row. waiter_of row i) (λ x row. refl) i ne
 
   role_here : (after.thread t).role ≡ Some r
-  role_here = ap (λ (row : ThreadRow). row.role) thread_here ∙ role
+  role_here = ap (λ (row : QueueRow). row.role) thread_here ∙ role
 
   next_away : (i : ℕ) → i ≢ t → (last ≡ Some i → ⊥) → (after.thread i).next ≡ (l.thread i).next
-  next_away i ne away = ap (λ (row : ThreadRow). row.next) (led-thread e (Some t) put last i away ∙ changed_away l.thread t (last_row last row) i ne)
+  next_away i ne away = ap (λ (row : QueueRow). row.next) (led-thread e (Some t) put last i away ∙ changed_away l.thread t (last_row last row) i ne)
 
   previous_away : (i : ℕ) → i ≢ t → (after.thread i).previous ≡ (l.thread i).previous
-  previous_away i ne = thread_away (λ (row : ThreadRow). row.previous) (λ x row. refl) i ne
+  previous_away i ne = thread_away (λ (row : QueueRow). row.previous) (λ x row. refl) i ne
 
   puts : PutsLast (λ t. (l.thread t).next) (λ t. (l.thread t).previous) (λ t. (after.thread t).next) (λ t. (after.thread t).previous) (l.endpoint e).first (after.endpoint e).first last t
   puts =
       record {
         next = next_away;
         next_last = λ p ne is. led-next e (Some t) put last p is;
-        next_t = ap (λ (row : ThreadRow). row.next) thread_here;
+        next_t = ap (λ (row : QueueRow). row.next) thread_here;
         previous = previous_away;
-        previous_t = ap (λ (row : ThreadRow). row.previous) thread_here;
+        previous_t = ap (λ (row : QueueRow). row.previous) thread_here;
         first_none = λ none. led_back-first e (Some t) forward None e ∙ led-first_none e (Some t) put last none;
         first_some = λ p is. led_back-first e (Some t) forward None e ∙ led-first_some e (Some t) put last p is;
       }
@@ -180,7 +180,7 @@ module _ (size n : ℕ) (l : Links) (orders : ℕ → List ℕ) (linked : AreLin
       here =
           map-append (λ i. waiter_of (after.thread i) i) (orders e) (t ∷ [])
           ∙ ap (λ front. front ++ waiter_of (after.thread t) t ∷ []) (still e)
-          ∙ ap (λ (w : ThreadRow). map (λ i. waiter_of (l.thread i) i) (orders e) ++ waiter_of w t ∷ []) thread_here
+          ∙ ap (λ (w : QueueRow). map (λ i. waiter_of (l.thread i) i) (orders e) ++ waiter_of w t ∷ []) thread_here
 
       queues : (q : ℕ) → map (λ i. waiter_of (after.thread i) i) (orders' q) ≡ changed (waits_by l orders).queue e ((waits_by l orders).queue e ++ waiter_of row t ∷ []) q
       queues q = elim (eqb_tells q e) [

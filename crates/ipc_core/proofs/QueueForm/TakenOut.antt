@@ -3,7 +3,7 @@ use Rattle.std.proofs.Common.{◌≡◌, ◌≢◌, ℕ, ◌==◌, cond, not, Li
 use Rattle.std.specs.List.{AllByRecursion as Each}
 use Rattle.std.proofs.lemmas.Bool.Decides.{eqb_tells}
 use Rattle.ipc_core.specs.declared.waiter.Role.{Role}
-use Rattle.ipc_core.specs.declared.tables.ThreadRow.{ThreadRow}
+use Rattle.ipc_core.specs.declared.tables.QueueRow.{QueueRow}
 use Rattle.ipc_core.specs.declared.tables.EndpointRow.{EndpointRow}
 use Rattle.ipc_core.specs.Waits.{changed, endpoint_of}
 use Rattle.ipc_core.specs.Cancelled.{is_thread, others, after_cancel_thread}
@@ -33,7 +33,7 @@ module _ (size n : ℕ) (l : Links) (orders : ℕ → List ℕ) (linked : AreLin
   after = without e s l
 
   -- a part of a row that no link changes
-  kept : {Y : Type 0} (h : ThreadRow → Y) → ((x : Option ℕ) (row : ThreadRow) → h (with_next x row) ≡ h row) → ((x : Option ℕ) (row : ThreadRow) → h (with_previous x row) ≡ h row) →
+  kept : {Y : Type 0} (h : QueueRow → Y) → ((x : Option ℕ) (row : QueueRow) → h (with_next x row) ≡ h row) → ((x : Option ℕ) (row : QueueRow) → h (with_previous x row) ≡ h row) →
       (i : ℕ) → h (past.thread i) ≡ h (l.thread i)
   kept h nexts previouses i =
       led_back-thread_keeps e (l.thread s).previous forward (l.thread s).next h (previouses (l.thread s).previous) i
@@ -41,21 +41,21 @@ module _ (size n : ℕ) (l : Links) (orders : ℕ → List ℕ) (linked : AreLin
 
   next_after : (i : ℕ) → (after.thread i).next ≡ (forward.thread i).next
   next_after i =
-      changed_keeps (λ (row : ThreadRow). row.next) past.thread s (with_role None (past.thread s)) refl i
-      ∙ led_back-thread_keeps e (l.thread s).previous forward (l.thread s).next (λ (row : ThreadRow). row.next) (λ row. refl) i
+      changed_keeps (λ (row : QueueRow). row.next) past.thread s (with_role None (past.thread s)) refl i
+      ∙ led_back-thread_keeps e (l.thread s).previous forward (l.thread s).next (λ (row : QueueRow). row.next) (λ row. refl) i
 
   previous_after : (i : ℕ) → (after.thread i).previous ≡ (past.thread i).previous
-  previous_after i = changed_keeps (λ (row : ThreadRow). row.previous) past.thread s (with_role None (past.thread s)) refl i
+  previous_after i = changed_keeps (λ (row : QueueRow). row.previous) past.thread s (with_role None (past.thread s)) refl i
 
   previous_forward : (i : ℕ) → (forward.thread i).previous ≡ (l.thread i).previous
-  previous_forward i = led-thread_keeps e (l.thread s).next l (l.thread s).previous (λ (row : ThreadRow). row.previous) (λ row. refl) i
+  previous_forward i = led-thread_keeps e (l.thread s).next l (l.thread s).previous (λ (row : QueueRow). row.previous) (λ row. refl) i
 
   role_after : (i : ℕ) → (after.thread i).role ≡ changed (λ t. (l.thread t).role) s None i
   role_after i = elim (eqb_tells i s) [
-    | inl w ↦ ap (λ j. (after.thread j).role) w.1 ∙ ap (λ (row : ThreadRow). row.role) (changed_here past.thread s (with_role None (past.thread s))) ∙ sym (ap (λ b. cond b None (l.thread i).role) w.0)
+    | inl w ↦ ap (λ j. (after.thread j).role) w.1 ∙ ap (λ (row : QueueRow). row.role) (changed_here past.thread s (with_role None (past.thread s))) ∙ sym (ap (λ b. cond b None (l.thread i).role) w.0)
     | inr w ↦
-        ap (λ (row : ThreadRow). row.role) (changed_away past.thread s (with_role None (past.thread s)) i w.1)
-        ∙ kept (λ (row : ThreadRow). row.role) (λ x row. refl) (λ x row. refl) i
+        ap (λ (row : QueueRow). row.role) (changed_away past.thread s (with_role None (past.thread s)) i w.1)
+        ∙ kept (λ (row : QueueRow). row.role) (λ x row. refl) (λ x row. refl) i
         ∙ sym (ap (λ b. cond b None (l.thread i).role) w.0)
   ]
 
@@ -64,17 +64,17 @@ module _ (size n : ℕ) (l : Links) (orders : ℕ → List ℕ) (linked : AreLin
 
   pub waiter_away : (i : ℕ) → i ≢ s → waiter_of (after.thread i) i ≡ waiter_of (l.thread i) i
   waiter_away i ne =
-      ap (λ (row : ThreadRow). waiter_of row i) (changed_away past.thread s (with_role None (past.thread s)) i ne)
+      ap (λ (row : QueueRow). waiter_of row i) (changed_away past.thread s (with_role None (past.thread s)) i ne)
       ∙ kept (λ row. waiter_of row i) (λ x row. refl) (λ x row. refl) i
 
   takes : TakesOut (λ t. (l.thread t).next) (λ t. (l.thread t).previous) (λ t. (after.thread t).next) (λ t. (after.thread t).previous) (l.endpoint e).first (after.endpoint e).first (l.endpoint e).last (after.endpoint e).last s
   takes =
       record {
-        next = λ i ne away. next_after i ∙ ap (λ (row : ThreadRow). row.next) (led-thread e (l.thread s).next l (l.thread s).previous i away);
+        next = λ i ne away. next_after i ∙ ap (λ (row : QueueRow). row.next) (led-thread e (l.thread s).next l (l.thread s).previous i away);
         next_p = λ p is ne. next_after p ∙ led-next e (l.thread s).next l (l.thread s).previous p is;
         first_none = λ none. led_back-first e (l.thread s).previous forward (l.thread s).next e ∙ led-first_none e (l.thread s).next l (l.thread s).previous none;
         first_some = λ p is. led_back-first e (l.thread s).previous forward (l.thread s).next e ∙ led-first_some e (l.thread s).next l (l.thread s).previous p is;
-        previous = λ i ne away. previous_after i ∙ ap (λ (row : ThreadRow). row.previous) (led_back-thread e (l.thread s).previous forward (l.thread s).next i away) ∙ previous_forward i;
+        previous = λ i ne away. previous_after i ∙ ap (λ (row : QueueRow). row.previous) (led_back-thread e (l.thread s).previous forward (l.thread s).next i away) ∙ previous_forward i;
         previous_n = λ m is ne. previous_after m ∙ led_back-previous e (l.thread s).previous forward (l.thread s).next m is;
         last_none = λ none. led_back-last_none e (l.thread s).previous forward (l.thread s).next none;
         last_some = λ m is. led_back-last_some e (l.thread s).previous forward (l.thread s).next m is ∙ led-last e (l.thread s).next l (l.thread s).previous e;

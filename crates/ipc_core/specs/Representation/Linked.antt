@@ -9,14 +9,14 @@ use Rattle.ipc_core.specs.declared.waiter.Waiter.{Waiter}
 use Rattle.ipc_core.specs.declared.waiter.Waiter.TheVariants.{Sender, Receiver}
 use Rattle.ipc_core.specs.declared.waiter.Role.{Role}
 use Rattle.ipc_core.specs.declared.waiter.Role.TheVariants.{Sending, Receiving}
-use Rattle.ipc_core.specs.declared.tables.ThreadRow.{ThreadRow}
+use Rattle.ipc_core.specs.declared.tables.QueueRow.{QueueRow}
 use Rattle.ipc_core.specs.declared.tables.EndpointRow.{EndpointRow}
 use Rattle.ipc_core.specs.declared.tables.Tables.{Tables}
 use Rattle.ipc_core.specs.Waits.{Waits, Offer, changed, endpoint_of}
 use Rattle.ipc_core.specs.Representation.Chains.{IsChain, IsApart, has, walk}
 
 -- the row of a thread that waits nowhere, and of an endpoint on which nobody waits
-abbrev pub free_row : ThreadRow
+abbrev pub free_row : QueueRow
 free_row =
     record {
       role = None;
@@ -30,11 +30,11 @@ abbrev pub idle_row : EndpointRow
 idle_row = record { first = None; last = None }
 
 -- rows of a thread that waits, before its links are set
-abbrev pub sending_row : ℕ → Badge → Message → ThreadRow
+abbrev pub sending_row : ℕ → Badge → Message → QueueRow
 sending_row e badge message =
     record { role = Some (Sending e); badge = badge; message = message; previous = None; next = None }
 
-abbrev pub receiving_row : ℕ → ThreadRow
+abbrev pub receiving_row : ℕ → QueueRow
 receiving_row e =
     record { role = Some (Receiving e); badge = free_row.badge; message = free_row.message; previous = None; next = None }
 
@@ -49,7 +49,7 @@ pub record HasRow {X : Type 0} (size : ℕ) (rows : List X) (address : ℕ) : Ty
 
 -- the rows as functions of addresses
 pub record Links : Type 0 where
-  pub thread : ℕ → ThreadRow
+  pub thread : ℕ → QueueRow
   pub endpoint : ℕ → EndpointRow
 
 abbrev pub links_of : ProfileName → Tables → Links
@@ -65,7 +65,7 @@ waiter_in thread badge message None = Receiver thread
 waiter_in thread badge message (Some (Receiving e)) = Receiver thread
 waiter_in thread badge message (Some (Sending e)) = Sender thread badge message
 
-abbrev pub waiter_of : ThreadRow → ℕ → Waiter
+abbrev pub waiter_of : QueueRow → ℕ → Waiter
 waiter_of row thread = waiter_in thread row.badge row.message row.role
 
 abbrev pub receiver_by : ℕ → Option Role → Option ℕ
@@ -79,10 +79,10 @@ offer_by thread badge message (Some (Receiving e)) = None
 offer_by thread badge message (Some (Sending e)) = Some (record { thread = thread; badge = badge; message = message })
 
 -- the thread, where it receives; what it sends, where it sends
-abbrev pub receiver_in : ℕ → ThreadRow → Option ℕ
+abbrev pub receiver_in : ℕ → QueueRow → Option ℕ
 receiver_in thread row = receiver_by thread row.role
 
-abbrev pub offer_in : ℕ → ThreadRow → Option Offer
+abbrev pub offer_in : ℕ → QueueRow → Option Offer
 offer_in thread row = offer_by thread row.badge row.message row.role
 
 -- the threads that wait on an endpoint, by the links
@@ -113,21 +113,21 @@ abbrev pub IsLinked : ProfileName → Tables → Type 0
 IsLinked p tables = AreLinked (tcb_size p) (length tables.threads.items) (links_of p tables) (orders_in p tables)
 
 -- a row with one link changed
-abbrev pub with_next : Option ℕ → ThreadRow → ThreadRow
+abbrev pub with_next : Option ℕ → QueueRow → QueueRow
 with_next next row =
     record { role = row.role; badge = row.badge; message = row.message; previous = row.previous; next = next }
 
-abbrev pub with_previous : Option ℕ → ThreadRow → ThreadRow
+abbrev pub with_previous : Option ℕ → QueueRow → QueueRow
 with_previous previous row =
     record { role = row.role; badge = row.badge; message = row.message; previous = previous; next = row.next }
 
 -- a row of a thread that waits no more; its links are stale
-abbrev pub with_role : Option Role → ThreadRow → ThreadRow
+abbrev pub with_role : Option Role → QueueRow → QueueRow
 with_role role row =
     record { role = role; badge = row.badge; message = row.message; previous = row.previous; next = row.next }
 
 -- one row is changed
-abbrev pub set_row : ℕ → (ThreadRow → ThreadRow) → Links → Links
+abbrev pub set_row : ℕ → (QueueRow → QueueRow) → Links → Links
 set_row t change l = record { thread = changed l.thread t (change (l.thread t)); endpoint = l.endpoint }
 
 abbrev pub set_endpoint_row : ℕ → EndpointRow → Links → Links

@@ -8,7 +8,7 @@ use Rattle.cap_core.specs.Distinct.{IsApart}
 use Rattle.ipc_core.specs.declared.waiter.Waiter.{Waiter}
 use Rattle.ipc_core.specs.declared.waiter.Role.{Role}
 use Rattle.ipc_core.specs.declared.waiter.Role.TheVariants.{Sending, Receiving}
-use Rattle.ipc_core.specs.declared.tables.ThreadRow.{ThreadRow}
+use Rattle.ipc_core.specs.declared.tables.QueueRow.{QueueRow}
 use Rattle.ipc_core.specs.declared.tables.Tables.{Tables}
 use Rattle.ipc_core.specs.Waits.{thread_of, role_at, endpoint_of}
 use Rattle.ipc_core.specs.Cancelled.{is_thread}
@@ -16,7 +16,7 @@ use Rattle.ipc_core.specs.Agreement.{AreAlike, AreRolesAndQueues}
 use Rattle.ipc_core.specs.Representation.Chains.{has}
 use Rattle.ipc_core.specs.Representation.Linked.{Links, waiter_in, waiter_of, waits_by, waits_in, AreLinked, IsLinked}
 
-pub thread_of_waiter : (row : ThreadRow) (t : ℕ) → thread_of (waiter_of row t) ≡ t
+pub thread_of_waiter : (row : QueueRow) (t : ℕ) → thread_of (waiter_of row t) ≡ t
 thread_of_waiter row t = by_role t row.badge row.message row.role
   where
     by_role : (t : ℕ) (badge : Badge) (message : Message) (o : Option Role) → thread_of (waiter_in t badge message o) ≡ t

@@ -11,7 +11,7 @@ use Rattle.cap_core.specs.Numbers.{slot_bits, slot_size}
 use Rattle.cap_core.specs.Objects.{is_untyped, same_object}
 use Rattle.slot_core.specs.declared.slot.Slot.{Slot}
 use Rattle.slot_core.specs.declared.rows.Row.{Row}
-use Rattle.derivation.specs.Forest.{preorder, tops, below_those, below, after, root, renamed, taken, build}
+use Rattle.derivation.specs.Forest.{preorder, tops, below_those, below, after, root, renamed, front_trees, build}
 use Rattle.derivation.specs.Entries.{Entry, entry, is_at, is_full, cap_at, cap_in, is_original, original_in, first_child, first_slot}
 use Rattle.derivation.specs.Derivation.{derived, rooted, retyped, is_new_original, is_last}
 use Rattle.slot_core.specs.Places.{address_of}
@@ -261,8 +261,8 @@ standing_child p slot l s a =
     ap (λ m. first_slot (tops (below_those is (forest_of p m)))) s.parts
     ∙ ap (λ f. first_slot (tops f)) (renamed-below_those (entry_of p) is (build is_deeper (s.pre ++ s.row ∷ s.post)))
     ∙ ap (λ f. first_slot (tops (renamed (entry_of p) f))) (build-below_those is_deeper (row_is p slot) s.pre s.row s.post s.is s.before (standing_once p slot l s a))
-    ∙ ap first_slot (tops-renamed (entry_of p) (taken (is_deeper s.row) (build is_deeper s.post)))
-    ∙ first_renamed p (tops (taken (is_deeper s.row) (build is_deeper s.post)))
+    ∙ ap first_slot (tops-renamed (entry_of p) (front_trees (is_deeper s.row) (build is_deeper s.post)))
+    ∙ first_renamed p (tops (front_trees (is_deeper s.row) (build is_deeper s.post)))
     ∙ ap (option_map (λ (r : Row). address_of p r.slot)) (tops-taken is_deeper (is_deeper s.row) s.post)
 
 below_those_nowhere : (p : ProfileName) (slot : Slot) (l : List Row) → Absent (row_is p slot) l → Absent (row_is p slot) (preorder (build is_deeper l))

@@ -1,5 +1,5 @@
 use Rattle.std.proofs.Common.{sym, ap, ◌∙◌, cond, subst}
-use Rattle.ipc_core.specs.declared.tables.ThreadRow.{ThreadRow}
+use Rattle.ipc_core.specs.declared.tables.QueueRow.{QueueRow}
 use Rattle.ipc_core.specs.declared.waiter.Role.TheVariants.{Receiving}
 use Rattle.ipc_core.specs.declared.waiter.Received.TheVariants.{Waiting, Empty}
 use Rattle.ipc_core.specs.Representation.Linked.{waits_in, waiter_of}
@@ -41,7 +41,7 @@ returns-in-None-clause-histories g c =
     let p = g.P.Profile.profile in
     let own = c.args.self.now in
     let first = sym c.first_sender.ensures ∙ c.in-None.is in
-    let put = c.wait_last.ensures.waits (Receiving c.args.endpoint) (ap (λ (row : ThreadRow). row.role) c.receiving-row.ensures)
+    let put = c.wait_last.ensures.waits (Receiving c.args.endpoint) (ap (λ (row : QueueRow). row.role) c.receiving-row.ensures)
     ∙ ap (λ row. queued c.args.endpoint c.args.thread (Receiving c.args.endpoint) (waiter_of row c.args.thread) (waits_in p own.tables)) c.receiving-row.ensures in
     receive_by_histories c.args.block c.args.endpoint c.args.thread (waits_in p own.tables) (waits_in p c.wait_last.new.self) _
     (sym (ap (λ o. received_from o c.args.block) first ∙ ap (λ b. cond b Waiting Empty) c.if-block.true))
@@ -67,7 +67,7 @@ invariant_of-self-in-None-clause-alike g c =
     let p = g.P.Profile.profile in
     let own = c.args.self.now in
     let first = sym c.first_sender.ensures ∙ c.in-None.is in
-    let put = c.wait_last.ensures.waits (Receiving c.args.endpoint) (ap (λ (row : ThreadRow). row.role) c.receiving-row.ensures)
+    let put = c.wait_last.ensures.waits (Receiving c.args.endpoint) (ap (λ (row : QueueRow). row.role) c.receiving-row.ensures)
     ∙ ap (λ row. queued c.args.endpoint c.args.thread (Receiving c.args.endpoint) (waiter_of row c.args.thread) (waits_in p own.tables)) c.receiving-row.ensures in
     subst AreAlike (sym (receive_queues c.args.block c.args.endpoint c.args.thread (waits_in p own.tables) (waits_in p c.wait_last.new.self) first c.if-block.true put))
     (alike_receive (waits_in p own.tables) own.alike c.args.block c.args.endpoint c.args.thread)

@@ -1,6 +1,6 @@
 use Rattle.std.proofs.Common.{◌≡◌, ◌≤◌, length, sum_by}
 use Rattle.kernel_shared.specs.ClientStates.{made}
-use Rattle.kernel_shared.proofs.settling.counted.Given as goal
+use Rattle.kernel_shared.proofs.settling.settle_ledger.Given as goal
 
 abbrev pub invariant-loop-client : goal.invariant-loop-client
 invariant-loop-client g l = record {
