@@ -6,13 +6,13 @@ use Rattle.ipc_core.specs.Records.{Instance, SendRecord, ReceiveRecord}
 use Rattle.abstract_kernel.specs.declared.call.Call.{Call}
 use Rattle.abstract_kernel.specs.declared.call.Reply.{Reply}
 use Rattle.abstract_kernel.specs.declared.call.Reply.TheVariants.{Delivered}
-use Rattle.abstract_kernel.specs.Shown.{endpoints_of}
+use Rattle.abstract_kernel.specs.Cancelling.{is_endpoint_live}
 use Rattle.abstract_kernel.specs.State.{State, pairs, sends_to, receives_of}
 use Rattle.abstract_kernel.specs.Step.{step, state_after}
 
 -- an endpoint is live where its object is live and was not made anew
 abbrev pub is_live : State → Instance → Bool
-is_live A e = list_any (λ k. e.base == k) (endpoints_of A.derivations) && A.endpoint_birth e.base == e.birth
+is_live A e = is_endpoint_live A A.derivations e
 
 -- a reply that tells of a delivery by the endpoint at an address
 abbrev pub is_delivery : ℕ → Reply → Bool

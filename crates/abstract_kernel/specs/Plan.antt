@@ -104,15 +104,19 @@ pub record IsUntypedSize (p : ProfileName) (untyped : ℕ × ℕ) : Type 0 where
   pub least : min_untyped_bits p ≤ untyped.1
   pub most : untyped.1 ≤ max_object_bits p
 
+-- the sizes of a boot lie within the limits of a simulation
+pub record AreSizes (memory_bits root_radix threads endpoints : ℕ) : Type 0 where
+  pub memory_least : min_memory_bits ≤ memory_bits
+  pub memory_most : memory_bits ≤ max_memory_bits
+  pub radix_least : min_root_radix ≤ root_radix
+  pub radix_most : root_radix ≤ max_root_radix
+  pub threads_least : min_boot_threads ≤ threads
+  pub threads_most : threads ≤ max_boot_threads
+  pub endpoints_most : endpoints ≤ max_boot_endpoints
+
 -- the numbers of a plan lie within the limits of a simulation
 pub record IsWithinLimits (p : ProfileName) (plan : Plan) : Type 0 where
-  pub memory_least : min_memory_bits ≤ plan.memory_bits
-  pub memory_most : plan.memory_bits ≤ max_memory_bits
-  pub radix_least : min_root_radix ≤ plan.root_radix
-  pub radix_most : plan.root_radix ≤ max_root_radix
-  pub threads_least : min_boot_threads ≤ plan.threads
-  pub threads_most : plan.threads ≤ max_boot_threads
-  pub endpoints_most : plan.endpoints ≤ max_boot_endpoints
+  pub sizes : AreSizes plan.memory_bits plan.root_radix plan.threads plan.endpoints
   pub untypeds_most : length plan.untypeds ≤ max_boot_untypeds
   pub untypeds_sized : All (IsUntypedSize p) plan.untypeds
 

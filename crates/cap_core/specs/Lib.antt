@@ -8,3 +8,4 @@ pub mod Kinds
 pub mod Ranges
 pub mod Minting
 pub mod Distinct
+pub mod Links

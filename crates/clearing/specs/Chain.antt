@@ -1,14 +1,13 @@
 -- The slots still to be looked at, as a chain inside a table of links.
-use Rattle.std.specs.Prelude.{◌≡◌, ℕ, zero, suc, ◌*◌, List, [], ◌∷◌, map, length, get_or}
-use Rattle.std.specs.Prelude.{Option, Some, None, option_map, MatchOption}
+use Rattle.std.specs.Prelude.{◌≡◌, ℕ, ◌*◌, List, [], ◌∷◌, map, length, get_or}
+use Rattle.std.specs.Prelude.{Option, Some, None, MatchOption}
 use Rattle.cap_core.specs.declared.profile.ProfileName.{ProfileName}
+pub use Rattle.cap_core.specs.Links.{walk}
 use Rattle.cap_core.specs.Numbers.{slot_size}
 use Rattle.slot_core.specs.declared.slot.Slot.{Slot}
+pub use Rattle.slot_core.specs.Links.{place_in}
 use Rattle.slot_core.specs.Places.{address_of}
 use Rattle.clearing.specs.Members.{AreDistinct, AreBelow}
-
-abbrev pub place_in : Option Slot → Option ℕ
-place_in slot = option_map (λ (s : Slot). s.place) slot
 
 -- where the link of a slot leads, each slot by its place
 abbrev pub next_of : List (Option Slot) → ℕ → Option ℕ
@@ -20,11 +19,6 @@ IsChain next here [] = here ≡ None
 IsChain next here (n ∷ l) = (here ≡ Some n) × IsChain next (next n) l
 
 -- so many slots along the links
-abbrev pub walk : (ℕ → Option ℕ) → ℕ → Option ℕ → List ℕ
-walk next zero here = []
-walk next (suc k) None = []
-walk next (suc k) (Some n) = n ∷ walk next k (next n)
-
 abbrev pub chained : List (Option Slot) → Option ℕ → List ℕ
 chained links here = walk (next_of links) (length links) here
 

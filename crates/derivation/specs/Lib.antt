@@ -1,5 +1,5 @@
 pub mod Forest
-pub mod Spelled
+pub mod Evidence
 pub mod Entries
 pub mod Derivation
 pub mod Disjoint

@@ -6,3 +6,4 @@ pub mod Cancelled
 pub mod Deliveries
 pub mod Agreement
 pub mod Representation
+pub mod Evidence

@@ -2,6 +2,3 @@
 pub mod Rows
 pub mod Chains
 pub mod Linked
-pub mod Alike
-pub mod RowsAgree
-pub mod TablesAgree

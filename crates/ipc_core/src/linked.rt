@@ -3,8 +3,8 @@ ghost use Rattle.std.specs.Prelude.{◌*◌, ◌^◌, ◌≤◌, length};
 ghost use Rattle.cap_core.specs.Numbers.{tcb_size, endpoint_size};
 ghost use Rattle.ipc_core.specs.Agreement.{AreAlike};
 ghost use Rattle.ipc_core.specs.Representation.Linked.{IsLinked, waits_in};
-ghost use Rattle.ipc_core.specs.Representation.TablesAgree.{tables_agree};
-ghost use Rattle.ipc_core.specs.Representation.Alike.{linked-prop, alike-prop};
+ghost use Rattle.ipc_core.specs.Evidence.TablesAgree.{tables_agree};
+ghost use Rattle.ipc_core.specs.Evidence.Alike.{linked-prop, alike-prop};
 
 use crate::tables::{EndpointRow, QueueRow, Tables};
 use crate::waiter::{Offer, Received, Role, Sent};

@@ -3,8 +3,8 @@ ghost use Rattle.std.specs.Prelude.{◌*◌, ◌^◌, ◌≤◌, vec_capacity};
 ghost use Rattle.cap_core.specs.Numbers.{tcb_size};
 ghost use Rattle.ipc_core.specs.Agreement.{AreAlike};
 ghost use Rattle.ipc_core.specs.Representation.Rows.{waits_of, AreDistinct, ArePlaced};
-ghost use Rattle.ipc_core.specs.Representation.RowsAgree.{rows_agree};
-ghost use Rattle.ipc_core.specs.Representation.Alike.{alike-prop};
+ghost use Rattle.ipc_core.specs.Evidence.RowsAgree.{rows_agree};
+ghost use Rattle.ipc_core.specs.Evidence.Alike.{alike-prop};
 
 use crate::row::{
     WaitRow, first_receiver, first_sender, next_waiting, push_row, remove_first, row_of, waiter_at,

@@ -2,5 +2,4 @@
 pub mod BootRows
 pub mod NewRows
 pub mod Ended
-pub mod EndedLaws
 pub mod Spaces

@@ -8,7 +8,7 @@ ghost use Rattle.ipc_core.specs.Cancelled.{after_cancel_thread};
 ghost use Rattle.kernel_core.specs.Rows.{rows_map};
 ghost use Rattle.kernel_core.specs.Private.NewRows.{with_stopped};
 ghost use Rattle.kernel_core.specs.Private.Ended.{AreLeft, HaveEnded, is_endpoint_at, is_thread_at};
-ghost use Rattle.kernel_core.specs.Private.EndedLaws.{nothing_ended, ended_twice};
+ghost use Rattle.kernel_core.specs.Evidence.EndedLaws.{nothing_ended, ended_twice};
 
 use crate::addresses::{is_endpoint_address, is_thread_address};
 use crate::rows::{ThreadRow, row_at, set_row};

@@ -54,7 +54,7 @@ impl<P: Profile, S: CapStore<P>, W: Waiters<P>> Model for Kernel<P, S, W> {
     ghost use Rattle.abstract_kernel.specs.Shown.{Shown};
     ghost use Rattle.std.specs.Coded.{codes};
     ghost use Rattle.std.specs.FinMap.{code as coded_map};
-    ghost use Rattle.derivation.specs.Spelled.{coded_forest};
+    ghost use Rattle.derivation.specs.Evidence.Spelled.{coded_forest};
 
     ghost Value = { Shown };
 

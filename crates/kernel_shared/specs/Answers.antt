@@ -1,11 +1,11 @@
 -- The value of a query after a front.
-use Rattle.std.specs.Prelude.{◌≡◌, ℕ, List, length, slice_get, Option, option_map}
+use Rattle.std.specs.Prelude.{◌≡◌, ℕ, List, length, slice_get}
 use Rattle.cap_core.specs.declared.profile.ProfileName.{ProfileName}
 use Rattle.derivation.specs.Entries.{cap_at}
-use Rattle.ipc_core.specs.Waits.{thread_of}
 use Rattle.abstract_kernel.specs.State.{State, shown}
-use Rattle.abstract_kernel.specs.Shown.{Shown, state_at, inbox_at, waiting_at}
+use Rattle.abstract_kernel.specs.Shown.{Shown, state_at, inbox_at}
 use Rattle.abstract_kernel.specs.Step.{state_after}
+use Rattle.abstract_kernel.specs.Waiting.{thread_waiting}
 use Rattle.abstract_kernel.specs.Reached.{IsReached}
 use Rattle.kernel_book.specs.declared.entry.Entry.{Entry}
 use Rattle.kernel_book.specs.Laws.{calls_of}
@@ -14,16 +14,12 @@ use Rattle.kernel_shared.specs.declared.query.Query.TheVariants as q
 use Rattle.kernel_shared.specs.declared.query.Answer.{Answer}
 use Rattle.kernel_shared.specs.declared.query.Answer.TheVariants as a
 
--- the thread at a place of an endpoint's waiting list, 0 the first
-abbrev pub waiting_thread : Shown → ℕ → ℕ → Option ℕ
-waiting_thread v endpoint place = option_map thread_of (slice_get (waiting_at v endpoint) place)
-
 -- what is read of what is shown
 abbrev pub IsRead : Shown → Query → Answer → Type 0
 IsRead v (q.State tcb) (a.State state) = state ≡ state_at v tcb
 IsRead v (q.InboxOf tcb) (a.InboxOf inbox) = inbox ≡ inbox_at v tcb
 IsRead v (q.CapAt slot) (a.CapAt cap) = cap ≡ cap_at v.derivations slot
-IsRead v (q.WaitingAt endpoint place) (a.WaitingAt thread) = thread ≡ waiting_thread v endpoint place
+IsRead v (q.WaitingAt endpoint place) (a.WaitingAt thread) = thread ≡ thread_waiting v endpoint place
 IsRead v _ _ = ⊥
 
 -- The number of the front's entries, the entry at a place of it, or what is shown of the state after its calls, from each

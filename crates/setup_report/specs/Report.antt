@@ -53,9 +53,12 @@ expectation_count [] replies = 0
 expectation_count (call ∷ calls) [] = 0
 expectation_count (call ∷ calls) (reply ∷ replies) = one_expected call.expect + expectation_count calls replies
 
+-- how many expectations are met, of how many
+abbrev pub count_line : ℕ → ℕ → List ℕ
+count_line met expected = terminated (codes "expected " ++ (decimal met ++ (codes " of " ++ decimal expected)))
+
 abbrev pub expectation_line : List CallView → List Reply → List ℕ
-expectation_line calls replies =
-    terminated (codes "expected " ++ (decimal (met_count calls replies) ++ (codes " of " ++ decimal (expectation_count calls replies))))
+expectation_line calls replies = count_line (met_count calls replies) (expectation_count calls replies)
 
 -- ---- slots: a line for each full slot, by rising address
 

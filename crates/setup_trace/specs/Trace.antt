@@ -1,6 +1,6 @@
 -- A trace: what the boot gives and what each call changes, told by how the states before and after differ, and why a call
 -- is refused.
-use Rattle.std.specs.Prelude.{codes, ℕ, ◌+◌, List, [], ◌∷◌, ◌++◌, map, length, Option, None, Some}
+use Rattle.std.specs.Prelude.{codes, ℕ, ◌+◌, List, [], ◌∷◌, ◌++◌, length, Option, None, Some}
 use Rattle.std.specs.Fmt.{decimal}
 use Rattle.toml.specs.Data.{Members}
 use Rattle.cap_core.specs.declared.profile.ProfileName.{ProfileName}
@@ -9,13 +9,15 @@ use Rattle.abstract_kernel.specs.declared.call.Op.{Op}
 use Rattle.abstract_kernel.specs.declared.call.Reply.{Reply}
 use Rattle.abstract_kernel.specs.Boot.{boot}
 use Rattle.abstract_kernel.specs.State.{State, shown}
-use Rattle.abstract_kernel.specs.Step.{step, replies_of}
+use Rattle.abstract_kernel.specs.Step.{step}
 use Rattle.setup_values.specs.Names.{Names}
 use Rattle.setup_format.specs.Views.{SetupView, CallView}
+pub use Rattle.setup_report.specs.Report.{count_line}
 use Rattle.setup_report.specs.Report.{terminated, call_text, met_count, expectation_count}
 use Rattle.trace_lines.specs.Names.{profile_text, name_lines}
 use Rattle.trace_lines.specs.Told.{ToldLines, told_lines, nothing_told, told_changes}
 use Rattle.setup_why.specs.Tables.{call_table}
+pub use Rattle.setup_why.specs.Why.{replies_to}
 use Rattle.setup_why.specs.Why.{explained}
 use Rattle.setup_trace.specs.Words.{op_words}
 
@@ -51,14 +53,6 @@ calls_lines p table i A [] = []
 calls_lines p table i A (call ∷ calls) =
     call_lines (i + 1) call (step p A call.call).reply (why_at p table i A call.call) (told_lines p (shown A)) (told_lines p (shown (step p A call.call).state))
     ++ calls_lines p table (i + 1) (step p A call.call).state calls
-
--- what the abstract kernel answers to the calls of a set-up, from its boot on
-abbrev pub replies_to : ProfileName → SetupView → List Reply
-replies_to p setup = replies_of p (boot p setup.plan) (map (λ (c : CallView). c.call) setup.calls)
-
--- how many expectations are met
-abbrev pub count_line : ℕ → ℕ → List ℕ
-count_line met expected = terminated (codes "expected " ++ (decimal met ++ (codes " of " ++ decimal expected)))
 
 -- the trace of a set-up, of the table that spells it, and of the names in it
 unfoldable pub trace_of : ProfileName → Members → Names → SetupView → List ℕ

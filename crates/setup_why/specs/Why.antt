@@ -11,7 +11,7 @@ use Rattle.abstract_kernel.specs.Shown.{Shown}
 use Rattle.abstract_kernel.specs.State.{State, shown}
 use Rattle.abstract_kernel.specs.Step.{step, replies_of}
 use Rattle.setup_format.specs.Views.{SetupView, CallView}
-use Rattle.setup_report.specs.Report.{terminated, call_text, met_count, expectation_count}
+use Rattle.setup_report.specs.Report.{terminated, call_text, met_count, expectation_count, count_line}
 use Rattle.reasons.specs.Calls.{reason_of}
 use Rattle.reason_words.specs.Text.{told}
 use Rattle.reason_words.specs.Asked.{AskedView}
@@ -61,7 +61,7 @@ abbrev pub ending : Option ℕ → ℕ → ℕ → ℕ → ℕ → List ℕ
 ending (Some chosen) calls refused met expected = codes ""
 ending None calls refused met expected =
     terminated (codes "refused " ++ (decimal refused ++ (codes " of " ++ decimal calls)))
-    ++ terminated (codes "expected " ++ (decimal met ++ (codes " of " ++ decimal expected)))
+    ++ count_line met expected
 
 abbrev pub ending_of : Option ℕ → List CallView → List Reply → List ℕ
 ending_of chosen calls replies =

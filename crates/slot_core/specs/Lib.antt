@@ -1,5 +1,5 @@
 pub use Rattle.derivation.specs.Forest
-pub use Rattle.derivation.specs.Spelled
+pub use Rattle.derivation.specs.Evidence.Spelled
 pub use Rattle.derivation.specs.Entries
 pub use Rattle.derivation.specs.Derivation
 pub use Rattle.derivation.specs.Disjoint

@@ -1,8 +1,10 @@
 -- The table of a linked store, and the list that it leads along.
-use Rattle.std.specs.Prelude.{◌≡◌, ◌≢◌, ℕ, zero, suc, ◌+◌, ◌*◌, ◌^◌, ◌<◌, ◌==◌, false, cond, List, [], ◌∷◌, map, length, get_or, Option, Some, None, ⊤, option_map}
+use Rattle.std.specs.Prelude.{◌≡◌, ℕ, zero, suc, ◌+◌, ◌*◌, ◌^◌, ◌<◌, ◌==◌, false, cond, List, [], ◌∷◌, map, length, get_or, Option, Some, None, ⊤, option_map}
 use Rattle.std.specs.List.{AllByRecursion as Each}
 use Rattle.cap_core.specs.declared.profile.ProfileName.{ProfileName}
 use Rattle.cap_core.specs.declared.capability.Cap.TheVariants.{Null}
+pub use Rattle.cap_core.specs.Distinct.{Lacks, IsApart}
+pub use Rattle.cap_core.specs.Links.{walk}
 use Rattle.cap_core.specs.Numbers.{slot_bits, slot_size}
 use Rattle.slot_core.specs.declared.slot.Slot.{Slot}
 use Rattle.slot_core.specs.declared.linked.table.Link.{Link}
@@ -46,14 +48,6 @@ abbrev pub AreLinked : (ℕ → Option ℕ) → (ℕ → Option ℕ) → Option 
 AreLinked next previous before [] behind = ⊤
 AreLinked next previous before (i ∷ l) behind = (previous i ≡ before) × ((next i ≡ head_or l behind) × AreLinked next previous (Some i) l behind)
 
-abbrev pub Lacks : ℕ → List ℕ → Type 0
-Lacks i l = Each (λ j. j ≢ i) l
-
--- none comes twice
-abbrev pub IsApart : List ℕ → Type 0
-IsApart [] = ⊤
-IsApart (i ∷ l) = Lacks i l × IsApart l
-
 -- the row of an empty slot
 pub record IsFree (links : List Link) (i : ℕ) : Type 0 where
   pub next : next_of links i ≡ None
@@ -68,12 +62,6 @@ pub record IsLinked (links : List Link) (first last : Option ℕ) (order : List 
   pub apart : IsApart order
   pub within : Each (λ i. i < length links) order
   pub free : (i : ℕ) → Lacks i order → IsFree links i
-
--- where next leads, at most so many steps
-abbrev pub walk : (ℕ → Option ℕ) → ℕ → Option ℕ → List ℕ
-walk next zero here = []
-walk next (suc n) None = []
-walk next (suc n) (Some i) = i ∷ walk next n (next i)
 
 -- the places of the list, in order
 abbrev pub order_of : List Link → Option ℕ → List ℕ

@@ -119,7 +119,7 @@ full_slots p plan h =
 pub store_at_boot : (p : ProfileName) (plan : Plan) → IsPlan p plan → IsKernelStore p plan.memory_bits (boot_forest p plan)
 store_at_boot p plan h =
     record {
-      memory_most = h.limits.memory_most;
+      memory_most = h.limits.sizes.memory_most;
       slots_distinct = kept.distinct;
       slots_placed = All-map (IsSlotAddress p plan.memory_bits) (λ (e : Entry). e.slot) (preorder (boot_forest p plan))
           (all_from (λ (e : Entry). IsSlotAddress p plan.memory_bits e.slot) (preorder (boot_forest p plan))

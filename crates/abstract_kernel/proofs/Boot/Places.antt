@@ -105,7 +105,7 @@ endpoint_fits p plan j h = endpoint_before p (tcb_place p plan plan.threads) j p
 -- the memory's addresses are words
 in_words : (p : ProfileName) (plan : Plan) (end : ℕ) → IsPlan p plan → end ≤ 2 ^ plan.memory_bits → end ≤ 2 ^ word_bits p
 in_words p plan end h within =
-    let grows : 2 ^ plan.memory_bits ≤ 2 ^ word_bits p = pow-le-pow_right {n = 2} (omega arith) {i = plan.memory_bits} {j = word_bits p} (least p h.limits.memory_most) in
+    let grows : 2 ^ plan.memory_bits ≤ 2 ^ word_bits p = pow-le-pow_right {n = 2} (omega arith) {i = plan.memory_bits} {j = word_bits p} (least p h.limits.sizes.memory_most) in
     omega arith
   where
     least : (q : ProfileName) → plan.memory_bits ≤ MAX_MEMORY_BITS → plan.memory_bits ≤ word_bits q
@@ -127,8 +127,8 @@ lawful_root p plan h =
           (zero-mod (2 ^ (slot_bits p + plan.root_radix)) (one-le-pow (slot_bits p + plan.root_radix) 2 (omega arith)))
           (let a = node_fits p plan in let b = objects_within p plan h in omega arith);
       holds = record {
-        some = h.limits.radix_least;
-        both = both p h.limits.radix_most;
+        some = h.limits.sizes.radix_least;
+        both = both p h.limits.sizes.radix_most;
         cut = one-le-pow (word_bits p - plan.root_radix) 2 (omega arith);
       };
     }

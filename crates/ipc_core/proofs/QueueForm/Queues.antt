@@ -11,7 +11,7 @@ use Rattle.ipc_core.specs.declared.tables.Tables.{Tables}
 use Rattle.ipc_core.specs.Waits.{endpoint_of}
 use Rattle.ipc_core.specs.Representation.Chains.{Lacks, IsApart, has, removed}
 use Rattle.ipc_core.specs.Representation.Linked.{Links, links_of, order_of, orders_in, waits_by, waits_in, AreLinked, IsLinked}
-pub use Rattle.ipc_core.specs.Representation.TablesAgree.{thread_of_waiter}
+pub use Rattle.ipc_core.specs.Evidence.TablesAgree.{thread_of_waiter}
 use Rattle.cap_core.proofs.Distinct.{few}
 use Rattle.ipc_core.proofs.QueueForm.Chains.{walk_is}
 use Rattle.ipc_core.proofs.RowForm.Room.{quotient_of}

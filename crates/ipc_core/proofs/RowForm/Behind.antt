@@ -6,7 +6,7 @@ use Rattle.std.proofs.lemmas.Bool.Decides.{eqb_tells}
 use Rattle.ipc_core.specs.declared.row.WaitRow.{WaitRow}
 use Rattle.ipc_core.specs.Waits.{thread_of, IsNextBehind}
 use Rattle.ipc_core.specs.Representation.Rows.{row_thread, row_role, is_at, is_of, waiting_at, waits_of, next_by, AreDistinct}
-use Rattle.ipc_core.specs.Representation.RowsAgree.{Differ, differ, with_first}
+use Rattle.ipc_core.specs.Evidence.RowsAgree.{Differ, differ, with_first}
 
 -- who waits at a place, of rows alone
 abbrev thread_at : List WaitRow → ℕ → ℕ → Option ℕ

@@ -11,7 +11,7 @@ use Rattle.ipc_core.specs.declared.row.WaitRow.{WaitRow}
 use Rattle.ipc_core.specs.Waits.{thread_of, role_at}
 use Rattle.ipc_core.specs.Offers.{offer_by, offer_in, offer_as, offer_of}
 use Rattle.ipc_core.specs.Representation.Rows.{row_thread, row_role, is_at, is_of, waiting_at, waits_of}
-use Rattle.ipc_core.specs.Representation.RowsAgree.{with_first}
+use Rattle.ipc_core.specs.Evidence.RowsAgree.{with_first}
 
 -- the first row of a thread that sends is also the first of that thread in the waiting list
 sender_found : (rows : List WaitRow) (t : ℕ) (r : WaitRow) (o : Offer) → find (is_of t) rows ≡ Some r → offer_by r.waiter ≡ Some o →

@@ -34,7 +34,7 @@ fewer Narrow x y h = omega arith
 pub threads_fit : (p : ProfileName) (plan : Plan) → IsPlan p plan → first_tcb p plan / tcb_size p + plan.threads ≤ 2 ^ (plan.memory_bits - tcb_bits p)
 threads_fit p plan h =
     fewer p (first_tcb p plan / tcb_size p + plan.threads) (2 ^ (plan.memory_bits - tcb_bits p))
-    (let a = places p plan plan.threads in let b = rows_fill p plan.memory_bits h.limits.memory_least in let w = objects_within p plan h in omega arith)
+    (let a = places p plan plan.threads in let b = rows_fill p plan.memory_bits h.limits.sizes.memory_least in let w = objects_within p plan h in omega arith)
 
 kernel_at_boot : (p : ProfileName) (plan : Plan) → IsPlan p plan
     → IsKernel p plan.memory_bits plan.memory_bits plan.memory_bits (boot_forest p plan) (boot_rows (first_tcb p plan / tcb_size p) plan.threads (2 ^ (plan.memory_bits - tcb_bits p))) no_waits
@@ -42,9 +42,9 @@ kernel_at_boot p plan h =
     record {
       store_memory_is = refl;
       waiters_memory_is = refl;
-      memory_least = h.limits.memory_least;
-      memory_most = h.limits.memory_most;
-      rows_fill = ap (λ n. n * tcb_size p) (length-map-range_with_len (boot_row (first_tcb p plan / tcb_size p) plan.threads) 0 (2 ^ (plan.memory_bits - tcb_bits p))) ∙ rows_fill p plan.memory_bits h.limits.memory_least;
+      memory_least = h.limits.sizes.memory_least;
+      memory_most = h.limits.sizes.memory_most;
+      rows_fill = ap (λ n. n * tcb_size p) (length-map-range_with_len (boot_row (first_tcb p plan / tcb_size p) plan.threads) 0 (2 ^ (plan.memory_bits - tcb_bits p))) ∙ rows_fill p plan.memory_bits h.limits.sizes.memory_least;
       slots_distinct = store.slots_distinct;
       slots_placed = store.slots_placed;
       lawful = store.lawful;

@@ -25,7 +25,7 @@ use Rattle.setup_migrate.proofs.Law.Calls.{NamesThreads}
 pub threads_within : (p : ProfileName) (plan : Plan) → IsPlan p plan → tcb_place p plan plan.threads ≤ 2 ^ MAX_MEMORY_BITS
 threads_within p plan h =
     let all : boot_end p plan ≤ 2 ^ plan.memory_bits = objects_within p plan h in
-    let memory : 2 ^ plan.memory_bits ≤ 2 ^ MAX_MEMORY_BITS = pow-le-pow_right {n = 2} (omega arith) {i = plan.memory_bits} {j = MAX_MEMORY_BITS} h.limits.memory_most in
+    let memory : 2 ^ plan.memory_bits ≤ 2 ^ MAX_MEMORY_BITS = pow-le-pow_right {n = 2} (omega arith) {i = plan.memory_bits} {j = MAX_MEMORY_BITS} h.limits.sizes.memory_most in
     omega arith
 
 word_least : (p : ProfileName) → 2 ^ MAX_MEMORY_BITS < 2 ^ word_bits p

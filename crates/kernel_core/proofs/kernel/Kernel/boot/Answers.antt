@@ -12,7 +12,7 @@ pub invariant_of-result : goal.invariant_of-result
 invariant_of-result g c =
     record {
       memory = c.in_ok-waiters.ensures.memory ∙ c.memory_bits.ensures ∙ sym c.memory_bits-3.ensures;
-      most = subst (λ (n : ℕ). n ≤ MAX_MEMORY_BITS) (sym c.memory_bits-3.ensures) c.requires.limits.memory_most;
+      most = subst (λ (n : ℕ). n ≤ MAX_MEMORY_BITS) (sym c.memory_bits-3.ensures) c.requires.limits.sizes.memory_most;
       fill = rows_at_boot g.P.Profile.profile c.args.plan.now c.memory_bits-3.result c.in_ok-rows.rows.items c.requires c.memory_bits-3.ensures c.in_ok-rows.ensures;
     }
 
@@ -23,8 +23,8 @@ invariant_of-result-2 g c =
           c.in_ok-store.ensures.memory
           (c.in_ok-waiters.ensures.memory ∙ c.memory_bits.ensures) c.in_ok-store.ensures.forest c.in_ok-rows.ensures c.in_ok-waiters.ensures.nobody;
       chain_is = c.in_ok-chain.ensures ∙ ap empty_links (links_made g.P.Profile.profile c.memory_bits-2.result c.SLOT_BITS.result c.memory_bits-3.result
-          (subst (λ (n : ℕ). MIN_MEMORY_BITS ≤ n) (sym c.memory_bits-3.ensures) c.requires.limits.memory_least)
-          (subst (λ (n : ℕ). n ≤ MAX_MEMORY_BITS) (sym c.memory_bits-3.ensures) c.requires.limits.memory_most)
+          (subst (λ (n : ℕ). MIN_MEMORY_BITS ≤ n) (sym c.memory_bits-3.ensures) c.requires.limits.sizes.memory_least)
+          (subst (λ (n : ℕ). n ≤ MAX_MEMORY_BITS) (sym c.memory_bits-3.ensures) c.requires.limits.sizes.memory_most)
           (c.memory_bits-2.ensures ∙ sym c.memory_bits-3.ensures) (c.SLOT_BITS.ensures ∙ g.met.P.Profile.slot_bits_is));
     }
 

@@ -6,7 +6,8 @@ use Rattle.kernel_book.specs.declared.entry.Entry.{Entry}
 use Rattle.kernel_shared.specs.declared.query.Query.{Query}
 use Rattle.kernel_shared.specs.declared.query.Query.TheVariants as q
 use Rattle.kernel_shared.specs.declared.query.Answer.TheVariants as a
-use Rattle.kernel_shared.specs.Answers.{IsAnswer, waiting_thread}
+use Rattle.kernel_shared.specs.Answers.{IsAnswer}
+use Rattle.abstract_kernel.specs.Waiting.{thread_waiting}
 use Rattle.kernel_shared.proofs.Shows.{read_is, state_set, inbox_set, cap_set, thread_set}
 use Rattle.kernel_shared.proofs.book_copy.BookCopyHistoryCopy.answer.Goals as goal
 
@@ -45,8 +46,8 @@ returns-in-WaitingAt g c =
     let b = c.self.inside.book in
     let query = q.WaitingAt c.in-WaitingAt.endpoint c.in-WaitingAt.place in
     let answer = a.WaitingAt c.waiting.result in
-    let t : c.waiting.result ≡ waiting_thread b.kernel c.in-WaitingAt.endpoint c.in-WaitingAt.place = search rules in
+    let t : c.waiting.result ≡ thread_waiting b.kernel c.in-WaitingAt.endpoint c.in-WaitingAt.place = search rules in
     subst (λ (u : Query). IsAnswer g.N.Naming.profile g.N.Naming.opening c.args.self.now u answer) (sym c.in-WaitingAt.is)
     (subst (λ (p : ProfileName). IsAnswer p g.N.Naming.opening c.args.self.now query answer) (sym c.self.invariant.1)
     (subst (λ (h : List Entry). IsAnswer g.P.Profile.profile g.N.Naming.opening h query answer) c.self.view_is
-    (read_is thread_set (λ (v : Shown). waiting_thread v c.in-WaitingAt.endpoint c.in-WaitingAt.place) _ _ b.kernel _ _ b.stands t)))
+    (read_is thread_set (λ (v : Shown). thread_waiting v c.in-WaitingAt.endpoint c.in-WaitingAt.place) _ _ b.kernel _ _ b.stands t)))

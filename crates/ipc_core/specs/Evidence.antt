@@ -1,0 +1,4 @@
+-- Lemmas that ghost members cite: no reader has to believe them.
+pub mod Alike
+pub mod RowsAgree
+pub mod TablesAgree
