@@ -117,9 +117,11 @@ impl<N: Naming, T: HistoryCopy<N>> Shared<N, T> {
             return Err(SharedFault::NoEntry);
         };
         let (state, result) = client.ask(rt, state, call);
-        match guard.replace(state) {
-            Some(other) => other.give_up(rt),
-            None => {}
+        // The place is empty. That is tested first, so that what lies there, nothing, need not be read out.
+        if guard.is_some() {
+            state.give_up(rt);
+        } else if let Some(other) = guard.replace(state) {
+            other.give_up(rt);
         }
         MutexGuard::unlock(guard);
         result
