@@ -32,105 +32,33 @@ impl<'a> NamedText<'a> {
     }
 }
 
-/// Some bytes of a text. It is shown in four lines, each of which begins with a space: the name with the line and the column, both counted from 1, and the line with
-/// the bytes underlined. A column counts characters.
+/// Some bytes of a text. It is shown in four lines, each of which begins with a space: the name with the line and the column, both
+/// counted from 1, and the line with the bytes underlined. A column counts characters.
 #[derive(Clone, Drop)]
 pub struct Excerpt<'a> {
     source: NamedText<'a>,
     span: Range<usize>,
 }
 
-/// The line in which a byte of a text stands.
-#[derive(Clone, Copy)]
-struct Row<'a> {
-    /// Its number, 1 the first.
-    number: usize,
-    /// The part before the byte.
-    before: &'a str,
-    /// The part from the byte on.
-    after: &'a str,
-}
-
-impl Excerpt<'_> {
-    /// The line in which the bytes begin.
-    fn row(&self) -> Row<'_> {
-        let text = self.source.text;
+impl fmt::Display for Excerpt<'_> {
+    /// Writes a space in the place of each character that is none to see.
+    fn fmt<W: fmt::Write>(&self, f: &mut fmt::Formatter<W>) -> fmt::Result {
+        let NamedText { name, text } = self.source;
         let (above, below) = text.split_at_checked(self.span.start).unwrap_or((text, ""));
-        let number = above
-            .bytes()
-            .filter(|byte| *byte == b'\n')
-            .count()
-            .saturating_add(1);
-        Row {
-            number,
-            before: above.rsplit('\n').next().unwrap_or(above),
-            after: below.lines().next().unwrap_or(below),
-        }
-    }
-}
-
-/// Writes a character as often as this.
-fn write_times<W: fmt::Write>(f: &mut fmt::Formatter<W>, c: char, times: usize) -> fmt::Result {
-    for _written in 0..times {
-        f.write_char(c)?;
-    }
-    Ok(())
-}
-
-/// How many digits a number has.
-fn digits(number: usize) -> usize {
-    let (mut rest, mut count) = (number, 1usize);
-    for _digit in 0..usize::BITS {
-        rest /= 10;
-        if rest == 0 {
-            return count;
-        }
-        count = count.saturating_add(1);
-    }
-    count
-}
-
-impl Row<'_> {
-    /// How many characters stand before the byte.
-    fn left(&self) -> usize {
-        self.before.chars().count()
-    }
-
-    /// How many characters at the front of the line are not shown.
-    fn skipped(&self) -> usize {
-        let whole = self.left().saturating_add(self.after.chars().count());
-        if whole > MAX_SHOWN {
-            self.left().saturating_sub(SHOWN_BEFORE)
-        } else {
-            0
-        }
-    }
-
-    /// Writes the characters that are shown, a space in place of each that is none to see, and answers how many of them stand before the byte.
-    fn write_shown<W: fmt::Write>(&self, f: &mut fmt::Formatter<W>) -> Result<usize, fmt::Error> {
-        let before = self.left().saturating_sub(self.skipped());
-        let after = self.after.chars().take(MAX_SHOWN.saturating_sub(before));
-        for c in self.before.chars().skip(self.skipped()).chain(after) {
+        let before = above.rsplit('\n').next().unwrap_or(above);
+        let after = below.lines().next().unwrap_or(below);
+        let (number, left) = (above.split('\n').count(), before.chars().count());
+        let is_long = left.saturating_add(after.chars().count()) > MAX_SHOWN;
+        let most = if is_long { SHOWN_BEFORE } else { left };
+        let (column, shown) = (left.saturating_add(1), left.min(most));
+        let gutter = 2 + number.checked_ilog10().unwrap_or(0) as usize;
+        writeln!(f, "{:gutter$}--> {name}:{number}:{column}", "")?;
+        write!(f, "{:gutter$} |\n {number} | ", "")?;
+        let line = before.chars().chain(after.chars());
+        for c in line.skip(left - shown).take(MAX_SHOWN) {
             f.write_char(if c.is_control() { ' ' } else { c })?;
         }
-        Ok(before)
-    }
-}
-
-impl fmt::Display for Excerpt<'_> {
-    fn fmt<W: fmt::Write>(&self, f: &mut fmt::Formatter<W>) -> fmt::Result {
-        let (name, row) = (self.source.name, self.row());
-        let (number, column) = (row.number, row.left().saturating_add(1));
-        let width = digits(number).saturating_add(1);
-        write_times(f, ' ', width)?;
-        writeln!(f, "--> {name}:{number}:{column}")?;
-        write_times(f, ' ', width)?;
-        write!(f, " |\n {number} | ")?;
-        let before = row.write_shown(f)?;
-        f.write_char('\n')?;
-        write_times(f, ' ', width)?;
-        f.write_str(" | ")?;
-        write_times(f, ' ', before)?;
-        write_times(f, '^', self.span.len().max(1))
+        let marks = self.span.len().max(1);
+        write!(f, "\n{0:gutter$} | {0:shown$}{0:^<marks$}", "")
     }
 }

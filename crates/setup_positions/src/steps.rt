@@ -1,18 +1,7 @@
 //! Steps over the parts of a text that is a TOML document.
 use std::alloc::Global;
-use toml_parser::text::{first, skip, skip_blank, skip_ws};
+use toml_parser::text::{first, skip_blank, skip_ws};
 use toml_parser::{Key, dotted_key, quoted, starts_string, unquoted};
-
-/// A key with its value.
-#[derive(Drop)]
-pub struct Entry<'a> {
-    /// The parts of the key.
-    pub key: Key,
-    /// The text from the key on.
-    pub at: &'a str,
-    /// The text from the value on.
-    pub value: &'a str,
-}
 
 /// The text after a string at its front.
 fn after_string(alloc: Global, text: &str) -> Option<&str> {
@@ -23,23 +12,13 @@ fn after_string(alloc: Global, text: &str) -> Option<&str> {
     }
 }
 
-/// The text after its first byte, where that is ASCII.
-fn after_byte(text: &str) -> Option<&str> {
-    let byte = first(text);
-    if 0 < byte && byte < 128 {
-        Some(skip(text, 1))
-    } else {
-        None
-    }
-}
-
 /// The text after one string, bracket or other byte at its front, and how many brackets are open there.
 fn after_token(alloc: Global, text: &str, open: usize) -> Option<(&str, usize)> {
     match first(text) {
         b'"' | b'\'' => Some((after_string(alloc, text)?, open)),
-        b'[' | b'{' => Some((after_byte(text)?, open.checked_add(1)?)),
-        b']' | b'}' => Some((after_byte(text)?, open.checked_sub(1)?)),
-        _ => Some((after_byte(text)?, open)),
+        b'[' | b'{' => Some((text.get(1..)?, open.checked_add(1)?)),
+        b']' | b'}' => Some((text.get(1..)?, open.checked_sub(1)?)),
+        _ => Some((text.get(1..)?, open)),
     }
 }
 
@@ -47,11 +26,10 @@ fn after_token(alloc: Global, text: &str, open: usize) -> Option<(&str, usize)> 
 fn after_brackets(alloc: Global, text: &str) -> Option<&str> {
     let (mut rest, mut open) = (text, 0usize);
     for _token in 0..text.len() {
-        let (after, still_open) = after_token(alloc, skip_blank(rest, true), open)?;
-        if still_open == 0 {
-            return Some(after);
+        (rest, open) = after_token(alloc, skip_blank(rest, true), open)?;
+        if open == 0 {
+            return Some(rest);
         }
-        (rest, open) = (after, still_open);
     }
     None
 }
@@ -67,53 +45,30 @@ pub fn after_value(alloc: Global, text: &str) -> Option<&str> {
 
 /// The text after a comma that comes next, and after white space and comments.
 pub fn after_comma(text: &str) -> Option<&str> {
-    let rest = skip_blank(text, true);
-    if first(rest) == b',' {
-        Some(skip_blank(after_byte(rest)?, true))
-    } else {
-        None
-    }
+    Some(skip_blank(skip_blank(text, true).strip_prefix(',')?, true))
 }
 
 /// The text after a bracket at its front, and after white space and comments.
 pub fn after_bracket(text: &str) -> Option<&str> {
-    Some(skip_blank(after_byte(text)?, true))
+    Some(skip_blank(text.get(1..)?, true))
 }
 
-/// The key with its value at the front of a text.
-pub fn entry_of(alloc: Global, text: &str) -> Option<Entry<'_>> {
+/// The key at the front of a text, and the text from its value on.
+pub fn entry_of(alloc: Global, text: &str) -> Option<(Key, &str)> {
     let (key, rest) = dotted_key(alloc, text).ok()?;
-    if first(rest) != b'=' {
-        return None;
-    }
-    Some(Entry {
-        key,
-        at: text,
-        value: skip_ws(after_byte(rest)?),
-    })
+    Some((key, skip_ws(rest.strip_prefix('=')?)))
 }
 
 /// The key of a table's head at the front of a text, `[KEY]` or `[[KEY]]`, whether it begins a table of an array, and the text after it.
 pub fn head_of(alloc: Global, text: &str) -> Option<(Key, bool, &str)> {
-    let inside = after_byte(text)?;
-    let is_element = first(inside) == b'[';
-    let inside = if is_element {
-        after_byte(inside)?
-    } else {
-        inside
-    };
-    let (key, rest) = dotted_key(alloc, skip_ws(inside)).ok()?;
-    let rest = after_byte(rest)?;
-    let rest = if is_element { after_byte(rest)? } else { rest };
-    Some((key, is_element, rest))
+    let brackets = if text.starts_with("[[") { 2 } else { 1 };
+    let (key, rest) = dotted_key(alloc, skip_ws(text.get(brackets..)?)).ok()?;
+    Some((key, brackets == 2, rest.get(brackets..)?))
 }
 
 /// Whether the first part of a key is this name.
 pub fn begins_with(key: &Key, name: &str) -> bool {
-    match key.path.first() {
-        Some(part) => part.as_str() == name,
-        None => key.last.as_str() == name,
-    }
+    key.path.first().unwrap_or(&key.last).as_str() == name
 }
 
 /// Whether a key is this name alone.
