@@ -1,10 +1,11 @@
 //! A document that is refused, and its tables and values.
-ghost use Rattle.std.specs.Prelude.{◌≡◌, ◌⊎◌};
+ghost use Rattle.std.specs.Prelude.{IfSome};
 
-use cap_core::{ProfileName, Wide};
+use cap_core::{Narrow, ProfileName, Wide};
 use setup_format::Place;
+use setup_positions::array_of;
 use setup_values::KnownNames;
-use setup_values::kinds::{Kind, ProfileKind};
+use setup_values::kinds::{Kind, ProfileKind, Word};
 use std::alloc::Global;
 use toml::{Table, Value};
 
@@ -26,22 +27,15 @@ pub struct Document<'a> {
 }
 
 impl<'a> Document<'a> {
-    /// The elements of the array at a key; none where there is no array.
-    pub fn elements_at(&self, key: &str) -> &'a [Value] {
-        match self.table.get(key) {
-            Some(Value::Array(elements)) => elements.as_slice(),
-            _ => &[],
-        }
-    }
-
     /// The table at a place. The tables of an array count from 1.
     pub fn table_at(&self, place: Place) -> Option<&'a Table> {
-        let (key, n) = match place {
-            Place::Top => return Some(self.table),
-            Place::Untyped(n) => ("untyped", n),
-            Place::Call(n) => ("call", n),
-        };
-        self.elements_at(key).get(n.wrapping_sub(1))?.as_table()
+        match array_of(place) {
+            None => Some(self.table),
+            Some((key, n)) => {
+                let tables = self.table.get(key)?.as_array()?;
+                tables.get(n.wrapping_sub(1))?.as_table()
+            }
+        }
     }
 
     /// The names, where there are any.
@@ -51,18 +45,30 @@ impl<'a> Document<'a> {
 
     /// The profile, where its key was read.
     pub fn profile(&self) -> ProfileName {
-        read_or(self.table, "profile", ProfileKind, ProfileName::Wide)
+        read_at(self.table, "profile", ProfileKind).unwrap_or(ProfileName::Wide)
+    }
+
+    /// Whether a value is a word without a name.
+    pub fn is_plain_word(&self, value: &Value) -> bool {
+        match self.profile() {
+            ProfileName::Wide => Word.read::<Wide>(&KnownNames::none(), value).is_ok(),
+            ProfileName::Narrow => Word.read::<Narrow>(&KnownNames::none(), value).is_ok(),
+        }
+    }
+
+    /// Whether a value is a word.
+    pub fn is_word(&self, value: &Value) -> bool {
+        let name = value.as_str().and_then(|text| text.strip_prefix('@'));
+        match (self.names(), name) {
+            (Some(names), Some(name)) => names.get(name).is_some(),
+            _ => self.is_plain_word(value),
+        }
     }
 }
 
-/// What a kind reads at a key, without names; the default where the key is not there or was not read.
-pub fn read_or<K: Kind + Copy>(table: &Table, key: &str, kind: K, default: K::Out) -> K::Out
-    ensures { (result ≡ default) ⊎ K.holds kind result }
+/// What a kind reads at a key, without names; none where the key is not there or was not read.
+pub fn read_at<K: Kind + Copy>(table: &Table, key: &str, kind: K) -> Option<K::Out>
+    ensures { IfSome result (K.holds kind) }
 {
-    match table.get(key) {
-        Some(value) => kind
-            .read::<Wide>(&KnownNames::none(), value)
-            .unwrap_or(default),
-        None => default,
-    }
+    kind.read::<Wide>(&KnownNames::none(), table.get(key)?).ok()
 }

@@ -10,6 +10,7 @@ mod message;
 mod near;
 mod refused;
 mod regions;
+mod spot;
 mod texts;
 mod values;
 

@@ -1,7 +1,6 @@
 //! The name that looks most like a given one.
-use crate::message::MAX_SHOWN_BYTES;
+use crate::message::MAX_SHOWN;
 use std::alloc::{AllocError, Global};
-use std::fmt;
 use strsim::osa_distance;
 
 /// The most edits that lead from a name to one that looks like it.
@@ -30,54 +29,31 @@ const SYNONYMS: [(&str, &str); 57] = [
     ("TCB_SetSpace", "set_space"), ("TCB_Suspend", "suspend"), ("TCB_Resume", "resume"),
 ];
 
-/// The name that looks most like what was found, among those that were tried, or means the same, where one does. As text it asks
-/// whether that name was meant.
-#[derive(Clone, Copy)]
-pub struct Nearest<'a> {
-    found: &'a str,
-    fewest: usize,
-    name: Option<&'a str>,
+/// Whether a name means the same in a set-up as what was found.
+fn is_synonym(found: &str, name: &str) -> bool {
+    SYNONYMS
+        .iter()
+        .any(|(other, key)| *other == found && *key == name)
 }
 
-impl<'a> Nearest<'a> {
-    /// Where no name was tried.
-    pub fn to(found: &'a str) -> Nearest<'a> {
-        Nearest {
-            found,
-            fewest: MAX_EDITS + 1,
-            name: None,
+/// Of some names the one that looks most like what was found, or the last one that means the same, where one does. Nothing looks
+/// like a text that is too long to be shown.
+pub fn nearest<'a>(
+    alloc: Global,
+    found: &str,
+    names: &[&'a str],
+) -> Result<Option<&'a str>, AllocError> {
+    let (mut nearest, mut fewest) = (None, MAX_EDITS + 1);
+    if found.len() > MAX_SHOWN {
+        return Ok(None);
+    }
+    for name in names {
+        let edits = osa_distance(alloc, found, *name)?;
+        if is_synonym(found, *name) {
+            (nearest, fewest) = (Some(*name), 0);
+        } else if edits < fewest {
+            (nearest, fewest) = (Some(*name), edits);
         }
     }
-
-    /// The name that looks most like what was found.
-    pub fn name(&self) -> Option<&'a str> {
-        self.name
-    }
-
-    /// Tries a name. Nothing looks like a text that is too long to be shown. Of names that mean the same the last one is taken.
-    pub fn try_name(&mut self, alloc: Global, name: &'a str) -> Result<(), AllocError> {
-        if SYNONYMS
-            .iter()
-            .any(|(other, key)| *other == self.found && *key == name)
-        {
-            self.fewest = 0;
-            self.name = Some(name);
-        } else if self.found.len() <= MAX_SHOWN_BYTES {
-            let edits = osa_distance(alloc, self.found, name)?;
-            if edits < self.fewest {
-                self.fewest = edits;
-                self.name = Some(name);
-            }
-        }
-        Ok(())
-    }
-}
-
-impl fmt::Display for Nearest<'_> {
-    fn fmt<W: fmt::Write>(&self, f: &mut fmt::Formatter<W>) -> fmt::Result {
-        match self.name {
-            Some(name) => write!(f, "; did you mean {name}?"),
-            None => Ok(()),
-        }
-    }
+    Ok(nearest)
 }

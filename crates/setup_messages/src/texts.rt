@@ -1,9 +1,7 @@
 //! Why a text is no TOML document, in words.
-use crate::message::MAX_SHOWN_BYTES;
+use crate::message::MAX_SHOWN;
 use setup_positions::NamedText;
 use std::alloc::{AllocError, Global};
-use std::ops::Range;
-use toml::de::Error;
 
 const SAVE_AS_UTF8: &str = "save the text as UTF-8\n";
 
@@ -31,67 +29,41 @@ fn hint(fault: &str, bytes: &[u8], there: &str) -> &'static str {
     }
 }
 
+/// Whether a line begins with a key that has a value behind it.
+fn is_line_of(line: &str, key: &str) -> bool {
+    let behind = line.trim_start().strip_prefix(key);
+    behind.is_some_and(|rest| rest.trim_start().starts_with('='))
+}
+
 /// The number of the last line, 1 the first, that begins with a key and has a value behind it.
 fn line_of(above: &str, key: &str) -> Option<usize> {
-    let mut found = None;
-    for (place, line) in above.lines().enumerate() {
-        let behind = line.trim_start().strip_prefix(key);
-        if behind.is_some_and(|rest| rest.trim_start().starts_with('=')) {
-            found = Some(place.saturating_add(1));
-        }
-    }
-    found
+    let mut lines = above
+        .lines()
+        .enumerate()
+        .filter(|(_, line)| is_line_of(*line, key));
+    lines.last().map(|(i, _)| i.saturating_add(1))
 }
 
-/// The words on a fault of a text that is no TOML document, whose beginning up to the fault is UTF-8 at least.
-fn fault_words(
-    alloc: Global,
-    bytes: &[u8],
-    source: NamedText<'_>,
-    error: &Error,
-    span: Range<usize>,
-) -> Result<String, AllocError> {
-    let fault = error.message();
-    let (above, there) = source
-        .text
-        .split_at_checked(span.start)
-        .unwrap_or((source.text, ""));
-    let key = there.split('=').next().unwrap_or("").trim_end();
-    let excerpt = source.excerpt(span);
-    match line_of(above, key) {
-        Some(line) if fault == "duplicate key" && key.len() <= MAX_SHOWN_BYTES => {
-            format!(in alloc; "{error}{key} stands in line {line} already\n{excerpt}")
-        }
-        _ => {
-            let hint = hint(fault, bytes, there);
-            format!(in alloc; "{error}{hint}{excerpt}")
-        }
-    }
-}
-
-/// The longest beginning of some bytes that is UTF-8.
-fn text_in(bytes: &[u8]) -> &str {
-    match str::from_utf8(bytes) {
-        Ok(text) => text,
-        Err(error) => match bytes.split_at_checked(error.valid_up_to()) {
-            Some((front, _)) => str::from_utf8(front).unwrap_or(""),
-            None => "",
-        },
-    }
-}
-
-/// The words on bytes that are no TOML document, which were read from a file of that name.
+/// The words on bytes that are no TOML document, which were read from a file of that name. The text up to the fault is UTF-8.
 ///
 /// # Errors
 /// Where memory was refused.
 pub fn text_words(alloc: Global, bytes: &[u8], name: &str) -> Result<String, AllocError> {
-    let error = match toml::table_from_slice(alloc, bytes) {
-        Ok(_) => return Ok(String::new(alloc)),
-        Err(error) => error,
+    let Err(error) = toml::table_from_slice(alloc, bytes) else {
+        return Ok(String::new(alloc));
     };
-    let text = text_in(bytes);
-    match error.span() {
-        Some(span) => fault_words(alloc, bytes, NamedText { name, text }, &error, span),
-        None => Err(AllocError),
+    let span = error.span().ok_or(AllocError)?;
+    let text = bytes.utf8_chunks().next().map_or("", |chunk| chunk.valid());
+    let (above, there) = text.split_at_checked(span.start).unwrap_or((text, ""));
+    let key = there.split('=').next().unwrap_or("").trim_end();
+    let excerpt = NamedText { name, text }.excerpt(span);
+    match (error.message(), line_of(above, key)) {
+        ("duplicate key", Some(line)) if key.len() <= MAX_SHOWN => {
+            format!(in alloc; "{error}{key} stands in line {line} already\n{excerpt}")
+        }
+        (fault, _) => {
+            let hint = hint(fault, bytes, there);
+            format!(in alloc; "{error}{hint}{excerpt}")
+        }
     }
 }

@@ -1,206 +1,114 @@
 //! Values that their keys do not take, in words.
-use crate::accepted::{A_NAME, A_NUMBER, Accepted, word_bound};
-use crate::document::Document;
-use crate::message::{Found, MAX_SHOWN_BYTES, Quoted, Spot};
-use crate::near::Nearest;
-use cap_core::limits::MAX_MESSAGE_WORDS;
-use cap_core::{Narrow, ProfileName, Wide};
+use crate::accepted::{A_NAME, A_NUMBER, accepted, operations, word_bound};
+use crate::message::{MAX_SHOWN, found, question, quoted};
+use crate::near::nearest;
+use crate::spot::Spot;
 use setup_format::Place;
-use setup_positions::Part;
-use setup_values::kinds::{Kind, Word};
 use setup_values::names::is_name;
-use setup_values::{KnownNames, OpName};
 use std::alloc::AllocError;
 use toml::{Table, Value};
 
-/// Whether a value is a word of the document without a name.
-fn is_plain_word(document: &Document<'_>, value: &Value) -> bool {
-    match document.profile() {
-        ProfileName::Wide => Word.read::<Wide>(&KnownNames::none(), value).is_ok(),
-        ProfileName::Narrow => Word.read::<Narrow>(&KnownNames::none(), value).is_ok(),
-    }
-}
-
-/// What one of the document's names stands for, where a value is a text of `@` and the name.
-fn named<'a>(document: &Document<'a>, value: &Value) -> Option<&'a Value> {
-    document.names()?.get(value.as_str()?.strip_prefix('@')?)
-}
-
 /// seL4's system calls and methods that no operation stands for, without their `seL4_`.
+#[rattlefmt::skip]
 const LEFT_OUT: [&str; 16] = [
-    "Call",
-    "Reply",
-    "ReplyRecv",
-    "Signal",
-    "Wait",
-    "Poll",
-    "Yield",
-    "CNode_Rotate",
-    "CNode_SaveCaller",
-    "call",
-    "reply",
-    "reply_recv",
-    "signal",
-    "wait",
-    "poll",
-    "yield",
+    "Call", "Reply", "ReplyRecv", "Signal", "Wait", "Poll", "Yield", "CNode_Rotate", "CNode_SaveCaller",
+    "call", "reply", "reply_recv", "signal", "wait", "poll", "yield",
 ];
 
 /// No number of bits is so large.
-const NO_BITS: i64 = 64;
+const NO_BITS: u64 = 64;
 
-/// The first element of an array that is no word, with its number, 1 the first; none where the array has more elements than a message has
-/// words.
-fn bad_element<'a>(document: &Document<'a>, elements: &'a [Value]) -> Option<(usize, &'a Value)> {
-    if elements.len() > MAX_MESSAGE_WORDS {
-        return None;
-    }
-    for (place, value) in elements.iter().enumerate() {
-        if named(document, value).is_none() && !is_plain_word(document, value) {
-            return Some((place.saturating_add(1), value));
+/// Why a value is not taken, or that there is none: what was found, what is accepted, and a hint.
+fn not_taken(spot: Spot<'_>, hint: &str) -> Result<String, AllocError> {
+    let (alloc, accepted) = (spot.document.alloc, accepted(spot)?);
+    match spot.value {
+        None => format!(in alloc; "{spot}: the key is missing; it has to be {accepted}"),
+        Some(value) => {
+            let found = found(alloc, value)?;
+            format!(in alloc; "{spot}: the value is {found}; it has to be {accepted}{hint}")
         }
     }
-    None
 }
 
-/// A value that its key does not take, or an element of an array there. Its methods say why.
-#[derive(Clone, Copy)]
-pub struct Rejected<'a> {
-    spot: Spot<'a>,
-    value: &'a Value,
+/// Why a number is no number of bits. It may be the size that so many bits give.
+fn no_bits(spot: Spot<'_>, number: i64) -> Result<String, AllocError> {
+    match u64::try_from(number) {
+        Ok(size) if size >= NO_BITS && size.is_power_of_two() => {
+            let bits = size.trailing_zeros();
+            let hint = format!(in spot.document.alloc; "; 2^{bits} is {size}")?;
+            not_taken(spot, hint.as_str())
+        }
+        _ => not_taken(spot, ""),
+    }
 }
 
-impl<'a> Rejected<'a> {
-    /// The value at a key that does not take it, or of the words of a call the first element that is none; none where the key is
-    /// missing.
-    pub fn at(document: Document<'a>, place: Place, key: &'a str) -> Option<Rejected<'a>> {
-        let value = document.table_at(place)?.get(key)?;
-        let bad = match (place, key, value) {
-            (Place::Call(_), "words", Value::Array(elements)) => {
-                bad_element(&document, elements.as_slice())
-            }
-            _ => None,
-        };
-        let (element, value) = match bad {
-            Some((n, element)) => (Some(n), element),
-            None => (None, value),
-        };
-        let spot = Spot {
-            document,
-            place,
-            key,
-            element,
-        };
-        Some(Rejected { spot, value })
+/// Why a text names no operation.
+fn no_operation(spot: Spot<'_>, text: &str) -> Result<String, AllocError> {
+    let (alloc, method) = (
+        spot.document.alloc,
+        text.strip_prefix("seL4_").unwrap_or(text),
+    );
+    if LEFT_OUT.contains(&method) {
+        return not_taken(spot, "; this one of seL4's is left out");
     }
+    let question = question(alloc, nearest(alloc, method, &operations())?)?;
+    not_taken(spot, question.as_str())
+}
 
-    /// The part of the text that is at fault: a name, where the value is one, and else the key.
-    pub fn part(&self) -> Part {
-        match (self.value.as_str(), self.spot.element) {
-            (Some(text), Some(n)) if text.starts_with('@') => Part::Element(n),
-            (Some(text), None) if text.starts_with('@') => Part::Value,
-            _ => Part::Key,
+/// Whether a name may stand for the value.
+fn takes_name(spot: Spot<'_>) -> bool {
+    match (spot.place, spot.key) {
+        (Place::Call(_), "words") => spot.element.is_some(),
+        (Place::Call(_), key) => !["client", "expect", "label", "op", "rights"].contains(&key),
+        _ => false,
+    }
+}
+
+/// Why a text is none of the names. It may lack the sign before a name.
+fn no_name(spot: Spot<'_>, text: &str) -> Result<String, AllocError> {
+    let alloc = spot.document.alloc;
+    match (spot.document.names(), text.strip_prefix('@')) {
+        (Some(names), Some(name)) if text.len() <= MAX_SHOWN => {
+            let known: Vec<&str> = names.keys().map(|key| key.as_str()).collect(alloc)?;
+            let question = question(alloc, nearest(alloc, name, known.as_slice())?)?;
+            format!(in alloc; "{spot}: names has no {name:?}{question}")
+        }
+        (Some(names), None) if names.get(text).is_some() => {
+            format!(in alloc; "{spot}: a name is written with @, as \"@{text}\"")
+        }
+        _ => not_taken(spot, ""),
+    }
+}
+
+/// Why a table holds other than names, by its first such entry.
+fn no_names(spot: Spot<'_>, names: &Table) -> Result<String, AllocError> {
+    let (document, alloc) = (spot.document, spot.document.alloc);
+    let bound = word_bound(document.profile());
+    for (name, value) in names.iter() {
+        if !is_name(name.as_bytes()) {
+            let key = quoted(alloc, name.as_str())?;
+            return format!(in alloc; "{spot}: the key {key} is no name; a name has {A_NAME}");
+        }
+        if !document.is_plain_word(value) {
+            let value = found(alloc, value)?;
+            return format!(in alloc;
+                "{spot}: the value of {name} is {value}; it has to be {A_NUMBER}{bound}"
+            );
         }
     }
+    not_taken(spot, "")
+}
 
-    /// Why the value is not taken.
-    ///
-    /// # Errors
-    /// Where memory was refused.
-    pub fn words(&self) -> Result<String, AllocError> {
-        match (self.spot.place, self.spot.key, self.value) {
-            (Place::Top, "names", Value::Table(names)) => self.no_names(names),
-            (_, "memory_bits" | "root_radix" | "bits", Value::Integer(number)) => {
-                self.no_bits(*number)
-            }
-            (Place::Call(_), "op", Value::String(text)) => self.no_operation(text.as_str()),
-            (Place::Call(_), "client" | "expect" | "label" | "op" | "rights", _) => {
-                self.not_taken("")
-            }
-            (Place::Call(_), "words", _) if self.spot.element.is_none() => self.not_taken(""),
-            (Place::Call(_), _, _) => self.no_word(),
-            _ => self.not_taken(""),
-        }
-    }
-
-    /// What was found, what is accepted, and a hint.
-    fn not_taken(&self, hint: &str) -> Result<String, AllocError> {
-        let Rejected { spot, value } = *self;
-        let (found, accepted) = (Found(value), Accepted(spot));
-        format!(in spot.document.alloc;
-            "{spot}: the value is {found}; it has to be {accepted}{hint}"
-        )
-    }
-
-    /// Why a number is no number of bits. It may be the size that so many bits give.
-    fn no_bits(&self, number: i64) -> Result<String, AllocError> {
-        if number < NO_BITS || number & (number - 1) != 0 {
-            return self.not_taken("");
-        }
-        let bits = number.trailing_zeros();
-        let hint = format!(in self.spot.document.alloc; "; 2^{bits} is {number}")?;
-        self.not_taken(hint.as_str())
-    }
-
-    /// Why a text names no operation.
-    fn no_operation(&self, text: &str) -> Result<String, AllocError> {
-        let alloc = self.spot.document.alloc;
-        let method = text.strip_prefix("seL4_").unwrap_or(text);
-        if LEFT_OUT.contains(&method) {
-            return self.not_taken("; this one of seL4's is left out");
-        }
-        let mut near = Nearest::to(method);
-        for op in &OpName::ALL {
-            near.try_name(alloc, op.text())?;
-        }
-        let hint = format!(in alloc; "{near}")?;
-        self.not_taken(hint.as_str())
-    }
-
-    /// Why the value is no word. A short text may lack its name, or the sign before it.
-    fn no_word(&self) -> Result<String, AllocError> {
-        match (self.spot.document.names(), self.value) {
-            (Some(names), Value::String(text)) if text.len() <= MAX_SHOWN_BYTES => {
-                self.no_name(names, text.as_str())
-            }
-            _ => self.not_taken(""),
-        }
-    }
-
-    /// Why a text is none of these names.
-    fn no_name(&self, names: &Table, text: &str) -> Result<String, AllocError> {
-        let spot = self.spot;
-        let alloc = spot.document.alloc;
-        match text.strip_prefix('@') {
-            Some(name) => {
-                let mut near = Nearest::to(name);
-                for (key, _) in names.iter() {
-                    near.try_name(alloc, key.as_str())?;
-                }
-                format!(in alloc; "{spot}: names has no {name:?}{near}")
-            }
-            None if names.get(text).is_some() => {
-                format!(in alloc; "{spot}: a name is written with @, as \"@{text}\"")
-            }
-            None => self.not_taken(""),
-        }
-    }
-
-    /// Why a table holds other than names, by its first such entry.
-    #[rattlefmt::skip]
-    fn no_names(&self, names: &Table) -> Result<String, AllocError> {
-        let document = self.spot.document;
-        for (name, value) in names.iter() {
-            let (name, found) = (name.as_str(), Found(value));
-            if !is_name(name.as_bytes()) {
-                let key = Quoted(name);
-                return format!(in document.alloc; "top, key names: the key {key} is no name; a name has {A_NAME}");
-            }
-            if !is_plain_word(&document, value) {
-                let bound = word_bound(document.profile());
-                return format!(in document.alloc; "top, key names: the value of {name} is {found}; it has to be {A_NUMBER}{bound}");
-            }
-        }
-        self.not_taken("")
+/// Why the value at a key is not taken, or that there is none.
+///
+/// # Errors
+/// Where memory was refused.
+pub fn value_words(spot: Spot<'_>) -> Result<String, AllocError> {
+    match (spot.key, spot.value) {
+        ("memory_bits" | "root_radix" | "bits", Some(Value::Integer(n))) => no_bits(spot, *n),
+        ("op", Some(Value::String(text))) => no_operation(spot, text.as_str()),
+        ("names", Some(Value::Table(names))) => no_names(spot, names),
+        (_, Some(Value::String(text))) if takes_name(spot) => no_name(spot, text.as_str()),
+        _ => not_taken(spot, ""),
     }
 }
