@@ -1,1 +1,2 @@
 mod Spelt
+mod Keyed

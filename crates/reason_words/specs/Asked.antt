@@ -7,7 +7,8 @@ use Rattle.reasons.specs.declared.reason.Held.{Held}
 use Rattle.reasons.specs.declared.reason.Word.{Word}
 use Rattle.reason_words.specs.declared.asked.Asked.{Asked}
 use Rattle.reason_words.specs.Names.{name_at}
-use Rattle.reason_words.specs.Words.{call_words, object_words, key_of, value_of, depth_key, depth_of}
+use Rattle.reason_words.specs.Keys.{key_words, word_of}
+use Rattle.reason_words.specs.Words.{key_of, depth_key}
 use Rattle.reason_words.specs.Text.{key_text, led_text}
 
 -- a call, and the table that spells it
@@ -18,35 +19,23 @@ pub record AskedView : Type 0 where
 abbrev pub asked_view : Asked → AskedView
 asked_view a = record { call = a.call.now; table = option_map (λ t. table_view t.now) a.table }
 
-unfoldable pub key_said : AskedView → List ℕ → ℕ → List ℕ
-key_said a key value = key_text key value (name_at a.table key)
+-- a key of the call with its word
+unfoldable pub key_said : AskedView → List ℕ → List ℕ
+key_said a key = key_text key (word_of (key_words a.call.op) key) (name_at a.table key)
 
 -- the word that a check is about, the depth that belongs to an index, and the word that sets a capability's data
 unfoldable pub word_said : AskedView → Word → List ℕ
-word_said a word = key_said a (key_of word) (value_of (call_words a.call.op) word)
+word_said a word = key_said a (key_of word)
 
 unfoldable pub depth_said : AskedView → Word → List ℕ
-depth_said a word = key_said a (depth_key word) (depth_of (call_words a.call.op) word)
+depth_said a word = key_said a (depth_key word)
 
 unfoldable pub data_said : AskedView → List ℕ
-data_said a = key_said a (codes "word") (call_words a.call.op).word
+data_said a = key_said a (codes "word")
 
 -- the name by which the calling thread is spelt
 unfoldable pub thread_name : AskedView → Option (List ℕ)
 thread_name a = name_at a.table (codes "thread")
-
--- what a retype asks for
-unfoldable pub kind_said : AskedView → List ℕ
-kind_said a = key_said a (codes "kind") (object_words a.call.op).kind
-
-unfoldable pub size_said : AskedView → List ℕ
-size_said a = key_said a (codes "size_bits") (object_words a.call.op).size_bits
-
-unfoldable pub offset_said : AskedView → List ℕ
-offset_said a = key_said a (codes "offset") (object_words a.call.op).offset
-
-unfoldable pub count_said : AskedView → List ℕ
-count_said a = key_said a (codes "count") (object_words a.call.op).count
 
 -- a word, and the slot that it leads to or names, with what is in it
 unfoldable pub led_said : AskedView → Word → Held → List ℕ

@@ -16,8 +16,8 @@ use Rattle.reasons.specs.declared.reason.Miss.TheVariants.{NoRoot, OtherGuard, T
 use Rattle.reasons.specs.declared.reason.Word.{Word}
 use Rattle.reasons.specs.Hints.{word_hint, index_hint}
 use Rattle.reasons.specs.Paths.{path}
-use Rattle.reason_words.specs.declared.words.CallWords.{CallWords}
-use Rattle.reason_words.specs.Words.{call_words, key_of, value_of, depth_key, depth_of, is_whole, root_of}
+use Rattle.reason_words.specs.Keys.{KeyWords, key_words}
+use Rattle.reason_words.specs.Words.{key_of, value_of, depth_key, depth_of, is_whole, root_of}
 use Rattle.reason_words.specs.Text.{told, slot_text, guard_of, radix_of}
 use Rattle.reason_words.specs.Asked.{AskedView, word_said, depth_said, led_said}
 
@@ -89,7 +89,7 @@ hint_line word None = codes ""
 hint_line word (Some (Depth depth slot)) = told (hint_text (depth_key word) depth (codes " would name slot ") slot)
 hint_line word (Some (Number number slot)) = told (hint_text (key_of word) number (would_text word) slot)
 
-abbrev pub hint_of : ProfileName → Shown → CallWords → Word → Held → Option Hint
+abbrev pub hint_of : ProfileName → Shown → KeyWords → Word → Held → Option Hint
 hint_of p v words word from =
     if is_whole word then word_hint p v.derivations from.slot (value_of words word)
     else index_hint p (cap_at v.derivations) from.slot (value_of words word) (depth_of words word)
@@ -97,18 +97,18 @@ hint_of p v words word from =
 -- ---- all of it
 
 -- a lookup takes all bits of a word, and as many of an index as its depth says
-abbrev pub levels : ProfileName → CallWords → Word → ℕ
+abbrev pub levels : ProfileName → KeyWords → Word → ℕ
 levels p words word = if is_whole word then word_bits p else min (depth_of words word) (word_bits p)
 
-abbrev pub path_of : ProfileName → Shown → CallWords → Word → Held → List Held
+abbrev pub path_of : ProfileName → Shown → KeyWords → Word → Held → List Held
 path_of p v words word from = path p (cap_at v.derivations) from.slot (low_bits (levels p words word) (value_of words word))
 
 abbrev pub missed_lines : ProfileName → Shown → AskedView → Word → Held → Miss → List ℕ
 missed_lines p v a word from miss =
     start_line a word from
-    ++ (way_line (path_of p v (call_words a.call.op) word from)
+    ++ (way_line (path_of p v (key_words a.call.op) word from)
     ++ (told (miss_text miss)
-    ++ hint_line word (hint_of p v (call_words a.call.op) word from)))
+    ++ hint_line word (hint_of p v (key_words a.call.op) word from)))
 
 abbrev pub not_found_lines : ProfileName → Shown → AskedView → Word → Held → Miss → List ℕ
 not_found_lines p v a word from NoRoot = no_root_lines a word from
@@ -117,4 +117,4 @@ not_found_lines p v a word from miss = missed_lines p v a word from miss
 abbrev pub no_depth_lines : ProfileName → Shown → AskedView → Word → Held → ℕ → List ℕ
 no_depth_lines p v a word from most =
     told (depth_said a word ++ (codes " is not from 1 to " ++ decimal most))
-    ++ hint_line word (hint_of p v (call_words a.call.op) word from)
+    ++ hint_line word (hint_of p v (key_words a.call.op) word from)

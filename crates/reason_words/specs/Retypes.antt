@@ -8,7 +8,7 @@ use Rattle.reasons.specs.declared.reason.Word.TheVariants.{Invoked}
 use Rattle.reasons.specs.declared.reason.Reason.{Reason}
 use Rattle.reasons.specs.declared.reason.Reason.TheVariants.{NoKind, NoSize, TooLarge, TooSmall, NoNode, NoOffset, NoCount, FewSlots, SomeFull, NoRoom}
 use Rattle.reason_words.specs.Text.{told, content_text, object_text, radix_of, power_text, last_text}
-use Rattle.reason_words.specs.Asked.{AskedView, kind_said, size_said, offset_said, count_said, led_said}
+use Rattle.reason_words.specs.Asked.{AskedView, key_said, led_said}
 use Rattle.reason_words.specs.Facts.{fact_lines}
 
 -- the bits of an untyped region's size in bytes
@@ -25,12 +25,12 @@ used_text untyped false start =
 
 -- what is said of the numbers of a retype
 unfoldable pub number_text : AskedView → Reason → List ℕ
-number_text a NoKind = kind_said a ++ codes " is none of 0 (untyped), 1 (thread control block), 2 (endpoint) and 4 (CNode)"
-number_text a (NoSize below) = size_said a ++ (codes " is not below " ++ decimal below)
+number_text a NoKind = key_said a (codes "kind") ++ codes " is none of 0 (untyped), 1 (thread control block), 2 (endpoint) and 4 (CNode)"
+number_text a (NoSize below) = key_said a (codes "size_bits") ++ (codes " is not below " ++ decimal below)
 number_text a (TooLarge kind bits most) =
-    object_text kind ++ (codes " with " ++ (size_said a ++ (codes " has 2^" ++ (decimal bits ++ (codes " bytes; an object has at most 2^" ++ decimal most)))))
-number_text a (TooSmall kind least) = size_said a ++ (codes " is below " ++ (decimal least ++ (codes ", the least of " ++ object_text kind)))
-number_text a (NoCount most) = count_said a ++ (codes " is not from 1 to " ++ decimal most)
+    object_text kind ++ (codes " with " ++ (key_said a (codes "size_bits") ++ (codes " has 2^" ++ (decimal bits ++ (codes " bytes; an object has at most 2^" ++ decimal most)))))
+number_text a (TooSmall kind least) = key_said a (codes "size_bits") ++ (codes " is below " ++ (decimal least ++ (codes ", the least of " ++ object_text kind)))
+number_text a (NoCount most) = key_said a (codes "count") ++ (codes " is not from 1 to " ++ decimal most)
 number_text a reason = codes ""
 
 -- for how many objects of a size a region has room
@@ -41,13 +41,13 @@ room_text bits room = codes "of objects of " ++ (power_text bits ++ (codes " byt
 unfoldable pub objects_text : AskedView → Reason → List ℕ
 objects_text a (NoNode word found) = codes "a retype fills slots of a CNode"
 objects_text a (NoOffset word node) =
-    codes "it has slots 0 to " ++ (last_text (radix_of node.cap) ++ (codes ", and " ++ (offset_said a ++ codes " is past them")))
+    codes "it has slots 0 to " ++ (last_text (radix_of node.cap) ++ (codes ", and " ++ (key_said a (codes "offset") ++ codes " is past them")))
 objects_text a (FewSlots word node) =
-    codes "it has slots 0 to " ++ (last_text (radix_of node.cap) ++ (codes ", and " ++ (count_said a ++ (codes " from " ++ (offset_said a ++ codes " on is past them")))))
+    codes "it has slots 0 to " ++ (last_text (radix_of node.cap) ++ (codes ", and " ++ (key_said a (codes "count") ++ (codes " from " ++ (key_said a (codes "offset") ++ codes " on is past them")))))
 objects_text a (SomeFull word node number full) =
     codes "its slot " ++ (decimal number ++ (codes " stands at " ++ (decimal full.slot ++ (codes " and is full: " ++ content_text full.cap))))
 objects_text a (NoRoom untyped has_children start bits room) =
-    room_text bits room ++ (codes ", and " ++ (count_said a ++ codes " is more"))
+    room_text bits room ++ (codes ", and " ++ (key_said a (codes "count") ++ codes " is more"))
 objects_text a reason = codes ""
 
 -- ---- each reason

@@ -3,9 +3,10 @@ ghost use Rattle.std.specs.Prelude.{◌≡◌, option_copied};
 ghost use Rattle.reason_words.specs.Text.{key_text};
 ghost use Rattle.reason_words.specs.Asked.{asked_view, key_said, word_said, depth_said, data_said, thread_name};
 
+use crate::keys::key_words;
 use crate::names::name_at;
 use crate::text::{KeyText, NameText};
-use crate::words::{call_words, depth_key, depth_of, key_of, value_of};
+use crate::words::{depth_key, key_of};
 use kernel_core::{Call, Word};
 use toml::Table;
 
@@ -16,12 +17,13 @@ pub struct Asked<'a> {
     pub table: Option<&'a Table>,
 }
 
-/// A key of a call with its value, and the name by which that is spelt.
+/// A key of a call with its word, and the name by which that is spelt.
 #[tactic(auto, unfolding(crate::specs::Asked::key_said))]
-pub fn key_said<'a>(asked: Asked<'a>, key: &'static str, value: u64) -> KeyText<'a>
+pub fn key_said<'a>(asked: Asked<'a>, key: &'static str) -> KeyText<'a>
     ensures { key_text result.key.now result.value (option_copied result.name)
-        ≡ key_said (asked_view asked.entry) key.now value }
+        ≡ key_said (asked_view asked.entry) key.now }
 {
+    let value = key_words(&asked.call.op).word_of(key);
     let name = name_at(asked.table, key);
     KeyText { key, value, name }
 }
@@ -31,11 +33,7 @@ pub fn key_said<'a>(asked: Asked<'a>, key: &'static str, value: u64) -> KeyText<
 pub fn word_said<'a>(asked: Asked<'a>, word: Word) -> KeyText<'a>
     ensures { key_text result.key.now result.value (option_copied result.name) ≡ word_said (asked_view asked.entry) word }
 {
-    key_said(
-        asked,
-        key_of(word),
-        value_of(call_words(&asked.call.op), word),
-    )
+    key_said(asked, key_of(word))
 }
 
 /// The depth that belongs to an index.
@@ -43,11 +41,7 @@ pub fn word_said<'a>(asked: Asked<'a>, word: Word) -> KeyText<'a>
 pub fn depth_said<'a>(asked: Asked<'a>, word: Word) -> KeyText<'a>
     ensures { key_text result.key.now result.value (option_copied result.name) ≡ depth_said (asked_view asked.entry) word }
 {
-    key_said(
-        asked,
-        depth_key(word),
-        depth_of(call_words(&asked.call.op), word),
-    )
+    key_said(asked, depth_key(word))
 }
 
 /// The word that sets a capability's data.
@@ -55,7 +49,7 @@ pub fn depth_said<'a>(asked: Asked<'a>, word: Word) -> KeyText<'a>
 pub fn data_said<'a>(asked: Asked<'a>) -> KeyText<'a>
     ensures { key_text result.key.now result.value (option_copied result.name) ≡ data_said (asked_view asked.entry) }
 {
-    key_said(asked, "word", call_words(&asked.call.op).word)
+    key_said(asked, "word")
 }
 
 /// The name by which the calling thread is spelt.

@@ -4,6 +4,7 @@
 mod asked;
 mod capabilities;
 mod facts;
+mod keys;
 mod lookups;
 mod names;
 mod retypes;
@@ -13,5 +14,6 @@ mod words;
 
 pub use asked::Asked;
 pub use capabilities::add_capability;
+pub use keys::{KeyWord, KeyWords, key_words, sent};
 pub use lookups::{add_no_depth, add_not_found};
 pub use threads::{add_address, add_live, add_not_ready};

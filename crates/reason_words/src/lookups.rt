@@ -7,10 +7,9 @@ ghost use Rattle.reason_words.specs.Lookups as spec;
 
 use crate::asked::{Asked, depth_said, word_said};
 use crate::facts::add_led;
+use crate::keys::{KeyWords, key_words};
 use crate::text::{SlotText, guard_of, radix_of};
-use crate::words::{
-    CallWords, call_words, depth_key, depth_of, is_whole, key_of, root_of, value_of,
-};
+use crate::words::{depth_key, depth_of, is_whole, key_of, root_of, value_of};
 use cap_core::{Guard, Profile};
 use ipc_core::Waiters;
 use kernel_core::{Held, Hint, Kernel, Miss, Word};
@@ -258,11 +257,11 @@ fn add_hint(out: &mut String, word: Word, hint: Option<Hint>) -> Result<(), Allo
 
 fn hint_of<P: Profile, S: CapStore<P> + Drop, W: Waiters<P> + Drop>(
     kernel: &Kernel<P, S, W>,
-    words: CallWords,
+    words: &KeyWords,
     word: Word,
     from: Held,
 ) -> Option<Hint>
-    ensures { result ≡ spec.hint_of P.profile kernel.now words word from }
+    ensures { result ≡ spec.hint_of P.profile kernel.now words.now word from }
 {
     let value = value_of(words, word);
     if is_whole(word) {
@@ -273,8 +272,8 @@ fn hint_of<P: Profile, S: CapStore<P> + Drop, W: Waiters<P> + Drop>(
 }
 
 /// How many bits of a word a lookup takes.
-fn levels<P: Profile>(words: CallWords, word: Word) -> u32
-    ensures value { result ≡ spec.levels P.profile words word }
+fn levels<P: Profile>(words: &KeyWords, word: Word) -> u32
+    ensures value { result ≡ spec.levels P.profile words.now word }
     ensures most { result ≤ word_bits P.profile }
 {
     if is_whole(word) {
@@ -297,13 +296,13 @@ fn add_missed<P: Profile, S: CapStore<P> + Drop, W: Waiters<P> + Drop>(
     ensures { OnOk result (string_bytes out.new ≡ string_bytes out.old
         ++ spec.missed_lines P.profile kernel.now (asked_view asked.entry) word from miss) }
 {
-    let words = call_words(&asked.call.op);
-    let bits = levels::<P>(words, word);
-    let path = kernel.lookup_path(alloc, from.slot, value_of(words, word), bits)?;
+    let words = key_words(&asked.call.op);
+    let bits = levels::<P>(&words, word);
+    let path = kernel.lookup_path(alloc, from.slot, value_of(&words, word), bits)?;
     add_start(out, asked, word, from)?;
     add_way(out, path.as_slice())?;
     add_miss(out, miss)?;
-    add_hint(out, word, hint_of::<P, S, W>(kernel, words, word, from))
+    add_hint(out, word, hint_of::<P, S, W>(kernel, &words, word, from))
 }
 
 /// Adds the lines of a lookup that fails.
@@ -339,6 +338,6 @@ pub fn add_no_depth<P: Profile, S: CapStore<P> + Drop, W: Waiters<P> + Drop>(
 {
     let depth = depth_said(asked, word);
     writeln!(out, "  {depth} is not from 1 to {most}")?;
-    let words = call_words(&asked.call.op);
-    add_hint(out, word, hint_of::<P, S, W>(kernel, words, word, from))
+    let words = key_words(&asked.call.op);
+    add_hint(out, word, hint_of::<P, S, W>(kernel, &words, word, from))
 }

@@ -1,46 +1,17 @@
 //! The lines of reasons that are about the objects of a retype.
-ghost use Rattle.std.specs.Prelude.{◌≡◌, ◌++◌, OnOk, Some, option_copied, string_bytes};
-ghost use Rattle.reason_words.specs.Asked.{asked_view, kind_said as kind_said_of, size_said as size_said_of, offset_said as offset_said_of, count_said as count_said_of};
-ghost use Rattle.reason_words.specs.Text.{told, key_text};
+ghost use Rattle.std.specs.Prelude.{◌≡◌, ◌++◌, OnOk, Some, string_bytes};
+ghost use Rattle.reason_words.specs.Asked.{asked_view};
+ghost use Rattle.reason_words.specs.Text.{told};
 ghost use Rattle.reason_words.specs.Facts.{fact_lines};
 ghost use Rattle.reason_words.specs.Retypes as spec;
 
 use crate::asked::{Asked, key_said};
 use crate::facts::add_led;
-use crate::text::{ContentText, KeyText, LastText, PowerText, object_text, radix_of};
-use crate::words::object_words;
+use crate::text::{ContentText, LastText, PowerText, object_text, radix_of};
 use cap_core::Cap;
 use kernel_core::{Held, Reason, Word};
 use std::alloc::AllocError;
 use std::fmt::{self, Write};
-
-#[tactic(auto, unfolding(crate::specs::Asked::kind_said))]
-fn kind_said<'a>(asked: Asked<'a>) -> KeyText<'a>
-    ensures { key_text result.key.now result.value (option_copied result.name) ≡ kind_said_of (asked_view asked.entry) }
-{
-    key_said(asked, "kind", object_words(&asked.call.op).kind)
-}
-
-#[tactic(auto, unfolding(crate::specs::Asked::size_said))]
-fn size_said<'a>(asked: Asked<'a>) -> KeyText<'a>
-    ensures { key_text result.key.now result.value (option_copied result.name) ≡ size_said_of (asked_view asked.entry) }
-{
-    key_said(asked, "size_bits", object_words(&asked.call.op).size_bits)
-}
-
-#[tactic(auto, unfolding(crate::specs::Asked::offset_said))]
-fn offset_said<'a>(asked: Asked<'a>) -> KeyText<'a>
-    ensures { key_text result.key.now result.value (option_copied result.name) ≡ offset_said_of (asked_view asked.entry) }
-{
-    key_said(asked, "offset", object_words(&asked.call.op).offset)
-}
-
-#[tactic(auto, unfolding(crate::specs::Asked::count_said))]
-fn count_said<'a>(asked: Asked<'a>) -> KeyText<'a>
-    ensures { key_text result.key.now result.value (option_copied result.name) ≡ count_said_of (asked_view asked.entry) }
-{
-    key_said(asked, "count", object_words(&asked.call.op).count)
-}
 
 /// What is said of the numbers of a retype.
 #[derive(Clone, Copy)]
@@ -56,19 +27,19 @@ impl fmt::Display for NumberText<'_> {
     fn fmt<W: fmt::Write>(&self, f: &mut fmt::Formatter<W>) -> fmt::Result {
         match self.reason {
             Reason::NoKind => {
-                let kind = kind_said(self.asked);
+                let kind = key_said(self.asked, "kind");
                 write!(
                     f,
                     "{kind} is none of 0 (untyped), 1 (thread control block), 2 (endpoint) and 4 (CNode)"
                 )
             }
             Reason::NoSize { below } => {
-                let size = size_said(self.asked);
+                let size = key_said(self.asked, "size_bits");
                 write!(f, "{size} is not below {below}")
             }
             Reason::TooLarge { kind, bits, most } => {
                 let object = object_text(kind);
-                let size = size_said(self.asked);
+                let size = key_said(self.asked, "size_bits");
                 write!(
                     f,
                     "{object} with {size} has 2^{bits} bytes; an object has at most 2^{most}"
@@ -76,11 +47,11 @@ impl fmt::Display for NumberText<'_> {
             }
             Reason::TooSmall { kind, least } => {
                 let object = object_text(kind);
-                let size = size_said(self.asked);
+                let size = key_said(self.asked, "size_bits");
                 write!(f, "{size} is below {least}, the least of {object}")
             }
             Reason::NoCount { most } => {
-                let count = count_said(self.asked);
+                let count = key_said(self.asked, "count");
                 write!(f, "{count} is not from 1 to {most}")
             }
             _ => Ok(()),
@@ -122,13 +93,13 @@ impl fmt::Display for ObjectsText<'_> {
             Reason::NoNode { .. } => write!(f, "a retype fills slots of a CNode"),
             Reason::NoOffset { node, .. } => {
                 let last = LastText(radix_of(node.cap));
-                let offset = offset_said(self.asked);
+                let offset = key_said(self.asked, "offset");
                 write!(f, "it has slots 0 to {last}, and {offset} is past them")
             }
             Reason::FewSlots { node, .. } => {
                 let last = LastText(radix_of(node.cap));
-                let count = count_said(self.asked);
-                let offset = offset_said(self.asked);
+                let count = key_said(self.asked, "count");
+                let offset = key_said(self.asked, "offset");
                 write!(
                     f,
                     "it has slots 0 to {last}, and {count} from {offset} on is past them"
@@ -144,7 +115,7 @@ impl fmt::Display for ObjectsText<'_> {
             }
             Reason::NoRoom { bits, room, .. } => {
                 let room = RoomText { bits, room };
-                let count = count_said(self.asked);
+                let count = key_said(self.asked, "count");
                 write!(f, "{room}, and {count} is more")
             }
             _ => Ok(()),
