@@ -4,7 +4,7 @@
 It looks at what stands on a public path of each crate in CRATES: the functions, the methods of types and traits, and
 what an `impl` says of a type (`ghost view`, `ghost invariant`, ..). Their clauses name no definition that is imported
 from `specs/Private`, of whatever crate, and no other file of `specs/` imports one: what stands there serves the proofs
-of private functions alone. Each definition that they do name is in PAGE, docs/definitions.md, and each definition in a
+of private functions alone. A file of lemmas in `specs/Evidence` may import one, and is private then. Each definition that they do name is in PAGE, docs/definitions.md, and each definition in a
 row of PAGE is in some crate.
 """
 import re
@@ -115,13 +115,17 @@ def citations(crate, crates):
 
 
 def private_imports(crate, crates):
-    """What a file of definitions imports from a private one, without being private itself."""
+    """What a file of definitions imports from a private one, without being private itself: the file, and the name."""
     for file in sorted((crate / "specs").rglob("*.antt")):
         if "Private" not in file.parts and file.name != "Private.antt":
             for line in file.read_text().split("\n"):
                 for module, name in imported(line, crates).values():
                     if module.startswith("Private"):
-                        yield f"{file} imports {name or module}, which is private"
+                        yield file, name or module
+
+
+def is_private(module, lemmas):
+    return module.startswith("Private") or module in lemmas
 
 
 def defined(crates):
@@ -146,12 +150,14 @@ def main():
     crates = [path for path in sorted(folder.iterdir()) if (path / "src/lib.rt").exists()]
     names = {crate.name for crate in crates}
     wrong, count, listed = [], 0, set(re.findall(r"`([^`\s]+)`", page))
+    imports = [found for crate in crates for found in private_imports(crate, names)]
+    lemmas = {f"Evidence.{file.stem}" for file, _ in imports if file.parent.name == "Evidence"}
+    wrong += [f"{file} imports {name}, which is private" for file, name in imports if file.parent.name != "Evidence"]
     for crate in crates:
-        wrong += private_imports(crate, names)
         for item, found in citations(crate, names):
             count += 1
             for module, name in sorted(found):
-                if module.startswith("Private"):
+                if is_private(module, lemmas):
                     wrong.append(f"{item}: cites {name}, which is private")
                 if name not in listed:
                     wrong.append(f"{item}: cites {name} of {module}, which the page does not have")
