@@ -96,6 +96,6 @@ def revoke_rows(text):
 def rows():
     yield from printed_rows(printed("store_cycle"))
     yield from printed_rows(printed("ping_pong"))
-    yield from printed_rows(printed("kernel_cycle"))
+    yield from printed_rows(printed("kernel_cycle", "kernel_cycle", "kernel_replies"))
     yield from step_rows()
     yield from revoke_rows(printed("revoke_cycle"))

@@ -14,7 +14,12 @@ const REPEATS: u32 = 20;
 extern "C" {
     // The allocator takes no bytes, so nothing is passed for it.
     fn kernel_cycle_run(rounds: u16) -> bool;
-    fn kernel_cycle_run_kept(rounds: u16) -> bool;
+}
+
+#[link(name = "kernel_replies", kind = "static")]
+extern "C" {
+    // As above.
+    fn kernel_replies_run(rounds: u16) -> bool;
 }
 
 fn proved_run(rounds: u16) -> bool {
@@ -24,7 +29,7 @@ fn proved_run(rounds: u16) -> bool {
 
 fn proved_kept(rounds: u16) -> bool {
     // SAFETY: as above.
-    unsafe { kernel_cycle_run_kept(rounds) }
+    unsafe { kernel_replies_run(rounds) }
 }
 
 /// What is measured: boots a kernel, goes through so many rounds, and tells whether each call was accepted.

@@ -1,14 +1,19 @@
-//! The calls of a round, which undoes what it makes.
+//! A round of calls of a kernel over the linked forms, with the replies kept, to be measured.
+#![tactic(auto)]
+
 ghost use Rattle.std.specs.Prelude.{◌<◌, ◌^◌};
 
-use cap_core::{Message, Rights};
-use kernel_core::{Call, Op};
+use cap_core::{Message, Rights, Wide};
+use ipc_core::LinkedWaiters;
+use kernel_core::{BootPlan, Call, Kernel, Op, Reply};
+use slot_core::LinkedStore;
+use std::alloc::Global;
 
-/// The bits of the memory's size.
-pub const MEMORY_BITS: u32 = 20;
+type LinkedKernel = Kernel<Wide, LinkedStore<Wide>, LinkedWaiters<Wide>>;
 
-/// The radix of the root CNode.
-pub const ROOT_RADIX: u32 = 12;
+const MEMORY_BITS: u32 = 20;
+
+const ROOT_RADIX: u32 = 12;
 
 // Where the objects of the boot stand in that memory, and the words of their capabilities.
 const FIRST_THREAD: u64 = 131072;
@@ -37,10 +42,40 @@ const GUARD_WORD: u64 = 52;
 const DEPTH: u64 = 64;
 
 /// How many calls a round makes.
-pub const CALLS: usize = 20;
+const CALLS: usize = 20;
+
+/// Boots a kernel and goes through so many rounds, each of which undoes what it makes, the replies to each round's calls kept
+/// until the next one; whether every call of every round was accepted.
+#[unsafe(no_mangle)]
+pub extern "C" fn kernel_replies_run(alloc: Global, rounds: u16) -> bool {
+    match (booted(alloc), Vec::with_capacity(alloc, CALLS)) {
+        (Some(mut kernel), Ok(mut replies)) => run(&mut kernel, &mut replies, rounds),
+        _ => false,
+    }
+}
+
+fn booted(alloc: Global) -> Option<LinkedKernel> {
+    let mut untypeds = Vec::new(alloc);
+    untypeds.push((524288, 19)).ok()?;
+    let plan = BootPlan::new::<Wide>(MEMORY_BITS, ROOT_RADIX, 2, 1, untypeds).ok()?;
+    LinkedKernel::boot(alloc, &plan).ok()
+}
+
+fn run(kernel: &mut LinkedKernel, replies: &mut Vec<Reply>, rounds: u16) -> bool {
+    let mut all = true;
+    for round in 0..rounds {
+        replies.clear();
+        if replies.capacity() < CALLS {
+            return false;
+        }
+        kernel.run(&round_of(round), replies);
+        all = replies.iter().all(|reply| is_accepted(*reply)) && all;
+    }
+    all
+}
 
 /// The calls of a round by its number.
-pub fn round_of(round: u16) -> [Call; CALLS] {
+fn round_of(round: u16) -> [Call; CALLS] {
     let round = u32::from(round);
     let slot = FIRST_SLOT + SLOTS_A_ROUND * (round % TURN);
     calls(u64::from(slot), u64::from(round + 1))
@@ -204,5 +239,12 @@ fn revoke(slot: u64) -> Op {
         cap: ROOT,
         index: slot,
         depth: DEPTH,
+    }
+}
+
+fn is_accepted(reply: Reply) -> bool {
+    match reply {
+        Reply::Refused(_) => false,
+        _ => true,
     }
 }
