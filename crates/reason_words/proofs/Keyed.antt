@@ -1,19 +1,9 @@
--- Words with their keys: how many there are, one more of them, and the first that has a key.
-use Rattle.std.proofs.Common.{◌≡◌, ◌<◌, ◌≤◌, ◌+◌, ℕ, refl, sym, ap, ◌∙◌, List, [], ◌∷◌, ◌++◌, Bool, true, false, cond, map, take, find, length, slice_set, Option, Some, None, option_map, arith}
+-- Words with their keys: the first that has a key.
+use Rattle.std.proofs.Common.{◌≡◌, ℕ, refl, sym, ap, ◌∙◌, List, [], ◌∷◌, Bool, true, false, cond, map, find, Option, Some, None, option_map}
 use Rattle.std.specs.Prelude.{unwrap_or}
 use Rattle.std.specs.Str.{bytes_eq}
-use Rattle.std.proofs.lemmas.List.{length-map, length-take-le, take_more_set, map-append}
 use Rattle.reason_words.specs.declared.keys.KeyWord.{KeyWord}
 use Rattle.reason_words.specs.Keys.{key_word, word_of}
-
-pub count-below : {X Y : Type 0} (f : X → Y) (xs : List X) (count most : ℕ) (seen : List Y) → count ≤ length xs → map f (take count xs) ≡ seen → length seen < most → count < most
-count-below f xs count most seen within is room =
-    omega (arith, room, ap length is, length-map (take count xs) f, length-take-le count xs within)
-
-pub map-take_more_set : {X Y : Type 0} (f : X → Y) (xs : List X) (i : ℕ) (x : X) (seen : List Y) → i < length xs → map f (take i xs) ≡ seen
-    → map f (take (i + 1) (slice_set xs i x)) ≡ seen ++ f x ∷ []
-map-take_more_set f xs i x seen within is =
-    ap (map f) (take_more_set xs i x within) ∙ map-append f (take i xs) (x ∷ []) ∙ ap (λ l. l ++ f x ∷ []) is
 
 found_or : {A B : Type 0} (f : A → B) (b : Bool) (x : A) (rest : Option A) (d : Option B) → d ≡ option_map f rest → cond b (Some (f x)) d ≡ option_map f (cond b (Some x) rest)
 found_or f true x rest d e = refl

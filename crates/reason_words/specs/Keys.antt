@@ -6,6 +6,10 @@ use Rattle.abstract_kernel.specs.declared.call.Op.TheVariants.{Retype, CapCopy, 
 use Rattle.setup_values.specs.Names.{word_named}
 use Rattle.reason_words.specs.declared.keys.KeyWord.{KeyWord}
 
+-- how many words an operation has at most
+abbrev pub most_words : ℕ
+most_words = 8
+
 -- some keys, each with its word
 abbrev pub KeyWords : Type 0
 KeyWords = List (List ℕ × ℕ)

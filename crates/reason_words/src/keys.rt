@@ -1,5 +1,5 @@
 //! The words of a call, each with its key.
-ghost use Rattle.std.specs.Prelude.{◌≡◌, ◌<◌, ◌∷◌, ◌++◌, [], find, length, map, option_copied};
+ghost use Rattle.std.specs.Prelude.{◌≡◌, ◌∷◌, ◌++◌, [], find, map, option_copied, take};
 ghost use Rattle.std.specs.Str.{bytes_eq};
 ghost use Rattle.reason_words.specs.Keys as spec;
 
@@ -27,13 +27,13 @@ pub struct KeyWords {
 
 impl Model for KeyWords {
     ghost use Rattle.std.specs.Prelude.{◌≡◌, ◌≤◌, ℕ, List, length, map, take};
-    ghost use Rattle.reason_words.specs.Keys.{key_word};
+    ghost use Rattle.reason_words.specs.Keys.{key_word, most_words};
 
     ghost Value = { List (List ℕ × ℕ) };
 
     ghost view = { λ k. map key_word (take k.count k.words) };
 
-    ghost invariant = { λ k. (k.count ≤ 8) × (length k.words ≡ 8) };
+    ghost invariant = { λ k. (k.count ≤ most_words) × (length k.words ≡ most_words) };
 }
 
 impl KeyWords {
@@ -67,13 +67,14 @@ impl KeyWords {
             .with("src_depth", src_depth)
     }
 
-    /// These words, and one more.
+    /// These words, and one more where there is room. For the words of an operation there always is.
     fn with(mut self, key: &'static str, word: u64) -> Self
-        requires { length self < 8 }
-        ensures { result ≡ self ++ (key.now, word) ∷ [] }
+        ensures { result ≡ take spec.most_words (self ++ (key.now, word) ∷ []) }
     {
-        self.words[self.count] = KeyWord { key, word };
-        self.count += 1;
+        if self.count < MAX_WORDS {
+            self.words[self.count] = KeyWord { key, word };
+            self.count += 1;
+        }
         self
     }
 
