@@ -3,7 +3,7 @@ use Rattle.std.proofs.Common.{◌≡◌, ◌≢◌, ◌⊎◌, ◌∙◌, ◌&&�
 use Rattle.std.specs.Borrow.{Bor}
 use Rattle.std.specs.Box.{box_value}
 use Rattle.std.proofs.lemmas.Slice.Eq.{bytes_eq-Decides}
-use Rattle.std.specs.Prelude.{not, unwrap_or, IfErr, OnOk, Result, Ok, Err}
+use Rattle.std.specs.Prelude.{not, unwrap_or, IfErr, IfOk, OnOk, Result, Ok, Err}
 use Rattle.std.specs.Str.{bytes_eq}
 use Rattle.std.specs.List.{list_all}
 use Rattle.clap.specs.Words.{App, HasMatchesOf, Row, Kinds, IsAmong, HasKind, Shape, Text, app_of, found_of, is_simple, is_simple_and_free, matches_of, rows_of, subcommand_name_of, subcommand_of, subcommand_rows, subcommand_rows_of, takes, fault_of}
@@ -20,7 +20,7 @@ use Rattle.clap.specs.declared.parser.matches.ArgMatches.{ArgMatches}
 use Rattle.clap.specs.declared.parser.matches.ArgMatches.TheViews.{out-ArgMatches, out-SubCommand}
 use Rattle.clap.proofs.OnLiterals.{clap_on_literals}
 use Rattle.clap.proofs.WalkLemmas.{both}
-use Rattle.command_line.specs.CommandLine.{command, file_of, files_of, job_named, job_of, more_behind, more_given, several_of, Explains, ExplainsMatches, StandsFor}
+use Rattle.command_line.specs.CommandLine.{IsCommand, command, file_of, files_of, job_named, job_of, more_behind, more_given, several_of, Explains, ExplainsMatches, StandsFor}
 use Rattle.command_line.proofs.NoHelp.{IsNoHelp, walk_stops}
 use Rattle.command_line.specs.declared.arguments.Job.TheVariants.{Check}
 use Rattle.command_line.specs.declared.arguments.LineFault.{LineFault}
@@ -33,6 +33,10 @@ command_is_simple = refl
 pub command_is_free : is_simple_and_free command ≡ true
 unfolding command clap_on_literals
 command_is_free = refl
+
+pub has_definition : {E : Type 0} (r : Result Command E) (app : App) → IfOk r (IsCommand app) → IfOk r (λ c. app_of c ≡ app)
+has_definition (Ok c) app is = is.0
+has_definition (Err e) app is = tt
 
 -- ---- the job of what is met
 

@@ -1,11 +1,14 @@
 -- The program's command as clap's definition, and what clap's matches for the words say.
-use Rattle.std.specs.Prelude.{◌≡◌, ◌≢◌, ◌<◌, ◌^◌, ◌&&◌, ◌||◌, ⊤, Bool, nat_le, count_by, unwrap_or, false, not, codes, ℕ, List, [], ◌∷◌, Option, Some, None, is_some, option_map, if◌then◌else◌}
+use Rattle.std.specs.Prelude.{◌≡◌, ◌≢◌, ◌<◌, ◌^◌, ◌&&◌, ◌||◌, ⊤, Bool, nat_le, count_by, unwrap_or, false, not, codes, ℕ, List, [], ◌∷◌, Option, Some, None, is_some, option_map, if◌then◌else◌, IfOk, Result}
 use Rattle.std.specs.Str.Parse.{IsNumeral, digits_value, without_leading_plus}
 use Rattle.std.specs.Borrow.{Bor}
 use Rattle.std.specs.Option.{option_or}
 use Rattle.std.specs.Str.{bytes_eq}
-use Rattle.clap.specs.Words.{App, Kinds, Row, Rule, Text, all_of, first_of, matches_of, new_app, new_rule, with_rule, with_subcommand, subcommand_of, takes, fault_of, IsAmong}
+use Rattle.clap.specs.Words.{App, Kinds, Row, Rule, Text, all_of, app_of, rule_of, first_of, matches_of, new_app, new_rule, with_rule, with_subcommand, subcommand_of, takes, fault_of, IsAmong}
 use Rattle.clap.specs.Walk.{texts}
+use Rattle.clap.specs.declared.builder.arg.Arg.{Arg}
+use Rattle.clap.specs.declared.builder.command.Command.{Command}
+use Rattle.clap.specs.declared.builder.command.Command.TheViews.{out-Command}
 use Rattle.clap.specs.declared.builder.action.ArgAction.TheVariants as action
 use Rattle.clap.specs.declared.builder.value_parser.ValueParser.TheVariants.{Unsigned}
 use Rattle.clap.specs.declared.error.kind.ErrorKind.{ErrorKind}
@@ -15,6 +18,18 @@ use Rattle.command_line.specs.declared.arguments.Job.TheVariants.{Check, Trace, 
 use Rattle.command_line.specs.declared.arguments.LineFault.{LineFault}
 use Rattle.command_line.specs.declared.arguments.LineFault.TheVariants.{Help, Refused, Conflict, Memory}
 use Rattle.command_line.specs.declared.arguments.Options.{Options}
+
+-- an argument that has that rule, and which subcommands do not take over
+abbrev pub IsArgument : Rule → Arg → Type 0
+IsArgument rule argument = (rule_of argument ≡ rule) × (argument.global ≡ false)
+
+-- a command that has that definition, and no arguments that subcommands take over
+abbrev pub IsCommand : App → Command → Type 0
+IsCommand app c = (app_of c ≡ app) × ((out-Command c).has_globals ≡ false)
+
+-- a command is built from another by what is added to its definition; where memory ran out there is none
+abbrev pub Extends : {E : Type 0} → (App → App) → Result Command E → Result Command E → Type 0
+Extends more before after = (app : App) → IfOk before (IsCommand app) → IfOk after (IsCommand (more app))
 
 -- the argument FILE
 abbrev pub file_rule : Rule

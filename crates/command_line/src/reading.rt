@@ -1,11 +1,10 @@
 //! The words of the command line.
 ghost use Rattle.std.specs.Prelude.{◌≡◌, ◌&&◌, Some, None, [], codes, true, false, not, is_some, option_map, IfOk, IfErr, IsSome, OnOk};
 ghost use Rattle.std.specs.Str.{bytes_eq};
-ghost use Rattle.clap.specs.Words.{app_of, fault_of, first_of, found_of, rows_of, rule_of, subcommand_of, subcommand_rows_of, with_rule};
-ghost use Rattle.clap.specs.declared.builder.command.Command.TheViews.{out-Command};
+ghost use Rattle.clap.specs.Words.{App, Rule, app_of, fault_of, first_of, found_of, rows_of, subcommand_of, subcommand_rows_of, with_rule};
 ghost use Rattle.clap.specs.Values.{kind_of};
 ghost use Rattle.clap.specs.Walk.{texts};
-ghost use Rattle.command_line.specs.CommandLine.{Explains, ExplainsMatches, HasOptions, Says, StandsFor, agrees, and_subcommand, audit_command, bare_command, check_command, command as definition, explore_command, file_asked, file_of, file_rule, files_of, flag_rule, is_set, job_asked, job_named, job_of, more_behind as more_behind_definition, more_files_in, more_files_rule, more_given, new_command, number_rule, own_rows, plain_command, reads_once, several_asked, several_of, text_rule, threads_command, tree_command, version_rule, why_command, with_file as with_file_definition};
+ghost use Rattle.command_line.specs.CommandLine.{Explains, ExplainsMatches, Extends, HasOptions, IsArgument, IsCommand, Says, StandsFor, agrees, and_subcommand as and_command, audit_command, bare_command, check_command, command as definition, explore_command, file_asked, file_of, file_rule, files_of, flag_rule, is_set, job_asked, job_named, job_of, more_behind as more_behind_definition, more_files_in, more_files_rule, more_given, new_command, number_rule, own_rows, plain_command, reads_once, several_asked, several_of, text_rule, threads_command, tree_command, version_rule, why_command, with_file as with_file_definition};
 
 use crate::arguments::{Job, Line, LineFault, Options};
 use clap::builder::ValueParser;
@@ -63,35 +62,51 @@ const DECIMAL: u32 = 10;
 
 /// The argument FILE.
 fn file<'a>(alloc: Global) -> Arg<'a>
-    ensures rule { rule_of result ≡ file_rule }
-    ensures local { result.global ≡ false }
+    ensures { IsArgument file_rule result }
 {
     Arg::new(alloc, "FILE").help("The set-up; without it, or where it is -, standard input is read")
 }
 
 /// The argument FILES, behind FILE.
 fn more_files<'a>(alloc: Global) -> Arg<'a>
-    ensures rule { rule_of result ≡ more_files_rule }
-    ensures local { result.global ≡ false }
+    ensures { IsArgument more_files_rule result }
 {
     Arg::new(alloc, "FILES").action(ArgAction::Append).help(
         "More set-ups; of several a line for each is printed in place of the report",
     )
 }
 
+/// A command with one more argument, where there is memory for both.
+fn and_argument<'a>(
+    command: Result<Command<'a>, AllocError>,
+    argument: Arg<'a>,
+) -> Result<Command<'a>, AllocError>
+    ensures { (rule : Rule) → IsArgument rule argument.entry → Extends (λ app. with_rule app rule) command.entry result }
+{
+    command?.arg(argument)
+}
+
+/// A command with one more subcommand, where there is memory for both.
+fn and_subcommand<'a>(
+    command: Result<Command<'a>, AllocError>,
+    subcommand: Result<Command<'a>, AllocError>,
+) -> Result<Command<'a>, AllocError>
+    ensures { (made : App) → IfOk subcommand.entry (IsCommand made) → Extends (and_command made) command.entry result }
+{
+    let made = subcommand?;
+    command?.subcommand(made)
+}
+
 /// A subcommand, which has the argument FILE.
 fn with_file<'a>(alloc: Global, name: &'a str, about: &'a str) -> Result<Command<'a>, AllocError>
-    ensures app { IfOk result (λ c. app_of c ≡ with_file_definition name.now) }
-    ensures local { IfOk result (λ c. (out-Command c).has_globals ≡ false) }
+    ensures { IfOk result (IsCommand (with_file_definition name.now)) }
 {
-    let command = Command::new(alloc, name).about(about).arg(file(alloc))?;
-    Ok(command)
+    and_argument(Ok(Command::new(alloc, name).about(about)), file(alloc))
 }
 
 /// The option `--version`.
 fn version<'a>(alloc: Global) -> Arg<'a>
-    ensures rule { rule_of result ≡ version_rule }
-    ensures local { result.global ≡ false }
+    ensures { IsArgument version_rule result }
 {
     Arg::new(alloc, "version")
         .long("version")
@@ -102,35 +117,19 @@ fn version<'a>(alloc: Global) -> Arg<'a>
 
 /// The command without the subcommands. Clap adds its own, `help`.
 fn bare<'a>(alloc: Global) -> Result<Command<'a>, AllocError>
-    ensures { IfOk result (λ c. app_of c ≡ bare_command) }
+    ensures { IfOk result (IsCommand bare_command) }
 {
     let command = Command::new(alloc, "sel4sim")
         .about(ABOUT)
-        .after_help(AFTER_HELP)
-        .arg(file(alloc))?;
-    let with_more = command.arg(more_files(alloc))?;
-    let whole = with_more.arg(version(alloc))?;
-    Ok(whole)
-}
-
-/// A command with one more subcommand, which has the argument FILE.
-fn and_with_file<'a>(
-    alloc: Global,
-    command: Command<'a>,
-    name: &'a str,
-    about: &'a str,
-) -> Result<Command<'a>, AllocError>
-    ensures { IfOk result (λ c. app_of c ≡ and_subcommand (with_file_definition name.now) (app_of command.entry)) }
-{
-    let made = with_file(alloc, name, about)?;
-    let whole = command.subcommand(made)?;
-    Ok(whole)
+        .after_help(AFTER_HELP);
+    let with_file = and_argument(Ok(command), file(alloc));
+    let with_more = and_argument(with_file, more_files(alloc));
+    and_argument(with_more, version(alloc))
 }
 
 /// An option that takes a number, by its long name.
 fn number<'a>(alloc: Global, name: &'a str, about: &'a str) -> Arg<'a>
-    ensures rule { rule_of result ≡ number_rule name.now }
-    ensures local { result.global ≡ false }
+    ensures { IsArgument (number_rule name.now) result }
 {
     Arg::new(alloc, name)
         .long(name)
@@ -141,8 +140,7 @@ fn number<'a>(alloc: Global, name: &'a str, about: &'a str) -> Arg<'a>
 
 /// An option that takes no value, by its long name.
 fn flag<'a>(alloc: Global, name: &'a str, about: &'a str) -> Arg<'a>
-    ensures rule { rule_of result ≡ flag_rule name.now }
-    ensures local { result.global ≡ false }
+    ensures { IsArgument (flag_rule name.now) result }
 {
     Arg::new(alloc, name)
         .long(name)
@@ -152,8 +150,7 @@ fn flag<'a>(alloc: Global, name: &'a str, about: &'a str) -> Arg<'a>
 
 /// An option that takes a text, by its long name.
 fn text<'a>(alloc: Global, name: &'a str, value: &'a str, about: &'a str) -> Arg<'a>
-    ensures rule { rule_of result ≡ text_rule name.now }
-    ensures local { result.global ≡ false }
+    ensures { IsArgument (text_rule name.now) result }
 {
     Arg::new(alloc, name)
         .long(name)
@@ -163,21 +160,19 @@ fn text<'a>(alloc: Global, name: &'a str, value: &'a str, about: &'a str) -> Arg
 
 /// The subcommand `why`.
 fn why<'a>(alloc: Global) -> Result<Command<'a>, AllocError>
-    ensures app { IfOk result (λ c. app_of c ≡ why_command) }
-    ensures local { IfOk result (λ c. (out-Command c).has_globals ≡ false) }
+    ensures { IfOk result (IsCommand why_command) }
 {
     let about = "Runs a set-up and prints why its calls are refused";
-    let command = with_file(alloc, "why", about)?;
     let call = number(alloc, "call", "Tell of call N alone");
-    let whole = command.arg(call)?;
-    Ok(whole)
+    and_argument(with_file(alloc, "why", about), call)
 }
 
 /// The options of `audit` by which one thread's part is asked to be kept from another's.
-fn and_never<'a>(alloc: Global, command: Command<'a>) -> Result<Command<'a>, AllocError>
-    requires { (out-Command command).has_globals ≡ false }
-    ensures app { IfOk result (λ c. app_of c ≡ with_rule (with_rule (app_of command.entry) (text_rule (codes "never"))) (text_rule (codes "by"))) }
-    ensures local { IfOk result (λ c. (out-Command c).has_globals ≡ false) }
+fn and_never<'a>(
+    alloc: Global,
+    command: Result<Command<'a>, AllocError>,
+) -> Result<Command<'a>, AllocError>
+    ensures { Extends (λ app. with_rule (with_rule app (text_rule (codes "never"))) (text_rule (codes "by"))) command.entry result }
 {
     let never = text(
         alloc,
@@ -185,54 +180,47 @@ fn and_never<'a>(alloc: Global, command: Command<'a>) -> Result<Command<'a>, All
         "FROM,TO",
         "Tell whether FROM's part can never get what TO's part has, nor send to it",
     );
-    let with_never = command.arg(never)?;
     let by = text(
         alloc,
         "by",
         "E",
         "With --never: but by these endpoints, with commas between them",
     );
-    let whole = with_never.arg(by)?;
-    Ok(whole)
+    and_argument(and_argument(command, never), by)
 }
 
 /// The subcommand `audit`.
 fn audit<'a>(alloc: Global) -> Result<Command<'a>, AllocError>
-    ensures app { IfOk result (λ c. app_of c ≡ audit_command) }
-    ensures local { IfOk result (λ c. (out-Command c).has_globals ≡ false) }
+    ensures { IfOk result (IsCommand audit_command) }
 {
     let about =
         "Runs a set-up and prints who reaches what, who can send to whom, and what a revoke would destroy";
-    let command = with_file(alloc, "audit", about)?;
     let after = number(alloc, "after", "Make the first N calls alone");
-    let with_after = command.arg(after)?;
+    let with_after = and_argument(with_file(alloc, "audit", about), after);
     let slot = number(
         alloc,
         "slot",
         "Tell what a revoke of the slot at N would change",
     );
-    let with_slot = with_after.arg(slot)?;
+    let with_slot = and_argument(with_after, slot);
     let ever = flag(
         alloc,
         "ever",
         "Tell what the threads can never get, whatever they call",
     );
-    let with_ever = with_slot.arg(ever)?;
+    let with_ever = and_argument(with_slot, ever);
     let without = text(
         alloc,
         "without",
         "WHO",
         "With --ever or --never: these threads, with commas between them, make no more calls",
     );
-    let with_without = with_ever.arg(without)?;
-    let whole = and_never(alloc, with_without)?;
-    Ok(whole)
+    and_never(alloc, and_argument(with_ever, without))
 }
 
 /// The option `--first`.
 fn first_calls<'a>(alloc: Global) -> Arg<'a>
-    ensures rule { rule_of result ≡ number_rule (codes "first") }
-    ensures local { result.global ≡ false }
+    ensures { IsArgument (number_rule (codes "first")) result }
 {
     let about = "Make the first N calls before the clients begin [default: 0]";
     number(alloc, "first", about)
@@ -240,76 +228,66 @@ fn first_calls<'a>(alloc: Global) -> Arg<'a>
 
 /// The subcommand `threads`.
 fn threads<'a>(alloc: Global) -> Result<Command<'a>, AllocError>
-    ensures app { IfOk result (λ c. app_of c ≡ threads_command) }
-    ensures local { IfOk result (λ c. (out-Command c).has_globals ≡ false) }
+    ensures { IfOk result (IsCommand threads_command) }
 {
     let about =
         "Runs each client of a set-up in a thread of its own and prints what was done, in order";
-    let command = with_file(alloc, "threads", about)?;
-    let whole = command.arg(first_calls(alloc))?;
-    Ok(whole)
+    and_argument(with_file(alloc, "threads", about), first_calls(alloc))
 }
 
 /// The subcommand `explore`.
 fn explore<'a>(alloc: Global) -> Result<Command<'a>, AllocError>
-    ensures app { IfOk result (λ c. app_of c ≡ explore_command) }
-    ensures local { IfOk result (λ c. (out-Command c).has_globals ≡ false) }
+    ensures { IfOk result (IsCommand explore_command) }
 {
     let about =
         "Runs the clients of a set-up in every order of their calls and prints what can happen";
-    let command = with_file(alloc, "explore", about)?;
-    let with_first = command.arg(first_calls(alloc))?;
+    let with_first = and_argument(with_file(alloc, "explore", about), first_calls(alloc));
     let states = number(alloc, "states", "Keep at most N states [default: 100000]");
-    let with_states = with_first.arg(states)?;
+    let with_states = and_argument(with_first, states);
     let witness = text(
         alloc,
         "witness",
         "WHICH",
         "Write the set-up of one order: I.J of answer J of call I, or stuck.J",
     );
-    let whole = with_states.arg(witness)?;
-    Ok(whole)
+    and_argument(with_states, witness)
 }
 
 /// The subcommand `tree`.
 fn tree<'a>(alloc: Global) -> Result<Command<'a>, AllocError>
-    ensures app { IfOk result (λ c. app_of c ≡ tree_command) }
-    ensures local { IfOk result (λ c. (out-Command c).has_globals ≡ false) }
+    ensures { IfOk result (IsCommand tree_command) }
 {
     let about = "Runs a set-up and prints each slot below the one that it is derived from";
-    let command = with_file(alloc, "tree", about)?;
     let after = number(alloc, "after", "Make the first N calls alone");
-    let with_after = command.arg(after)?;
+    let with_after = and_argument(with_file(alloc, "tree", about), after);
     let dot = flag(alloc, "dot", "Print a graph in Graphviz' language DOT");
-    let whole = with_after.arg(dot)?;
-    Ok(whole)
+    and_argument(with_after, dot)
 }
 
 /// The options of `new` by which its sizes are given.
-fn and_sizes<'a>(alloc: Global, command: Command<'a>) -> Result<Command<'a>, AllocError>
-    requires { (out-Command command).has_globals ≡ false }
-    ensures app { IfOk result (λ c. app_of c ≡ with_rule (with_rule (with_rule (app_of command.entry)
-        (number_rule (codes "threads"))) (number_rule (codes "endpoints"))) (text_rule (codes "untyped"))) }
-    ensures local { IfOk result (λ c. (out-Command c).has_globals ≡ false) }
+fn and_sizes<'a>(
+    alloc: Global,
+    command: Result<Command<'a>, AllocError>,
+) -> Result<Command<'a>, AllocError>
+    ensures { Extends (λ app. with_rule (with_rule (with_rule app
+        (number_rule (codes "threads"))) (number_rule (codes "endpoints"))) (text_rule (codes "untyped"))) command.entry result }
 {
     let threads = number(alloc, "threads", "It has N threads [default: 2]");
-    let with_threads = command.arg(threads)?;
+    let with_threads = and_argument(command, threads);
     let endpoints = number(alloc, "endpoints", "It has N endpoints [default: 1]");
-    let with_endpoints = with_threads.arg(endpoints)?;
+    let with_endpoints = and_argument(with_threads, endpoints);
     let untyped = text(
         alloc,
         "untyped",
         "BASE:BITS",
         "It has these untyped regions, with commas between them",
     );
-    let whole = with_endpoints.arg(untyped)?;
-    Ok(whole)
+    and_argument(with_endpoints, untyped)
 }
 
 /// The subcommand `new`.
 fn new<'a>(alloc: Global) -> Result<Command<'a>, AllocError>
-    ensures app { IfOk result (λ c. app_of c ≡ new_command) }
-    ensures local { IfOk result (λ c. (out-Command c).has_globals ≡ false) }
+    ensures { IfOk result (IsCommand new_command) }
 {
     let about = "Prints a set-up to start from, with names for all that it has";
     let command = Command::new(alloc, "new").about(about);
@@ -319,52 +297,46 @@ fn new<'a>(alloc: Global) -> Result<Command<'a>, AllocError>
         "PROFILE",
         "It is for this machine, wide or narrow [default: wide]",
     );
-    let with_profile = command.arg(profile)?;
-    let whole = and_sizes(alloc, with_profile)?;
-    Ok(whole)
+    and_sizes(alloc, and_argument(Ok(command), profile))
 }
 
 /// The subcommand `check`, which takes several files.
 fn check<'a>(alloc: Global) -> Result<Command<'a>, AllocError>
-    ensures app { IfOk result (λ c. app_of c ≡ check_command) }
-    ensures local { IfOk result (λ c. (out-Command c).has_globals ≡ false) }
+    ensures { IfOk result (IsCommand check_command) }
 {
-    let command = with_file(alloc, "check", "Runs a set-up and prints its report")?;
-    let whole = command.arg(more_files(alloc))?;
-    Ok(whole)
+    let command = with_file(alloc, "check", "Runs a set-up and prints its report");
+    and_argument(command, more_files(alloc))
 }
 
 /// The command with the subcommands that have no options.
 fn plain<'a>(alloc: Global) -> Result<Command<'a>, AllocError>
-    ensures { IfOk result (λ c. app_of c ≡ plain_command) }
+    ensures { IfOk result (IsCommand plain_command) }
 {
-    let with_check = bare(alloc)?.subcommand(check(alloc)?)?;
-    let trace = and_with_file(
+    let with_check = and_subcommand(bare(alloc), check(alloc));
+    let trace = with_file(
         alloc,
-        with_check,
         "trace",
         "Runs a set-up and prints what each of its calls changed",
-    )?;
-    let migrate = and_with_file(
+    );
+    let with_trace = and_subcommand(with_check, trace);
+    let migrate = with_file(
         alloc,
-        trace,
         "migrate",
         "Prints a set-up of format 1 as one of format 2",
-    )?;
-    Ok(migrate)
+    );
+    and_subcommand(with_trace, migrate)
 }
 
 /// The command as clap reads it.
 fn command<'a>(alloc: Global) -> Result<Command<'a>, AllocError>
     ensures { IfOk result (λ c. app_of c ≡ definition) }
 {
-    let with_threads = plain(alloc)?.subcommand(threads(alloc)?)?;
-    let with_why = with_threads.subcommand(why(alloc)?)?;
-    let with_audit = with_why.subcommand(audit(alloc)?)?;
-    let with_explore = with_audit.subcommand(explore(alloc)?)?;
-    let with_tree = with_explore.subcommand(tree(alloc)?)?;
-    let whole = with_tree.subcommand(new(alloc)?)?;
-    Ok(whole)
+    let with_threads = and_subcommand(plain(alloc), threads(alloc));
+    let with_why = and_subcommand(with_threads, why(alloc));
+    let with_audit = and_subcommand(with_why, audit(alloc));
+    let with_explore = and_subcommand(with_audit, explore(alloc));
+    let with_tree = and_subcommand(with_explore, tree(alloc));
+    and_subcommand(with_tree, new(alloc))
 }
 
 /// The number that an option gives.
