@@ -54,45 +54,109 @@ fn explored(
     explore(alloc, calls, &kernel, first, limit, count)
 }
 
-/// How many states there are and how many of them are ends, and how many orders there are and how many of them end stuck.
-fn has_counts(rt: &impl Abort, explored: &Explored, wanted: [u64; 4]) {
-    let found = &explored.found;
-    assert_eq!(rt; explored.states, wanted[0]);
-    assert_eq!(rt; found.ends, wanted[1]);
-    assert_eq!(rt; found.orders, wanted[2]);
-    assert_eq!(rt; found.stuck_orders, wanted[3]);
-}
-
-/// The call of a client at a place comes to an answer, and this order is the first to tell it.
-fn comes_to(
-    rt: &impl Abort,
-    alloc: Global,
-    explored: &Explored,
+/// What the call of a client at a place comes to, and the first order that tells it.
+#[derive(Clone, Copy)]
+struct ToldAnswer<'a> {
     client: usize,
     place: usize,
     answer: Answer,
-    order: &[usize],
-) -> Result<(), Fail> {
+    order: &'a [usize],
+}
+
+fn told(client: usize, place: usize, answer: Answer, order: &[usize]) -> ToldAnswer<'_> {
+    ToldAnswer {
+        client,
+        place,
+        answer,
+        order,
+    }
+}
+
+/// Whether that answer is told, and by that order first.
+fn is_told(alloc: Global, explored: &Explored, wanted: ToldAnswer<'_>) -> Result<bool, AllocError> {
     let answers = explored.found.answers.answers();
-    let told = answers.iter().find(|a| a.client == client
-        && a.place == place
-        && a.answer == answer);
-    let is_told = match told {
-        Some(found) => found.order.clients(alloc)?.as_slice() == order,
+    let told = answers.iter().find(|a| a.client == wanted.client
+        && a.place == wanted.place
+        && a.answer == wanted.answer);
+    Ok(match told {
+        Some(found) => found.order.clients(alloc)?.as_slice() == wanted.order,
         None => false,
-    };
-    assert!(rt; is_told);
+    })
+}
+
+/// All answers that are wanted are told.
+fn tells(
+    rt: &impl Abort,
+    alloc: Global,
+    explored: &Explored,
+    wanted: &[ToldAnswer<'_>],
+) -> Result<(), AllocError> {
+    for one in wanted {
+        let is_told = is_told(alloc, explored, *one)?;
+        assert!(rt; is_told);
+    }
     Ok(())
+}
+
+/// What an exploration that no limit ends comes to.
+#[derive(Clone, Copy)]
+struct Wanted<'a> {
+    /// How many states there are and how many of them are ends, and how many orders there are and how many of them end stuck.
+    counts: [u64; 4],
+    /// Of each state that is stuck, how many clients have calls left.
+    stuck: &'a [usize],
+    /// How many answers there are.
+    answers: usize,
+    /// Some of them.
+    told: &'a [ToldAnswer<'a>],
+}
+
+fn is_as_wanted(
+    rt: &impl Abort,
+    alloc: Global,
+    explored: &Explored,
+    wanted: Wanted<'_>,
+) -> Result<(), AllocError> {
+    let found = &explored.found;
+    let counts = [
+        explored.states,
+        found.ends,
+        found.orders,
+        found.stuck_orders,
+    ];
+    assert_eq!(rt; counts, wanted.counts);
+    assert_eq!(rt; explored.layer.nodes().len(), 0);
+    assert_eq!(rt; found.answers.answers().len(), wanted.answers);
+    let stuck = found.stuck.iter().map(|stuck| stuck.left.len());
+    assert!(rt; stuck.eq(wanted.stuck.iter().copied()));
+    tells(rt, alloc, explored, wanted.told)
+}
+
+/// The calls of clients, from those of each.
+fn calls_of(alloc: Global, each: &[&[Call]]) -> Result<Vec<Vec<Call>>, AllocError> {
+    let mut calls = Vec::new(alloc);
+    for of_client in each {
+        calls.push(Vec::from_slice(alloc, of_client)?)?;
+    }
+    Ok(calls)
+}
+
+/// Fewer than `count` calls are made, so all that there are.
+fn comes_to(
+    rt: &impl Abort,
+    alloc: Global,
+    each: &[&[Call]],
+    count: usize,
+    wanted: Wanted<'_>,
+) -> Result<(), AllocError> {
+    let calls = calls_of(alloc, each)?;
+    let all = explored(rt, alloc, calls.as_slice(), &[], 1000, count)?;
+    is_as_wanted(rt, alloc, &all, wanted)
 }
 
 #[test]
 fn message_is_delivered_whoever_comes_first(rt: HostRuntime) -> Result<(), Fail> {
-    let alloc = rt.alloc();
     let [first, second, _, _] = THREADS;
-    let mut calls = Vec::new(alloc);
-    calls.push(Vec::from_slice(alloc, &[send(first, 6, 7)])?)?;
-    calls.push(Vec::from_slice(alloc, &[recv(second, 6)])?)?;
-    let explored = explored(&rt, alloc, calls.as_slice(), &[], 100, 3)?;
     let reply = Reply::Delivered {
         endpoint: 10240,
         from: first,
@@ -100,75 +164,102 @@ fn message_is_delivered_whoever_comes_first(rt: HostRuntime) -> Result<(), Fail>
         badge: Badge(0),
         message: message(7),
     };
-    assert_eq!(rt; explored.found.answers.answers().len(), 4);
-    has_counts(&rt, &explored, [4, 1, 2, 0]);
-    assert_eq!(rt; explored.layer.nodes().len(), 0);
-    comes_to(&rt, alloc, &explored, 0, 0, Answer::Served(reply), &[0, 1])?;
-    comes_to(&rt, alloc, &explored, 0, 0, Answer::Replied(reply), &[1, 0])?;
-    comes_to(&rt, alloc, &explored, 1, 0, Answer::Replied(reply), &[0, 1])?;
-    comes_to(&rt, alloc, &explored, 1, 0, Answer::Served(reply), &[1, 0])?;
+    let (served, replied) = (Answer::Served(reply), Answer::Replied(reply));
+    let wanted = Wanted {
+        counts: [4, 1, 2, 0],
+        stuck: &[],
+        answers: 4,
+        told: &[
+            told(0, 0, served, &[0, 1]),
+            told(0, 0, replied, &[1, 0]),
+            told(1, 0, replied, &[0, 1]),
+            told(1, 0, served, &[1, 0]),
+        ],
+    };
+    comes_to(
+        &rt,
+        rt.alloc(),
+        &[&[send(first, 6, 7)], &[recv(second, 6)]],
+        3,
+        wanted,
+    )?;
     Ok(())
 }
 
 #[test]
 fn sends_to_each_other_wait_in_every_order(rt: HostRuntime) -> Result<(), Fail> {
-    let alloc = rt.alloc();
     let [first, second, _, _] = THREADS;
-    let mut calls = Vec::new(alloc);
-    calls.push(Vec::from_slice(alloc, &[send(first, 6, 1), recv(first, 7)])?)?;
-    calls.push(Vec::from_slice(alloc, &[send(second, 7, 2), recv(second, 6)])?)?;
-    let explored = explored(&rt, alloc, calls.as_slice(), &[], 100, 5)?;
-    assert_eq!(rt; explored.found.answers.answers().len(), 4);
-    assert_eq!(rt; explored.found.stuck.len(), 1);
-    has_counts(&rt, &explored, [4, 1, 2, 2]);
-    comes_to(&rt, alloc, &explored, 0, 0, Answer::Waits, &[0, 1])?;
-    comes_to(&rt, alloc, &explored, 0, 1, Answer::NotMade, &[0, 1])?;
-    comes_to(&rt, alloc, &explored, 1, 0, Answer::Waits, &[0, 1])?;
-    comes_to(&rt, alloc, &explored, 1, 1, Answer::NotMade, &[0, 1])?;
+    let calls: [&[Call]; 2] = [
+        &[send(first, 6, 1), recv(first, 7)],
+        &[send(second, 7, 2), recv(second, 6)],
+    ];
+    let wanted = Wanted {
+        counts: [4, 1, 2, 2],
+        stuck: &[2],
+        answers: 4,
+        told: &[
+            told(0, 0, Answer::Waits, &[0, 1]),
+            told(0, 1, Answer::NotMade, &[0, 1]),
+            told(1, 0, Answer::Waits, &[0, 1]),
+            told(1, 1, Answer::NotMade, &[0, 1]),
+        ],
+    };
+    comes_to(&rt, rt.alloc(), &calls, 5, wanted)?;
     Ok(())
 }
 
 /// Two clients that each take two locks, kept by two others that serve them in different orders.
-fn two_locks(alloc: Global) -> Result<Vec<Vec<Call>>, AllocError> {
+fn two_locks() -> [[Call; 4]; 4] {
     let [a, b, c, d] = THREADS;
-    let mut calls = Vec::new(alloc);
-    calls.push(Vec::from_slice(
-        alloc,
-        &[send(a, 6, 1), recv(a, 7), send(a, 6, 1), recv(a, 7)],
-    )?)?;
-    calls.push(Vec::from_slice(
-        alloc,
-        &[send(b, 8, 2), recv(b, 9), send(b, 8, 2), recv(b, 9)],
-    )?)?;
-    calls.push(Vec::from_slice(
-        alloc,
-        &[recv(c, 6), recv(c, 8), send(c, 9, 0), send(c, 7, 0)],
-    )?)?;
-    calls.push(Vec::from_slice(
-        alloc,
-        &[recv(d, 8), recv(d, 6), send(d, 7, 0), send(d, 9, 0)],
-    )?)?;
-    Ok(calls)
+    [
+        [send(a, 6, 1), recv(a, 7), send(a, 6, 1), recv(a, 7)],
+        [send(b, 8, 2), recv(b, 9), send(b, 8, 2), recv(b, 9)],
+        [recv(c, 6), recv(c, 8), send(c, 9, 0), send(c, 7, 0)],
+        [recv(d, 8), recv(d, 6), send(d, 7, 0), send(d, 9, 0)],
+    ]
 }
 
 #[test]
 fn two_locks_end_in_a_deadlock_in_some_orders(rt: HostRuntime) -> Result<(), Fail> {
-    let alloc = rt.alloc();
-    let calls = two_locks(alloc)?;
-    let all = explored(&rt, alloc, calls.as_slice(), &[], 1000, 17)?;
-    assert_eq!(rt; all.layer.nodes().len(), 0);
-    assert_eq!(rt; all.found.answers.answers().len(), 60);
-    has_counts(&rt, &all, [158, 2, 106144, 896]);
+    let [a, b, c, d] = two_locks();
     let shortest = [0, 1, 2, 0, 3, 1, 2, 3];
-    comes_to(&rt, alloc, &all, 0, 1, Answer::Waits, &shortest)?;
-    comes_to(&rt, alloc, &all, 0, 2, Answer::NotMade, &shortest)?;
-    comes_to(&rt, alloc, &all, 3, 1, Answer::Waits, &shortest)?;
-    assert_eq!(rt; all.found.stuck.len(), 1);
-    assert_eq!(rt; all.found.stuck[0].left.len(), 4);
-    let cut = explored(&rt, alloc, calls.as_slice(), &[], 60, 17)?;
-    assert_eq!(rt; cut.calls, 6);
-    assert_eq!(rt; cut.layer.nodes().len(), 18);
-    let begun = explored(&rt, alloc, calls.as_slice(), &[0, 1], 1000, 17)?;
-    assert_eq!(rt; begun.calls, 15);
+    let wanted = Wanted {
+        counts: [158, 2, 106144, 896],
+        stuck: &[4],
+        answers: 60,
+        told: &[
+            told(0, 1, Answer::Waits, &shortest),
+            told(0, 2, Answer::NotMade, &shortest),
+            told(3, 1, Answer::Waits, &shortest),
+        ],
+    };
+    comes_to(&rt, rt.alloc(), &[&a, &b, &c, &d], 17, wanted)?;
+    Ok(())
+}
+
+/// The orders of the two locks have fewer calls than wanted, and so many states are left to go on from.
+fn ends_behind(
+    rt: &impl Abort,
+    alloc: Global,
+    first: &[usize],
+    limit: u64,
+    wanted: (usize, usize),
+) -> Result<(), AllocError> {
+    let [a, b, c, d] = two_locks();
+    let calls = calls_of(alloc, &[&a, &b, &c, &d])?;
+    let ended = explored(rt, alloc, calls.as_slice(), first, limit, 17)?;
+    assert_eq!(rt; (ended.calls, ended.layer.nodes().len()), wanted);
+    Ok(())
+}
+
+#[test]
+fn limit_on_states_ends_the_exploration_before_all_calls(rt: HostRuntime) -> Result<(), Fail> {
+    ends_behind(&rt, rt.alloc(), &[], 60, (6, 18))?;
+    Ok(())
+}
+
+#[test]
+fn orders_go_on_behind_the_first_calls(rt: HostRuntime) -> Result<(), Fail> {
+    ends_behind(&rt, rt.alloc(), &[0, 1], 1000, (15, 0))?;
     Ok(())
 }
