@@ -28,6 +28,7 @@
 program = crates/sel4sim/out/sel4sim
 calls = crates/refused_memory/out/refused_memory
 setups = crates/worked_setups/data
+answers = crates/worked_answers/data
 plain = bench/check_plain/out/target/release/check_plain
 given = crates/sel4sim/stdin
 stored = $(setups)/examples/send_then_receive.toml
@@ -62,16 +63,14 @@ rows: rows-needs run
 	python3 rows/private_definitions.py crates docs/definitions.md
 	python3 rows/browser_page.py site/sel4sim.html
 	python3 rows/run.py $(program) $(setups)
-	python3 rows/schema.py $(program) $(setups) crates/traced_file/data crates/worked_audits/data crates/worked_parts/data \
-		crates/worked_trees/data \
-		crates/worked_explorations/data page/test/setups rows
+	python3 rows/schema.py $(program) $(setups) crates/traced_file/data $(answers) page/test/setups rows
 	python3 rows/several_files.py $(program) $(setups)
 	python3 rows/migrate.py $(program) $(setups)
 	python3 rows/traces.py $(program) $(setups)
 	python3 rows/why.py $(program) $(setups)
-	python3 rows/audits.py $(program) crates/worked_audits/data crates/worked_parts/data crates/worked_trees/data
-	python3 rows/revokes.py $(program) crates/worked_audits/data $(setups)
-	python3 rows/explore.py $(program) crates/worked_explorations/data
+	python3 rows/audits.py $(program) $(answers)/audits $(answers)/parts $(answers)/trees
+	python3 rows/revokes.py $(program) $(answers)/audits $(setups)
+	python3 rows/explore.py $(program) $(answers)/explorations
 	python3 rows/orders_one_by_one.py $(program) 100
 	python3 rows/new_set_ups.py $(program)
 	python3 rows/messages.py $(program)
@@ -83,7 +82,7 @@ rows: rows-needs run
 	python3 rows/hostile_texts.py $(program) $(setups) $(stored)
 	python3 rows/run_clients.py $(program) $(setups)/examples/three_clients.toml 100
 	python3 rows/run_clients.py $(program) rows/four_clients.toml 100 60
-	python3 rows/run_clients.py --first 2 $(program) crates/worked_explorations/data/badge_names_the_sender.toml 100
+	python3 rows/run_clients.py --first 2 $(program) $(answers)/explorations/badge_names_the_sender.toml 100
 	python3 rows/run_clients.py --first 5 $(program) rows/four_clients.toml 20 10
 	python3 rows/run_clients.py --first 1000 $(program) rows/four_clients.toml 5
 	python3 rows/run_clients.py --first 5 $(program) rows/three_of_four_calls.toml 5

@@ -32,8 +32,9 @@ SCRIPTS = ("lib/codemirror.js", "mode/toml/toml.js")
 MADE_OF = ("crates", "crates.txt", "page/source", "page/join.py", "browser/source", "browser/c", "browser/build.py",
            "browser/module.py", "browser/retarget.py")
 FIRST_TOPIC, LAST_TOPICS = "examples", ("expectations", "refused")
-# Set-ups that are told of by another subcommand than check: their crate, and the tab that they are opened in.
-FOR_TABS = (("worked_explorations", "orders"), ("worked_audits", "audit"), ("worked_parts", "ever"), ("worked_trees", "tree"))
+# Set-ups that are told of by another subcommand than check: their folder, and the tab that they are opened in.
+ANSWERS = TOP / "crates" / "worked_answers" / "data"
+FOR_TABS = (("explorations", "orders"), ("audits", "audit"), ("parts", "ever"), ("trees", "tree"))
 FIRST_CALLS = re.compile(r"^#.*--first (\d+)", re.M)
 
 
@@ -84,8 +85,8 @@ def options_of(path, text):
 
 def for_tabs():
     """Yields the set-ups that are opened in a tab of their own, as topics."""
-    for crate, tab in FOR_TABS:
-        found = readable((TOP / "crates" / crate / "data").glob("*.toml"))
+    for kind, tab in FOR_TABS:
+        found = readable((ANSWERS / kind).glob("*.toml"))
         setups = [{"name": path.stem, "text": text, "options": options_of(path, text)} for path, text in found]
         if setups:
             yield {"topic": f"for {tab}", "tab": tab, "setups": setups}

@@ -1,9 +1,9 @@
 #!/usr/bin/env python3
 """explore.py PROGRAM FOLDER: what `explore` writes for each set-up in FOLDER, and its exit status.
 
-NAME.explore is the report of NAME.toml, byte for byte; NAME.states_N.explore is its report with a limit of N states. A comment of
-the set-up says `--first N` where its first calls are made before the clients begin. The status is 0 where the report tells of
-nothing that is not met, of no way to end stuck and of no limit, and 1 otherwise.
+NAME.explore is the report of NAME.toml, byte for byte; NAME.first_2.states_60.explore is what `explore --first 2 --states 60`
+writes. The status is 0 where the report tells of nothing that is not met, of no way to end stuck and of no limit, and 1
+otherwise.
 
 Of each order that a report tells, `--witness` writes the set-up with the calls of that order in that order, as data, and with the
 expectation of the call that the order is told for alone. `check` of it gives that call the answer that the report tells.
@@ -24,13 +24,8 @@ def setup_of(report):
 
 def words_of(report):
     """The words of the command line behind `explore`."""
-    words = []
-    setup = setup_of(report)
-    if found := re.search(r"--first ([0-9]+)", setup.read_text()):
-        words += ["--first", found[1]]
-    if found := re.search(r"\.states_([0-9]+)\.explore$", report.name):
-        words += ["--states", found[1]]
-    return words + [str(setup)]
+    options = (part.split("_") for part in report.name.split(".")[1:-1])
+    return [*(word for option, number in options for word in (f"--{option}", number)), str(setup_of(report))]
 
 
 def status_of(text):

@@ -159,14 +159,12 @@ def same_answers(test, setups):
 
 def words_asked(path):
     """The command lines that the files beside a worked set-up ask for: by their names (`NAME.after-14.slot-320.audit`,
-    `NAME.states_60.explore`), by a file NAME.args, or by the set-up's first comment."""
-    name, text = path.stem, path.read_text()
-    first = re.search(r"(?m)^#.*(--first) (\d+)", text)
-    for file in sorted(path.parent.glob(f"{name}.*")):
+    `NAME.first_2.states_60.explore`), or by a file NAME.args."""
+    for file in sorted(path.parent.glob(f"{path.stem}.*")):
         if file.suffix == ".never":
             yield ["audit", *file.with_suffix(".args").read_text().split()]
         options = {}
-        for option, value in (re.split("[-_]", part, maxsplit=1) for part in file.name.split(".")[1:-1]):
+        for option, value in re.findall(r"\.([a-z]+)[-_]([^.]+)", file.name):
             options[option] = f"{options[option]},{value}" if option in options else value
         words = [word for option, value in options.items() for word in (f"--{option}", value)]
         if file.suffix == ".audit":
@@ -175,17 +173,17 @@ def words_asked(path):
             args = path.with_suffix(".args")
             yield ["audit", "--ever", *(args.read_text().split() if args.exists() else words)]
         elif file.suffix == ".explore":
-            yield ["explore", *(first.groups() if first else ()), *words]
+            yield ["explore", *words]
 
 
 def same_with_options(test, _):
     """The worked audits, parts and orders, each with its options; and the reason of each call of some set-ups alone."""
     count = 0
-    for crate in ("worked_audits", "worked_parts", "worked_explorations"):
-        for path in sorted((TOP / "crates" / crate / "data").glob("*.toml")):
+    for kind in ("audits", "parts", "explorations"):
+        for path in sorted((TOP / "crates" / "worked_answers" / "data" / kind).glob("*.toml")):
             words, text = list(words_asked(path)), path.read_bytes()
             for it, answer in zip(words, test.run_bytes(words, path.name, text)):
-                test.compare(f"{crate}/{path.stem}", it, path.name, text, answer)
+                test.compare(f"{kind}/{path.stem}", it, path.name, text, answer)
                 count += 1
     for path in sorted((TOP / "crates" / "worked_setups" / "data").glob("why_*/*.toml"))[::5]:
         words, text = [["why", "--call", number] for number in ("0", "1", "2", "99", "x")], path.read_bytes()
