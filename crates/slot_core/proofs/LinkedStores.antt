@@ -7,5 +7,6 @@ pub mod LinkedReads
 pub mod LinkedRows
 pub mod LinkedSteps
 pub mod Linkings
+pub mod Replacings
 pub mod Unlinkings
 pub mod Walked
