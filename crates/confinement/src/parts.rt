@@ -99,6 +99,19 @@ fn one_part(alloc: Global) -> Result<Parts, AllocError>
     })
 }
 
+/// The parts that are found around threads: the least ones, told in order.
+fn found_around<P: Profile, S: DerivationStore<P> + Drop, W: Waiters<P> + Drop>(
+    alloc: Global,
+    kernel: &Kernel<P, S, W>,
+    threads: &[u64],
+) -> Result<Parts, AllocError>
+    ensures { IfOk result (λ parts. AreLeast P.profile threads.now parts.memory.items parts.uses.items kernel.now) }
+{
+    let derivations = kernel.derivations(alloc)?;
+    let found = least_parts::<P>(alloc, derivations.as_slice(), threads)?;
+    arranged::<P>(alloc, found)
+}
+
 /// Closed parts around threads that may still make calls: from their own control blocks on, what the slots of a part name
 /// is taken in. They are told in order: the stretches of memory rise, those of one part that touch are joined, the parts
 /// have the numbers from 1 on by their first addresses, and no use is of an endpoint that its part owns, or says what
@@ -122,9 +135,7 @@ pub fn parts_around<P: Profile, S: DerivationStore<P> + Drop, W: Waiters<P> + Dr
     ensures threads { IfOk result (λ parts. AreInParts parts.memory.items threads.now) }
     ensures least { IfOk result (λ parts. (parts.memory.items ≡ whole_memory → ⊥) → AreLeast P.profile threads.now parts.memory.items parts.uses.items kernel.now) }
 {
-    let derivations = kernel.derivations(alloc)?;
-    let found = least_parts::<P>(alloc, derivations.as_slice(), threads)?;
-    let parts = arranged::<P>(alloc, found)?;
+    let parts = found_around(alloc, kernel, threads)?;
     let memory = parts.memory.as_slice();
     let uses = parts.uses.as_slice();
     if are_right(alloc, kernel, threads, memory, uses)? {
