@@ -1,5 +1,5 @@
 -- What a plan computes fits a word, where the objects have a shape and the region is one.
-use Rattle.std.proofs.Common.{◌≡◌, ℕ, ◌+◌, ◌-◌, ◌*◌, ◌/◌, ◌%◌, ◌^◌, ◌<◌, ◌≤◌, Bool, true, false, nat_le, Result, Err, cond, Fits, w64, refl, sym, subst, inl, inr, arith}
+use Rattle.std.proofs.Common.{◌≡◌, ℕ, ◌+◌, ◌-◌, ◌*◌, ◌/◌, ◌%◌, ◌^◌, ◌<◌, ◌≤◌, Bool, true, false, nat_le, Err, Fits, w64, refl, sym, subst, inl, inr, arith}
 use Rattle.std.proofs.Math.Pow.{pow-lt}
 use Rattle.std.proofs.lemmas.Nat.{one_shl, pow_pos}
 use Rattle.std.proofs.lemmas.Bool.{cases_Bool, leb-true}
@@ -8,10 +8,9 @@ use Rattle.cap_core.specs.declared.capability.Cap.{Cap}
 use Rattle.cap_core.specs.declared.capability.Cap.TheVariants.{Null, Untyped, Endpoint, CNode, Tcb}
 use Rattle.cap_core.specs.declared.refusal.Refusal.TheVariants.{NotEnoughMemory}
 use Rattle.cap_core.specs.Numbers.{max_object_bits}
-use Rattle.mem_core.specs.declared.objects.Placed.{Placed}
 use Rattle.mem_core.specs.declared.objects.Shape.{Shape}
 use Rattle.mem_core.specs.Shapes.{IsShape}
-use Rattle.mem_core.specs.Plans.{IsRegion, IsRetypable, IsRetypePlan, start_of, room_of, least_multiple, placed_in}
+use Rattle.mem_core.specs.Plans.{IsRegion, IsRetypable, IsRetypePlan, start_of, room_of, placed_in}
 use Rattle.mem_core.proofs.Places.{rounded, rounded_within}
 use Rattle.mem_core.proofs.Lawful.{shape_bits-most}
 

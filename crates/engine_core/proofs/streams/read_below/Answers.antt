@@ -1,5 +1,5 @@
 -- The proof of `read_below`: nothing is read at first, and a loop that ends has read as many bytes as the limit.
-use Rattle.std.proofs.Common.{◌≡◌, ℕ, ◌+◌, ◌≤◌, List, length, inr, refl, sym, ap, subst, ◌∙◌, arith}
+use Rattle.std.proofs.Common.{◌≡◌, ℕ, ◌+◌, List, length, inr, refl, sym, ap, subst, ◌∙◌, arith}
 use Rattle.std.specs.Io.KnownBytes.{Consumes}
 use Rattle.engine_core.proofs.Progress.{Consumes-refl, Consumes-least}
 use Rattle.engine_core.proofs.streams.read_below.Goals as goal

@@ -1,5 +1,5 @@
 -- The proof of `at`: an address is a word's, and a multiple of a slot's size, where the two tests say so.
-use Rattle.std.proofs.Common.{◌≡◌, ◌≢◌, ℕ, ◌+◌, ◌*◌, ◌/◌, ◌%◌, ◌^◌, ◌<◌, ◌≤◌, Bool, true, false, inl, inr, sym, ◌∙◌, subst, arith}
+use Rattle.std.proofs.Common.{◌≡◌, ◌≢◌, ℕ, ◌+◌, ◌*◌, ◌/◌, ◌%◌, ◌^◌, ◌<◌, ◌≤◌, inl, inr, sym, ◌∙◌, subst, arith}
 use Rattle.std.proofs.Math.Nat.{lt-div-mul-add}
 use Rattle.std.proofs.lemmas.Nat.{div_below, pow_pos}
 use Rattle.std.proofs.lemmas.Bool.{cases_lt, eqb-true, eqb-false}
