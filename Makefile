@@ -63,7 +63,7 @@ rows: rows-needs run
 	python3 rows/private_definitions.py crates docs/definitions.md
 	python3 rows/browser_page.py site/sel4sim.html
 	python3 rows/run.py $(program) $(setups)
-	python3 rows/schema.py $(program) $(setups) crates/traced_file/data $(answers) page/test/setups rows
+	python3 rows/schema.py $(program) $(setups) crates/sel4sim/data $(answers) page/test/setups rows
 	python3 rows/several_files.py $(program) $(setups)
 	python3 rows/migrate.py $(program) $(setups)
 	python3 rows/traces.py $(program) $(setups)
