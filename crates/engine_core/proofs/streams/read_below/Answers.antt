@@ -21,8 +21,10 @@ returns g c =
       all = tt;
       end = tt;
       short = tt;
-      reading = λ is. inr (c.loop-piece.invariant.given ∙ ap (λ (n : ℕ). g.S.Source.given c.args.source.now + n) many,
-          Consumes-least c.args.limit (g.S.Source.left c.args.source.now) (g.S.Source.left c.loop-piece.source) c.loop-piece.bytes.items (omega arith) c.loop-piece.invariant.consumes);
+      reading = λ is. inr (
+        c.loop-piece.invariant.given ∙ ap (λ (n : ℕ). g.S.Source.given c.args.source.now + n) many,
+        Consumes-least c.args.limit (g.S.Source.left c.args.source.now) (g.S.Source.left c.loop-piece.source) c.loop-piece.bytes.items (omega arith) c.loop-piece.invariant.consumes,
+      );
       marked = λ failed. refl;
       never_writing = λ is. cc;
       never_thread = λ is. cc;

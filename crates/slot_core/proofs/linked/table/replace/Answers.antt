@@ -16,14 +16,18 @@ put-requires c = record { slot_in = c.requires.slot_in }
 pub lead_on-requires : goal.lead_on-requires
 lead_on-requires c =
     let read = row_read c.args.links.now c.index.result c.args.source.place c.index-links-index.result c.index-links-index.is c.index.ensures c.requires.source_in in
-    record { before_in = still_in (place_in c.index-links-index.result.previous) (previous_of c.args.links.now c.args.source.place) (length c.put.new.links) (length c.args.links.now)
-        (ap (λ (l : Link). place_in l.previous) read) c.put.ensures.size c.requires.previous_in }
+    record {
+      before_in = still_in (place_in c.index-links-index.result.previous) (previous_of c.args.links.now c.args.source.place) (length c.put.new.links) (length c.args.links.now)
+          (ap (λ (l : Link). place_in l.previous) read) c.put.ensures.size c.requires.previous_in;
+    }
 
 pub lead_back-requires : goal.lead_back-requires
 lead_back-requires c =
     let read = row_read c.args.links.now c.index.result c.args.source.place c.index-links-index.result c.index-links-index.is c.index.ensures c.requires.source_in in
-    record { behind_in = still_in (place_in c.index-links-index.result.next) (next_of c.args.links.now c.args.source.place) (length c.lead_on.new.links) (length c.args.links.now)
-        (ap (λ (l : Link). place_in l.next) read) (c.lead_on.ensures.size ∙ c.put.ensures.size) c.requires.next_in }
+    record {
+      behind_in = still_in (place_in c.index-links-index.result.next) (next_of c.args.links.now c.args.source.place) (length c.lead_on.new.links) (length c.args.links.now)
+          (ap (λ (l : Link). place_in l.next) read) (c.lead_on.ensures.size ∙ c.put.ensures.size) c.requires.next_in;
+    }
 
 pub put-requires-2 : goal.put-requires-2
 put-requires-2 c = record { slot_in = subst (λ (n : ℕ). c.args.source.place < n) (sym (c.lead_back.ensures.size ∙ c.lead_on.ensures.size ∙ c.put.ensures.size)) c.requires.source_in }

@@ -52,12 +52,14 @@ small_place p address bits is within = subst (λ (n : ℕ). address / 2 ^ n < 2 
     at Narrow h = omega arith
 
 pub invariant_of-result : goal.invariant_of-result
-invariant_of-result g c = record { small = small_place g.P.Profile.profile c.args.address c.SLOT_BITS-then-address-SLOT_BITS-eq0.result (c.SLOT_BITS-then-address-SLOT_BITS-eq0.ensures ∙ g.met.P.Profile.slot_bits_is)
-    (elim c.if-WORD_BITS-eq-BITS.branch [
-      | then-WORD_BITS-eq-BITS w ↦ full_word c.args.address (word_bits g.P.Profile.profile) c.WORD_BITS.result c.ranges.address.fits (c.WORD_BITS.ensures ∙ g.met.P.Profile.word_bits_is) w.if-WORD_BITS-eq-BITS.true
-      | else-WORD_BITS-eq-BITS w ↦ short_word c.args.address (word_bits g.P.Profile.profile) w.WORD_BITS-else-WORD_BITS-eq-BITS.result (w.WORD_BITS-else-WORD_BITS-eq-BITS.ensures ∙ g.met.P.Profile.word_bits_is)
-          (eqb-true (c.args.address / 2 ^ w.WORD_BITS-else-WORD_BITS-eq-BITS.result) 0 (sym w.is_word-is ∙ c.if-is_word.true))
-    ]) }
+invariant_of-result g c = record {
+  small = small_place g.P.Profile.profile c.args.address c.SLOT_BITS-then-address-SLOT_BITS-eq0.result (c.SLOT_BITS-then-address-SLOT_BITS-eq0.ensures ∙ g.met.P.Profile.slot_bits_is)
+      (elim c.if-WORD_BITS-eq-BITS.branch [
+        | then-WORD_BITS-eq-BITS w ↦ full_word c.args.address (word_bits g.P.Profile.profile) c.WORD_BITS.result c.ranges.address.fits (c.WORD_BITS.ensures ∙ g.met.P.Profile.word_bits_is) w.if-WORD_BITS-eq-BITS.true
+        | else-WORD_BITS-eq-BITS w ↦ short_word c.args.address (word_bits g.P.Profile.profile) w.WORD_BITS-else-WORD_BITS-eq-BITS.result (w.WORD_BITS-else-WORD_BITS-eq-BITS.ensures ∙ g.met.P.Profile.word_bits_is)
+            (eqb-true (c.args.address / 2 ^ w.WORD_BITS-else-WORD_BITS-eq-BITS.result) 0 (sym w.is_word-is ∙ c.if-is_word.true))
+      ]);
+}
 
 pub returns-then-address-SLOT_BITS-eq0-clause-slot : goal.returns-then-address-SLOT_BITS-eq0-clause-slot
 returns-then-address-SLOT_BITS-eq0-clause-slot g c =
@@ -75,13 +77,17 @@ pub returns-then-address-SLOT_BITS-eq0-clause-none : goal.returns-then-address-S
 returns-then-address-SLOT_BITS-eq0-clause-none g c = tt
 
 pub returns-else-is_word : goal.returns-else-is_word
-returns-else-is_word g c = record { slot = tt; word = tt; none = elim c.else-is_word.branch [
-  | else-is_word-via-then-is_word+else-address-SLOT_BITS-eq0 v ↦
-      inl (uneven g.P.Profile.profile c.args.address v.SLOT_BITS.result (v.SLOT_BITS.ensures ∙ g.met.P.Profile.slot_bits_is) v.if-address-SLOT_BITS-eq0.false)
-  | else-is_word-via-else-is_word v ↦ elim c.if-WORD_BITS-eq-BITS.branch [
-    | then-WORD_BITS-eq-BITS w ↦ absurd (eqb-false c.WORD_BITS.result 64 (sym w.is_word-is ∙ v.if-is_word.false) w.if-WORD_BITS-eq-BITS.true)
-    | else-WORD_BITS-eq-BITS w ↦
-        inr (long_word c.args.address (word_bits g.P.Profile.profile) w.WORD_BITS-else-WORD_BITS-eq-BITS.result (w.WORD_BITS-else-WORD_BITS-eq-BITS.ensures ∙ g.met.P.Profile.word_bits_is)
-        (eqb-false (c.args.address / 2 ^ w.WORD_BITS-else-WORD_BITS-eq-BITS.result) 0 (sym w.is_word-is ∙ v.if-is_word.false)))
-  ]
-] }
+returns-else-is_word g c = record {
+  slot = tt;
+  word = tt;
+  none = elim c.else-is_word.branch [
+    | else-is_word-via-then-is_word+else-address-SLOT_BITS-eq0 v ↦
+        inl (uneven g.P.Profile.profile c.args.address v.SLOT_BITS.result (v.SLOT_BITS.ensures ∙ g.met.P.Profile.slot_bits_is) v.if-address-SLOT_BITS-eq0.false)
+    | else-is_word-via-else-is_word v ↦ elim c.if-WORD_BITS-eq-BITS.branch [
+      | then-WORD_BITS-eq-BITS w ↦ absurd (eqb-false c.WORD_BITS.result 64 (sym w.is_word-is ∙ v.if-is_word.false) w.if-WORD_BITS-eq-BITS.true)
+      | else-WORD_BITS-eq-BITS w ↦
+          inr (long_word c.args.address (word_bits g.P.Profile.profile) w.WORD_BITS-else-WORD_BITS-eq-BITS.result (w.WORD_BITS-else-WORD_BITS-eq-BITS.ensures ∙ g.met.P.Profile.word_bits_is)
+          (eqb-false (c.args.address / 2 ^ w.WORD_BITS-else-WORD_BITS-eq-BITS.result) 0 (sym w.is_word-is ∙ v.if-is_word.false)))
+    ]
+  ];
+}
