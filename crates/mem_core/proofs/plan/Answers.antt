@@ -54,37 +54,37 @@ pub overflow_shl-room : goal.overflow_shl-room
 overflow_shl-room c = few_region_bits c.args.cap c.in-Untyped.base c.in-Untyped.bits c.in-Untyped.free c.in-Untyped.is c.requires.untyped
 
 pub overflow_sub-room : goal.overflow_sub-room
-overflow_sub-room c = start_within c.args.cap c.in-Untyped.base c.in-Untyped.bits c.in-Untyped.free c.in-Untyped.is c.requires.untyped c.args.has_children c.if-has_children.start (elim c.if-has_children.branch [ then-has_children w ↦ ap (λ h. start_of h c.in-Untyped.free) w.if-has_children.true ∙ sym w.start-is | else-has_children w ↦ ap (λ h. start_of h c.in-Untyped.free) w.if-has_children.false ∙ sym w.start-is ])
+overflow_sub-room c = start_within c.args.cap c.in-Untyped.base c.in-Untyped.bits c.in-Untyped.free c.in-Untyped.is c.requires.untyped c.args.has_children c.if-has_children.start (elim c.if-has_children.branch [ then-has_children w ↦ ap (λ h. start_of h c.in-Untyped.free) w.if-has_children.true ∙ omega (arith, w.start-is) | else-has_children w ↦ ap (λ h. start_of h c.in-Untyped.free) w.if-has_children.false ∙ omega (arith, w.start-is) ])
 
 pub overflow_shr-room : goal.overflow_shr-room
 overflow_shr-room c = few_bits c.args.shape c.requires.shape
 
 pub returns-then-room-count-clause-value : goal.returns-then-room-count-clause-value
-returns-then-room-count-clause-value c = sym (no_room c.args.cap c.in-Untyped.base c.in-Untyped.bits c.in-Untyped.free c.in-Untyped.is c.requires.untyped c.args.has_children c.if-has_children.start (elim c.if-has_children.branch [ then-has_children w ↦ ap (λ h. start_of h c.in-Untyped.free) w.if-has_children.true ∙ sym w.start-is | else-has_children w ↦ ap (λ h. start_of h c.in-Untyped.free) w.if-has_children.false ∙ sym w.start-is ]) c.args.shape c.requires.shape c.args.count c.if-room-count.true)
+returns-then-room-count-clause-value c = sym (no_room c.args.cap c.in-Untyped.base c.in-Untyped.bits c.in-Untyped.free c.in-Untyped.is c.requires.untyped c.args.has_children c.if-has_children.start (elim c.if-has_children.branch [ then-has_children w ↦ ap (λ h. start_of h c.in-Untyped.free) w.if-has_children.true ∙ omega (arith, w.start-is) | else-has_children w ↦ ap (λ h. start_of h c.in-Untyped.free) w.if-has_children.false ∙ omega (arith, w.start-is) ]) c.args.shape c.requires.shape c.args.count c.if-room-count.true)
 
 pub returns-then-room-count-clause-plan : goal.returns-then-room-count-clause-plan
-returns-then-room-count-clause-plan c = no_plan c.args.cap c.in-Untyped.base c.in-Untyped.bits c.in-Untyped.free c.in-Untyped.is c.requires.untyped c.args.has_children c.if-has_children.start (elim c.if-has_children.branch [ then-has_children w ↦ ap (λ h. start_of h c.in-Untyped.free) w.if-has_children.true ∙ sym w.start-is | else-has_children w ↦ ap (λ h. start_of h c.in-Untyped.free) w.if-has_children.false ∙ sym w.start-is ]) c.args.shape c.requires.shape c.args.count c.if-room-count.true
+returns-then-room-count-clause-plan c = no_plan c.args.cap c.in-Untyped.base c.in-Untyped.bits c.in-Untyped.free c.in-Untyped.is c.requires.untyped c.args.has_children c.if-has_children.start (elim c.if-has_children.branch [ then-has_children w ↦ ap (λ h. start_of h c.in-Untyped.free) w.if-has_children.true ∙ omega (arith, w.start-is) | else-has_children w ↦ ap (λ h. start_of h c.in-Untyped.free) w.if-has_children.false ∙ omega (arith, w.start-is) ]) c.args.shape c.requires.shape c.args.count c.if-room-count.true
 
 pub returns-then-room-count-clause-objects : goal.returns-then-room-count-clause-objects
 returns-then-room-count-clause-objects c = tt
 
 pub overflow_sub-first : goal.overflow_sub-first
-overflow_sub-first c = size_some c.args.cap c.in-Untyped.base c.in-Untyped.bits c.in-Untyped.free c.in-Untyped.is c.requires.untyped c.args.has_children c.if-has_children.start (elim c.if-has_children.branch [ then-has_children w ↦ ap (λ h. start_of h c.in-Untyped.free) w.if-has_children.true ∙ sym w.start-is | else-has_children w ↦ ap (λ h. start_of h c.in-Untyped.free) w.if-has_children.false ∙ sym w.start-is ]) c.args.shape c.requires.shape c.args.count
+overflow_sub-first c = size_some c.args.cap c.in-Untyped.base c.in-Untyped.bits c.in-Untyped.free c.in-Untyped.is c.requires.untyped c.args.has_children c.if-has_children.start (elim c.if-has_children.branch [ then-has_children w ↦ ap (λ h. start_of h c.in-Untyped.free) w.if-has_children.true ∙ omega (arith, w.start-is) | else-has_children w ↦ ap (λ h. start_of h c.in-Untyped.free) w.if-has_children.false ∙ omega (arith, w.start-is) ]) c.args.shape c.requires.shape c.args.count
 
 pub overflow_add-first : goal.overflow_add-first
-overflow_add-first c = end_fits c.args.cap c.in-Untyped.base c.in-Untyped.bits c.in-Untyped.free c.in-Untyped.is c.requires.untyped c.args.has_children c.if-has_children.start (elim c.if-has_children.branch [ then-has_children w ↦ ap (λ h. start_of h c.in-Untyped.free) w.if-has_children.true ∙ sym w.start-is | else-has_children w ↦ ap (λ h. start_of h c.in-Untyped.free) w.if-has_children.false ∙ sym w.start-is ]) c.args.shape c.requires.shape c.args.count
+overflow_add-first c = end_fits c.args.cap c.in-Untyped.base c.in-Untyped.bits c.in-Untyped.free c.in-Untyped.is c.requires.untyped c.args.has_children c.if-has_children.start (elim c.if-has_children.branch [ then-has_children w ↦ ap (λ h. start_of h c.in-Untyped.free) w.if-has_children.true ∙ omega (arith, w.start-is) | else-has_children w ↦ ap (λ h. start_of h c.in-Untyped.free) w.if-has_children.false ∙ omega (arith, w.start-is) ]) c.args.shape c.requires.shape c.args.count
 
 pub nonzero_div-first : goal.nonzero_div-first
-nonzero_div-first c = size_some c.args.cap c.in-Untyped.base c.in-Untyped.bits c.in-Untyped.free c.in-Untyped.is c.requires.untyped c.args.has_children c.if-has_children.start (elim c.if-has_children.branch [ then-has_children w ↦ ap (λ h. start_of h c.in-Untyped.free) w.if-has_children.true ∙ sym w.start-is | else-has_children w ↦ ap (λ h. start_of h c.in-Untyped.free) w.if-has_children.false ∙ sym w.start-is ]) c.args.shape c.requires.shape c.args.count
+nonzero_div-first c = size_some c.args.cap c.in-Untyped.base c.in-Untyped.bits c.in-Untyped.free c.in-Untyped.is c.requires.untyped c.args.has_children c.if-has_children.start (elim c.if-has_children.branch [ then-has_children w ↦ ap (λ h. start_of h c.in-Untyped.free) w.if-has_children.true ∙ omega (arith, w.start-is) | else-has_children w ↦ ap (λ h. start_of h c.in-Untyped.free) w.if-has_children.false ∙ omega (arith, w.start-is) ]) c.args.shape c.requires.shape c.args.count
 
 pub overflow_mul-first : goal.overflow_mul-first
-overflow_mul-first c = first_fits c.args.cap c.in-Untyped.base c.in-Untyped.bits c.in-Untyped.free c.in-Untyped.is c.requires.untyped c.args.has_children c.if-has_children.start (elim c.if-has_children.branch [ then-has_children w ↦ ap (λ h. start_of h c.in-Untyped.free) w.if-has_children.true ∙ sym w.start-is | else-has_children w ↦ ap (λ h. start_of h c.in-Untyped.free) w.if-has_children.false ∙ sym w.start-is ]) c.args.shape c.requires.shape c.args.count c.requires.some c.if-room-count.false
+overflow_mul-first c = first_fits c.args.cap c.in-Untyped.base c.in-Untyped.bits c.in-Untyped.free c.in-Untyped.is c.requires.untyped c.args.has_children c.if-has_children.start (elim c.if-has_children.branch [ then-has_children w ↦ ap (λ h. start_of h c.in-Untyped.free) w.if-has_children.true ∙ omega (arith, w.start-is) | else-has_children w ↦ ap (λ h. start_of h c.in-Untyped.free) w.if-has_children.false ∙ omega (arith, w.start-is) ]) c.args.shape c.requires.shape c.args.count c.requires.some c.if-room-count.false
 
 pub overflow_add-result : goal.overflow_add-result
-overflow_add-result c = address_fits c.args.cap c.in-Untyped.base c.in-Untyped.bits c.in-Untyped.free c.in-Untyped.is c.requires.untyped c.args.has_children c.if-has_children.start (elim c.if-has_children.branch [ then-has_children w ↦ ap (λ h. start_of h c.in-Untyped.free) w.if-has_children.true ∙ sym w.start-is | else-has_children w ↦ ap (λ h. start_of h c.in-Untyped.free) w.if-has_children.false ∙ sym w.start-is ]) c.args.shape c.requires.shape c.args.count c.requires.some c.if-room-count.false
+overflow_add-result c = address_fits c.args.cap c.in-Untyped.base c.in-Untyped.bits c.in-Untyped.free c.in-Untyped.is c.requires.untyped c.args.has_children c.if-has_children.start (elim c.if-has_children.branch [ then-has_children w ↦ ap (λ h. start_of h c.in-Untyped.free) w.if-has_children.true ∙ omega (arith, w.start-is) | else-has_children w ↦ ap (λ h. start_of h c.in-Untyped.free) w.if-has_children.false ∙ omega (arith, w.start-is) ]) c.args.shape c.requires.shape c.args.count c.requires.some c.if-room-count.false
 
 pub overflow_mul-result : goal.overflow_mul-result
-overflow_mul-result c = all_fit c.args.cap c.in-Untyped.base c.in-Untyped.bits c.in-Untyped.free c.in-Untyped.is c.requires.untyped c.args.has_children c.if-has_children.start (elim c.if-has_children.branch [ then-has_children w ↦ ap (λ h. start_of h c.in-Untyped.free) w.if-has_children.true ∙ sym w.start-is | else-has_children w ↦ ap (λ h. start_of h c.in-Untyped.free) w.if-has_children.false ∙ sym w.start-is ]) c.args.shape c.requires.shape c.args.count c.requires.some c.if-room-count.false
+overflow_mul-result c = all_fit c.args.cap c.in-Untyped.base c.in-Untyped.bits c.in-Untyped.free c.in-Untyped.is c.requires.untyped c.args.has_children c.if-has_children.start (elim c.if-has_children.branch [ then-has_children w ↦ ap (λ h. start_of h c.in-Untyped.free) w.if-has_children.true ∙ omega (arith, w.start-is) | else-has_children w ↦ ap (λ h. start_of h c.in-Untyped.free) w.if-has_children.false ∙ omega (arith, w.start-is) ]) c.args.shape c.requires.shape c.args.count c.requires.some c.if-room-count.false
 
 pub overflow_add-result-2 : goal.overflow_add-result-2
-overflow_add-result-2 c = free_fits c.args.cap c.in-Untyped.base c.in-Untyped.bits c.in-Untyped.free c.in-Untyped.is c.requires.untyped c.args.has_children c.if-has_children.start (elim c.if-has_children.branch [ then-has_children w ↦ ap (λ h. start_of h c.in-Untyped.free) w.if-has_children.true ∙ sym w.start-is | else-has_children w ↦ ap (λ h. start_of h c.in-Untyped.free) w.if-has_children.false ∙ sym w.start-is ]) c.args.shape c.requires.shape c.args.count c.requires.some c.if-room-count.false
+overflow_add-result-2 c = free_fits c.args.cap c.in-Untyped.base c.in-Untyped.bits c.in-Untyped.free c.in-Untyped.is c.requires.untyped c.args.has_children c.if-has_children.start (elim c.if-has_children.branch [ then-has_children w ↦ ap (λ h. start_of h c.in-Untyped.free) w.if-has_children.true ∙ omega (arith, w.start-is) | else-has_children w ↦ ap (λ h. start_of h c.in-Untyped.free) w.if-has_children.false ∙ omega (arith, w.start-is) ]) c.args.shape c.requires.shape c.args.count c.requires.some c.if-room-count.false

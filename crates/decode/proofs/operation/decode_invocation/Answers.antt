@@ -1,4 +1,4 @@
--- The proof of `decode_invocation`: the goals that a search leaves open.
+-- The proof of `decode_invocation`: each operation by the clause of what it calls.
 use Rattle.std.proofs.Common.{true, false, sym, ap, ◌∙◌}
 use Rattle.cap_core.specs.declared.capability.Cap.{Cap}
 use Rattle.slot_core.specs.Places.{address_of}

@@ -1,4 +1,4 @@
--- The proof of `move_in`: the goals that a search leaves open.
+-- The proof of `move_in`: what a store is asked is answered by lemmas, since a search for it is long.
 use Rattle.std.proofs.Common.{◌*◌}
 use Rattle.cap_core.specs.Numbers.{slot_size}
 use Rattle.abstract_kernel.proofs.Capabilities.PlacementSteps.{source_aligned, source_end, slot_aligned, slot_end, move_disjoint}

@@ -1,4 +1,4 @@
--- The proof of `relocate`: the goals that a search leaves open.
+-- The proof of `relocate`: what its call asks is answered, and the goals that a search leaves open.
 use Rattle.std.proofs.Common.{sym, subst, refl}
 use Rattle.abstract_kernel.specs.Shown.{Shown}
 use Rattle.abstract_kernel.specs.Private.Invocations.{IsMove}

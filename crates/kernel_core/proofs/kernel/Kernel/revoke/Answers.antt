@@ -1,4 +1,4 @@
--- The proof of `revoke`: the goals that a search leaves open.
+-- The proof of `revoke`: what its call asks is answered, and the goals that a search leaves open.
 use Rattle.std.proofs.Common.{ℕ, ◌^◌, [], sym, subst, refl, ap, ◌∙◌}
 use Rattle.abstract_kernel.specs.Shown.{Shown}
 use Rattle.abstract_kernel.specs.Private.Invocations.{IsNamedSlot}
