@@ -103,6 +103,9 @@ class Prove(Small):
 
     def test_crates_run_side_by_side(self):
         self.write("build/seconds.txt", "low 5\nleft 20\nright 20\nsel4sim 0\n")
+        # Long enough that the second has begun before the first ends, on a busy machine too.
+        self.write("crates/left/src/slow", "2")
+        self.write("crates/right/src/slow", "2")
         self.assertEqual(self.run_script("prove.py")[0], 0)
         kinds = [it[0] for it in self.log()]
         self.assertEqual(kinds, ["begin", "end", "begin", "begin", "end", "end", "begin", "end"])

@@ -345,6 +345,9 @@ PLACES = [
     (FIRST.replace("root_radix = 4", "root_radix = 40") + "untyped = [{ base = 3, bits = 12, size = 1 }]\n"
      + CALL + 'op = "recv"\n' + CALL + 'op = "send"\nlable = 1\nword = 2\nlabel = -1\n' + CALL.replace("cap = 4\n", 'op = "recv"\n'),
      [(3, 1, 10), (6, 35, 4), (15, 1, 5), (16, 1, 4), (17, 1, 5), (18, 1, 2)]),
+    # names that are keys of arrays of tables too
+    ("format = 2\n" + SIZES + "[[untyped]]\nbase = 16384\n[[call]]\nthread = 2048\ncap = 4\n[names]\nuntyped = 16384\ncall = 4\n",
+     [(6, 1, 2), (8, 1, 2)]),
     # names that no table lists
     (SECOND + CALL.replace("2048", '"@nobody"') + 'op = "recv"\n', [(8, 10, 9)]),
     (SECOND + CALL + 'op = "send"\nwords = ["@a", "0x1", "@b"]\n', [(11, 23, 4)]),

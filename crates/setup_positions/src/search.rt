@@ -70,6 +70,8 @@ struct Search<'t, 's> {
     array: Option<(&'static str, usize)>,
     /// How many tables of the array there were.
     passed: usize,
+    /// Whether the lines that follow belong to the top table.
+    is_top: bool,
     /// Whether the lines that follow belong to the table.
     is_inside: bool,
     /// The text from the head of the table on.
@@ -82,6 +84,7 @@ impl<'t> Search<'t, '_> {
     /// Passes the head of a table, and gives the text behind it.
     fn pass_head(&mut self, alloc: Global, at: &'t str) -> Option<&'t str> {
         let (key, is_element, rest) = head_of(alloc, at)?;
+        self.is_top = false;
         self.is_inside = false;
         match self.array {
             None if begins_with(&key, self.name) => self.key = Some(at),
@@ -102,7 +105,7 @@ impl<'t> Search<'t, '_> {
         let (key, value) = entry_of(alloc, at)?;
         match self.array {
             _ if self.is_inside && begins_with(&key, self.name) => self.key = Some(at),
-            Some((array, n)) if is_key(&key, array) => {
+            Some((array, n)) if self.is_top && is_key(&key, array) => {
                 let table = element_at(alloc, value, n);
                 self.key = table.and_then(|table| key_within(alloc, table, self.name));
                 self.table = table.or(self.table);
@@ -120,6 +123,7 @@ fn text_from<'t>(alloc: Global, text: &'t str, sought: SoughtKey<'_>) -> Option<
         name: sought.key,
         array,
         passed: 0,
+        is_top: true,
         is_inside: array.is_none(),
         table: None,
         key: None,
