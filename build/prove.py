@@ -3,9 +3,9 @@
 
 Each crate is built by `rt lib` once the crates below it are built. Of the crates that can begin, the one with the most
 work above it begins first; seconds.txt has what each costs. As many run side by side as `make -j N` is told, or as
-there are processors, and as memory allows. A crate on which the end waits may prove two functions at a time; it counts
-as one, since most of a run has one thing to do at a time. What `rt` keeps is used again, so after an interrupt the
-build goes on where it stopped.
+there are processors, and as memory allows. A crate on which the end waits, and that stands on few crates, proves two
+functions at a time; it counts as one, since most of a run has one thing to do at a time. One that stands on many takes
+longer by that: two processes would have all that was loaded in memory.
 
 A run of `rt` locks the crate's folder and those of all crates below, so that two runs in one tree wait for each other.
 Therefore each crate is built in a folder of its own, build/out/side/NAME, which has links to its files and to the
@@ -28,6 +28,8 @@ PARTS = ("src", "specs", "proofs")
 OUT = os.path.join(TOP, "build", "out")
 BYTES_A_JOB = 4 << 30
 LINES_SHOWN = 30
+# A crate that stands on more crates than these proves one function at a time.
+FEW_BELOW = 10
 
 
 def places_told(flags):
@@ -172,9 +174,11 @@ class Build:
         return len(self.done)
 
     def jobs_of(self, name):
-        """Returns how many functions a library proves at a time: two where the end waits for it, not for processors."""
+        """Returns how many functions a library proves at a time: two where it stands on few crates, and the end waits for it, not
+        for processors."""
         left = sum(self.cost[it] for it in self.names if it not in self.done)
-        return 2 if self.places > 1 and self.ahead[name] * self.places > left else 1
+        is_waited_for = self.places > 1 and self.ahead[name] * self.places > left
+        return 2 if is_waited_for and len(self.below[name]) <= FEW_BELOW else 1
 
     def start_some(self):
         for name in list(self.waiting):
@@ -261,12 +265,11 @@ def tell_failure(name, status, log):
     tell(f"{name} failed with status {status}; the lines above are the last of {log}")
 
 
-def run_program(places):
+def run_program():
     """Proves, builds and runs the program itself, on standard input. Returns its status."""
     folder, log = os.path.join(TOP, "crates", NAME), os.path.join(OUT, f"{NAME}.log")
     with open(log, "wb") as file:
-        words = ["rt", "run", "--jobs", str(max(1, min(places, free_memory() // BYTES_A_JOB)))]
-        return subprocess.run(words, cwd=folder, stderr=file, check=False).returncode, log
+        return subprocess.run(["rt", "run", "--jobs", "1"], cwd=folder, stderr=file, check=False).returncode, log
 
 
 def main():
@@ -288,7 +291,7 @@ def main():
         tell_failure(*failed, build.libraries[failed[0]].log)
         return failed[1] if failed[1] > 0 else 128 - failed[1]
     since = time.time()
-    status, log = run_program(places)
+    status, log = run_program()
     if status:
         tell_failure(NAME, status, log)
         return status if status > 0 else 128 - status
