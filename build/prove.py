@@ -4,8 +4,8 @@
 Each crate is built by `rt lib` once the crates below it are built. Of the crates that can begin, the one with the most
 work above it begins first; seconds.txt has what each costs. As many run side by side as `make -j N` is told, or as
 there are processors, and as memory allows. A crate on which the end waits, and that stands on few crates, proves two
-functions at a time; it counts as one, since most of a run has one thing to do at a time. One that stands on many takes
-longer by that: two processes would have all that was loaded in memory.
+functions at a time; it counts as one, since most of a run has one thing to do at a time. One that stands on many was
+seen to take longer by that. What `rt` keeps is used again, so after an interrupt the build goes on where it stopped.
 
 A run of `rt` locks the crate's folder and those of all crates below, so that two runs in one tree wait for each other.
 Therefore each crate is built in a folder of its own, build/out/side/NAME, which has links to its files and to the
@@ -174,8 +174,8 @@ class Build:
         return len(self.done)
 
     def jobs_of(self, name):
-        """Returns how many functions a library proves at a time: two where it stands on few crates, and the end waits for it, not
-        for processors."""
+        """Returns how many functions a library proves at a time: two where it stands on few crates, and the end waits for
+        it, not for processors."""
         left = sum(self.cost[it] for it in self.names if it not in self.done)
         is_waited_for = self.places > 1 and self.ahead[name] * self.places > left
         return 2 if is_waited_for and len(self.below[name]) <= FEW_BELOW else 1

@@ -110,6 +110,18 @@ class Prove(Small):
         kinds = [it[0] for it in self.log()]
         self.assertEqual(kinds, ["begin", "end", "begin", "begin", "end", "end", "begin", "end"])
 
+    def test_a_crate_that_stands_on_many_proves_one_function_at_a_time(self):
+        below = [f"low{n}" for n in range(11)]
+        uses = {**{name: "" for name in below}, "many": " ".join(below), "sel4sim": "many"}
+        self.write("crates.txt", "".join(f"{name}: {it}\n" for name, it in uses.items()))
+        self.write("build/seconds.txt", "many 100\nsel4sim 5\n")
+        for name in [*below, "many"]:
+            self.write(f"crates/{name}/src/lib.rt", name)
+        self.assertEqual(self.run_script("prove.py")[0], 0)
+        log = self.log()
+        self.assertIn(["begin", "many", "lib", "--jobs", "1"], log)
+        self.assertIn(["begin", "sel4sim", "run", "--jobs", "1"], log)
+
     def test_one_place_runs_one_at_a_time(self):
         self.assertEqual(self.run_script("prove.py", flags=" -j1")[0], 0)
         kinds = [it[0] for it in self.log()]
