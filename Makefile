@@ -38,7 +38,7 @@ run:
 	@python3 build/prove.py < $(given)
 
 dist:
-	@python3 build/archive.py dist < $(given)
+	@python3 build/archive.py dist
 
 dist-test:
 	python3 build/archive_test.py
@@ -75,7 +75,7 @@ rows: rows-needs run
 	python3 rows/new_set_ups.py $(program)
 	python3 rows/messages.py $(program)
 	python3 rows/use_address_again.py $(program) 1000
-	cd crates/refused_memory && rt run
+	python3 build/prove.py refused_memory
 	python3 rows/refuse_memory.py $(program) $(calls) $(stored) $(first_format)
 	python3 rows/devices.py $(program) $(stored)
 	python3 rows/fail_each_transfer.py $(program) $(stored)

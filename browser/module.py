@@ -19,7 +19,7 @@ import tempfile
 sys.path.insert(0, os.path.join(os.path.dirname(os.path.dirname(os.path.abspath(__file__))), "build"))
 
 import prove  # noqa: E402
-from crates import TOP, in_order, listed, toolchain  # noqa: E402
+from crates import TOP, kit, toolchain  # noqa: E402
 from retarget import NoCounterpart, retargeted  # noqa: E402
 
 HERE = os.path.join(TOP, "browser")
@@ -44,10 +44,6 @@ class Failed(Exception):
     """Why there is no module."""
 
 
-def kit():
-    return os.path.dirname(os.path.dirname(os.path.realpath(shutil.which("rt"))))
-
-
 def run(words, **how):
     """Runs a command and returns what it writes; a status other than 0 fails with the last lines of what it told."""
     ran = subprocess.run(words, stdout=subprocess.PIPE, stderr=subprocess.PIPE, check=False, **how)
@@ -58,48 +54,26 @@ def run(words, **how):
 
 
 def link_toolchain(folder, kept):
-    """Makes the toolchain in a folder, of links to its files but for a clang that also copies its module to `kept`."""
-    real = kit()
-    for at in ("", "bin", "toolchain", "toolchain/bin"):
-        there = os.path.join(folder, at)
-        os.makedirs(there, exist_ok=True)
+    """Makes the toolchain's compiler in a folder, of links to its files but for a clang that also copies its module to
+    `kept`."""
+    real = os.path.join(kit(), "toolchain")
+    for at in ("", "bin"):
+        os.makedirs(os.path.join(folder, at), exist_ok=True)
         for it in os.listdir(os.path.join(real, at)):
-            if it not in ("bin", "toolchain"):
-                os.symlink(os.path.join(real, at, it), os.path.join(there, it))
-    # These find the toolchain by the folder that they really stand in.
-    for it in ("rt", "rtlib.py"):
-        os.remove(os.path.join(folder, "bin", it))
-        shutil.copy2(os.path.join(real, "bin", it), os.path.join(folder, "bin", it))
-    clang = os.path.join(folder, "toolchain", "bin", "clang")
-    os.remove(clang)
-    with open(clang, "w", encoding="utf-8") as file:
-        file.write(CLANG_THAT_KEEPS.format(kept=kept, clang=os.path.join(real, "toolchain", "bin", "clang")))
-    os.chmod(clang, 0o755)
-
-
-def link_crates(folder):
-    """Makes the repository in a folder: the program's sources, the libraries below it as they are built, and what is kept
-    of the program's proof."""
-    said = listed()
-    names = in_order(NAME, {name: uses for name, (uses, _) in said.items()})
-    with open(os.path.join(folder, "crates.txt"), "w", encoding="utf-8") as file:
-        file.writelines(f"{said[it][1]}\n" for it in names)
-    shutil.copy2(os.path.join(TOP, "HANDLES"), folder)
-    for it in names:
-        for part in (*prove.PARTS, "out/rlib"):
-            prove.link_files(os.path.join(TOP, "crates", it, part), os.path.join(folder, "crates", it, part))
-    with contextlib.suppress(FileNotFoundError):
-        shutil.copytree(os.path.join(TOP, "crates", NAME, "out", "incremental"),
-                        os.path.join(folder, "crates", NAME, "out", "incremental"))
+            if it not in ("bin", "clang"):
+                os.symlink(os.path.join(real, at, it), os.path.join(folder, at, it))
+    there = os.path.join(folder, "bin", "clang")
+    with open(there, "w", encoding="utf-8") as file:
+        file.write(CLANG_THAT_KEEPS.format(kept=kept, clang=clang()))
+    os.chmod(there, 0o755)
 
 
 def module_of_program(folder):
-    """Proves and builds the program in a folder, and returns its LLVM module as text."""
-    kept = os.path.join(folder, "module.bc")
-    link_toolchain(os.path.join(folder, "kit"), kept)
-    link_crates(folder)
-    with open(os.path.join(TOP, "crates", NAME, "stdin"), "rb") as given:
-        run([os.path.join(folder, "kit", "bin", "rt"), "run"], cwd=os.path.join(folder, "crates", NAME), stdin=given)
+    """Proves and builds the program over the libraries that are built, and returns its LLVM module as text."""
+    kept, compiler = os.path.join(folder, "module.bc"), os.path.join(folder, "toolchain")
+    link_toolchain(compiler, kept)
+    program = prove.crate_of(NAME)
+    run(program.command(1, to=os.path.join(folder, f"{NAME}.o"), compiler=compiler), cwd=program.folder)
     if not os.path.isfile(kept):
         raise Failed("the toolchain gave its clang no module")
     as_text = ["--target=x86_64-unknown-linux-gnu", "-x", "ir", "-S", "-emit-llvm", "-Xclang", "-disable-llvm-passes"]

@@ -113,7 +113,7 @@ def dist():
     commit, changed = state()
     if changed and not os.environ.get("CHANGED"):
         raise Refused(f"the tree differs from its commit; CHANGED=1 makes an archive that says so\n{changed}")
-    status = prove.main()
+    status = prove.built()
     if status:
         sys.exit(status)
     if state() != (commit, changed):
@@ -127,7 +127,7 @@ def dist():
 
 def install(to):
     """Copies all to a folder. A file that is there is replaced as a whole, also where it is a program that runs."""
-    if not os.path.isfile(os.path.join(TOP, f"{PROGRAM}.stamp")):
+    if not prove.crate_of(prove.NAME).is_made():
         raise Refused("there is no proved program: make run builds it")
     for path, source in contents().items():
         there = os.path.join(to, path)

@@ -17,6 +17,11 @@ def listed(top=TOP):
     return {name: ([it for it in uses if it in lines], line) for name, (uses, line) in lines.items()}
 
 
+def uses_of(line):
+    """Returns the libraries that a line of crates.txt names, the toolchain's too."""
+    return line.partition(":")[2].split()
+
+
 def in_order(goal, uses):
     """Returns the crates that the goal stands on, each after those that it names, and then the goal."""
     order = []
@@ -31,8 +36,12 @@ def in_order(goal, uses):
     return order
 
 
+def kit():
+    """Returns the toolchain's folder: the command `rt` stands in its folder bin."""
+    return os.path.dirname(os.path.dirname(os.path.realpath(shutil.which("rt"))))
+
+
 def toolchain():
     """Returns what tells this toolchain from another one: the files beside the command `rt`, with sizes and times."""
-    folder = os.path.dirname(os.path.realpath(shutil.which("rt")))
-    files = [(it.name, it.stat()) for it in os.scandir(folder) if it.is_file()]
+    files = [(it.name, it.stat()) for it in os.scandir(os.path.join(kit(), "bin")) if it.is_file()]
     return repr(sorted((name, it.st_size, it.st_mtime_ns) for name, it in files)).encode()

@@ -1,15 +1,15 @@
 #!/usr/bin/env python3
-"""prove.py: proves and builds the crates that the program stands on, several side by side, and then the program.
+"""prove.py [CRATE]: proves and builds the crates that a crate stands on, several side by side, and then the crate, which
+is sel4sim where none is named. A program is run on standard input.
 
-Each crate is built by `rt lib` once the crates below it are built. Of the crates that can begin, the one with the most
-work above it begins first; seconds.txt has what each costs. As many run side by side as `make -j N` is told, or as
-there are processors, and as memory allows. A crate on which the end waits, and that stands on few crates, proves two
-functions at a time; it counts as one, since most of a run has one thing to do at a time. One that stands on many was
-seen to take longer by that. What `rt` keeps is used again, so after an interrupt the build goes on where it stopped.
+Each crate is built by the toolchain's `rattle build`, once the crates below it are. A library is written with its
+statements and without its proofs (--statements), as in the gate: a crate above loads a fifth of the modules then. Of
+the crates that can begin, the one with the most work above it begins first; seconds.txt has what each costs. As many
+functions are proved at a time as `make -j N` is told, or as there are processors, and as memory allows: one of each
+crate, or two where there are processors for that.
 
-A run of `rt` locks the crate's folder and those of all crates below, so that two runs in one tree wait for each other.
-Therefore each crate is built in a folder of its own, build/out/side/NAME, which has links to its files and to the
-libraries below. Its kept work is moved there and back again. The crates' own folders stay locked meanwhile."""
+What is built stays in build/out, with a sum of what it was made from, so that after an interrupt the build goes on with
+the crates that are not built. `rt` keeps its own work in the crates' folders, and takes nothing from build/out."""
 import contextlib
 import fcntl
 import hashlib
@@ -21,15 +21,14 @@ import subprocess
 import sys
 import time
 
-from crates import TOP, in_order, listed, toolchain
+from crates import TOP, in_order, kit, listed, toolchain, uses_of
 
 NAME = "sel4sim"
 PARTS = ("src", "specs", "proofs")
 OUT = os.path.join(TOP, "build", "out")
-BYTES_A_JOB = 4 << 30
+TARGET = "x86_64-unknown-linux-gnu"
+BYTES_A_JOB = 3 << 30
 LINES_SHOWN = 30
-# A crate that stands on more crates than these proves one function at a time.
-FEW_BELOW = 10
 
 
 def places_told(flags):
@@ -49,6 +48,10 @@ def free_memory():
     return min(free)
 
 
+def rattle():
+    return os.path.join(kit(), "bin", "rattle")
+
+
 def costs():
     """Returns what each crate costs, in processor seconds."""
     with open(os.path.join(TOP, "build", "seconds.txt"), encoding="utf-8") as file:
@@ -63,164 +66,173 @@ def files_of(folder):
             yield from (os.path.join(at, name) for name in sorted(names))
 
 
-def link_files(source, to):
-    """Puts links to all files of a folder below another one, or copies where the file system has no such links."""
-    for at, _, names in os.walk(source):
-        there = os.path.join(to, os.path.relpath(at, source))
-        os.makedirs(there, exist_ok=True)
-        for name in names:
-            try:
-                os.link(os.path.join(at, name), os.path.join(there, name))
-            except OSError:
-                shutil.copy2(os.path.join(at, name), os.path.join(there, name))
-
-
-def wait_for_others(folder):
-    """Waits until no `rt` works in the folder: one can be left where this script was killed."""
-    held = os.open(folder, os.O_RDONLY)
-    with contextlib.suppress(OSError):
-        fcntl.flock(held, fcntl.LOCK_EX)
-    os.close(held)
-
-
-class Library:
-    """A crate, and the folder in which it is built beside others."""
+class Crate:
+    """A crate, what it is built to, and the command that builds it."""
 
     def __init__(self, name, line, below):
         self.name, self.line, self.below = name, line, below
         self.folder = os.path.join(TOP, "crates", name)
-        self.side = os.path.join(OUT, "side", name)
+        self.is_program = os.path.isfile(os.path.join(self.folder, "src", "main.rt"))
+        self.is_static = "staticlib" in line.partition(":")[0].split()
         self.log = os.path.join(OUT, f"{name}.log")
         self.noted = os.path.join(OUT, f"{name}.stamp")
+        self.files = ""
 
-    def bring_back(self):
-        """Moves the kept work back to the crate's folder, also after a run that was killed, and removes the other."""
-        there = os.path.join(self.side, "crates", self.name)
-        kept = os.path.join(there, "out")
-        if os.path.isdir(kept):
-            wait_for_others(there)
-            shutil.rmtree(os.path.join(self.folder, "out"), ignore_errors=True)
-            os.rename(kept, os.path.join(self.folder, "out"))
-        shutil.rmtree(self.side, ignore_errors=True)
+    @property
+    def made(self):
+        """The program, the static library, or the folder of the library for the crates above it."""
+        if self.is_program or self.is_static:
+            return os.path.join(self.folder, "out", f"lib{self.name}.a" if self.is_static else self.name)
+        return os.path.join(OUT, f"{self.name}.rlib")
 
-    def set_aside(self, below):
-        """Makes the folder to build in, of the crate and the built libraries below."""
-        os.makedirs(self.side)
-        with open(os.path.join(self.side, "crates.txt"), "w", encoding="utf-8") as file:
-            file.writelines(f"{it.line}\n" for it in [*below, self])
-        there = os.path.join(self.side, "crates")
-        for it in [*below, self]:
-            for part in PARTS:
-                link_files(os.path.join(it.folder, part), os.path.join(there, it.name, part))
-        for it in below:
-            link_files(os.path.join(it.folder, "out", "rlib"), os.path.join(there, it.name, "out", "rlib"))
+    def words(self, jobs):
+        """Returns what `rattle check` and `rattle build` have to know of the crate."""
+        folder, libraries = kit(), os.path.join(kit(), "rlibs")
+        words = ["--crate-name", self.name, os.path.join("src", "main.rt" if self.is_program else "lib.rt")]
+        for it in ("std", *uses_of(self.line)):
+            words += ["--extern", f"{it}={os.path.join(OUT if it in self.below else libraries, it)}.rlib"]
+        words += ["-L", f"dependency={libraries}", "-L", f"dependency={OUT}", "--links", f"{self.name}="]
+        words += ["--antt-project", os.path.join(folder, "rattle", "logic", "antt-project.json")]
+        words += ["--logic-built", os.path.join(folder, "logic_built"), "--jobs", str(jobs)]
+        return words + ["--crate-type", "staticlib"] * self.is_static
+
+    def command(self, jobs, to=None, compiler=None):
+        """Returns the words of the command. Its last step, of a program, is the clang of the toolchain in `compiler`."""
+        words = [rattle(), "build", *self.words(jobs)]
+        if self.is_program or self.is_static:
+            words += ["--backend", "llvm", "--toolchain", compiler or os.path.join(kit(), "toolchain")]
+        else:
+            words += ["--statements"]
+        return [*words, "-o", to or (self.object() if self.is_program else self.made)]
+
+    def object(self):
+        return os.path.join(OUT, f"{self.name}.o")
+
+    def link(self):
+        """Links a program. Returns the status."""
+        folder = kit()
+        words = [os.path.join(folder, "bin", "rattle-link"), "--target", TARGET]
+        words += ["--toolchain", os.path.join(folder, "toolchain"), "-o", self.made, self.object()]
+        words += [os.path.join(folder, "c", it) for it in ("libos_c.a", "liblibc_c.a")]
+        with open(self.log, "ab") as log:
+            return subprocess.run(words, stdin=subprocess.DEVNULL, stdout=log, stderr=log, check=False).returncode
+
+    def start(self, jobs, sums, lock):
+        """Starts the command. It holds the lock too, so that another build waits for it where this script is killed."""
         with contextlib.suppress(FileNotFoundError):
-            os.rename(os.path.join(self.folder, "out"), os.path.join(there, self.name, "out"))
+            os.remove(self.noted)
+        # Taken before the command reads the files, so that what is edited meanwhile is built again by the next run.
+        self.files = self.sum_of_files(sums)
+        os.makedirs(os.path.dirname(self.made), exist_ok=True)
+        with open(self.log, "wb") as log:
+            how = {"stdin": subprocess.DEVNULL, "stdout": log, "stderr": log, "start_new_session": True}
+            return subprocess.Popen(self.command(jobs), cwd=self.folder, pass_fds=(lock,), **how)
 
-    def stamp(self, stamps, toolchain):
-        """Returns a sum of what the library is made from and of what `rt` noted on it; nothing if it is not built."""
-        try:
-            with open(os.path.join(self.folder, "out", "rlib", "stamp"), "rb") as file:
-                said = file.read()
-        except OSError:
-            return ""
-        total = hashlib.sha256(repr((toolchain, self.line, said, [stamps[it] for it in self.below])).encode())
+    def sum_of_files(self, sums):
+        """Returns a sum of what the crate is built from: its files, the crates below as they are built, the toolchain."""
+        total = hashlib.sha256(repr((toolchain(), self.line, [sums[it] for it in self.below])).encode())
         for path in files_of(self.folder):
             with open(path, "rb") as file:
                 total.update(repr((os.path.relpath(path, self.folder), file.read())).encode())
         return total.hexdigest()
 
-    def is_noted(self, stamp):
+    def sum_of_made(self):
+        """Returns a sum of what was built: of a library, of its file `format`, which has the sum of the others."""
+        is_file = self.is_program or self.is_static
+        with open(self.made if is_file else os.path.join(self.made, "format"), "rb") as file:
+            return hashlib.sha256(file.read()).hexdigest()
+
+    def is_made(self):
+        """Returns whether what was built is there as it was built, whatever the files are now."""
         with contextlib.suppress(FileNotFoundError), open(self.noted, encoding="utf-8") as file:
-            return bool(stamp) and file.read() == stamp
+            return file.read().split()[1:] == [self.sum_of_made()]
         return False
 
-    def start(self, below, jobs):
-        self.set_aside(below)
-        with open(self.log, "wb") as log:
-            how = {"stdin": subprocess.DEVNULL, "stdout": log, "stderr": log, "start_new_session": True}
-            folder = os.path.join(self.side, "crates", self.name)
-            return subprocess.Popen(["rt", "lib", "--jobs", str(jobs)], cwd=folder, **how)
+    def is_built_from(self, sums):
+        with contextlib.suppress(FileNotFoundError), open(self.noted, encoding="utf-8") as file:
+            return file.read().split() == [self.sum_of_files(sums), self.sum_of_made()]
+        return False
+
+    def note_built(self):
+        with open(self.noted, "w", encoding="utf-8") as file:
+            file.write(f"{self.files} {self.sum_of_made()}")
+
+
+def crate_of(name):
+    below, line = listed()[name]
+    return Crate(name, line, below)
 
 
 class Build:
-    """The libraries that the program stands on, and how far they are."""
+    """The crates that one stands on, and itself where that is asked for, and how far they are."""
 
-    def __init__(self, places):
-        said = listed()
-        self.names = in_order(NAME, {name: uses for name, (uses, _) in said.items()})
-        self.libraries = {it: Library(it, said[it][1], said[it][0]) for it in self.names[:-1]}
-        self.below = {it: in_order(it, {name: uses for name, (uses, _) in said.items()})[:-1] for it in self.names}
-        self.places, self.done, self.running, self.stamps = places, [], {}, {}
-        known = costs()
-        self.cost = {it: known.get(it, 30) for it in self.names}
-        self.ahead = {}
+    def __init__(self, goal, with_goal, places, lock):
+        uses = {name: below for name, (below, _) in listed().items()}
+        names = in_order(goal, uses)
+        self.names = names if with_goal else names[:-1]
+        self.crates = {it: crate_of(it) for it in self.names}
+        self.places, self.lock, self.done, self.running, self.sums = places, lock, [], {}, {}
+        known, self.ahead = costs(), {}
         for it in reversed(self.names):
-            above = [self.ahead[name] for name in self.names if name in self.ahead and it in said[name][0]]
-            self.ahead[it] = self.cost[it] + max(above, default=0)
-        self.waiting = sorted(self.names[:-1], key=lambda it: -self.ahead[it])
-        self.toolchain = toolchain()
+            above = [self.ahead[name] for name in self.names if name in self.ahead and it in uses[name]]
+            self.ahead[it] = known.get(it, 30) + max(above, default=0)
+        self.waiting = sorted(self.names, key=lambda it: -self.ahead[it])
+
+    def is_ready(self, name):
+        return all(it in self.done for it in self.crates[name].below)
+
+    def end(self, name):
+        self.sums[name] = self.crates[name].sum_of_made()
+        self.done.append(name)
+
+    def takes_built(self, name):
+        """Takes a crate if it is built from its files and from the crates below as they are, and returns whether it is."""
+        is_built = self.crates[name].is_built_from(self.sums)
+        if is_built:
+            self.waiting.remove(name)
+            self.end(name)
+        return is_built
 
     def skip_built(self):
-        """Takes the libraries that are built already, and returns how many they are."""
-        for name in self.names[:-1]:
-            library = self.libraries[name]
-            if all(it in self.stamps for it in library.below):
-                stamp = library.stamp(self.stamps, self.toolchain)
-                if library.is_noted(stamp):
-                    self.stamps[name] = stamp
-                    self.waiting.remove(name)
-                    self.done.append(name)
-        return len(self.done)
-
-    def jobs_of(self, name):
-        """Returns how many functions a library proves at a time: two where it stands on few crates, and the end waits for
-        it, not for processors."""
-        left = sum(self.cost[it] for it in self.names if it not in self.done)
-        is_waited_for = self.places > 1 and self.ahead[name] * self.places > left
-        return 2 if is_waited_for and len(self.below[name]) <= FEW_BELOW else 1
+        """Takes what is built already, and returns how many crates that is."""
+        return sum(self.is_ready(name) and self.takes_built(name) for name in self.names)
 
     def start_some(self):
-        for name in list(self.waiting):
-            if len(self.running) >= self.places or (self.running and free_memory() < BYTES_A_JOB):
+        """Starts crates that can begin, each with one function at a time, or two where all that can begin get two."""
+        ready = [it for it in self.waiting if self.is_ready(it)]
+        for at, name in enumerate(ready):
+            idle = self.places - sum(jobs for _, jobs, _ in self.running.values())
+            if idle < 1 or (self.running and free_memory() < BYTES_A_JOB):
                 return
-            if all(it in self.stamps for it in self.libraries[name].below):
+            if not self.takes_built(name):
                 self.waiting.remove(name)
-                below = [self.libraries[it] for it in self.below[name]]
-                self.running[name] = self.libraries[name].start(below, self.jobs_of(name)), time.time()
+                jobs = 2 if idle >= 2 * (len(ready) - at) else 1
+                self.running[name] = self.crates[name].start(jobs, self.sums, self.lock), jobs, time.time()
 
     def take_ended(self):
-        """Takes the libraries whose run has ended, and returns the name and status of one that failed, if any did."""
-        for name, (tool, since) in list(self.running.items()):
+        """Takes the crates whose command has ended, and returns the name and status of one that failed, if any did."""
+        for name, (tool, _, since) in list(self.running.items()):
             if tool.poll() is None:
                 continue
             del self.running[name]
-            library = self.libraries[name]
-            library.bring_back()
-            if tool.returncode:
-                return name, tool.returncode
-            self.stamps[name] = library.stamp(self.stamps, self.toolchain)
-            with open(library.noted, "w", encoding="utf-8") as file:
-                file.write(self.stamps[name])
-            self.done.append(name)
-            self.tell(name, since)
+            crate = self.crates[name]
+            status = tool.returncode or (crate.link() if crate.is_program else 0)
+            if status:
+                return name, status
+            crate.note_built()
+            self.end(name)
+            tell_plainly(f"{len(self.done)}/{len(self.names)} {name} {time.time() - since:.0f} s")
         return None
 
-    def tell(self, name, since):
-        print(f"{len(self.done)}/{len(self.names)} {name} {time.time() - since:.0f} s", file=sys.stderr, flush=True)
-
     def end_all(self):
-        """Ends what runs, and brings its kept work back."""
-        for tool, _ in self.running.values():
+        for tool, _, _ in self.running.values():
             with contextlib.suppress(ProcessLookupError):
-                tool.terminate()
-        for name, (tool, _) in self.running.items():
+                os.killpg(tool.pid, signal.SIGKILL)
             tool.wait()
-            self.libraries[name].bring_back()
         self.running = {}
 
-    def build_libraries(self):
-        """Builds what is not built, and returns the name and status of the first library that failed, if any did."""
+    def build(self):
+        """Builds what is not built, and returns the name and status of the first crate that failed, if any did."""
         try:
             while self.waiting or self.running:
                 self.start_some()
@@ -234,26 +246,24 @@ class Build:
 
 
 @contextlib.contextmanager
-def locked(libraries):
-    """Keeps other runs of `rt` out of the libraries' folders."""
-    held = [os.open(it.folder, os.O_RDONLY) for it in libraries]
-    try:
-        for it, lock in zip(libraries, held):
-            try:
-                fcntl.flock(lock, fcntl.LOCK_EX | fcntl.LOCK_NB)
-            except BlockingIOError:
-                tell(f"waiting for another run of rt in {it.folder}")
-                fcntl.flock(lock, fcntl.LOCK_EX)
-            except OSError:
-                pass
-        yield
-    finally:
-        for lock in held:
-            os.close(lock)
+def locked():
+    """Keeps other builds out of build/out, and gives the lock."""
+    os.makedirs(OUT, exist_ok=True)
+    with open(os.path.join(OUT, "lock"), "w", encoding="utf-8") as file:
+        try:
+            fcntl.flock(file, fcntl.LOCK_EX | fcntl.LOCK_NB)
+        except BlockingIOError:
+            tell("waiting for another build of this repository")
+            fcntl.flock(file, fcntl.LOCK_EX)
+        yield file.fileno()
+
+
+def tell_plainly(*words):
+    print(*words, file=sys.stderr, flush=True)
 
 
 def tell(*words):
-    print("make run:", *words, file=sys.stderr, flush=True)
+    tell_plainly("build:", *words)
 
 
 def tell_failure(name, status, log):
@@ -265,40 +275,38 @@ def tell_failure(name, status, log):
     tell(f"{name} failed with status {status}; the lines above are the last of {log}")
 
 
-def run_program():
-    """Proves, builds and runs the program itself, on standard input. Returns its status."""
-    folder, log = os.path.join(TOP, "crates", NAME), os.path.join(OUT, f"{NAME}.log")
-    with open(log, "wb") as file:
-        return subprocess.run(["rt", "run", "--jobs", "1"], cwd=folder, stderr=file, check=False).returncode, log
-
-
-def main():
+def built(goal=NAME, with_goal=True):
+    """Proves and builds a crate and what it stands on, or what it stands on alone. Returns the status."""
     if not shutil.which("rt"):
         tell("there is no command rt on the path: it needs the Rattle toolchain")
         return 2
-    os.makedirs(OUT, exist_ok=True)
     begun, told = time.time(), places_told(os.environ.get("MAKEFLAGS", ""))
     places = max(1, min(told, free_memory() // BYTES_A_JOB))
-    build = Build(places)
-    with locked(build.libraries.values()):
-        for it in build.libraries.values():
-            it.bring_back()
-        built = build.skip_built()
-        if build.waiting:
-            tell(f"{built} of {len(build.names)} crates are built; {places} side by side")
-        failed = build.build_libraries()
+    with locked() as lock:
+        build = Build(goal, with_goal, places, lock)
+        kept = build.skip_built()
+        if not build.waiting:
+            return 0
+        tell(f"{kept} of {len(build.names)} crates are built; {places} functions at a time")
+        failed = build.build()
     if failed:
-        tell_failure(*failed, build.libraries[failed[0]].log)
+        tell_failure(*failed, build.crates[failed[0]].log)
         return failed[1] if failed[1] > 0 else 128 - failed[1]
-    since = time.time()
-    status, log = run_program()
-    if status:
-        tell_failure(NAME, status, log)
-        return status if status > 0 else 128 - status
-    build.done.append(NAME)
-    build.tell(NAME, since)
-    tell(f"proved, in {time.time() - begun:.0f} s in all; the program is crates/{NAME}/out/{NAME}")
+    tell(f"proved, in {time.time() - begun:.0f} s")
     return 0
+
+
+def main(words):
+    """Proves and builds a crate, and runs a program on standard input. Returns the first status that is not 0."""
+    name = words[0] if words else NAME
+    if name not in listed():
+        tell(f"crates.txt has no crate {name}")
+        return 2
+    crate, status = crate_of(name), built(name)
+    if status or not crate.is_program:
+        return status
+    tell(f"the program is {os.path.relpath(crate.made, TOP)}")
+    return subprocess.run([crate.made], check=False).returncode
 
 
 def interrupted(number, _):
@@ -317,4 +325,4 @@ def status_of(work):
 
 
 if __name__ == "__main__":
-    sys.exit(status_of(main))
+    sys.exit(status_of(lambda: main(sys.argv[1:])))

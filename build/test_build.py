@@ -1,5 +1,5 @@
 #!/usr/bin/env python3
-"""Tests of prove.py and unproved.py in a small repository, with a stand-in for `rt` that proves nothing."""
+"""Tests of prove.py and unproved.py in a small repository, with stand-ins for the toolchain that prove nothing."""
 import os
 import shutil
 import signal
@@ -12,35 +12,45 @@ import unittest
 HERE = os.path.dirname(os.path.abspath(__file__))
 CRATES = "# the bottom\nlow:\nleft: low\nright: low bitflags\nother:\nsel4sim: left right\n"
 SECONDS = "low 5\nleft 20\nright 5\nsel4sim 5\n"
-# It notes when it begins and ends, takes as long as the file `slow` says, and fails where there is a file `wrong`.
-RT = """#!{python}
-import os, shutil, stat, sys, time
-crate = os.path.basename(os.getcwd())
-root = os.path.dirname(os.path.dirname(os.getcwd()))
+HEAD = """#!{python}
+import os, shutil, sys, time
 note = lambda *words: open({log!r}, "a").write(" ".join(map(str, words)) + "\\n")
-if sys.argv[1] == "try":
-    if os.path.exists("src/wrong"):
-        sys.exit("error: no such name")
-    program = os.path.join(os.environ["TMPDIR"], "program")
-    shutil.copyfile("/bin/cat", program)
-    os.chmod(program, 0o755)
-    note("try")
-    os.execv(program, ["cat", sys.argv[-1]])
-lines = [it.split(":") for it in open(os.path.join(root, "crates.txt")).read().splitlines() if ":" in it]
-for name in dict(lines)[crate].split():
-    if name in dict(lines) and not os.path.isfile(os.path.join(root, "crates", name, "out/rlib/stamp")):
-        sys.exit(f"rt: {{name}} is not built")
-note("begin", crate, *sys.argv[1:])
-os.makedirs("out/incremental", exist_ok=True)
-open("out/incremental/kept", "a").write("work\\n")
+"""
+RT = HEAD + """
+if os.path.exists("src/wrong"):
+    sys.exit("error: no such name")
+program = os.path.join(os.environ["TMPDIR"], "program")
+shutil.copyfile("/bin/cat", program)
+os.chmod(program, 0o755)
+note(sys.argv[1])
+os.execv(program, ["cat", sys.argv[-1]])
+"""
+# It notes when it begins and ends, takes as long as the file `slow` says, and fails where there is a file `wrong`. What it
+# builds has the crate's file and the texts of what it is built over.
+RATTLE = HEAD + """
+words = sys.argv[1:]
+value = lambda flag: words[words.index(flag) + 1]
+crate, made = value("--crate-name"), value("-o")
+below = [words[at + 1].partition("=")[2] for at, it in enumerate(words) if it == "--extern"]
+ours = [it for it in below if "rlibs" not in it]
+for it in ours:
+    if not os.path.isfile(os.path.join(it, "format")):
+        sys.exit(f"rattle: there is no {{it}}")
+note("begin", crate, "jobs", value("--jobs"), "over", len(below) - len(ours), *sorted(map(os.path.basename, ours)))
 time.sleep(float(open("src/slow").read()) if os.path.exists("src/slow") else 0.3)
 if os.path.exists("src/wrong"):
     sys.exit("fn wrong: not proved")
-os.makedirs("out/rlib", exist_ok=True)
-open("out/rlib/stamp", "w").write(open("src/lib.rt").read())
+text = open(words[words.index("--crate-name") + 2]).read() + "".join(open(os.path.join(it, "format")).read() for it in ours)
+if "--statements" in words:
+    os.makedirs(made, exist_ok=True)
+open(os.path.join(made, "format") if "--statements" in words else made, "w").write(text)
 note("end", crate)
-if sys.argv[1] == "run":
-    print("report of", sys.stdin.read(), end="")
+"""
+LINK = HEAD + """
+program = sys.argv[sys.argv.index("-o") + 1]
+open(program, "w").write("#!/bin/sh\\nprintf 'report of '; cat\\n")
+os.chmod(program, 0o755)
+note("link", os.path.basename(program))
 """
 
 
@@ -51,12 +61,14 @@ class Small(unittest.TestCase):
         self.addCleanup(shutil.rmtree, self.top)
         shutil.copytree(HERE, self.path("build"), ignore=shutil.ignore_patterns("out", "__pycache__"))
         os.mkdir(self.path("bin"))
-        self.write("bin/rt", RT.format(python=sys.executable, log=self.path("log")))
-        os.chmod(self.path("bin/rt"), 0o755)
+        for name, text in (("rt", RT), ("rattle", RATTLE), ("rattle-link", LINK)):
+            self.write(f"bin/{name}", text.format(python=sys.executable, log=self.path("log")))
+            os.chmod(self.path(f"bin/{name}"), 0o755)
         self.write("crates.txt", CRATES)
         self.write("build/seconds.txt", SECONDS)
-        for name in ("low", "left", "right", "other", "sel4sim"):
+        for name in ("low", "left", "right", "other"):
             self.write(f"crates/{name}/src/lib.rt", name)
+        self.write("crates/sel4sim/src/main.rt", "sel4sim")
         self.write("log", "")
 
     def path(self, name):
@@ -90,54 +102,76 @@ class Small(unittest.TestCase):
 
 
 class Prove(Small):
+    def begun(self):
+        return [it[1] for it in self.log() if it[0] == "begin"]
+
     def test_builds_what_the_program_stands_on_in_order(self):
         status, out, said = self.run_script("prove.py")
         self.assertEqual((status, out), (0, "report of set-up\n"), said)
         log = self.log()
-        begun = [it[1] for it in log if it[0] == "begin"]
-        # `left` has more work above it, and the end waits for it; `other` is not needed.
-        self.assertEqual(begun, ["low", "left", "right", "sel4sim"])
-        self.assertIn(["begin", "left", "lib", "--jobs", "2"], log)
-        self.assertRegex(said, r"1/4 low \d+ s\n2/4 left \d+ s\n3/4 right \d+ s\n4/4 sel4sim \d+ s\n")
-        self.assertFalse(os.listdir(self.path("build/out/side")))
+        # `other` is not needed. A crate that begins alone uses both processors.
+        low, *sides, program = [" ".join(it[1:]) for it in log if it[0] == "begin"]
+        self.assertEqual((low, program), ("low jobs 2 over 1", "sel4sim jobs 2 over 1 left.rlib right.rlib"))
+        self.assertEqual(sorted(sides), ["left jobs 1 over 1 low.rlib", "right jobs 1 over 2 low.rlib"])
+        self.assertEqual(log[-1], ["link", "sel4sim"])
+        self.assertRegex(said, r"1/4 low \d+ s\n(2/4 left \d+ s\n3/4 right|2/4 right \d+ s\n3/4 left) \d+ s\n4/4 sel4sim \d+ s\n")
 
     def test_crates_run_side_by_side(self):
-        self.write("build/seconds.txt", "low 5\nleft 20\nright 20\nsel4sim 0\n")
         # Long enough that the second has begun before the first ends, on a busy machine too.
         self.write("crates/left/src/slow", "2")
         self.write("crates/right/src/slow", "2")
         self.assertEqual(self.run_script("prove.py")[0], 0)
         kinds = [it[0] for it in self.log()]
-        self.assertEqual(kinds, ["begin", "end", "begin", "begin", "end", "end", "begin", "end"])
-
-    def test_a_crate_that_stands_on_many_proves_one_function_at_a_time(self):
-        below = [f"low{n}" for n in range(11)]
-        uses = {**{name: "" for name in below}, "many": " ".join(below), "sel4sim": "many"}
-        self.write("crates.txt", "".join(f"{name}: {it}\n" for name, it in uses.items()))
-        self.write("build/seconds.txt", "many 100\nsel4sim 5\n")
-        for name in [*below, "many"]:
-            self.write(f"crates/{name}/src/lib.rt", name)
-        self.assertEqual(self.run_script("prove.py")[0], 0)
-        log = self.log()
-        self.assertIn(["begin", "many", "lib", "--jobs", "1"], log)
-        self.assertIn(["begin", "sel4sim", "run", "--jobs", "1"], log)
+        self.assertEqual(kinds, ["begin", "end", "begin", "begin", "end", "end", "begin", "end", "link"])
 
     def test_one_place_runs_one_at_a_time(self):
         self.assertEqual(self.run_script("prove.py", flags=" -j1")[0], 0)
-        kinds = [it[0] for it in self.log()]
-        self.assertEqual(kinds, ["begin", "end"] * 4)
+        log = self.log()
+        self.assertEqual([it[0] for it in log], ["begin", "end"] * 4 + ["link"])
+        # `left` has more work above it.
+        self.assertEqual([it[1] for it in log if it[0] == "begin"], ["low", "left", "right", "sel4sim"])
 
     def test_what_is_built_is_not_built_again(self):
         self.run_script("prove.py")
         self.log()
-        self.assertEqual(self.run_script("prove.py")[0], 0)
-        self.assertEqual([it[1] for it in self.log() if it[0] == "begin"], ["sel4sim"])
+        status, out, said = self.run_script("prove.py")
+        self.assertEqual((status, out, self.begun()), (0, "report of set-up\n", []))
+        self.assertNotIn("are built", said)
         self.write("crates/right/src/lib.rt", "right anew")
         self.assertEqual(self.run_script("prove.py")[0], 0)
-        self.assertEqual([it[1] for it in self.log() if it[0] == "begin"], ["right", "sel4sim"])
-        shutil.rmtree(self.path("crates/left/out"))
+        self.assertEqual(self.begun(), ["right", "sel4sim"])
+        # What stands on a library that was built to the same bytes is not built again.
+        shutil.rmtree(self.path("build/out/left.rlib"))
         self.assertEqual(self.run_script("prove.py")[0], 0)
-        self.assertEqual([it[1] for it in self.log() if it[0] == "begin"], ["left", "sel4sim"])
+        self.assertEqual(self.begun(), ["left"])
+        self.write("crates/sel4sim/out/sel4sim", "not what was linked")
+        self.assertEqual(self.run_script("prove.py")[1], "report of set-up\n")
+        self.assertEqual(self.begun(), ["sel4sim"])
+
+    def test_an_edit_while_its_crate_is_built_is_not_lost(self):
+        self.write("crates/low/src/slow", "2")
+        tool = self.started("prove.py")
+        while "begin low" not in self.read("log"):
+            time.sleep(0.05)
+        self.write("crates/low/proofs/A.antt", "a proof")
+        tool.communicate("")
+        self.log()
+        self.assertEqual(self.run_script("prove.py")[0], 0)
+        self.assertEqual(self.begun(), ["low"])
+
+    def test_builds_another_program(self):
+        self.write("crates.txt", f"{CRATES}second: other\n")
+        self.write("crates/second/src/main.rt", "second")
+        self.assertEqual(self.run_script("prove.py", "second")[:2], (0, "report of set-up\n"))
+        self.assertEqual(self.begun(), ["other", "second"])
+
+    def test_builds_a_static_library(self):
+        self.write("crates.txt", f"{CRATES}archive staticlib: other\n")
+        self.write("crates/archive/src/lib.rt", "archive")
+        self.assertEqual(self.run_script("prove.py", "archive")[:2], (0, ""))
+        self.assertEqual(self.read("crates/archive/out/libarchive.a"), "archiveother")
+        self.assertEqual(self.run_script("prove.py", "archive")[:2], (0, ""))
+        self.assertEqual(self.begun(), ["other", "archive"])
 
     def test_stops_at_the_first_that_fails(self):
         self.write("crates/left/src/wrong", "")
@@ -145,31 +179,33 @@ class Prove(Small):
         begun = time.time()
         status, out, said = self.run_script("prove.py")
         self.assertEqual((status, out), (1, ""))
-        self.assertIn("fn wrong: not proved\nmake run: left failed with status 1", said)
-        self.assertNotIn("sel4sim", [it[1] for it in self.log()])
+        self.assertIn("fn wrong: not proved\nbuild: left failed with status 1", said)
+        self.assertNotIn("sel4sim", self.begun())
         self.assertLess(time.time() - begun, 15)
         os.remove(self.path("crates/left/src/wrong"))
         self.write("crates/right/src/slow", "0")
         self.assertEqual(self.run_script("prove.py")[0], 0)
 
-    def test_an_interrupt_keeps_the_work(self):
-        self.write("crates/left/src/slow", "30")
+    def test_goes_on_after_an_interrupt(self):
         for number in (signal.SIGINT, signal.SIGTERM, signal.SIGKILL):
+            self.write("crates/left/src/slow", "5" if number == signal.SIGKILL else "30")
             tool = self.started("prove.py")
             while "begin left" not in self.read("log"):
                 time.sleep(0.05)
             time.sleep(0.3)
             self.log()
             tool.send_signal(number)
-            if number == signal.SIGKILL:
-                # What it started goes on for a while; the next run waits for it only where it holds its lock.
-                self.write("crates/left/src/slow", "0")
             said = tool.communicate()[1]
             self.assertEqual(tool.returncode, -9 if number == signal.SIGKILL else 130)
             self.assertEqual("goes on from here" in said, number != signal.SIGKILL)
-        self.assertEqual(self.run_script("prove.py")[0], 0)
-        self.assertNotIn("low", [it[1] for it in self.log() if it[0] == "begin"])
-        self.assertGreaterEqual(self.read("crates/left/out/incremental/kept").count("work"), 3)
+        # What was started by the one that was killed goes on, and the next one waits for it.
+        self.write("crates/left/src/slow", "0")
+        status, _, said = self.run_script("prove.py")
+        self.assertEqual((status, "waiting for another build" in said), (0, True), said)
+        log = self.log()
+        begun = [it[1] for it in log if it[0] == "begin"]
+        self.assertEqual(("left" in begun, begun[-1]), (True, "sel4sim"))
+        self.assertLess(log.index(["end", "left"]), [it[1] for it in log].index("sel4sim"))
 
     def test_without_the_toolchain(self):
         os.remove(self.path("bin/rt"))

@@ -7,8 +7,8 @@ usage, anywhere in the repository:
   --jobs N    so many crates side by side (1)
   --room DIR  keeps the copies, with what was proved and what rt said, in DIR
 
-The checkout is not touched: each crate is tried in a copy, over copies of the crates below it and of their kept work,
-so build those first (rt lib). Edits stand in one check only where each is in a function of its own and none of these
+The checkout is not touched: each crate is tried in a copy, over the crates below it, which are proved and built first, as
+by make run. Edits stand in one check only where each is in a function of its own and none of these
 functions calls another one. There an edit counts as refused only by a goal of its own function: callers are proved
 against contracts, so such a goal is false, or no longer proved, because of that edit alone. What has no such error is
 tried by itself, by the rule of `rt must-fail`: the crate is refused. docs/wrong-bodies.md says more."""
@@ -21,6 +21,11 @@ import shutil
 import subprocess
 import sys
 import tempfile
+
+sys.path.insert(0, os.path.join(os.path.dirname(os.path.dirname(os.path.abspath(__file__))), "build"))
+
+import prove  # noqa: E402
+from crates import listed  # noqa: E402
 
 PARTS = ("src", "specs", "proofs")
 FOLDERS = ("must-fail", "wrong-bodies")
@@ -197,46 +202,15 @@ def groups_of(edits):
     return groups, alone
 
 
-def lines_of_list(root):
-    """The lines of crates.txt, by the crate that each names."""
-    lines = [it.split("#")[0].strip() for it in text_of(f"{root}/crates.txt").split("\n")]
-    return {it.split(":")[0].split()[0]: it for it in lines if it}
-
-
-def crates_below(listed, crate):
-    """A crate with all those of the repository that it stands on."""
-    found, left = [], [crate]
-    while left:
-        name = left.pop()
-        if name not in found:
-            found.append(name)
-            left += [it for it in listed[name].split(":")[1].split() if it in listed]
-    return found
-
-
-def is_built(folder):
-    """Whether a crate's library stands there; else rt would build it in each copy."""
-    return os.path.isdir(f"{folder}/out/rlib")
-
-
 def make_room(root, crate, room):
-    """Copies a crate and those below it, with their kept work, and gives the copy's folder."""
-    listed = lines_of_list(root)
-    names = crates_below(listed, crate)
-    os.makedirs(f"{room}/crates", exist_ok=True)
-    for name in names:
-        for part in (*PARTS, "out"):
-            source, target = f"{root}/crates/{name}/{part}", f"{room}/crates/{name}/{part}"
-            shutil.rmtree(target, ignore_errors=True)
-            if os.path.isdir(source):
-                os.makedirs(os.path.dirname(target), exist_ok=True)
-                subprocess.run(["cp", "-a", "--reflink=auto", source, target], check=True)
-    with open(f"{room}/crates.txt", "w", encoding="utf-8") as file:
-        file.write("".join(f"{line}\n" for name, line in listed.items() if name in names))
-    if os.path.isfile(f"{root}/HANDLES"):
-        shutil.copy(f"{root}/HANDLES", f"{room}/HANDLES")
-    os.makedirs(f"{room}/.git", exist_ok=True)
-    return f"{room}/crates/{crate}"
+    """Copies a crate's files, and gives the copy's folder."""
+    for part in PARTS:
+        source, target = f"{root}/crates/{crate}/{part}", f"{room}/{part}"
+        shutil.rmtree(target, ignore_errors=True)
+        if os.path.isdir(source):
+            shutil.copytree(source, target)
+    os.makedirs(f"{room}/out", exist_ok=True)
+    return room
 
 
 @dataclasses.dataclass
@@ -269,7 +243,7 @@ def check(tried, edits):
             texts[file] = texts[file].replace(old, new)
     write_all(folder, texts)
     try:
-        ran, seconds = ran_with_seconds(folder)
+        ran, seconds = ran_with_seconds(tried.crate, folder)
     finally:
         write_all(folder, kept)
     tried.seconds, tried.checks = tried.seconds + seconds, tried.checks + 1
@@ -278,10 +252,11 @@ def check(tried, edits):
     return ran
 
 
-def ran_with_seconds(folder):
+def ran_with_seconds(crate, folder):
     """Runs the check, and gives the processor seconds that it took with all that it started."""
-    words = {"stdin": subprocess.DEVNULL, "stdout": subprocess.PIPE, "stderr": subprocess.STDOUT}
-    ran = subprocess.Popen(["rt", "check", "--jobs", "1"], cwd=folder, encoding="utf-8", errors="replace", **words)
+    how = {"stdin": subprocess.DEVNULL, "stdout": subprocess.PIPE, "stderr": subprocess.STDOUT, "encoding": "utf-8"}
+    words = [prove.rattle(), "check", *prove.crate_of(crate).words(1), "--incremental", "out"]
+    ran = subprocess.Popen(words, cwd=folder, errors="replace", **how)
     said = ran.stdout.read()
     ran.stdout.close()
     _, status, used = os.wait4(ran.pid, 0)
@@ -410,10 +385,6 @@ def try_crate(root, crate, names, rooms):
     edits = edits_of(f"{root}/crates/{crate}", names)
     tried.wrong += [f"{crate}/{it.name}: BAD EDIT: {it.bad}" for it in edits if it.bad]
     edits = [it for it in edits if not it.bad]
-    missing = [it for it in crates_below(lines_of_list(root), crate)[1:] if not is_built(f"{root}/crates/{it}")]
-    if missing:
-        tried.wrong.append(f"{crate}: not tried, for want of {', '.join(missing)}: run rt lib there first")
-        return tried
     tried.folder = make_room(root, crate, f"{rooms}/{crate}")
     if check(tried, []).status != 0:
         tried.wrong.append(f"{crate}: not tried, since it is not proved itself")
@@ -458,11 +429,11 @@ def root_above():
 
 def chosen(root, crate):
     """The crates to be tried, in the order of crates.txt."""
-    listed = list(lines_of_list(root))
-    if crate and crate not in listed:
+    names = list(listed())
+    if crate and crate not in names:
         sys.exit(f"there is no crate {crate} in crates.txt")
     has_edits = lambda it: any(os.path.isdir(f"{root}/crates/{it}/{kind}") for kind in FOLDERS)
-    return [it for it in listed if (it == crate if crate else has_edits(it))]
+    return [it for it in names if (it == crate if crate else has_edits(it))]
 
 
 def main():
@@ -485,7 +456,11 @@ def main():
 
 
 def try_all(root, crates, asked, rooms):
-    """Tries the edits of the crates, so many side by side as asked for, and tells what came of it."""
+    """Builds what the crates stand on, tries their edits, so many crates side by side as asked for, and tells what came of
+    it."""
+    for crate in crates:
+        if prove.built(crate, with_goal=False):
+            sys.exit(f"{crate}: not tried, since a crate that it stands on is not proved")
     with concurrent.futures.ThreadPoolExecutor(max(1, asked.jobs)) as pool:
         all_tried = [*pool.map(lambda it: tried_and_told(root, it, asked.names, rooms), crates)]
     wrong = [line for it in all_tried for line in it.wrong]

@@ -1,4 +1,4 @@
--- A run has as many replies as calls, a boot is a state that runs reach, and a text with its count is the program's.
+-- A run has as many replies as calls, and a text with its count is the program's.
 use Rattle.std.specs.Prelude.{◌≡◌, ℕ, suc, List, [], ◌∷◌, length, refl, Option, Some, None, Result, Ok, Err}
 use Rattle.std.proofs.Common.{ap, ap₂, ◌∙◌}
 use Rattle.std.proofs.lemmas.List.{length-map}
@@ -13,22 +13,14 @@ use Rattle.setup_format.specs.Views.{SetupView, CallView}
 use Rattle.setup_format.specs.Faults.{Fault}
 use Rattle.setup_format.specs.Setups.{setup_of_bytes}
 use Rattle.setup_report.specs.declared.calls.ExpectationCount.{ExpectationCount}
+use Rattle.setup_report.proofs.Runs.{replies_length}
 use Rattle.engine.specs.Program.{HasCounts, IsTextOfSetup, program, outcome_in, outcome_of, replies_to, calls_of, verdict_in, verdict_of, verdict_on}
 use Rattle.engine.specs.declared.run.CountedText.{CountedText}
-
-pub length-replies_of : (p : ProfileName) (A : State) (calls : List Call) → length (replies_of p A calls) ≡ length calls
-unfolding replies_of
-length-replies_of p A [] = refl
-length-replies_of p A (call ∷ calls) = ap suc (length-replies_of p (step p A call).state calls)
 
 pub length_replies_to : (p : ProfileName) (setup : SetupView) → length (replies_to p setup) ≡ length setup.calls
 unfolding replies_to
 length_replies_to p setup =
-    length-replies_of p (boot p setup.plan) (calls_of setup) ∙ length-map setup.calls (λ (c : CallView). c.call)
-
-pub boot_reached : (p : ProfileName) (plan : Plan) → IsPlan p plan → IsReached p (boot p plan)
-unfolding state_after
-boot_reached p plan lawful = record { plan = plan; lawful = lawful; calls = []; is = refl }
+    replies_length p (boot p setup.plan) (calls_of setup) ∙ length-map setup.calls (λ (c : CallView). c.call)
 
 counted_verdict : (p : ProfileName) (setup : SetupView) (count : Option ExpectationCount) → HasCounts p setup count
     → verdict_in count ≡ verdict_of setup.calls (replies_to p setup)

@@ -1,22 +1,17 @@
 -- What is written of the parts of a set-up's layout, and the verdict.
-use Rattle.std.specs.Prelude.{◌≡◌, ℕ, ◌&&◌, nat_le, Bool, List, [], map, take, length, Option, Some, None, Result, Ok, Err, MatchBool}
+use Rattle.std.specs.Prelude.{◌≡◌, ℕ, ◌&&◌, nat_le, Bool, List, [], length, Option, Some, None, Result, Ok, Err, MatchBool}
 use Rattle.cap_core.specs.declared.profile.ProfileName.{ProfileName}
-use Rattle.abstract_kernel.specs.Boot.{boot}
-use Rattle.abstract_kernel.specs.State.{State, shown}
-use Rattle.abstract_kernel.specs.Step.{state_after}
+use Rattle.abstract_kernel.specs.State.{shown}
 use Rattle.setup_values.specs.Names.{Names}
-use Rattle.setup_format.specs.Views.{SetupView, CallView}
+use Rattle.setup_format.specs.Views.{SetupView}
 use Rattle.setup_format.specs.Faults.{Fault}
 use Rattle.setup_format.specs.Setups.{named_setup_of_bytes}
 use Rattle.setup_format.specs.Refusal.{refusal_line}
+use Rattle.setup_report.specs.Behind.{state_behind}
 use Rattle.setup_ever.specs.Threads.{are_meant, trusted}
 use Rattle.setup_ever.specs.Ever.{IsTextOf}
 use Rattle.engine_core.specs.declared.fault.Verdict.{Verdict}
 use Rattle.engine_core.specs.declared.fault.Verdict.TheVariants.{AllMet, Refused, Absent}
-
--- the state behind the first calls of a set-up
-unfoldable pub state_behind : ProfileName → SetupView → ℕ → State
-state_behind p setup made = state_after p (boot p setup.plan) (take made (map (λ (c : CallView). c.call) setup.calls))
 
 -- how many calls are made: all, where no number is given
 abbrev pub calls_made : SetupView → Option ℕ → ℕ

@@ -16,7 +16,8 @@ use Rattle.setup_never.specs.Open.{IsNeverOf}
 use Rattle.engine_core.specs.declared.fault.Verdict.{Verdict}
 use Rattle.engine_core.specs.declared.fault.Verdict.TheVariants.{AllMet, NotMet, Refused, Absent}
 use Rattle.engine_ever.specs.declared.asking.Question.{Question}
-use Rattle.engine_ever.specs.Ever.{state_behind, calls_made}
+use Rattle.setup_report.specs.Behind.{state_behind}
+use Rattle.engine_ever.specs.Ever.{calls_made}
 use Rattle.engine_ever.specs.Ever as told
 
 -- what is asked: behind how many calls, which threads are trusted, of which two threads, and but by which endpoints

@@ -7,7 +7,7 @@ ghost use Rattle.engine_core.specs.Runs.{IsRun};
 ghost use Rattle.engine_ever.specs.Ever as told;
 ghost use Rattle.engine_ever.specs.Never as spec;
 
-use crate::telling::{Teller, kernel_behind};
+use crate::telling::Teller;
 use cap_core::{Narrow, Profile, ProfileName, Wide};
 use engine::refusal;
 use engine_core::{Engine, RunFault, Sink, Source, Verdict, run_engine};
@@ -16,6 +16,7 @@ use kernel_core::Kernel;
 use setup_ever::{are_meant, thread_meant, trusted};
 use setup_format::{NamedSetup, Setup, SetupFault, read_named_setup};
 use setup_never::{Never, never_gets};
+use setup_report::kernel_after;
 use setup_values::Name;
 use slot_core::{CapStore, DerivationStore, LinkedStore, MakeStore};
 use std::alloc::{AllocError, Global};
@@ -107,7 +108,7 @@ impl Question<'_> {
         ensures { IfOk result (λ made. spec.IsAnswered P.profile (names_view names.now) setup.now (spec.asked_of self.now) (Some from) (Some to) made.0.items made.1) }
     {
         let made = self.teller().calls_made(setup) as usize;
-        let kernel = kernel_behind::<P, S, W>(alloc, setup, made)?;
+        let kernel = kernel_after::<P, S, W>(alloc, setup, made)?;
         self.answer_of::<P, S, W>(alloc, names, &kernel, from, to)
     }
 

@@ -1,7 +1,6 @@
 //! What the threads of a set-up can never get, from the bytes of an input to the text that is written for it.
 ghost use Rattle.std.specs.Prelude.{◌≡◌, ◌≢◌, ◌≤◌, nat_le, IfOk, false, length, map};
 ghost use Rattle.abstract_kernel.specs.Plan.{IsPlan};
-ghost use Rattle.abstract_kernel.specs.State.{shown};
 ghost use Rattle.setup_values.specs.Names.{names_view};
 ghost use Rattle.engine_core.specs.Runs.{IsRun};
 ghost use Rattle.engine_ever.specs.Ever as spec;
@@ -10,34 +9,12 @@ use cap_core::{Narrow, Profile, ProfileName, Wide};
 use engine::refusal;
 use engine_core::{Engine, RunFault, Sink, Source, Verdict, run_engine};
 use ipc_core::{LinkedWaiters, MakeWaiters};
-use kernel_core::Kernel;
 use setup_ever::{are_meant, ever, trusted};
 use setup_format::{NamedSetup, Setup, SetupFault, read_named_setup};
+use setup_report::kernel_after;
 use setup_values::Name;
 use slot_core::{DerivationStore, LinkedStore, MakeStore};
 use std::alloc::{AllocError, Global};
-
-/// The kernel of a set-up behind its first calls.
-///
-/// # Errors
-///
-/// Memory was refused.
-#[tactic(auto, unfolding(crate::specs::Ever::state_behind))]
-pub fn kernel_behind<P: Profile, S: MakeStore<P>, W: MakeWaiters<P>>(
-    alloc: Global,
-    setup: &Setup,
-    made: usize,
-) -> Result<Kernel<P, S, W>, AllocError>
-    requires plan { IsPlan P.profile setup.now.plan }
-    requires made { made ≤ length setup.now.calls }
-    ensures { IfOk result (λ kernel. kernel ≡ shown (spec.state_behind P.profile setup.now made)) }
-{
-    let mut kernel = Kernel::<P, S, W>::boot(alloc, setup.plan())?;
-    let mut replies = Vec::with_capacity(alloc, made)?;
-    let calls = &setup.calls()[..made];
-    kernel.run(calls, &mut replies);
-    Ok(kernel)
-}
 
 /// What is asked for: behind how many calls, all where no number is given; and the threads that are trusted to make no
 /// more calls, each by its address or by a name of the set-up.
@@ -78,7 +55,7 @@ impl Teller<'_> {
     {
         let made = self.calls_made(setup) as usize;
         let without = trusted(alloc, names, self.without)?;
-        let kernel = kernel_behind::<P, S, W>(alloc, setup, made)?;
+        let kernel = kernel_after::<P, S, W>(alloc, setup, made)?;
         ever::<P, S, W>(alloc, names, setup, made, without.as_slice(), &kernel)
     }
 

@@ -5,6 +5,7 @@ use crate::asked::NewSetup;
 use boot_plan::BootPlan;
 use cap_core::{Narrow, Profile, ProfileName, Wide};
 use setup_format::Setup;
+use setup_values::profile_text;
 use std::alloc::{AllocError, Global};
 use std::fmt::Write;
 
@@ -13,14 +14,6 @@ const FORMAT: u32 = 2;
 
 /// The slot of the first thread's capability: slot 0 is empty, and slot 1 holds the root CNode.
 const FIRST_THREAD_SLOT: u32 = 2;
-
-/// The name of a profile.
-fn profile_text(profile: ProfileName) -> &'static str {
-    match profile {
-        ProfileName::Wide => "wide",
-        ProfileName::Narrow => "narrow",
-    }
-}
 
 /// Adds the keys of the top table.
 fn add_sizes(out: &mut String, asked: &NewSetup, memory_bits: u32) -> Result<(), AllocError> {

@@ -10,7 +10,7 @@ use Rattle.abstract_kernel.specs.Reached.{IsReached}
 use Rattle.abstract_kernel.specs.Shown.{Shown}
 use Rattle.abstract_kernel.specs.State.{State, shown}
 use Rattle.abstract_kernel.specs.Step.{replies_of, state_after}
-use Rattle.engine.proofs.Runs.{boot_reached, length-replies_of}
+use Rattle.setup_report.proofs.Runs.{boot_reached, replies_length}
 use Rattle.setup_format.specs.Views.{CallView, SetupView}
 use Rattle.engine_threads.specs.Private.Begun.{IsBegun, calls_in}
 use Rattle.engine_threads.specs.SharedRuns.{count_first, first_calls}
@@ -34,4 +34,4 @@ begun p setup first n plan items calls none replies booted kernel lawful planned
 pub many_begun : (p : ProfileName) (setup : SetupView) (first : ℕ) (replies : List Reply) (kernel : Shown) → IsBegun p setup first replies kernel → length replies ≡ count_first first setup
 many_begun p setup first replies kernel b =
     let n = length-take-le (count_first first setup) setup.calls (omega arith) in
-    ap length b.answered ∙ (length-replies_of p (boot p setup.plan) (calls_in (first_calls first setup)) ∙ (length-map (first_calls first setup) (λ (c : CallView). c.call) ∙ n))
+    ap length b.answered ∙ (replies_length p (boot p setup.plan) (calls_in (first_calls first setup)) ∙ (length-map (first_calls first setup) (λ (c : CallView). c.call) ∙ n))

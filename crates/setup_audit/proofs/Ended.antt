@@ -12,7 +12,7 @@ use Rattle.slot_core.specs.declared.derivations.Derivation.{Derivation}
 use Rattle.slot_core.specs.Calls.{derivation_view}
 use Rattle.setup_report.specs.State.{Derived}
 use Rattle.setup_audit.specs.Ends.{is_named, ended, where_ended}
-use Rattle.setup_audit.proofs.Counted.{any_seen}
+use Rattle.setup_audit.proofs.Seen.{any_seen}
 
 -- ---- of one slot more
 

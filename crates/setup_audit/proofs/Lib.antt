@@ -1,8 +1,6 @@
 pub mod Alone
 pub mod Children
-pub mod Counted
 pub mod Ended
 pub mod Joined
-pub mod Named
-pub mod Shows
+pub mod Seen
 pub mod Told

@@ -1,15 +1,14 @@
 -- The audit of a set-up: of the state behind so many of its calls, or of a revoke of one slot in that state.
-use Rattle.std.specs.Prelude.{◌≡◌, ℕ, nat_le, cond, List, ◌++◌, map, take, length, Option, Some, None}
+use Rattle.std.specs.Prelude.{◌≡◌, ℕ, cond, List, ◌++◌, Option, Some, None}
 use Rattle.std.specs.List.{flat_map}
 use Rattle.cap_core.specs.declared.profile.ProfileName.{ProfileName}
 use Rattle.cap_core.specs.Objects.{is_null}
 use Rattle.derivation.specs.Entries.{cap_at}
-use Rattle.abstract_kernel.specs.Boot.{boot}
 use Rattle.abstract_kernel.specs.State.{State, shown}
-use Rattle.abstract_kernel.specs.Step.{state_after}
 use Rattle.setup_values.specs.Names.{Names}
-use Rattle.setup_format.specs.Views.{SetupView, CallView}
+use Rattle.setup_format.specs.Views.{SetupView}
 use Rattle.setup_report.specs.State.{endpoints, slot_rows}
+use Rattle.setup_report.specs.Behind.{state_behind, calls_made}
 use Rattle.trace_lines.specs.Changes.{changes, state_lines}
 use Rattle.trace_lines.specs.Names.{name_lines}
 use Rattle.setup_audit.specs.declared.threads.ThreadSlots.{ThreadSlots}
@@ -45,15 +44,6 @@ slot_audit p names setup made slot A =
     ++ (revoke_lines names (shown A) (revoked p A slot) slot ++ slot_changes p A slot)
 
 -- ---- of a set-up
-
--- the state of the abstract kernel behind the first calls of a set-up
-abbrev pub state_behind : ProfileName → SetupView → ℕ → State
-state_behind p setup made = state_after p (boot p setup.plan) (take made (map (λ (c : CallView). c.call) setup.calls))
-
--- how many calls are made: all of them, where no number is given; none where the set-up has fewer
-abbrev pub calls_made : SetupView → Option ℕ → Option ℕ
-calls_made setup None = Some (length setup.calls)
-calls_made setup (Some count) = cond (nat_le count (length setup.calls)) (Some count) None
 
 -- of one slot, where it is full
 abbrev pub slot_answer : ProfileName → Names → SetupView → ℕ → ℕ → State → Option (List ℕ)

@@ -9,9 +9,10 @@ use Rattle.reach_core.specs.declared.senders.Channel.{Channel}
 use Rattle.reach_core.specs.Endpoints.{endpoint_words}
 use Rattle.reach_core.specs.Channels.{channels, receivers_without_sender}
 use Rattle.setup_values.specs.Names.{Names}
+use Rattle.setup_values.specs.Told.{thread_name}
 use Rattle.setup_report.specs.Report.{terminated}
 use Rattle.setup_audit.specs.declared.threads.ThreadSlots.{ThreadSlots}
-use Rattle.setup_audit.specs.Text.{thread_name, sender_text}
+use Rattle.setup_audit.specs.Text.{sender_text}
 
 -- the words of a thread that lead to endpoints' capabilities
 abbrev pub words_of : Forest Entry → ThreadSlots → List EndpointWord

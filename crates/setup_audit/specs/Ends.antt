@@ -6,10 +6,10 @@ use Rattle.cap_core.specs.declared.capability.Cap.{Cap}
 use Rattle.cap_core.specs.declared.capability.Cap.TheVariants.{Untyped, Endpoint, CNode, Tcb}
 use Rattle.derivation.specs.Derivation.{names_same}
 use Rattle.setup_values.specs.Names.{Names}
+use Rattle.setup_values.specs.Told.{thread_name}
 use Rattle.setup_report.specs.State.{Derived, rising}
 use Rattle.setup_report.specs.Report.{terminated}
 use Rattle.setup_audit.specs.declared.ends.Asked.{Asked}
-use Rattle.setup_audit.specs.Text.{thread_name}
 
 -- some full slot names the object, or the untyped region, of a capability
 abbrev pub is_named : Cap → List Derived → Bool

@@ -1,32 +1,12 @@
 -- The text of the parts of an audit. Numbers are decimal.
-use Rattle.std.specs.Prelude.{codes, ℕ, ◌==◌, cond, List, [], ◌++◌, Bool, Option, Some, None, option_map, find, count_by, length}
+use Rattle.std.specs.Prelude.{codes, ℕ, List, [], ◌++◌, Option, Some, None, length}
 use Rattle.std.specs.Fmt.{decimal}
 use Rattle.cap_core.specs.declared.capability.Cap.{Cap}
 use Rattle.reach_core.specs.declared.endpoints.EndpointWord.{EndpointWord}
-use Rattle.setup_values.specs.Names.{Names}
+use Rattle.setup_values.specs.Told.{profile_text}
 use Rattle.setup_format.specs.Views.{SetupView}
 use Rattle.setup_report.specs.Text.{cap_text, rights_text}
 use Rattle.setup_report.specs.Report.{terminated}
-use Rattle.trace_lines.specs.Names.{profile_text}
-
--- ---- threads are told with their names
-
--- a name stands for a value
-abbrev pub has_value : ℕ → List ℕ × ℕ → Bool
-has_value value name = name.1 == value
-
--- the name of a value: where exactly one name of the set-up has it
-abbrev pub name_of : Names → ℕ → Option (List ℕ)
-name_of names value =
-    cond (count_by (has_value value) names == 1) (option_map (λ (n : List ℕ × ℕ). n.0) (find (has_value value) names)) None
-
--- an address, and behind it the name, where there is one
-abbrev pub named_text : ℕ → Option (List ℕ) → List ℕ
-named_text address None = decimal address
-named_text address (Some name) = decimal address ++ (codes " @" ++ name)
-
-abbrev pub thread_name : Names → ℕ → List ℕ
-thread_name names address = named_text address (name_of names address)
 
 -- ---- the first line: the version of the audit's form, how large the set-up is, how many of its calls are made, and the slot
 -- that is asked for, where one is

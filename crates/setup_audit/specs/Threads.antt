@@ -14,12 +14,13 @@ use Rattle.reach_core.specs.declared.reached.Reached.{Reached}
 use Rattle.reach_core.specs.Holding.{AreHeld}
 use Rattle.reach_core.specs.Lists.{AreReached}
 use Rattle.setup_values.specs.Names.{Names}
+use Rattle.setup_values.specs.Told.{thread_name}
 use Rattle.setup_report.specs.State.{threads as live_threads}
 use Rattle.setup_report.specs.Text.{state_text}
 use Rattle.setup_report.specs.Report.{terminated}
 use Rattle.trace_lines.specs.Lines.{offer_text}
 use Rattle.setup_audit.specs.declared.threads.ThreadSlots.{ThreadSlots}
-use Rattle.setup_audit.specs.Text.{thread_name, held_slot_text}
+use Rattle.setup_audit.specs.Text.{held_slot_text}
 
 -- the full slots that a thread can name, by a word, and by an index and a depth alone
 pub record AreSlotsOf (p : ProfileName) (f : Forest Entry) (t : ThreadSlots) : Type 0 where

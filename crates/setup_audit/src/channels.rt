@@ -7,14 +7,13 @@ ghost use Rattle.reach_core.specs.ByEndpoint.{AreByEndpoint};
 ghost use Rattle.setup_values.specs.Names.{names_view};
 ghost use Rattle.setup_audit.specs.Channels as spec;
 
-use crate::names::thread_name;
 use crate::text::SenderText;
 use crate::threads::ThreadSlots;
 use reach_core::{
     Channel, EndpointWord, FullSlot, by_endpoint, channels, endpoint_words,
     receivers_without_sender, words_at,
 };
-use setup_values::Name;
+use setup_values::{Name, thread_name};
 use std::alloc::{AllocError, Global};
 use std::collections::BTreeSet;
 use std::fmt::Write;

@@ -7,12 +7,11 @@ ghost use Rattle.setup_report.specs.State.{rising};
 ghost use Rattle.setup_values.specs.Names.{names_view};
 ghost use Rattle.setup_audit.specs.Ends as spec;
 
-use crate::names::thread_name;
 use cap_core::{Cap, Profile, same_object};
 use descendants::NamedObjects;
 use ipc_core::Waiters;
 use kernel_core::Kernel;
-use setup_values::Name;
+use setup_values::{Name, thread_name};
 use slot_core::{CapStore, Derivation};
 use std::alloc::{AllocError, Global};
 use std::collections::BTreeSet;

@@ -4,9 +4,9 @@ ghost use Rattle.setup_audit.specs.Text as spec;
 
 use crate::text::SlotAsked;
 use setup_format::Setup;
+use setup_values::profile_text;
 use std::alloc::AllocError;
 use std::fmt::Write;
-use trace_lines::profile_text;
 
 /// Adds the first line: the version of the audit's form, how large the set-up is, how many of its calls are made, and the
 /// slot that is asked for, where one is.

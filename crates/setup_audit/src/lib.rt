@@ -5,7 +5,6 @@ mod channels;
 mod ends;
 mod head;
 mod laws;
-mod names;
 mod revokes;
 mod run;
 mod state;
@@ -14,6 +13,5 @@ mod threads;
 
 pub use ends::Asked;
 pub use laws::a_revoke_does_this;
-pub use names::{ThreadName, thread_name};
-pub use run::{audit, calls_made, kernel_after};
+pub use run::audit;
 pub use threads::ThreadSlots;

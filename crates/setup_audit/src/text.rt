@@ -1,11 +1,12 @@
 //! The text of the lines of an audit.
 ghost use Rattle.std.specs.Prelude.{Some, option_copied};
+ghost use Rattle.setup_values.specs.Told as told;
 ghost use Rattle.setup_audit.specs.Text as spec;
 
-use crate::names::ThreadName;
 use cap_core::Cap;
 use reach_core::EndpointWord;
 use setup_report::{CapText, RightsText};
+use setup_values::ThreadName;
 use std::fmt;
 
 /// The slot that is asked for, where one is.
@@ -48,7 +49,7 @@ pub struct SenderText<'a> {
 }
 
 impl fmt::Display for SenderText<'_> {
-    ghost output = { λ s. Some (spec.sender_text (spec.named_text s.thread.address (option_copied s.thread.name)) s.word) };
+    ghost output = { λ s. Some (spec.sender_text (told.named_text s.thread.address (option_copied s.thread.name)) s.word) };
 
     fn fmt<W: fmt::Write>(&self, f: &mut fmt::Formatter<W>) -> fmt::Result {
         let thread = self.thread;

@@ -6,14 +6,13 @@ ghost use Rattle.reach_core.specs.FullSlots.{AreFullSlots, AreLawful, AreRising}
 ghost use Rattle.setup_values.specs.Names.{names_view};
 ghost use Rattle.setup_audit.specs.Threads as spec;
 
-use crate::names::thread_name;
 use crate::text::HeldSlot;
 use cap_core::Profile;
 use ipc_core::Waiters;
 use kernel_core::Kernel;
 use reach_core::{FullSlot, Held, Reached, held_slots, reached_slots};
 use setup_report::StateText;
-use setup_values::Name;
+use setup_values::{Name, thread_name};
 use slot_core::CapStore;
 use std::alloc::{AllocError, Global};
 use std::collections::BTreeSet;

@@ -1,5 +1,3 @@
-mod Counted
-pub mod Named
 pub mod Pushed
 pub mod Digits
 pub mod Right

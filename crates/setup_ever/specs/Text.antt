@@ -1,9 +1,8 @@
 -- The text of the parts of a layout. Numbers are decimal.
-use Rattle.std.specs.Prelude.{codes, ℕ, ◌==◌, ◌&&◌, ◌||◌, Bool, not, false, cond, List, [], ◌∷◌, ◌++◌, map, length, filter, Option, Some, None, is_some, option_map, find, count_by}
+use Rattle.std.specs.Prelude.{codes, ℕ, ◌==◌, ◌&&◌, ◌||◌, Bool, not, false, cond, List, [], ◌∷◌, ◌++◌, map, length, filter, Option, Some, None, is_some}
 use Rattle.std.specs.List.{flat_map, list_any}
 use Rattle.std.specs.Fmt.{decimal}
 use Rattle.cap_core.specs.declared.profile.ProfileName.{ProfileName}
-use Rattle.cap_core.specs.declared.profile.ProfileName.TheVariants.{Wide, Narrow}
 use Rattle.cap_core.specs.Rights.{write_bit, read_bit}
 use Rattle.ipc_core.specs.declared.waiter.Offer.{Offer}
 use Rattle.abstract_kernel.specs.declared.call.ThreadState.{ThreadState}
@@ -16,37 +15,15 @@ use Rattle.confinement.specs.declared.listed.PartUse.{PartUse}
 use Rattle.confinement.specs.Listed.{part_at}
 use Rattle.confinement.specs.Order.{owns_endpoint}
 use Rattle.setup_values.specs.Names.{Names}
+use Rattle.setup_values.specs.Told.{profile_text, thread_name}
 use Rattle.setup_format.specs.Views.{SetupView}
 use Rattle.setup_report.specs.State.{rising, threads, endpoints}
 use Rattle.setup_report.specs.Text.{rights_text}
 use Rattle.setup_report.specs.Report.{terminated, threads_at}
 use Rattle.setup_ever.specs.declared.ways.Way.{Way}
 
--- ---- threads are told with their names
-
--- a name stands for a value
-abbrev pub has_value : ℕ → List ℕ × ℕ → Bool
-has_value value name = name.1 == value
-
--- the name of a value: where exactly one name of the set-up has it
-abbrev pub name_of : Names → ℕ → Option (List ℕ)
-name_of names value =
-    cond (count_by (has_value value) names == 1) (option_map (λ (n : List ℕ × ℕ). n.0) (find (has_value value) names)) None
-
--- an address, and behind it the name, where there is one
-abbrev pub named_text : ℕ → Option (List ℕ) → List ℕ
-named_text address None = decimal address
-named_text address (Some name) = decimal address ++ (codes " @" ++ name)
-
-abbrev pub thread_name : Names → ℕ → List ℕ
-thread_name names address = named_text address (name_of names address)
-
 -- ---- the first lines: the version of the form, how large the set-up is, how many of its calls are made; and the threads
 -- that are trusted to make no more calls
-
-abbrev pub profile_text : ProfileName → List ℕ
-profile_text Wide = codes "wide"
-profile_text Narrow = codes "narrow"
 
 abbrev pub calls_text : ℕ → ℕ → List ℕ
 calls_text calls made = codes " calls " ++ (decimal calls ++ (codes " after " ++ decimal made))

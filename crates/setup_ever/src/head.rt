@@ -4,26 +4,15 @@ ghost use Rattle.std.specs.List.{flat_map};
 ghost use Rattle.setup_values.specs.Names.{names_view};
 ghost use Rattle.setup_ever.specs.Text as spec;
 
-use crate::names::thread_name;
-use cap_core::{Profile, ProfileName};
+use cap_core::Profile;
 use ipc_core::Waiters;
 use kernel_core::Kernel;
 use setup_format::Setup;
-use setup_values::Name;
+use setup_values::{Name, profile_text, thread_name};
 use slot_core::CapStore;
 use std::alloc::AllocError;
 use std::fmt;
 use std::fmt::Write;
-
-/// The name of a profile.
-fn profile_text(profile: ProfileName) -> &'static str
-    ensures { result.now ≡ spec.profile_text profile }
-{
-    match profile {
-        ProfileName::Wide => "wide",
-        ProfileName::Narrow => "narrow",
-    }
-}
 
 /// How many calls a set-up has, and how many of them are made.
 #[derive(Clone, Copy)]

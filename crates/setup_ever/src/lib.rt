@@ -2,14 +2,12 @@
 #![tactic(auto)]
 
 mod head;
-mod names;
 mod parts;
 mod sets;
 mod text;
 mod threads;
 mod ways;
 
-pub use names::{ThreadName, thread_name};
 pub use parts::{BadgeText, is_of_part};
 pub use sets::{is_in, listed, rising};
 pub use text::{ever, parts_of_callers};

@@ -7,15 +7,15 @@ ghost use Rattle.abstract_kernel.specs.Shown.{state_at};
 ghost use Rattle.confinement.specs.Listed as listed;
 ghost use Rattle.setup_report.specs.Report.{terminated};
 ghost use Rattle.setup_report.specs.State.{threads as threads_of};
+ghost use Rattle.setup_values.specs.Told as told;
 ghost use Rattle.setup_ever.specs.Text as spec;
 
-use crate::names::thread_name;
 use cap_core::Profile;
 use confinement::{PartMemory, PartUse, Parts, part_at};
 use ipc_core::Waiters;
 use kernel_core::{Kernel, ThreadState};
 use setup_report::RightsText;
-use setup_values::Name;
+use setup_values::{Name, thread_name};
 use slot_core::CapStore;
 use std::alloc::AllocError;
 use std::fmt;
@@ -56,7 +56,7 @@ fn add_state<P: Profile, S: CapStore<P> + Drop, W: Waiters<P> + Drop>(
     thread: u64,
 ) -> Result<(), AllocError>
     ensures { OnOk result (string_bytes out.new ≡ string_bytes out.old
-        ++ spec.state_line (spec.thread_name (names_view names.now) thread) (state_at kernel.now thread)) }
+        ++ spec.state_line (told.thread_name (names_view names.now) thread) (state_at kernel.now thread)) }
 {
     match kernel.thread_state(thread) {
         None => Ok(()),

@@ -7,7 +7,6 @@ ghost use Rattle.setup_ever.specs.Text as spec;
 ghost use Rattle.setup_ever.specs.Ever.{AreRightParts, IsTextOf};
 
 use crate::head::{add_head, add_trusted};
-use crate::names::thread_name;
 use crate::parts::add_parts;
 use crate::sets::listed;
 use crate::threads::callers;
@@ -18,7 +17,7 @@ use ipc_core::Waiters;
 use kernel_core::Kernel;
 use setup_format::Setup;
 use setup_report::{StateRows, state_rows, waiting_threads};
-use setup_values::Name;
+use setup_values::{Name, thread_name};
 use slot_core::{CapStore, DerivationStore};
 use std::alloc::{AllocError, Global};
 use std::fmt::Write;

@@ -59,7 +59,3 @@ exploration_is p setup first limit own begin e is_own is_begin is =
     viewed p own (boot p setup.plan) begin limit (length setup.calls + 1) e is
     ∙ ap (λ (l : List (List Call)). at p l (boot p setup.plan) begin (depth p l (start l (boot p setup.plan)) begin limit (length setup.calls + 1))) is_own
     ∙ ap (λ (b : List ℕ). at p (own_calls setup) (boot p setup.plan) b (depth p (own_calls setup) (start (own_calls setup) (boot p setup.plan)) b limit (length setup.calls + 1))) is_begin
-
-pub boot_reached : (p : ProfileName) (plan : Plan) → IsPlan p plan → IsReached p (boot p plan)
-unfolding state_after
-boot_reached p plan lawful = record { plan = plan; lawful = lawful; calls = []; is = refl }

@@ -2,8 +2,8 @@
 use Rattle.std.specs.Prelude.{codes, ℕ, ◌+◌, ◌==◌, ◌&&◌, Bool, cond, List, [], ◌++◌, length}
 use Rattle.std.specs.Fmt.{decimal}
 use Rattle.cap_core.specs.declared.profile.ProfileName.{ProfileName}
-use Rattle.cap_core.specs.declared.profile.ProfileName.TheVariants.{Wide, Narrow}
 use Rattle.abstract_kernel.specs.Boot.{boot}
+use Rattle.setup_values.specs.Told.{profile_text}
 use Rattle.setup_format.specs.Views.{SetupView}
 use Rattle.setup_report.specs.Report.{terminated}
 use Rattle.kinds.specs.Kinds.{firsts}
@@ -20,10 +20,6 @@ use Rattle.setup_explore.specs.Clients.{own_calls, first_clients}
 use Rattle.setup_explore.specs.Numbers.{numbers_of}
 use Rattle.setup_explore.specs.Text.{met_count, expectation_count, call_blocks, stuck_blocks, count_text}
 use Rattle.setup_explore.specs.Views.{ExploredView}
-
-abbrev pub profile_text : ProfileName → List ℕ
-profile_text Wide = codes "wide"
-profile_text Narrow = codes "narrow"
 
 -- the version of the report's form, and how large the set-up is
 abbrev pub head_line : SetupView → List ℕ

@@ -10,12 +10,13 @@ use crate::clients::{calls_of_clients, first_clients};
 use crate::ends::add_stuck;
 use crate::marks::CountText;
 use crate::numbers::numbers_of_clients;
-use cap_core::{Profile, ProfileName};
+use cap_core::Profile;
 use explore_core::{Explored, FoundStuck, explore};
 use ipc_core::MakeWaiters;
 use kernel_core::Kernel;
 use setup_format::Setup;
 use setup_report::ExpectationCount;
+use setup_values::profile_text;
 use slot_core::{DerivationStore, MakeStore};
 use std::alloc::{AllocError, Global};
 use std::fmt::Write;
@@ -26,16 +27,6 @@ use std::fmt::Write;
 pub struct ExploredText {
     pub text: Vec<u8>,
     pub is_well: bool,
-}
-
-/// The name of a profile.
-fn profile_text(profile: ProfileName) -> &'static str
-    ensures { result.now ≡ spec.profile_text profile }
-{
-    match profile {
-        ProfileName::Wide => "wide",
-        ProfileName::Narrow => "narrow",
-    }
 }
 
 /// Adds the first line: the version of the report's form, and how large the set-up is.

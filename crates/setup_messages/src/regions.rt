@@ -47,6 +47,55 @@ fn object_in_row(name: &'static str, number: usize, first: u64, bits: u32) -> Ob
     (name, number, Extent::new(base, bits))
 }
 
+/// The first of so many objects of a row that a region overlaps.
+fn first_in_row(
+    region: Extent,
+    name: &'static str,
+    count: u32,
+    first: u64,
+    bits: u32,
+) -> Option<Object>
+    requires { bits < 64 }
+{
+    (0..count as usize)
+        .map(|number| object_in_row(name, number, first, bits))
+        .find(|(_, _, object)| region.overlaps(*object))
+}
+
+/// The first of so many untyped regions of a document that a region overlaps.
+fn first_untyped(region: Extent, document: Document<'_>, count: usize) -> Option<Object> {
+    (1..=count)
+        .filter_map(|n| Some(("untyped", n, region_at(document, Place::Untyped(n))?)))
+        .find(|(_, _, object)| region.overlaps(*object))
+}
+
+/// The first thread or endpoint of a document that a region overlaps. The root CNode has so many bits.
+fn first_boot_object<P: Profile>(
+    region: Extent,
+    document: Document<'_>,
+    root_bits: u32,
+) -> Option<Object>
+    requires { root_bits < 64 }
+{
+    let table = document.table;
+    let threads = read_at(table, "threads", Number(0, MAX_BOOT_THREADS)).unwrap_or(0);
+    let endpoints = read_at(table, "endpoints", Number(0, MAX_BOOT_ENDPOINTS)).unwrap_or(0);
+    // The sizes of the root CNode and of a thread are powers of two, so the first thread stands at the greater one.
+    let first_thread = 1u64 << root_bits.max(P::TCB_BITS);
+    let first_endpoint = first_thread + (u64::from(threads) << P::TCB_BITS);
+    let found = first_in_row(region, "thread", threads, first_thread, P::TCB_BITS);
+    match found {
+        None => first_in_row(
+            region,
+            "endpoint",
+            endpoints,
+            first_endpoint,
+            P::ENDPOINT_BITS,
+        ),
+        found => found,
+    }
+}
+
 /// What a region overlaps, in words: a boot object, or one of so many untyped regions that stand before it. Threads and endpoints
 /// count from 0, and untyped regions from 1, as set-ups have them.
 fn overlapped<P: Profile>(
@@ -54,26 +103,17 @@ fn overlapped<P: Profile>(
     count: usize,
     region: Extent,
 ) -> Result<String, AllocError> {
-    let (alloc, table) = (document.alloc, document.table);
-    let radix = read_at(table, "root_radix", Number(0, MAX_ROOT_RADIX)).unwrap_or(0);
-    let threads = read_at(table, "threads", Number(0, MAX_BOOT_THREADS)).unwrap_or(0);
-    let endpoints = read_at(table, "endpoints", Number(0, MAX_BOOT_ENDPOINTS)).unwrap_or(0);
-    // The sizes of the root CNode and of a thread are powers of two, so the first thread stands at the greater one.
+    let alloc = document.alloc;
+    let radix = read_at(document.table, "root_radix", Number(0, MAX_ROOT_RADIX)).unwrap_or(0);
     let root_bits = P::SLOT_BITS + radix;
-    let first_thread = 1u64 << root_bits.max(P::TCB_BITS);
-    let first_endpoint = first_thread + (u64::from(threads) << P::TCB_BITS);
-    let thread = |i: usize| object_in_row("thread", i, first_thread, P::TCB_BITS);
-    let endpoint = |i: usize| object_in_row("endpoint", i, first_endpoint, P::ENDPOINT_BITS);
-    let earlier = |n: usize| Some(("untyped", n, region_at(document, Place::Untyped(n))?));
-    let threads = (0..threads as usize).map(thread);
-    let endpoints = (0..endpoints as usize).map(endpoint);
-    let mut objects = threads
-        .chain(endpoints)
-        .chain((1..=count).filter_map(earlier));
     if region.overlaps(Extent::new(0, root_bits)) {
         return String::from_str(alloc, "the root CNode at 0");
     }
-    match objects.find(|(_, _, object)| region.overlaps(*object)) {
+    let found = match first_boot_object::<P>(region, document, root_bits) {
+        None => first_untyped(region, document, count),
+        found => found,
+    };
+    match found {
         Some((name, number, object)) => format!(in alloc; "{name} {number} at {}", object.start),
         None => String::from_str(alloc, "a boot object or an earlier region"),
     }

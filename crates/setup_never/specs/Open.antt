@@ -11,12 +11,13 @@ use Rattle.confinement.specs.declared.listed.PartMemory.{PartMemory}
 use Rattle.confinement.specs.declared.listed.PartUse.{PartUse}
 use Rattle.confinement.specs.Listed.{part_at}
 use Rattle.setup_values.specs.Names.{Names}
+use Rattle.setup_values.specs.Told.{thread_name}
 use Rattle.setup_report.specs.Text.{rights_text}
 use Rattle.setup_report.specs.Report.{terminated}
 use Rattle.setup_never.specs.declared.waits.Wait.{Wait}
 use Rattle.setup_never.specs.declared.never.Never.{Never}
 use Rattle.setup_never.specs.declared.never.Never.TheVariants.{Excluded, Possible}
-use Rattle.setup_ever.specs.Text.{thread_name, badge_text}
+use Rattle.setup_ever.specs.Text.{badge_text}
 use Rattle.setup_never.specs.Waits.{waits}
 use Rattle.setup_never.specs.Never.{has_some, is_use_of, is_sender, is_receiver, is_open, endpoints_met, never}
 use Rattle.setup_ever.specs.Ever.{AreRightParts}

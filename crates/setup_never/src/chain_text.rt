@@ -14,9 +14,8 @@ use cap_core::Profile;
 use chains::{Target, shortest_chain};
 use confinement::PartMemory;
 use reach_core::FullSlot;
-use setup_ever::thread_name;
 use setup_report::CapText;
-use setup_values::Name;
+use setup_values::{Name, thread_name};
 use std::alloc::{AllocError, Global};
 use std::fmt::Write;
 

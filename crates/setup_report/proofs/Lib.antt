@@ -1,2 +1,4 @@
 pub mod Addresses
 pub mod Sequences
+pub mod Runs
+pub mod Joined

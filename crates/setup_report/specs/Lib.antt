@@ -1,5 +1,7 @@
--- The text of a report; State has what is told of a state, and Private what serves the proofs alone.
+-- The text of a report; State has what is told of a state, Behind the state behind some of the calls, and Private what serves
+-- the proofs alone.
 pub mod Text
 pub mod State
+pub mod Behind
 pub mod Report
 pub mod Private

@@ -4,6 +4,7 @@
 ghost use Rattle.std.specs.Prelude.{◌≡◌, length, IfOk};
 ghost use Rattle.setup_report.specs.Report.{report_of, met_count, expectation_count};
 
+mod behind;
 mod calls;
 mod lines;
 mod memory;
@@ -11,6 +12,7 @@ mod naming;
 mod state;
 mod text;
 
+pub use behind::{calls_made, kernel_after};
 pub use calls::{ExpectationCount, add_call, expectations};
 use cap_core::Profile;
 use ipc_core::Waiters;

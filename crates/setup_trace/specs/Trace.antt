@@ -11,10 +11,11 @@ use Rattle.abstract_kernel.specs.Boot.{boot}
 use Rattle.abstract_kernel.specs.State.{State, shown}
 use Rattle.abstract_kernel.specs.Step.{step}
 use Rattle.setup_values.specs.Names.{Names}
+use Rattle.setup_values.specs.Told.{profile_text}
 use Rattle.setup_format.specs.Views.{SetupView, CallView}
 pub use Rattle.setup_report.specs.Report.{count_line}
 use Rattle.setup_report.specs.Report.{terminated, call_text, met_count, expectation_count}
-use Rattle.trace_lines.specs.Names.{profile_text, name_lines}
+use Rattle.trace_lines.specs.Names.{name_lines}
 use Rattle.trace_lines.specs.Told.{ToldLines, told_lines, nothing_told, told_changes}
 use Rattle.setup_why.specs.Tables.{call_table}
 pub use Rattle.setup_why.specs.Why.{replies_to}

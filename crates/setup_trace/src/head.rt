@@ -3,9 +3,9 @@ ghost use Rattle.std.specs.Prelude.{◌≡◌, ◌++◌, OnOk, string_bytes};
 ghost use Rattle.setup_trace.specs.Trace as spec;
 
 use setup_format::Setup;
+use setup_values::profile_text;
 use std::alloc::AllocError;
 use std::fmt::Write;
-use trace_lines::profile_text;
 
 /// Adds the first line: the version of the trace's form, and how large the set-up is.
 pub fn add_head(out: &mut String, setup: &Setup) -> Result<(), AllocError>

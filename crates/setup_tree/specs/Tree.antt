@@ -10,13 +10,12 @@ use Rattle.derivation.specs.Forest.{Forest}
 use Rattle.derivation.specs.Forest.Forest.{none, tree}
 use Rattle.derivation.specs.Entries.{Entry, derivations_of}
 use Rattle.setup_values.specs.Names.{Names}
+use Rattle.setup_values.specs.Told.{profile_text, name_of}
 use Rattle.setup_format.specs.Views.{SetupView}
 use Rattle.setup_report.specs.Text.{cap_text}
 use Rattle.setup_report.specs.Report.{terminated}
 use Rattle.setup_report.specs.State.{Derived}
-use Rattle.trace_lines.specs.Names.{profile_text}
-use Rattle.setup_audit.specs.Text.{name_of}
-use Rattle.setup_audit.specs.Audit.{state_behind, calls_made}
+use Rattle.setup_report.specs.Behind.{state_behind, calls_made}
 use Rattle.setup_tree.specs.declared.form.Form.{Form}
 use Rattle.setup_tree.specs.declared.form.Form.TheVariants.{Lines, Dot}
 

@@ -3,8 +3,8 @@ ghost use Rattle.std.specs.Prelude.{◌≡◌, Some};
 ghost use Rattle.setup_tree.specs.Tree as spec;
 
 use setup_format::Setup;
+use setup_values::profile_text;
 use std::fmt;
-use trace_lines::profile_text;
 
 /// The version of the text's form, how large the set-up is, and how many of its calls are made.
 #[derive(Clone, Copy)]

@@ -5,9 +5,8 @@ ghost use Rattle.setup_values.specs.Names.{names_view};
 ghost use Rattle.setup_tree.specs.Tree as spec;
 
 use cap_core::{Cap, Profile};
-use setup_audit::thread_name;
 use setup_report::CapText;
-use setup_values::Name;
+use setup_values::{Name, thread_name};
 use slot_core::Derivation;
 use std::fmt;
 

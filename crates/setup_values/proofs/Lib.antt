@@ -1,4 +1,5 @@
 -- What kinds read of names, of arrays and of words.
 pub mod LookUp
 pub mod Loops
+pub mod Named
 pub mod Padding

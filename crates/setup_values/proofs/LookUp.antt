@@ -10,11 +10,11 @@ found_or f true x rest d e = refl
 found_or f false x rest d e = e
 
 -- the first element of a mapped list, and the first of the list
-find_map : {A B : Type 0} (f : A → B) (p : B → Bool) (xs : List A) → find p (map f xs) ≡ option_map f (find (λ x. p (f x)) xs)
+pub find_map : {A B : Type 0} (f : A → B) (p : B → Bool) (xs : List A) → find p (map f xs) ≡ option_map f (find (λ x. p (f x)) xs)
 find_map f p [] = refl
 find_map f p (x ∷ xs) = found_or f (p (f x)) x (find (λ y. p (f y)) xs) (find p (map f xs)) (find_map f p xs)
 
-abbrev entry : Name → List ℕ × ℕ
+abbrev pub entry : Name → List ℕ × ℕ
 entry n = (string_bytes n.text, n.word)
 
 word_of_entry : (o : Option Name) → option_map (λ (e : List ℕ × ℕ). e.1) (option_map entry o) ≡ option_map (λ (n : Name). n.word) o

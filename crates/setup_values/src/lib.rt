@@ -7,10 +7,12 @@ pub mod kinds;
 pub mod limits;
 pub mod names;
 pub mod operations;
+mod told;
 pub mod values;
 
 pub use depth::table_is_within;
 pub use kinds::Kind;
 pub use names::{KnownNames, Name};
 pub use operations::OpName;
+pub use told::{ThreadName, profile_text, thread_name};
 pub use values::{Words, Wrong};

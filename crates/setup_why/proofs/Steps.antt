@@ -12,15 +12,6 @@ use Rattle.setup_format.specs.Views.{CallView}
 use Rattle.setup_why.specs.Tables.{call_table}
 use Rattle.setup_why.specs.Why.{call_lines, calls_lines, explained}
 
-pub booted : (p : ProfileName) (plan : Plan) → IsPlan p plan → IsReached p (boot p plan)
-unfolding state_after
-booted p plan lawful = record { plan = plan; lawful = lawful; calls = []; is = refl }
-
-pub replies_length : (p : ProfileName) (A : State) (xs : List Call) → length (replies_of p A xs) ≡ length xs
-unfolding replies_of
-replies_length p A [] = refl
-replies_length p A (x ∷ xs) = ap suc (replies_length p (step p A x).state xs)
-
 -- ---- the call at a place of a set-up
 
 pub call_is : (calls : List CallView) (items : List Call) (i : ℕ) (d : Call) (call : CallView) → items ≡ map (λ (c : CallView). c.call) calls → slice_get calls i ≡ Some call → get_or items i d ≡ call.call

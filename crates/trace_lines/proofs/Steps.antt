@@ -10,7 +10,6 @@ use Rattle.abstract_kernel.specs.declared.call.Reply.TheVariants.{Dropped, Empty
 use Rattle.abstract_kernel.specs.declared.invocation.Service.{Service}
 use Rattle.abstract_kernel.specs.declared.invocation.Invocation.{Invocation}
 use Rattle.abstract_kernel.specs.declared.invocation.Invocation.TheVariants.{Send, Receive, Retype, Derive, Move, Delete, Revoke, CancelBadged, SetSpace, Suspend, Resume}
-use Rattle.abstract_kernel.specs.Plan.{Plan, IsPlan}
 use Rattle.abstract_kernel.specs.Boot.{boot}
 use Rattle.abstract_kernel.specs.Shown.{Shown}
 use Rattle.abstract_kernel.specs.State.{State, shown}
@@ -79,10 +78,6 @@ follows p A call reply v w same steps =
 
 -- ---- runs
 
-pub booted : (p : ProfileName) (plan : Plan) → IsPlan p plan → IsReached p (boot p plan)
-unfolding state_after
-booted p plan lawful = record { plan = plan; lawful = lawful; calls = []; is = refl }
-
 after_append : (p : ProfileName) (B : State) (xs calls : List Call) → state_after p B (xs ++ calls) ≡ state_after p (state_after p B xs) calls
 unfolding state_after
 after_append p B [] calls = refl
@@ -106,11 +101,6 @@ pub replies_one : (p : ProfileName) (A : State) (xs : List Call) (x : Call) → 
 unfolding replies_of state_after
 replies_one p A [] x = refl
 replies_one p A (y ∷ xs) x = ap (λ l. (step p A y).reply ∷ l) (replies_one p (step p A y).state xs x)
-
-pub replies_length : (p : ProfileName) (A : State) (xs : List Call) → length (replies_of p A xs) ≡ length xs
-unfolding replies_of
-replies_length p A [] = refl
-replies_length p A (x ∷ xs) = ap suc (replies_length p (step p A x).state xs)
 
 -- ---- the call at a place of a set-up
 

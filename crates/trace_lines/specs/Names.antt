@@ -1,15 +1,9 @@
--- How a set-up is spelt: its profile, and its names.
+-- The names of a set-up.
 use Rattle.std.specs.Prelude.{codes, ℕ, List, ◌++◌}
 use Rattle.std.specs.List.{flat_map}
 use Rattle.std.specs.Fmt.{decimal}
-use Rattle.cap_core.specs.declared.profile.ProfileName.{ProfileName}
-use Rattle.cap_core.specs.declared.profile.ProfileName.TheVariants.{Wide, Narrow}
 use Rattle.setup_values.specs.Names.{Names}
 use Rattle.setup_report.specs.Report.{terminated}
-
-abbrev pub profile_text : ProfileName → List ℕ
-profile_text Wide = codes "wide"
-profile_text Narrow = codes "narrow"
 
 -- each name of the set-up, and the word that it stands for
 abbrev pub name_line : List ℕ × ℕ → List ℕ

@@ -13,6 +13,6 @@ mod text;
 mod told;
 
 pub use between::add_changes_between;
-pub use names::{add_names, profile_text};
+pub use names::add_names;
 pub use text::OfferText;
 pub use told::{Told, tell, tell_call};

@@ -1,23 +1,12 @@
-//! How a set-up is spelt: its profile, and its names.
+//! The names of a set-up.
 ghost use Rattle.std.specs.Prelude.{◌≡◌, ◌++◌, OnOk, string_bytes};
 ghost use Rattle.setup_values.specs.Names.{names_view};
 ghost use Rattle.trace_lines.specs.Private.Listed.{name_view};
 ghost use Rattle.trace_lines.specs.Names as spec;
 
-use cap_core::ProfileName;
 use setup_values::Name;
 use std::alloc::AllocError;
 use std::fmt::Write;
-
-/// The name of a profile.
-pub fn profile_text(profile: ProfileName) -> &'static str
-    ensures { result.now ≡ spec.profile_text profile }
-{
-    match profile {
-        ProfileName::Wide => "wide",
-        ProfileName::Narrow => "narrow",
-    }
-}
 
 fn add_name(out: &mut String, name: &Name) -> Result<(), AllocError>
     ensures { OnOk result (string_bytes out.new ≡ string_bytes out.old ++ spec.name_line (name_view name.now)) }

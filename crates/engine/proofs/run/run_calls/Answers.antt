@@ -4,7 +4,7 @@ use Rattle.abstract_kernel.specs.Boot.{boot}
 use Rattle.abstract_kernel.specs.State.{shown}
 use Rattle.abstract_kernel.specs.Step.{replies_of, state_after}
 use Rattle.engine.specs.Program.{calls_of, replies_to, end_of}
-use Rattle.engine.proofs.Runs.{boot_reached}
+use Rattle.setup_report.proofs.Runs.{boot_reached}
 use Rattle.engine.proofs.run.run_calls.Goals as goal
 
 pub returns-clause-kernel : goal.returns-clause-kernel

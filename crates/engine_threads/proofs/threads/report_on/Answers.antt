@@ -7,7 +7,7 @@ use Rattle.abstract_kernel.proofs.Reached.Runs.{reached_after}
 use Rattle.setup_format.specs.Views.{CallView}
 use Rattle.setup_shared_report.specs.SharedReport.{shared_report_of}
 use Rattle.engine.specs.Program.{verdict_on}
-use Rattle.engine.proofs.Runs.{boot_reached}
+use Rattle.setup_report.proofs.Runs.{boot_reached}
 use Rattle.engine_threads.specs.Private.Begun.{IsRunFrom, calls_in, state_begun}
 use Rattle.engine_threads.specs.SharedRuns.{count_first, first_calls}
 use Rattle.engine_threads.proofs.Reports.{book_shows}

@@ -1,7 +1,7 @@
 use Rattle.std.proofs.Common.{string_bytes}
 use Rattle.setup_values.specs.Names.{names_view}
 use Rattle.setup_audit.specs.Channels.{receiver_line}
-use Rattle.setup_audit.proofs.Joined.{flat_step}
+use Rattle.setup_report.proofs.Joined.{flat_step}
 use Rattle.setup_audit.proofs.channels.add_receivers.Goals as goal
 
 pub loop-receiver-preserved : goal.loop-receiver-preserved

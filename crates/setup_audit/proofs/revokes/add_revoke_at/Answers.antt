@@ -8,7 +8,7 @@ use Rattle.setup_values.specs.Names.{names_view}
 use Rattle.setup_audit.specs.Revokes.{revoked, revoke_lines, lines_of_revoke}
 use Rattle.setup_audit.proofs.Alone.{alone_lines}
 use Rattle.setup_audit.proofs.Children.{child_full}
-use Rattle.setup_audit.proofs.Shows.{derivations_shown}
+use Rattle.setup_report.proofs.Runs.{derivations_shown}
 use Rattle.setup_audit.proofs.revokes.add_revoke_at.Goals as goal
 
 same_child : (v : Shown) (A : State) (slot : _) → v ≡ shown A → has_child slot A.derivations ≡ has_child slot v.derivations

@@ -5,7 +5,7 @@ use Rattle.slot_core.specs.Calls.{derivation_view}
 use Rattle.setup_values.specs.Names.{names_view}
 use Rattle.trace_lines.proofs.Steps.{take_whole}
 use Rattle.setup_audit.specs.Revokes.{revoke_lines_at, revoke_lines_of}
-use Rattle.setup_audit.proofs.Joined.{flat_next}
+use Rattle.setup_report.proofs.Joined.{flat_next}
 use Rattle.setup_audit.proofs.revokes.add_revokes.Goals as goal
 
 pub loop-row-preserved : goal.loop-row-preserved

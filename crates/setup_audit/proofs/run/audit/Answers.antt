@@ -4,7 +4,8 @@ use Rattle.abstract_kernel.specs.Reached.{IsReached}
 use Rattle.cap_core.specs.declared.profile.ProfileName.{ProfileName}
 use Rattle.setup_format.specs.Views.{SetupView, CallView}
 use Rattle.setup_values.specs.Names.{names_view}
-use Rattle.setup_audit.specs.Audit.{state_behind, IsAuditBehind}
+use Rattle.setup_report.specs.Behind.{state_behind}
+use Rattle.setup_audit.specs.Audit.{IsAuditBehind}
 use Rattle.setup_audit.proofs.run.audit.Goals as goal
 
 reached_behind : (p : ProfileName) (setup : SetupView) (made : ℕ) → IsPlan p setup.plan → IsReached p (state_behind p setup made)

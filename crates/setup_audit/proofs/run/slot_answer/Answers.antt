@@ -7,7 +7,7 @@ use Rattle.abstract_kernel.specs.State.{State, shown}
 use Rattle.abstract_kernel.proofs.Checks.FoundSlots.{full_at}
 use Rattle.setup_values.specs.Names.{names_view}
 use Rattle.setup_audit.specs.Audit.{slot_audit}
-use Rattle.setup_audit.proofs.Shows.{derivations_shown}
+use Rattle.setup_report.proofs.Runs.{derivations_shown}
 use Rattle.setup_audit.proofs.run.slot_answer.Goals as goal
 
 same_null : (v : Shown) (A : State) (slot : _) → v ≡ shown A → is_null (cap_at A.derivations slot) ≡ is_null (cap_at v.derivations slot)

@@ -13,8 +13,9 @@ use Rattle.setup_audit.specs.Text.{head_line}
 use Rattle.setup_audit.specs.Threads.{AreSlotsOf, slots_lines}
 use Rattle.setup_audit.specs.Channels.{words_of, channel_lines}
 use Rattle.setup_audit.specs.Revokes.{revoke_lines_of}
-use Rattle.setup_audit.proofs.Joined.{joined_five, flat_seen}
-use Rattle.setup_audit.proofs.Shows.{derivations_shown}
+use Rattle.setup_report.proofs.Runs.{derivations_shown}
+use Rattle.setup_report.proofs.Joined.{flat_seen}
+use Rattle.setup_audit.proofs.Joined.{joined_five}
 use Rattle.setup_audit.proofs.state.whole_audit.Goals as goal
 
 pub returns : goal.returns

@@ -7,7 +7,8 @@ use Rattle.explore_core.specs.Nodes.{own_calls as items_of}
 use Rattle.explore_core.specs.Explorations.{IsExplored}
 use Rattle.setup_format.specs.Views.{CallView}
 use Rattle.setup_explore.specs.Clients.{own_calls, first_clients}
-use Rattle.setup_explore.proofs.Explored.{exploration_is, boot_reached}
+use Rattle.setup_report.proofs.Runs.{boot_reached}
+use Rattle.setup_explore.proofs.Explored.{exploration_is}
 use Rattle.setup_explore.proofs.run.explore_setup.Goals as goal
 
 pub returns : goal.returns

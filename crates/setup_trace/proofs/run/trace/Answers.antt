@@ -9,14 +9,14 @@ use Rattle.setup_report.specs.Report.{terminated, met_count, expectation_count}
 use Rattle.trace_lines.specs.Names.{name_lines}
 use Rattle.trace_lines.specs.Told.{told_changes, told_lines, nothing_told}
 use Rattle.setup_trace.specs.Trace.{head_line, calls_lines, count_line, replies_to, trace_of}
-use Rattle.trace_lines.proofs.Steps.{booted, replies_length}
+use Rattle.setup_report.proofs.Runs.{boot_reached, replies_length}
 use Rattle.setup_trace.proofs.Steps.{whole_text}
 use Rattle.setup_trace.proofs.run.trace.Goals as goal
 
 pub add_calls-requires-clause-reached : goal.add_calls-requires-clause-reached
 add_calls-requires-clause-reached g c =
     let p = g.P.Profile.profile in
-    (boot p c.args.setup.now.plan, booted p c.args.setup.now.plan c.requires, c.in_ok-kernel.ensures.shows ∙ ap (λ plan. shown (boot p plan)) c.plan.ensures.plan)
+    (boot p c.args.setup.now.plan, boot_reached p c.args.setup.now.plan c.requires, c.in_ok-kernel.ensures.shows ∙ ap (λ plan. shown (boot p plan)) c.plan.ensures.plan)
 
 pub expectations-requires : goal.expectations-requires
 expectations-requires g c =
@@ -24,7 +24,7 @@ expectations-requires g c =
     let plan = c.args.setup.now.plan in
     let stands = c.in_ok-kernel.ensures.shows ∙ ap (λ plan. shown (boot p plan)) c.plan.ensures.plan in
     let replies : c.as_slice.result.now ≡ replies_to p c.args.setup.now =
-    c.as_slice.ensures.value ∙ c.in_ok-replies.ensures.replies (boot p plan) (booted p plan c.requires) stands in
+    c.as_slice.ensures.value ∙ c.in_ok-replies.ensures.replies (boot p plan) (boot_reached p plan c.requires) stands in
     ap length replies
     ∙ replies_length p (boot p plan) (map (λ (k : CallView). k.call) c.args.setup.now.calls)
     ∙ length-map c.args.setup.now.calls (λ (k : CallView). k.call)
@@ -36,7 +36,7 @@ returns-clause-text g c =
     let plan = c.args.setup.now.plan in
     let stands = c.in_ok-kernel.ensures.shows ∙ ap (λ plan. shown (boot p plan)) c.plan.ensures.plan in
     let replies : c.as_slice.result.now ≡ replies_to p c.args.setup.now =
-    c.as_slice.ensures.value ∙ c.in_ok-replies.ensures.replies (boot p plan) (booted p plan c.requires) stands in
+    c.as_slice.ensures.value ∙ c.in_ok-replies.ensures.replies (boot p plan) (boot_reached p plan c.requires) stands in
     let calls = c.args.setup.now.calls in
     (λ i. (c.into_bytes.ensures.value i).items)
     ∙ whole_text (string_bytes c.add_names.new.out) (string_bytes c.add_boot.new.out) (string_bytes c.tell.new.out) (string_bytes c.add_calls.new.out) (string_bytes c.add_expectations.new.out)
@@ -44,7 +44,7 @@ returns-clause-text g c =
     (c.in_ok-add_names.ensures ∙ ap (λ l. l ++ name_lines (names_view c.args.names.now)) (c.in_ok-add_head.ensures ∙ ap (λ l. l ++ head_line c.args.setup.now) c.new-out.ensures.bytes))
     c.in_ok-add_boot.ensures
     c.in_ok-told.ensures.text
-    (c.in_ok-replies.ensures.text (boot p plan) (booted p plan c.requires) stands)
+    (c.in_ok-replies.ensures.text (boot p plan) (boot_reached p plan c.requires) stands)
     c.in_ok-add_expectations.ensures
     ∙ (λ i. (head_line c.args.setup.now ++ name_lines (names_view c.args.names.now))
     ++ ((terminated (codes "0 boot") ++ told_changes nothing_told (told_lines p (stands i)))
@@ -59,7 +59,7 @@ returns-clause-met g c =
     let plan = c.args.setup.now.plan in
     let stands = c.in_ok-kernel.ensures.shows ∙ ap (λ plan. shown (boot p plan)) c.plan.ensures.plan in
     let replies : c.as_slice.result.now ≡ replies_to p c.args.setup.now =
-    c.as_slice.ensures.value ∙ c.in_ok-replies.ensures.replies (boot p plan) (booted p plan c.requires) stands in
+    c.as_slice.ensures.value ∙ c.in_ok-replies.ensures.replies (boot p plan) (boot_reached p plan c.requires) stands in
     c.in_ok-count.ensures.met ∙ ap (met_count c.args.setup.now.calls) replies
 
 pub returns-clause-expected : goal.returns-clause-expected
@@ -68,5 +68,5 @@ returns-clause-expected g c =
     let plan = c.args.setup.now.plan in
     let stands = c.in_ok-kernel.ensures.shows ∙ ap (λ plan. shown (boot p plan)) c.plan.ensures.plan in
     let replies : c.as_slice.result.now ≡ replies_to p c.args.setup.now =
-    c.as_slice.ensures.value ∙ c.in_ok-replies.ensures.replies (boot p plan) (booted p plan c.requires) stands in
+    c.as_slice.ensures.value ∙ c.in_ok-replies.ensures.replies (boot p plan) (boot_reached p plan c.requires) stands in
     c.in_ok-count.ensures.expected ∙ ap (expectation_count c.args.setup.now.calls) replies

@@ -1,5 +1,5 @@
 use Rattle.std.proofs.Common.{ℕ, codes, string_bytes}
-use Rattle.setup_audit.proofs.Joined.{flat_step}
+use Rattle.setup_report.proofs.Joined.{flat_step}
 use Rattle.setup_tree.proofs.lines.add_indent.Goals as goal
 
 pub loop-slot-preserved : goal.loop-slot-preserved

@@ -4,7 +4,7 @@ use Rattle.std.specs.List.{flat_map}
 use Rattle.slot_core.specs.Calls.{derivation_view}
 use Rattle.setup_values.specs.Names.{names_view}
 use Rattle.setup_report.specs.Report.{terminated}
-use Rattle.setup_audit.proofs.Joined.{flat_seen}
+use Rattle.setup_report.proofs.Joined.{flat_seen}
 use Rattle.setup_tree.specs.Tree.{graph_head, node_lines}
 use Rattle.setup_tree.proofs.run.graph_text.Goals as goal
 

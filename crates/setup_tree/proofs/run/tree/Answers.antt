@@ -1,8 +1,8 @@
 use Rattle.std.proofs.Common.{Some, ap, ◌∙◌}
 use Rattle.abstract_kernel.specs.Shown.{Shown}
 use Rattle.setup_values.specs.Names.{names_view}
-use Rattle.setup_audit.specs.Audit.{state_behind}
-use Rattle.setup_audit.proofs.Shows.{derivations_shown}
+use Rattle.setup_report.specs.Behind.{state_behind}
+use Rattle.setup_report.proofs.Runs.{derivations_shown}
 use Rattle.setup_tree.specs.Tree.{text_in, tree_behind}
 use Rattle.setup_tree.proofs.run.tree.Goals as goal
 

@@ -1,6 +1,6 @@
 use Rattle.std.proofs.Common.{Some, ap, ◌∙◌}
-use Rattle.setup_audit.proofs.Named.{no_name, one_name}
-use Rattle.setup_audit.proofs.names.name_of.Goals as goal
+use Rattle.setup_values.proofs.Named.{no_name, one_name}
+use Rattle.setup_values.proofs.told.name_of.Goals as goal
 
 pub returns-in-None : goal.returns-in-None
 returns-in-None c = no_name c.args.names.now c.args.value c.in-None.ensures

@@ -1,13 +1,18 @@
 -- The name of a value.
-use Rattle.std.proofs.Common.{◌≡◌, ◌≢◌, ℕ, Bool, true, false, cond, ◌==◌, List, find, count_by, Option, Some, None, option_map, string_bytes, refl, sym, ap, ◌∙◌, eq-eqb}
+use Rattle.std.proofs.Common.{◌≡◌, ◌≢◌, ℕ, ◌+◌, Bool, true, false, cond, ◌==◌, List, [], ◌∷◌, map, fold, find, count_by, Option, Some, None, option_map, string_bytes, refl, sym, ap, ◌∙◌, eq-eqb}
 use Rattle.std.proofs.lemmas.Bool.{eqb-true}
 use Rattle.setup_values.specs.declared.names.Name.{Name}
 use Rattle.setup_values.specs.Names.{names_view}
-use Rattle.setup_audit.specs.Text.{has_value, name_of}
-use Rattle.setup_audit.proofs.Counted.{count_seen, find_seen}
+use Rattle.setup_values.specs.Told.{has_value, name_of}
+use Rattle.setup_values.proofs.LookUp.{entry, find_map}
 
-abbrev entry : Name → List ℕ × ℕ
-entry n = (string_bytes n.text, n.word)
+fold_map : {A B : Type 0} (f : A → B) (p : B → Bool) (n : ℕ) (xs : List A) →
+    fold (λ a x. a + cond (p x) 1 0) n (map f xs) ≡ fold (λ a x. a + cond (p (f x)) 1 0) n xs
+fold_map f p n [] = refl
+fold_map f p n (x ∷ xs) = fold_map f p (n + cond (p (f x)) 1 0) xs
+
+count_map : {A B : Type 0} (f : A → B) (p : B → Bool) (xs : List A) → count_by p (map f xs) ≡ count_by (λ x. p (f x)) xs
+count_map f p xs = fold_map f p 0 xs
 
 abbrev named : ℕ → Name → Bool
 named value n = n.word == value
@@ -17,10 +22,10 @@ text_of_entry None = refl
 text_of_entry (Some n) = refl
 
 counted : (names : List Name) (value : ℕ) → count_by (has_value value) (names_view names) ≡ count_by (named value) names
-counted names value = count_seen entry (has_value value) names
+counted names value = count_map entry (has_value value) names
 
 found : (names : List Name) (value : ℕ) → option_map (λ (e : List ℕ × ℕ). e.0) (find (has_value value) (names_view names)) ≡ option_map (λ (n : Name). string_bytes n.text) (find (named value) names)
-found names value = ap (option_map (λ (e : List ℕ × ℕ). e.0)) (find_seen entry (has_value value) names) ∙ text_of_entry (find (named value) names)
+found names value = ap (option_map (λ (e : List ℕ × ℕ). e.0)) (find_map entry (has_value value) names) ∙ text_of_entry (find (named value) names)
 
 -- by how many names have the value, and by the first of them
 by_count : (names : List Name) (value count : ℕ) (o : Option Name) → count ≡ count_by (λ n. n.word == value) names → o ≡ find (λ n. n.word == value) names →

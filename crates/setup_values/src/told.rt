@@ -1,10 +1,21 @@
-//! The names of threads.
+//! How texts tell a profile, and a thread by its address and its name.
 ghost use Rattle.std.specs.Prelude.{◌≡◌, ◌==◌, Some, count_by, find, option_copied, string_bytes};
 ghost use Rattle.setup_values.specs.Names.{names_view};
-ghost use Rattle.setup_audit.specs.Text as spec;
+ghost use Rattle.setup_values.specs.Told as spec;
 
-use setup_values::Name;
+use crate::names::Name;
+use cap_core::ProfileName;
 use std::fmt;
+
+/// The name of a profile.
+pub fn profile_text(profile: ProfileName) -> &'static str
+    ensures { result.now ≡ spec.profile_text profile }
+{
+    match profile {
+        ProfileName::Wide => "wide",
+        ProfileName::Narrow => "narrow",
+    }
+}
 
 /// A thread, by its address, with the name of the set-up that stands for it, where there is one.
 #[derive(Clone, Copy)]
