@@ -11,7 +11,6 @@ Nothing is made anew where the program, these files and the toolchain are the sa
 import contextlib
 import hashlib
 import os
-import shutil
 import subprocess
 import sys
 import tempfile

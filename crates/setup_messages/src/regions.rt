@@ -39,26 +39,21 @@ fn region_at(document: Document<'_>, place: Place) -> Option<Extent> {
 /// A boot object or an untyped region: its name, its number and its addresses.
 type Object = (&'static str, usize, Extent);
 
-/// Of some objects that stand one behind another from an address on, that of a number, 0 the first.
-fn object_in_row(name: &'static str, number: usize, first: u64, bits: u32) -> Object
-    requires { bits < 64 }
-{
-    let base = first.saturating_add((number as u64) << bits);
-    (name, number, Extent::new(base, bits))
+/// Of some objects of one size that stand one behind another, that of a number, 0 the first.
+fn object_in_row(name: &'static str, number: usize, first: Extent) -> Object {
+    let Extent { start, end } = first;
+    let offset = end.saturating_sub(start).saturating_mul(number as u128);
+    let object = Extent {
+        start: start.saturating_add(offset),
+        end: end.saturating_add(offset),
+    };
+    (name, number, object)
 }
 
 /// The first of so many objects of a row that a region overlaps.
-fn first_in_row(
-    region: Extent,
-    name: &'static str,
-    count: u32,
-    first: u64,
-    bits: u32,
-) -> Option<Object>
-    requires { bits < 64 }
-{
+fn first_in_row(region: Extent, name: &'static str, count: u32, first: Extent) -> Option<Object> {
     (0..count as usize)
-        .map(|number| object_in_row(name, number, first, bits))
+        .map(|number| object_in_row(name, number, first))
         .find(|(_, _, object)| region.overlaps(*object))
 }
 
@@ -69,29 +64,27 @@ fn first_untyped(region: Extent, document: Document<'_>, count: usize) -> Option
         .find(|(_, _, object)| region.overlaps(*object))
 }
 
-/// The first thread or endpoint of a document that a region overlaps. The root CNode has so many bits.
-fn first_boot_object<P: Profile>(
-    region: Extent,
-    document: Document<'_>,
-    root_bits: u32,
-) -> Option<Object>
-    requires { root_bits < 64 }
+/// The bits of the root CNode of a document.
+fn root_bits<P: Profile>(document: Document<'_>) -> u32
+    ensures { result < 64 }
 {
+    P::SLOT_BITS + read_at(document.table, "root_radix", Number(0, MAX_ROOT_RADIX)).unwrap_or(0)
+}
+
+/// The first thread or endpoint of a document that a region overlaps.
+fn first_boot_object<P: Profile>(region: Extent, document: Document<'_>) -> Option<Object> {
     let table = document.table;
     let threads = read_at(table, "threads", Number(0, MAX_BOOT_THREADS)).unwrap_or(0);
     let endpoints = read_at(table, "endpoints", Number(0, MAX_BOOT_ENDPOINTS)).unwrap_or(0);
     // The sizes of the root CNode and of a thread are powers of two, so the first thread stands at the greater one.
-    let first_thread = 1u64 << root_bits.max(P::TCB_BITS);
-    let first_endpoint = first_thread + (u64::from(threads) << P::TCB_BITS);
-    let found = first_in_row(region, "thread", threads, first_thread, P::TCB_BITS);
-    match found {
-        None => first_in_row(
-            region,
-            "endpoint",
-            endpoints,
-            first_endpoint,
-            P::ENDPOINT_BITS,
-        ),
+    let thread = 1u64 << root_bits::<P>(document).max(P::TCB_BITS);
+    let endpoint = thread + (u64::from(threads) << P::TCB_BITS);
+    let first = Extent::new(thread, P::TCB_BITS);
+    match first_in_row(region, "thread", threads, first) {
+        None => {
+            let first = Extent::new(endpoint, P::ENDPOINT_BITS);
+            first_in_row(region, "endpoint", endpoints, first)
+        }
         found => found,
     }
 }
@@ -104,12 +97,10 @@ fn overlapped<P: Profile>(
     region: Extent,
 ) -> Result<String, AllocError> {
     let alloc = document.alloc;
-    let radix = read_at(document.table, "root_radix", Number(0, MAX_ROOT_RADIX)).unwrap_or(0);
-    let root_bits = P::SLOT_BITS + radix;
-    if region.overlaps(Extent::new(0, root_bits)) {
+    if region.overlaps(Extent::new(0, root_bits::<P>(document))) {
         return String::from_str(alloc, "the root CNode at 0");
     }
-    let found = match first_boot_object::<P>(region, document, root_bits) {
+    let found = match first_boot_object::<P>(region, document) {
         None => first_untyped(region, document, count),
         found => found,
     };
