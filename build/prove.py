@@ -6,7 +6,7 @@ Each crate is built by the toolchain's `rattle build`, once the crates below it 
 statements and without its proofs (--statements), as in the gate: a crate above loads a fifth of the modules then. Of
 the crates that can begin, the one with the most work above it begins first; seconds.txt has what each costs. As many
 functions are proved at a time as `make -j N` is told, or as there are processors, and as memory allows: one of each
-crate, or two where there are processors for that.
+crate, or more where fewer crates can begin than there are processors.
 
 What is built stays in build/out, with a sum of what it was made from, so that after an interrupt the build goes on with
 the crates that are not built. `rt` keeps its own work in the crates' folders, and takes nothing from build/out."""
@@ -198,7 +198,8 @@ class Build:
         return sum(self.is_ready(name) and self.takes_built(name) for name in self.names)
 
     def start_some(self):
-        """Starts crates that can begin, each with one function at a time, or two where all that can begin get two."""
+        """Starts crates that can begin, and shares the places that are free among them: each has one function at a time at
+        the least."""
         ready = [it for it in self.waiting if self.is_ready(it)]
         for at, name in enumerate(ready):
             idle = self.places - sum(jobs for _, jobs, _ in self.running.values())
@@ -206,7 +207,7 @@ class Build:
                 return
             if not self.takes_built(name):
                 self.waiting.remove(name)
-                jobs = 2 if idle >= 2 * (len(ready) - at) else 1
+                jobs = max(1, idle // (len(ready) - at))
                 self.running[name] = self.crates[name].start(jobs, self.sums, self.lock), jobs, time.time()
 
     def take_ended(self):
@@ -232,17 +233,23 @@ class Build:
         self.running = {}
 
     def build(self):
-        """Builds what is not built, and returns the name and status of the first crate that failed, if any did."""
+        """Builds what is not built, and returns the status of the first crate that failed, or 0. Behind a failure no other
+        crate begins, but those that have begun are built to their end."""
+        status = 0
         try:
-            while self.waiting or self.running:
-                self.start_some()
+            while self.running or (self.waiting and not status):
+                if not status:
+                    self.start_some()
                 failed = self.take_ended()
                 if failed:
-                    return failed
+                    tell_failure(*failed, self.crates[failed[0]].log)
+                    status = status or (failed[1] if failed[1] > 0 else 128 - failed[1])
+                    if self.running:
+                        tell("waiting for", ", ".join(self.running))
                 time.sleep(0.1)
         finally:
             self.end_all()
-        return None
+        return status
 
 
 @contextlib.contextmanager
@@ -288,12 +295,10 @@ def built(goal=NAME, with_goal=True):
         if not build.waiting:
             return 0
         tell(f"{kept} of {len(build.names)} crates are built; {places} functions at a time")
-        failed = build.build()
-    if failed:
-        tell_failure(*failed, build.crates[failed[0]].log)
-        return failed[1] if failed[1] > 0 else 128 - failed[1]
-    tell(f"proved, in {time.time() - begun:.0f} s")
-    return 0
+        status = build.build()
+    if not status:
+        tell(f"proved, in {time.time() - begun:.0f} s")
+    return status
 
 
 def main(words):

@@ -173,18 +173,17 @@ class Prove(Small):
         self.assertEqual(self.run_script("prove.py", "archive")[:2], (0, ""))
         self.assertEqual(self.begun(), ["other", "archive"])
 
-    def test_stops_at_the_first_that_fails(self):
+    def test_behind_a_failure_only_what_has_begun_is_built(self):
         self.write("crates/left/src/wrong", "")
-        self.write("crates/right/src/slow", "30")
-        begun = time.time()
+        self.write("crates/right/src/slow", "3")
         status, out, said = self.run_script("prove.py")
         self.assertEqual((status, out), (1, ""))
         self.assertIn("fn wrong: not proved\nbuild: left failed with status 1", said)
-        self.assertNotIn("sel4sim", self.begun())
-        self.assertLess(time.time() - begun, 15)
+        self.assertIn("build: waiting for right\n", said)
+        self.assertEqual(sorted(self.begun()), ["left", "low", "right"])
         os.remove(self.path("crates/left/src/wrong"))
-        self.write("crates/right/src/slow", "0")
         self.assertEqual(self.run_script("prove.py")[0], 0)
+        self.assertEqual(self.begun(), ["left", "sel4sim"])
 
     def test_goes_on_after_an_interrupt(self):
         for number in (signal.SIGINT, signal.SIGTERM, signal.SIGKILL):
