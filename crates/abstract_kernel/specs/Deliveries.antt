@@ -1,6 +1,5 @@
 -- What an endpoint delivers, by the replies to calls.
 use Rattle.std.specs.Prelude.{◌≡◌, ◌++◌, map, ℕ, Bool, false, cond, ◌==◌, ◌&&◌, List, [], ◌∷◌}
-use Rattle.std.specs.List.{list_any}
 use Rattle.cap_core.specs.declared.profile.ProfileName.{ProfileName}
 use Rattle.ipc_core.specs.Records.{Instance, SendRecord, ReceiveRecord}
 use Rattle.abstract_kernel.specs.declared.call.Call.{Call}

@@ -2,7 +2,7 @@
 use Rattle.std.proofs.Common.{◌≡◌, ℕ, ◌<◌, ◌*◌, ◌%◌, ◌^◌, ap, arith}
 use Rattle.cap_core.specs.declared.profile.ProfileName.{ProfileName}
 use Rattle.cap_core.specs.declared.profile.ProfileName.TheVariants.{Wide, Narrow}
-use Rattle.cap_core.specs.Numbers.{tcb_bits, tcb_size, slot_bits, slot_size, endpoint_bits, endpoint_size}
+use Rattle.cap_core.specs.Numbers.{tcb_bits, tcb_size}
 
 pub tcb_size-pos : (p : ProfileName) → 0 < tcb_size p
 tcb_size-pos Wide = omega arith
@@ -12,11 +12,3 @@ tcb_size-pos Narrow = omega arith
 pub tcb_size-shifted : (p : ProfileName) (b : ℕ) → b ≡ tcb_bits p → (1 * 2 ^ b) % 2 ^ 64 ≡ tcb_size p
 tcb_size-shifted Wide b e = ap (λ (n : ℕ). (1 * 2 ^ n) % 2 ^ 64) e
 tcb_size-shifted Narrow b e = ap (λ (n : ℕ). (1 * 2 ^ n) % 2 ^ 64) e
-
-pub slot_size-shifted : (p : ProfileName) (b : ℕ) → b ≡ slot_bits p → (1 * 2 ^ b) % 2 ^ 64 ≡ slot_size p
-slot_size-shifted Wide b e = ap (λ (n : ℕ). (1 * 2 ^ n) % 2 ^ 64) e
-slot_size-shifted Narrow b e = ap (λ (n : ℕ). (1 * 2 ^ n) % 2 ^ 64) e
-
-pub endpoint_size-shifted : (p : ProfileName) (b : ℕ) → b ≡ endpoint_bits p → (1 * 2 ^ b) % 2 ^ 64 ≡ endpoint_size p
-endpoint_size-shifted Wide b e = ap (λ (n : ℕ). (1 * 2 ^ n) % 2 ^ 64) e
-endpoint_size-shifted Narrow b e = ap (λ (n : ℕ). (1 * 2 ^ n) % 2 ^ 64) e

@@ -1,5 +1,5 @@
 //! What a mint makes of a capability (seL4 Reference Manual, on `seL4_CNode_Mint`).
-ghost use Rattle.std.specs.Prelude.{◌≡◌, ℕ, ◌+◌, ◌/◌, ◌%◌, ◌^◌, ◌<◌, ◌≤◌, ◌↔◌};
+ghost use Rattle.std.specs.Prelude.{◌≡◌, ℕ, ◌+◌, ◌%◌, ◌^◌, ◌<◌, ◌≤◌, ◌↔◌};
 ghost use Rattle.cap_core.specs.declared.capability.Guard.{Guard as GuardValue};
 ghost use Rattle.cap_core.specs.declared.capability.Cap.TheVariants.{CNode};
 ghost use Rattle.cap_core.specs.Numbers.{word_bits, guard_size_bits};

@@ -1,6 +1,5 @@
 //! The shortest chain of slots.
-ghost use Rattle.std.specs.Prelude.{◌≡◌, ℕ, true, false, IfOk, IfSome, IfNone, map, find, reverse, length, ◌<◌, ◌+◌, ◌^◌, ◌&&◌, nat_lt};
-ghost use Rattle.std.specs.List.{list_any};
+ghost use Rattle.std.specs.Prelude.{◌≡◌, true, false, IfOk, IfSome, IfNone, map, find, reverse, length, ◌<◌, ◌+◌, ◌^◌, ◌&&◌, nat_lt};
 ghost use Rattle.clearing.specs.Members.{In};
 ghost use Rattle.derivation.specs.Forest.{Forest};
 ghost use Rattle.derivation.specs.Entries.{Entry};

@@ -1,6 +1,6 @@
 //! The full slots that a root slot leads to, by how many slots are between.
-ghost use Rattle.std.specs.Prelude.{◌≡◌, ◌==◌, ◌&&◌, ◌+◌, ◌^◌, nat_le, nat_lt, not, IfOk, IfSome, IfNone, map};
-ghost use Rattle.std.specs.List.{filter, list_any};
+ghost use Rattle.std.specs.Prelude.{◌≡◌, ◌==◌, ◌&&◌, ◌+◌, ◌^◌, nat_le, nat_lt, not, IfOk, map};
+ghost use Rattle.std.specs.List.{filter};
 ghost use Rattle.chains.specs.Chain as spec;
 ghost use Rattle.chains.specs.Private.Layers.{leads, is_next, next_of, others_of, IsLaid};
 

@@ -110,9 +110,6 @@ any-filter {A} q t h (a ∷ l) =
 pub has-without : {A : Type 0} (q t : A → Bool) → ((a : A) → q a ≡ true → t a ≡ false) → (f : Forest A) → has q (without t f) ≡ has q f
 has-without q t h f = has_any q (without t f) ∙ ap (list_any q) (preorder-without t f) ∙ any-filter q t h (preorder f) ∙ sym (has_any q f)
 
-pub one-without : {A : Type 0} (q t : A → Bool) (f : Forest A) → OneAtMost q (preorder f) → OneAtMost q (preorder (without t f))
-one-without {A} q t f o = let P : List A → Type 0 = OneAtMost q in subst P (sym (preorder-without t f)) (one-filter q (λ a. not (t a)) (preorder f) o)
-
 one-both : {A : Type 0} (q t : A → Bool) (k r : Forest A) → OneAtMost q (preorder k ++ preorder r) → OneAtMost q (preorder (without t k) ++ preorder (without t r))
 one-both {A} q t k r o =
     let P : List A → Type 0 = OneAtMost q in

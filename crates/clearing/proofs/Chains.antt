@@ -80,16 +80,6 @@ after_pop links here n c e = pop_step links here n (chained links here) c.chain 
         let P : ℕ → Type 0 = λ k. (m ∷ l ≡ k ∷ chained links (next_of links k)) × IsChained links (next_of links k) × (k < length links) in
         subst P q (ap (λ r. m ∷ r) (sym t.0), t.1, b.0)
 
-none_walk : (next : ℕ → Option ℕ) (k : ℕ) → walk next k None ≡ []
-none_walk next zero = refl
-none_walk next (suc k) = refl
-
-pub after_none : (links : List (Option Slot)) (here : Option ℕ) → here ≡ None → chained links here ≡ []
-after_none links here e = ap (chained links) e ∙ none_walk (next_of links) (length links)
-
-pub none_chained : (links : List (Option Slot)) → IsChained links None
-none_chained links = (chained_is links None [] refl tt tt).1
-
 -- numbers that a multiplier scales
 
 pub in_scaled : (size n : ℕ) (l : List ℕ) → In n l → In (n * size) (map (λ m. m * size) l)

@@ -1,6 +1,6 @@
 -- The slots of an object lie in its range, each once.
 use Rattle.std.proofs.Common.{◌≡◌, inl, inr, ℕ, zero, suc, ◌+◌, ◌-◌, ◌*◌, ◌%◌, ◌^◌, ◌≤◌, ◌<◌, Bool, true, false, nat_lt, List, [], ◌∷◌, ◌++◌, append_assoc, refl, sym, ◌∙◌, ap, subst, arith}
-use Rattle.std.proofs.Math.Nat.{one-le-pow, pow-le-pow_right, suc-mul, zero-mul}
+use Rattle.std.proofs.Math.Nat.{one-le-pow, suc-mul, zero-mul}
 use Rattle.std.proofs.lemmas.Nat.{pow-add, pow_pos, pow_below}
 use Rattle.std.proofs.Math.Pow.{mod-mod-pow}
 use Rattle.std.proofs.lemmas.Bool.Decides.{nat_tests}
@@ -130,10 +130,6 @@ slots_some : (p : ProfileName) → 1 ≤ slot_bits p
 slots_some Wide = omega arith
 slots_some Narrow = omega arith
 
-threads_larger : (p : ProfileName) → slot_bits p ≤ tcb_bits p
-threads_larger Wide = omega arith
-threads_larger Narrow = omega arith
-
 still_aligned : (n i j k : ℕ) → i ≡ j + k → n % 2 ^ i ≡ 0 → n % 2 ^ k ≡ 0
 still_aligned n i j k h e =
     let x : n % 2 ^ (j + k) ≡ 0 = ap (λ m. n % 2 ^ m) (sym h) ∙ e in
@@ -151,8 +147,3 @@ node_lawful p base radix guard law =
         let m : 64 ≤ radix = grind (arith, nat_tests) in
         let x = pow_below (word_bits p) (slot_bits p + radix) (omega (arith, words_most p, slots_some p, m)) in
         absurd (omega (arith, law.placed.addressed, x))
-
-pub thread_lawful : (p : ProfileName) (base : ℕ) → IsLawful p (word_bits p) (Tcb base) → (base % slot_size p ≡ 0) × (base + slot_size p ≤ 2 ^ word_bits p)
-thread_lawful p base law =
-    let x : 2 ^ slot_bits p ≤ 2 ^ tcb_bits p = pow-le-pow_right (omega arith) (threads_larger p) in
-    (still_aligned base (tcb_bits p) (tcb_bits p - slot_bits p) (slot_bits p) (let h = threads_larger p in omega arith) law.placed.aligned, omega (arith, law.placed.addressed, x))

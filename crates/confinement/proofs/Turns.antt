@@ -129,13 +129,6 @@ taken_none p memory uses = record {
 whose_is : (other : Parts) (t i : ℕ) → other.part_of t ≡ Some i → whose other t ≡ i
 whose_is other t i h = ap (λ (o : Option ℕ). unwrap_or o 0) h
 
-pub around_none : (p : ProfileName) → AreAround p [] [] []
-around_none p = record {
-  sound = record { stretches = λ m i. absurd i; apart = λ m n i j. absurd i; used = λ u i. absurd i };
-  has = λ t i. absurd i;
-  bounded = λ other has. record { memory_lies = λ m i. absurd i; uses_lie = λ u i. absurd i };
-}
-
 pub around_more : (p : ProfileName) (threads : List ℕ) (t : ℕ) (memory : List PartMemory) (uses : List PartUse) (memory' : List PartMemory) (uses' : List PartUse) →
     AreAround p threads memory uses → IsRangeTaken t (record { first = t; bits = tcb_bits p }) memory uses memory' uses' →
     AreAround p (threads ++ t ∷ []) memory' uses'

@@ -1,17 +1,15 @@
 -- Each step by which the tests' forest is made keeps it disjoint, and each of its capabilities is lawful.
-use Rattle.std.proofs.Common.{◌≤◌, ap, sym, subst, ◌∙◌, ◌≡◌, ℕ, ◌+◌, ◌^◌, ◌<◌, true, false, refl, arith}
+use Rattle.std.proofs.Common.{ap, sym, subst, ◌∙◌, ◌≡◌, ℕ, true, false, refl}
 use Rattle.std.specs.List.{AllByRecursion as Each, Contains}
 use Rattle.cap_core.specs.declared.profile.ProfileName.{ProfileName}
 use Rattle.cap_core.specs.declared.profile.ProfileName.TheVariants.{Wide, Narrow}
 use Rattle.cap_core.specs.declared.capability.Cap.{Cap}
-use Rattle.cap_core.specs.declared.capability.Cap.TheVariants.{CNode}
-use Rattle.cap_core.specs.Numbers.{word_bits}
-use Rattle.cap_core.specs.Objects.{is_null, is_untyped, same_object, contains, are_apart, IsLawful}
+use Rattle.cap_core.specs.Objects.{is_null, is_untyped, same_object, contains, are_apart}
 use Rattle.derivation.specs.Forest.{Forest, none, preorder}
 use Rattle.derivation.specs.Entries.{Entry, cap_at, is_full}
 use Rattle.derivation.specs.Derivation.{derived, rooted}
 use Rattle.derivation.specs.Disjoint.{IsDisjoint}
-use Rattle.cspace_core_tests.specs.Memory.{memory_bits, root, endpoint, node, in_root, with_root, with_endpoint, with_node, with_guarded, with_copy, with_itself}
+use Rattle.cspace_core_tests.specs.Memory.{root, endpoint, node, in_root, with_root, with_endpoint, with_node, with_guarded, with_copy, with_itself}
 use Rattle.derivation.proofs.Trees.Forests.{each-contained}
 use Rattle.derivation.proofs.Slots.Edits.{each-rooted, each-derived}
 use Rattle.derivation.proofs.Disjoint.Disjointness.{disjoint-none, disjoint-rooted, disjoint-derived}

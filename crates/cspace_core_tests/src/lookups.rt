@@ -1,6 +1,5 @@
 //! What addresses lead to, in both profiles.
-ghost use Rattle.std.specs.Prelude.{◌≡◌, ◌⊎◌, ◌≤◌};
-ghost use Rattle.cap_core.specs.Numbers.{word_bits};
+ghost use Rattle.std.specs.Prelude.{◌≡◌, ◌⊎◌};
 ghost use Rattle.cap_core.specs.declared.capability.Cap.TheVariants.{Null};
 ghost use Rattle.cap_core.specs.Objects.{IsLawful};
 ghost use Rattle.cspace_core_tests.specs.Memory.{memory_bits};

@@ -3,7 +3,6 @@ ghost use Rattle.std.specs.Prelude.{◌≡◌, ◌⊎◌};
 ghost use Rattle.cap_core.specs.Objects.{IsLawful};
 ghost use Rattle.cap_core.specs.declared.capability.Cap.TheVariants.{Null};
 ghost use Rattle.cspace_core.specs.Target.{target_seen};
-ghost use Rattle.derivation.specs.Entries.{cap_at};
 ghost use Rattle.abstract_kernel.specs.declared.invocation.Invocation.TheVariants.{Delete, Revoke, CancelBadged};
 ghost use Rattle.abstract_kernel.specs.Deletion.{decoded_slot, decoded_badge, ensure_all_rights};
 ghost use Rattle.decode.specs.Private.Invoked.{invokes};

@@ -1,5 +1,5 @@
 //! The checks of a call that a ready thread makes, and what it does where they pass.
-ghost use Rattle.std.specs.Prelude.{◌≡◌, ◌≤◌, ◌⊎◌, IfOk};
+ghost use Rattle.std.specs.Prelude.{◌≡◌, ◌≤◌, ◌⊎◌};
 ghost use Rattle.cap_core.specs.Objects.{IsLawful};
 ghost use Rattle.cap_core.specs.declared.capability.Cap.TheVariants.{Null};
 ghost use Rattle.derivation.specs.Entries.{cap_at};

@@ -1,7 +1,6 @@
 //! The checks of a retype.
 ghost use Rattle.std.specs.Prelude.{◌≡◌, ◌≤◌, ◌<◌, ◌⊎◌, ◌*◌, ◌+◌, ◌%◌, ◌^◌, IfOk};
 ghost use Rattle.cap_core.specs.Numbers.{slot_size, word_bits};
-ghost use Rattle.cspace_core.specs.Resolution.{slot_of};
 ghost use Rattle.cap_core.specs.Objects.{IsLawful};
 ghost use Rattle.cap_core.specs.declared.capability.Cap.TheVariants.{Null};
 ghost use Rattle.derivation.specs.Entries.{cap_at};

@@ -3,7 +3,7 @@ use Rattle.std.proofs.Common.{◌≡◌, inl, inr, ℕ, zero, suc, ◌+◌, ◌-
 use Rattle.std.specs.List.{slice_get, list_all, list_any}
 use Rattle.std.proofs.lemmas.Bool.{cases_lt, eqb-true, ne_eqb, leb-true, ltb-true, le-leb, lt-ltb}
 use Rattle.std.proofs.lemmas.Option.{slice_get-map, slice_get_within, slice_get-get_or}
-use Rattle.std.proofs.lemmas.List.{append-nil, map-append, take_more}
+use Rattle.std.proofs.lemmas.List.{map-append, take_more}
 use Rattle.cap_core.specs.declared.capability.Cap.{Cap}
 use Rattle.cap_core.specs.declared.capability.Cap.TheVariants.{Null, Untyped, Endpoint, CNode, Tcb}
 use Rattle.cap_core.specs.Objects.{is_null}
@@ -144,26 +144,9 @@ filter_more q list start place d cap old low high is passes e =
     ap (λ (l : List Cap). l ++ cap ∷ []) e
     ∙ sym (all ∙ ap (λ (b : Bool). filter q (map (λ (d : Derivation). d.cap) (part start place list)) ++ cond b (cap ∷ []) []) passes)
 
-pub filter_skip : (q : Cap → Bool) (list : List Derivation) (start place : ℕ) (d : Derivation) (cap : Cap) (old : List Cap) → start ≤ place → place < length list → cap ≡ (get_or list place d).cap →
-    q cap ≡ false → old ≡ filter q (map (λ (d : Derivation). d.cap) (part start place list)) → old ≡ filter q (map (λ (d : Derivation). d.cap) (part start (place + 1) list))
-filter_skip q list start place d cap old low high is fails e =
-    let all : filter q (map (λ (d : Derivation). d.cap) (part start (place + 1) list)) ≡ filter q (map (λ (d : Derivation). d.cap) (part start place list)) ++ cond (q cap) (cap ∷ []) [] =
-    ap (filter q) (cap_more list start place d low high ∙ ap (λ (c : Cap). map (λ (d : Derivation). d.cap) (part start place list) ++ c ∷ []) (sym is))
-    ∙ filter_last q (map (λ (d : Derivation). d.cap) (part start place list)) cap in
-    e ∙ sym (all ∙ ap (λ (b : Bool). filter q (map (λ (d : Derivation). d.cap) (part start place list)) ++ cond b (cap ∷ []) []) fails
-    ∙ append-nil (filter q (map (λ (d : Derivation). d.cap) (part start place list))))
-
 any_last : (q : Cap → Bool) (xs : List Cap) (x : Cap) → list_any q (xs ++ x ∷ []) ≡ (list_any q xs || q x)
 any_last q [] x = elim (q x) as (λ b. (b || false) ≡ b) [ true ↦ refl | false ↦ refl ]
 any_last q (y ∷ xs) x = elim (q y) as (λ b. (b || list_any q (xs ++ x ∷ [])) ≡ ((b || list_any q xs) || q x)) [ true ↦ refl | false ↦ any_last q xs x ]
-
--- none passes so far, and the next one does not either
-pub any_skip : (q : Cap → Bool) (list : List Derivation) (start place : ℕ) (d : Derivation) (cap : Cap) → start ≤ place → place < length list → cap ≡ (get_or list place d).cap →
-    q cap ≡ false → list_any q (map (λ (d : Derivation). d.cap) (part start place list)) ≡ false → list_any q (map (λ (d : Derivation). d.cap) (part start (place + 1) list)) ≡ false
-any_skip q list start place d cap low high is fails e =
-    ap (list_any q) (cap_more list start place d low high ∙ ap (λ (c : Cap). map (λ (d : Derivation). d.cap) (part start place list) ++ c ∷ []) (sym is))
-    ∙ any_last q (map (λ (d : Derivation). d.cap) (part start place list)) cap
-    ∙ (λ i. e i || fails i)
 
 -- one that passes is there
 pub any_here : (q : Cap → Bool) (list : List Derivation) (start end place : ℕ) (d : Derivation) (cap : Cap) → start ≤ place → place < end → end ≤ length list → cap ≡ (get_or list place d).cap →

@@ -1,13 +1,12 @@
 -- Capabilities name one object where their numbers are one.
-use Rattle.std.proofs.Common.{◌≡◌, ◌≢◌, ℕ, ◌^◌, ◌<◌, Bool, true, false, ◌==◌, ◌&&◌, sym, ap, ◌∙◌, arith, eq-eqb}
+use Rattle.std.proofs.Common.{◌≡◌, ◌≢◌, ℕ, ◌^◌, ◌<◌, Bool, false, ◌==◌, ◌&&◌, sym, ap, ◌∙◌, arith, eq-eqb}
 use Rattle.std.proofs.lemmas.Bool.{ne_eqb, cases_eq}
 use Rattle.std.proofs.Common.{inl, inr}
 use Rattle.cap_core.specs.declared.capability.Cap.{Cap}
 use Rattle.cap_core.specs.declared.capability.Cap.TheVariants.{Null, Untyped, Endpoint, CNode, Tcb}
-use Rattle.cap_core.specs.Objects.{is_null, same_object}
+use Rattle.cap_core.specs.Objects.{is_null}
 use Rattle.derivation.specs.Derivation.{names_same}
 use Rattle.descendants.specs.Objects.{size_in, number_of, object_number}
-use Rattle.descendants.specs.Private.{has_slots}
 
 record Same (a k s b l t : ℕ) : Type 0 where
   base : a ≡ b
@@ -57,11 +56,3 @@ one_number (Tcb b) (Untyped c t g) n h k = other_kind b 4 0 c 1 t (omega arith) 
 one_number (Tcb b) (Endpoint c d r) n h k = other_kind b 4 0 c 2 0 (omega arith) (omega arith) (omega arith) (omega arith) (omega arith)
 one_number (Tcb b) (CNode c t g) n h k = other_kind b 4 0 c 3 t (omega arith) (omega arith) (omega arith) k (omega arith)
 one_number (Tcb b) (Tcb c) n h k = one_kind b c 4 (omega arith)
-
--- an object with slots is no untyped region
-pub named_object : (a b : Cap) → has_slots a ≡ true → names_same a b ≡ true → same_object a b ≡ true
-named_object Null b h e = cc
-named_object (Untyped c t g) b h e = cc
-named_object (Endpoint c d r) b h e = cc
-named_object (CNode c t g) b h e = e
-named_object (Tcb c) b h e = e

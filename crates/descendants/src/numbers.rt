@@ -1,5 +1,5 @@
 //! The places of derivations by their slots, and by the objects that they name.
-ghost use Rattle.std.specs.Prelude.{◌≡◌, ℕ, ◌^◌, ◌<◌, IfOk, All, map};
+ghost use Rattle.std.specs.Prelude.{◌≡◌, ◌^◌, ◌<◌, IfOk, All, map};
 ghost use Rattle.slot_core.specs.Places.{address_of};
 ghost use Rattle.descendants.specs.Keyed.{numbered, AreKeyed};
 ghost use Rattle.descendants.specs.Index.{AreByObject};

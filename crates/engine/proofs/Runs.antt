@@ -1,14 +1,9 @@
 -- A run has as many replies as calls, and a text with its count is the program's.
-use Rattle.std.specs.Prelude.{◌≡◌, ℕ, suc, List, [], ◌∷◌, length, refl, Option, Some, None, Result, Ok, Err}
+use Rattle.std.specs.Prelude.{◌≡◌, ℕ, List, length, Option, Some, None, Result, Ok, Err}
 use Rattle.std.proofs.Common.{ap, ap₂, ◌∙◌}
 use Rattle.std.proofs.lemmas.List.{length-map}
 use Rattle.cap_core.specs.declared.profile.ProfileName.{ProfileName}
-use Rattle.abstract_kernel.specs.declared.call.Call.{Call}
-use Rattle.abstract_kernel.specs.Plan.{Plan, IsPlan}
 use Rattle.abstract_kernel.specs.Boot.{boot}
-use Rattle.abstract_kernel.specs.State.{State}
-use Rattle.abstract_kernel.specs.Step.{step, replies_of, state_after}
-use Rattle.abstract_kernel.specs.Reached.{IsReached}
 use Rattle.setup_format.specs.Views.{SetupView, CallView}
 use Rattle.setup_format.specs.Faults.{Fault}
 use Rattle.setup_format.specs.Setups.{setup_of_bytes}

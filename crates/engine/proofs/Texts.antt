@@ -1,5 +1,5 @@
 -- A text that a table is read from, and what the program writes for it.
-use Rattle.std.proofs.Common.{◌≡◌, ℕ, List, Some, Result, Ok, String, string_bytes, ap, ◌∙◌}
+use Rattle.std.proofs.Common.{◌≡◌, ℕ, List, Some, Ok, String, string_bytes, ap, ◌∙◌}
 use Rattle.std.proofs.lemmas.Str.{IsUtf8-string_bytes}
 use Rattle.toml.specs.Data.{Members}
 use Rattle.toml.specs.Parse.{parse_document}

@@ -5,7 +5,6 @@ ghost use Rattle.abstract_kernel.specs.Plan.{IsPlan};
 ghost use Rattle.abstract_kernel.specs.State.{shown};
 ghost use Rattle.setup_format.specs.Refusal.{setup_fault_text};
 ghost use Rattle.setup_format.specs.Setups.{setup_of_bytes};
-ghost use Rattle.setup_report.specs.Report.{report_of, met_count, expectation_count};
 ghost use Rattle.engine.specs.Program.{IsTextIn, IsTextOfSetup, program, replies_to, end_of, verdict_in, verdict_on as verdict_of_counts};
 
 use cap_core::{Narrow, Profile, ProfileName, Wide};

@@ -1,8 +1,7 @@
 -- What was read and written so far.
-use Rattle.std.proofs.Common.{◌≡◌, ℕ, ◌+◌, ◌≤◌, List, [], ◌++◌, Bool, length, Option, Some, None, refl, sym, ap, ◌∙◌, append_assoc, arith, length-append}
+use Rattle.std.proofs.Common.{◌≡◌, ℕ, ◌+◌, ◌≤◌, List, [], ◌++◌, Bool, length, Option, Some, None, refl, ap, ◌∙◌, append_assoc, arith, length-append}
 use Rattle.std.specs.Prelude.{IfSome}
-use Rattle.std.specs.Io.KnownBytes.{Appends, Consumes, IsAtEnd}
-use Rattle.std.proofs.lemmas.List.{append-nil}
+use Rattle.std.specs.Io.KnownBytes.{Appends, Consumes}
 
 -- ---- reads
 
@@ -16,20 +15,6 @@ pub record HasRead (limit : ℕ) (bytes : List ℕ) (left_old left_new : Option 
 pub Consumes-refl : (left : Option (List ℕ)) → Consumes left left []
 Consumes-refl None = tt
 Consumes-refl (Some xs) = refl
-
-pub Consumes-trans : (a b c : Option (List ℕ)) (bytes piece : List ℕ) → Consumes a b bytes → Consumes b c piece → Consumes a c (bytes ++ piece)
-Consumes-trans None b c bytes piece first second = tt
-Consumes-trans (Some x) None c bytes piece first second = absurd first
-Consumes-trans (Some x) (Some y) None bytes piece first second = absurd second
-Consumes-trans (Some x) (Some y) (Some z) bytes piece first second =
-    first ∙ ap (λ r. bytes ++ r) second ∙ sym (append_assoc bytes piece z)
-
-pub Consumes-all : (a b c : Option (List ℕ)) (bytes : List ℕ) → Consumes a b bytes → Consumes b c [] → IsAtEnd c → IfSome a (λ told. told ≡ bytes)
-Consumes-all None b c bytes first second end = tt
-Consumes-all (Some x) None c bytes first second end = absurd first
-Consumes-all (Some x) (Some y) None bytes first second end = absurd second
-Consumes-all (Some x) (Some y) (Some z) bytes first second end =
-    first ∙ ap (λ r. bytes ++ r) (second ∙ end) ∙ append-nil bytes
 
 pub Consumes-least : (limit : ℕ) (a b : Option (List ℕ)) (bytes : List ℕ) → limit ≤ length bytes → Consumes a b bytes → IfSome a (λ told. limit ≤ length told)
 Consumes-least limit None b bytes many first = tt
@@ -45,10 +30,6 @@ pub record HasWritten (text rest : List ℕ) (old new : Option (List ℕ)) (writ
   pub appends : Appends old new front
   pub written : written_new ≡ written_old + length front
   pub failed : failed_new ≡ failed_old
-
-pub Appends-refl : (old : Option (List ℕ)) → Appends old old []
-Appends-refl None = tt
-Appends-refl (Some xs) = sym (append-nil xs)
 
 pub Appends-trans : (a b c : Option (List ℕ)) (front piece : List ℕ) → Appends a b front → Appends b c piece → Appends a c (front ++ piece)
 Appends-trans None b c front piece first second = tt

@@ -1,5 +1,5 @@
 -- A history that grows: the steps of its loops.
-use Rattle.std.proofs.Common.{◌≡◌, ℕ, ◌+◌, ◌<◌, true, List, [], ◌∷◌, ◌++◌, eq-eqb, get_or, length, map, option_map, slice_get, take, Some, refl, ap, ap₂, sym, ◌∙◌, append_assoc}
+use Rattle.std.proofs.Common.{◌≡◌, ℕ, ◌+◌, ◌<◌, true, List, [], ◌∷◌, ◌++◌, eq-eqb, get_or, length, map, option_map, slice_get, take, Some, refl, ap, ap₂, sym, ◌∙◌}
 use Rattle.std.proofs.lemmas.List.{append-nil, map-append, take_more}
 use Rattle.std.proofs.lemmas.Option.{get_or_from_slice_get, slice_get-map}
 use Rattle.abstract_kernel.specs.declared.call.Call.{Call}
@@ -49,24 +49,3 @@ first_more calls items replies old new i who number d r is lt short from so push
 -- nothing yet behind a history
 pub none_behind : (old : List Entry) → AreBehind old [] old
 none_behind old = record { behind = []; is = sym (append-nil old); same = record { same = refl; replies = refl } }
-
--- one call more of another history
-pub later_more : (first old new others : List Entry) (i number : ℕ) (d : Entry) → i < length others → AreBehind first (take i others) old
-    → new ≡ old ++ entry (get_or others i d).client number (get_or others i d).call (get_or others i d).reply ∷ [] → AreBehind first (take (i + 1) others) new
-later_more first old new others i number d lt so pushed =
-    let x = get_or others i d in
-    let e = entry x.client number x.call x.reply in
-    let more : take (i + 1) others ≡ take i others ++ x ∷ [] = take_more others i d lt in record {
-      behind = so.behind ++ e ∷ [];
-      is = pushed ∙ (ap (λ (l : List Entry). l ++ e ∷ []) so.is ∙ append_assoc first so.behind (e ∷ []));
-      same = record {
-        same =
-            map-append call_made so.behind (e ∷ [])
-            ∙ (ap (λ (l : List (ℕ × Call)). l ++ call_made x ∷ []) so.same.same
-            ∙ (sym (map-append call_made (take i others) (x ∷ [])) ∙ ap (map call_made) (sym more)));
-        replies =
-            map-append (λ (y : Entry). y.reply) so.behind (e ∷ [])
-            ∙ (ap (λ (l : List Reply). l ++ x.reply ∷ []) so.same.replies
-            ∙ (sym (map-append (λ (y : Entry). y.reply) (take i others) (x ∷ [])) ∙ ap replies_in (sym more)));
-      };
-    }

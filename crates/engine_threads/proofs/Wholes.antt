@@ -12,7 +12,7 @@ use Rattle.kernel_book.specs.declared.entry.Entry.{Entry}
 use Rattle.kernel_book.specs.Laws.{calls_of, replies_in}
 use Rattle.setup_format.specs.Views.{CallView, SetupView}
 use Rattle.engine_threads.specs.Private.Begun.{IsRunFrom, IsWhole, calls_in, state_begun}
-use Rattle.engine_threads.specs.SharedRuns.{IsBeginning, IsSharedRun, call_asked, call_made, calls_by, client_calls, count_first, first_calls, state_of}
+use Rattle.engine_threads.specs.SharedRuns.{IsBeginning, IsSharedRun, calls_by, client_calls, count_first, first_calls, state_of}
 use Rattle.engine_threads.proofs.Histories.{or_map}
 
 -- ---- a client's own calls, of calls with their clients
@@ -166,30 +166,3 @@ module _ (first : ℕ) (setup : SetupView) (replies : List Reply) (later h : Lis
               (run.unless_full (omega arith) client);
           whole = λ same client. all_made client (run.whole (omega arith) client);
         }
-
--- a shared run that begins with the first calls is one that the clients can make by themselves, where no gate ends any
-pub by_themselves : (first : ℕ) (p : ProfileName) (setup : SetupView) (h : List Entry) → IsSharedRun (λ _ _. ⊥) first p setup h → IsSharedRun (λ _ _. ⊥) 0 p setup h
-by_themselves first p setup h run =
-    let none : 0 ≡ count_first 0 setup = omega arith in record {
-      before = [];
-      behind = h;
-      is = refl;
-      first_made = ap (λ n. map call_asked (take n setup.calls)) none;
-      replies = run.replies;
-      numbered = run.numbered;
-      within = run.within;
-      beginnings = run.beginnings;
-      unless_full = run.unless_full;
-      whole = run.whole;
-    }
-
--- where no calls are made first, the history is that of the clients alone
-pub clients_alone : (ends : ℕ → ℕ → Type 0) (p : ProfileName) (setup : SetupView) (h : List Entry) (run : IsSharedRun ends 0 p setup h) → h ≡ run.behind
-clients_alone ends p setup h run =
-    let none : 0 ≡ count_first 0 setup = omega arith in
-    let no_calls : map call_made run.before ≡ [] = run.first_made ∙ sym (ap (λ n. map call_asked (take n setup.calls)) none) in
-    run.is ∙ ap (λ (l : List Entry). l ++ run.behind) (empty run.before no_calls)
-  where
-    empty : (xs : List Entry) → map call_made xs ≡ [] → xs ≡ []
-    empty [] e = refl
-    empty (x ∷ xs) e = cc

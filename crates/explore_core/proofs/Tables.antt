@@ -11,7 +11,7 @@ use Rattle.cap_core.specs.declared.profile.ProfileName.{ProfileName}
 use Rattle.abstract_kernel.specs.declared.call.Call.{Call}
 use Rattle.abstract_kernel.specs.declared.call.Reply.{Reply}
 use Rattle.abstract_kernel.specs.Shown.{Shown}
-use Rattle.abstract_kernel.specs.State.{State, shown}
+use Rattle.abstract_kernel.specs.State.{shown}
 use Rattle.abstract_kernel.specs.Step.{step}
 use Rattle.abstract_kernel.specs.Reached.{StepsTo}
 use Rattle.kinds.specs.Kinds.{has_kind_of, with_first, with_firsts, with_count_up_to, with_counts_up_to, each_times}

@@ -1,6 +1,5 @@
 //! What calls come to.
-ghost use Rattle.std.specs.Prelude.{◌≡◌, ◌==◌, ◌&&◌, ◌++◌, OnOk, map};
-ghost use Rattle.std.specs.List.{list_any};
+ghost use Rattle.std.specs.Prelude.{◌≡◌, ◌==◌, ◌++◌, OnOk, map};
 ghost use Rattle.kinds.specs.Kinds.{with_first, with_firsts};
 ghost use Rattle.orders.specs.Answers.{answered, same_answer, wait_ended, waits_ended, replied};
 ghost use Rattle.orders.specs.declared.answer.WaitingCall.{WaitingCall as WaitingCallOf};

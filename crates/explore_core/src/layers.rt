@@ -1,5 +1,5 @@
 //! From layer to layer: for each number of calls, the states that orders of so many calls lead to.
-ghost use Rattle.std.specs.Prelude.{◌≡◌, ◌++◌, ◌∷◌, ◌+◌, ◌≤◌, [], ℕ, List, Some, IfOk, IfSome, OnOk, length, replicate, slice_get};
+ghost use Rattle.std.specs.Prelude.{◌≡◌, ◌∷◌, ◌+◌, ◌≤◌, [], ℕ, List, Some, IfOk, IfSome, OnOk, length, replicate, slice_get};
 ghost use Rattle.abstract_kernel.specs.declared.call.Call.{Call as CallOf};
 ghost use Rattle.abstract_kernel.specs.State.{shown};
 ghost use Rattle.abstract_kernel.specs.Reached.{IsReached, StepsTo};

@@ -1,10 +1,8 @@
 //! A state that an order of calls leads to, and one call more.
-ghost use Rattle.std.specs.Prelude.{◌≡◌, ◌++◌, ◌∷◌, ◌+◌, ◌≤◌, [], ℕ, IfOk, IfSome, IsSome, Some, is_some, slice_get, nat_eq};
-ghost use Rattle.std.specs.Cmp.Lexicographic.{pointwise};
+ghost use Rattle.std.specs.Prelude.{◌≡◌, ◌+◌, ◌≤◌, ℕ, IfOk, IfSome, IsSome, Some, is_some, slice_get};
 ghost use Rattle.abstract_kernel.specs.Shown.{state_at};
 ghost use Rattle.abstract_kernel.specs.State.{State, shown};
 ghost use Rattle.abstract_kernel.specs.Reached.{IsReached, StepsTo};
-ghost use Rattle.abstract_kernel.specs.Step.{state_after};
 ghost use Rattle.orders.specs.World.{next_call, is_ready, can_be_made, one_more, place_of};
 ghost use Rattle.explore_core.specs.Nodes.{own_calls};
 

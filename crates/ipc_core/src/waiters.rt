@@ -1,5 +1,5 @@
 //! What holds the threads that wait.
-ghost use Rattle.std.specs.Prelude.{◌≡◌, ℕ, Bool, true, false, List, ◌≤◌, None, IfOk, option_map, slice_get};
+ghost use Rattle.std.specs.Prelude.{◌≡◌, ℕ, true, false, List, ◌≤◌, None, IfOk, option_map, slice_get};
 ghost use Rattle.ipc_core.specs.Records.{SendRecord, ReceiveRecord, waiting_list};
 ghost use Rattle.ipc_core.specs.Waits.{Waits, no_waits, IsEndpointAddress, IsThreadAddress, sent, after_send, received, after_receive, thread_of, IsNextBehind};
 ghost use Rattle.ipc_core.specs.Offers.{offer_of};

@@ -1,6 +1,5 @@
 //! The kernel.
-ghost use Rattle.std.specs.Prelude.{◌≡◌, ◌==◌, ◌⊎◌, ℕ, false, Some, None, IfOk, option_map, slice_get, All, vec_len, vec_capacity, length, drop, map, ◌≤◌, ◌<◌, ◌+◌, ◌++◌, ◌∷◌, []};
-ghost use Rattle.cap_core.specs.Numbers.{tcb_size};
+ghost use Rattle.std.specs.Prelude.{◌≡◌, ◌==◌, ℕ, false, Some, None, IfOk, option_map, slice_get, All, vec_len, vec_capacity, length, drop, map, ◌≤◌, ◌<◌, ◌+◌, ◌++◌};
 ghost use Rattle.derivation.specs.Entries.{slots, caps, cap_at as cap_held, derivations_of};
 ghost use Rattle.std.specs.List.{IsDistinct};
 ghost use Rattle.cap_core.specs.Objects.{is_null};

@@ -4,7 +4,6 @@ ghost use Rattle.std.specs.List.{range_with_len};
 ghost use Rattle.std.specs.FinMap.{insert};
 ghost use Rattle.cap_core.specs.Numbers.{tcb_size};
 ghost use Rattle.mem_core.specs.Plans.{object_at};
-ghost use Rattle.derivation.specs.Entries.{slots};
 ghost use Rattle.abstract_kernel.specs.Retyping.{with_objects};
 ghost use Rattle.abstract_kernel.specs.Private.Invocations.{IsRetype};
 ghost use Rattle.kernel_core.specs.Rows.{rows_map};

@@ -59,10 +59,6 @@ client_same p o id done parts amount seen stray log log' c s l = record {
   small = c.small;
 }
 
-pub no_stray : (stray : Option Stray) (log : List Entry) → lost_of stray log ≡ None → stray ≡ None
-no_stray None log e = refl
-no_stray (Some s) log e = cc
-
 pub found_front : (id done seen : ℕ) (log log' : List Entry) (call : Call) (reply : Reply) → StartsWith log' log → seen ≤ length log → slice_get log' seen ≡ Some (entry id done call reply)
     → take (seen + 1) log' ≡ take seen log ++ entry id done call reply ∷ []
 found_front id done seen log log' call reply s le at = take_one log' seen (entry id done call reply) at ∙ ap (λ l. l ++ entry id done call reply ∷ []) (take_same log' log seen s le)

@@ -5,8 +5,6 @@ use mathlib.Core.Option.{some}
 use lib.ListN.{get_elem?}
 use Rattle.kernel_shared.proofs.Seats.{at_set, at_snoc}
 use Rattle.kernel_book.specs.declared.entry.Entry.{Entry}
-use Rattle.kernel_book.specs.Laws.{count_of}
-use Rattle.kernel_book.proofs.Grows.{count_append}
 use Rattle.kernel_shared.specs.Fronts.{StartsWith, Keeps, Sees}
 
 pub starts_refl : (log : List Entry) → StartsWith log log
@@ -27,9 +25,6 @@ take_same log' log n s le = ap (take n) s.is ∙ take-append-le n log s.rest le
 
 pub longer : (log' log : List Entry) → StartsWith log' log → length log ≤ length log'
 longer log' log s = let a = ap length s.is in let b = length-append log s.rest in omega arith
-
-pub count_later : (id : ℕ) (log' log : List Entry) → StartsWith log' log → count_of id log ≤ count_of id log'
-count_later id log' log s = let a = ap (count_of id) s.is in let b = count_append id log s.rest in omega arith
 
 pub keeps_set : (log log' : List Entry) (views : List (List Entry)) (seat : ℕ) (w : List Entry) → StartsWith log' log → Keeps log views → StartsWith log' w → Keeps log' (set views seat w)
 keeps_set log log' views seat w s h k j u e =

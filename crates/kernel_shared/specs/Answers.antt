@@ -1,5 +1,5 @@
 -- The value of a query after a front.
-use Rattle.std.specs.Prelude.{◌≡◌, ℕ, List, length, slice_get}
+use Rattle.std.specs.Prelude.{◌≡◌, List, length, slice_get}
 use Rattle.cap_core.specs.declared.profile.ProfileName.{ProfileName}
 use Rattle.derivation.specs.Entries.{cap_at}
 use Rattle.abstract_kernel.specs.State.{State, shown}

@@ -1,7 +1,7 @@
 //! Retype, before any slot is touched: what objects are asked for, and where in an untyped region they are placed.
 #![tactic(auto)]
 
-ghost use Rattle.std.specs.Prelude.{◌≡◌, ℕ, ◌+◌, ◌-◌, ◌*◌, ◌/◌, ◌%◌, ◌^◌, ◌<◌, ◌≤◌, IfOk};
+ghost use Rattle.std.specs.Prelude.{◌≡◌, ◌+◌, ◌-◌, ◌*◌, ◌/◌, ◌<◌, ◌≤◌, IfOk};
 ghost use Rattle.mem_core.specs.Shapes.{shape_of, IsShape, IsLawfulShape};
 ghost use Rattle.mem_core.specs.Plans.{IsRetypable, IsRetypePlan, LieInUntyped, placed_in};
 

@@ -1,11 +1,11 @@
 -- The numbers of bits whose rows have places, and the first path among them.
-use Rattle.std.proofs.Common.{◌≡◌, ◌⊎◌, inl, inr, ℕ, zero, suc, ◌+◌, ◌<◌, ◌≤◌, refl, sym, ap, ◌∙◌, arith, List, [], ◌∷◌, ◌++◌, length, get_or, Option, None, Some, unwrap_or}
+use Rattle.std.proofs.Common.{◌≡◌, ◌⊎◌, inl, inr, ℕ, zero, suc, ◌+◌, ◌<◌, ◌≤◌, refl, sym, ap, arith, List, [], ◌∷◌, ◌++◌, length, get_or, Option, None, Some, unwrap_or}
 use Rattle.std.specs.List.{slice_get}
 use Rattle.std.proofs.lemmas.Bool.{cases_eq, cases_lt}
 use Rattle.std.proofs.lemmas.Option.{slice_get_within, slice_get_past, slice_get-get_or}
 use Rattle.reach_core.specs.declared.held.Held.{Held}
 use Rattle.reach_core.specs.declared.paths.Path.{Path}
-use Rattle.reach_core.specs.Private.Paths.{row_of, path_in, path_at}
+use Rattle.reach_core.specs.Private.Paths.{path_in, path_at}
 use Rattle.reach_core.specs.Private.Entries.{AreDepths, IsBest}
 use Rattle.reach_core.proofs.HeldSlots.{within_rows}
 
@@ -41,45 +41,9 @@ got_new : (xs : List ℕ) (x : ℕ) → slice_get (xs ++ x ∷ []) (length xs) �
 got_new [] x = refl
 got_new (z ∷ xs) x = got_new xs x
 
-pub more_below : (rows : List (List (Option Path))) (depths : List ℕ) (count : ℕ) → 1 ≤ count → count < length rows → Below rows depths count → Below rows (depths ++ count ∷ []) (count + 1)
-more_below rows depths count some high b = record {
-  within = λ i depth e. elim (got_last depths count i depth e) [
-    | inl h ↦ (let w = b.within i depth h in (w.0, (w.1.0, (let l = w.1.1 in omega arith))))
-    | inr h ↦ (let is = h.1 in (omega arith, (omega arith, omega arith)))
-  ];
-  rising = λ i j x y less ex ey. elim (got_last depths count i x ex) [
-    | inr h ↦ absurd (let l = slice_get_within (depths ++ count ∷ []) j y ey in
-        let long : length (depths ++ count ∷ []) ≡ length depths + 1 = longer depths count in
-        let at = h.0 in
-        omega arith)
-    | inl h ↦ elim (got_last depths count j y ey) [
-      | inl k ↦ b.rising i j x y less h k
-      | inr k ↦ (let l = (b.within i x h).1.1 in let is = k.1 in omega arith)
-    ]
-  ];
-  all = λ depth place path least low e. elim (cases_eq depth count) [
-    | inl here ↦ (length depths, got_new depths count ∙ ap Some (sym here))
-    | inr other ↦ (let w = b.all depth place path least (omega arith) e in (w.0, got_kept depths count w.0 depth w.1))
-  ];
-}
-  where
-    longer : (xs : List ℕ) (x : ℕ) → length (xs ++ x ∷ []) ≡ length xs + 1
-    longer [] x = refl
-    longer (z ∷ xs) x = let l = longer xs x in omega arith
-
 no_path : (row : List (Option Path)) (k : ℕ) (path : Path) → length row ≡ 0 → path_in row k ≡ Some path → ⊥
 no_path [] k path e h = cc
 no_path (p ∷ row) k path e h = absurd (omega arith)
-
-pub skip_below : (rows : List (List (Option Path))) (depths : List ℕ) (count : ℕ) → length (row_of rows count) ≡ 0 → Below rows depths count → Below rows depths (count + 1)
-skip_below rows depths count none b = record {
-  within = λ i depth e. (let w = b.within i depth e in (w.0, (w.1.0, (let l = w.1.1 in omega arith))));
-  rising = b.rising;
-  all = λ depth place path least low e. elim (cases_eq depth count) [
-    | inl here ↦ absurd (let at : path_at rows count place ≡ Some path = rw here at e in no_path (row_of rows count) place path none at)
-    | inr other ↦ b.all depth place path least (omega arith) e
-  ];
-}
 
 pub are_depths : (rows : List (List (Option Path))) (depths : List ℕ) (count : ℕ) → length rows ≤ count → Below rows depths count → AreDepths rows depths
 are_depths rows depths count high b = record {

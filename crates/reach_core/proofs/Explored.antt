@@ -301,20 +301,3 @@ step_only p from read path slot base radix number more guard more' next e r is e
     let more_is : more' ≡ more = rw (guard', radix') at s.bits ∙ sym bits in
     let next_is : next ≡ record { word = path.word; index = (path.index * 2 ^ guard.size + guard.value) * 2 ^ radix + number } = rw (guard', radix', number') at s.is in
     rw (m.first, m.second, more_is, next_is) refl
-
--- no step where the bits are too many, or no slot is chosen
-pub step_fits : (p : ProfileName) (from : Cap) (read : ℕ) (path : Path) (slot base radix : ℕ) (guard : Guard) (more : ℕ) (next : Path) → from ≡ CNode base radix guard →
-    IsStep p from read path slot more next → read + (guard.size + radix) ≤ word_bits p
-step_fits p from read path slot base radix guard more next e s =
-    let same : CNode base radix guard ≡ CNode s.base s.radix s.guard = sym e ∙ s.node in
-    let radix' : s.radix ≡ radix = cc in
-    let guard' : s.guard ≡ guard = cc in
-    rw (guard', radix') at s.fits
-
-pub step_chooses : (p : ProfileName) (from : Cap) (read : ℕ) (path : Path) (slot base radix : ℕ) (guard : Guard) (more : ℕ) (next : Path) → from ≡ CNode base radix guard →
-    (r : Option ℕ) → ((i : ℕ) → i < 2 ^ radix → slot ≡ slot_of p base i → r ≡ Some i) → IsStep p from read path slot more next → (i : ℕ) × (r ≡ Some i)
-step_chooses p from read path slot base radix guard more next e r each s =
-    let same : CNode base radix guard ≡ CNode s.base s.radix s.guard = sym e ∙ s.node in
-    let base' : s.base ≡ base = cc in
-    let radix' : s.radix ≡ radix = cc in
-    (s.number, each s.number (rw radix' at s.within) (rw base' at s.chosen))

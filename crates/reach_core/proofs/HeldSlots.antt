@@ -162,10 +162,6 @@ starts_none filled list rows none = record {
 pub starts_nothing : (rows : List (List (Option Path))) → ((t k : ℕ) → path_at rows t k ≡ None) → AreStarts rows
 starts_nothing rows none read place path e = absurd (let n = none read place in cc)
 
--- the best entry so far
-pub best_none : (rows : List (List (Option Path))) (place address : ℕ) → IsBest rows place address 1 None
-best_none rows place address = record { none = λ e depth path some low is. omega arith; some = λ h e. cc }
-
 pub best_skip : (rows : List (List (Option Path))) (place address count : ℕ) (best : Option Held) → path_at rows count place ≡ None →
     IsBest rows place address count best → IsBest rows place address (count + 1) best
 best_skip rows place address count best none b = record {
@@ -263,9 +259,6 @@ pub best_nothing : (rows : List (List (Option Path))) (place address count : ℕ
     IsBest rows place address count None → HasEntry rows place address []
 best_nothing rows place address count high b unreached depth path some is =
     absurd (b.none refl depth path some (let w = within_rows rows depth place path is in omega arith) is)
-
-pub reached_nothing : (rows : List (List (Option Path))) (place address : ℕ) (path : Path) → path_at rows 0 place ≡ Some path → HasEntry rows place address []
-reached_nothing rows place address path e unreached depth other some is = cc
 
 -- the list of entries
 pub listed_only : (rows : List (List (Option Path))) (filled : List FullSlot) (place : ℕ) (at : FullSlot) (h : Held) (list : List Held) → slice_get filled place ≡ Some at →

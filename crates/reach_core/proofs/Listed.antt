@@ -236,11 +236,6 @@ first_search p f thread width root filled rows at first holds here = record {
   };
 }
 
-pub first_bounded : (p : ProfileName) (width root : ℕ) (rows : List (List (Option ℕ))) → IsFirst (word_bits p) width root rows → IsBounded p rows
-first_bounded p width root rows first t k w e =
-    let o = first.only t k w e in
-    rw (o.0, o.1.1) (omega arith)
-
 -- an entry that is the same by its fields
 both_true : (a b : Bool) → (a && b) ≡ true → (a ≡ true) × (b ≡ true)
 both_true true b e = (refl, e)

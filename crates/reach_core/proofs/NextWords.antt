@@ -1,5 +1,5 @@
 -- The next word of an entry, as the code makes it, and that there is one at each slot.
-use Rattle.std.proofs.Common.{◌≡◌, ℕ, ◌+◌, ◌-◌, ◌*◌, ◌%◌, ◌^◌, ◌<◌, ◌≤◌, ◌⊎◌, refl, sym, ◌∙◌, arith, Bool, true, false, cond, Option, Some}
+use Rattle.std.proofs.Common.{◌≡◌, ℕ, ◌+◌, ◌-◌, ◌*◌, ◌%◌, ◌^◌, ◌<◌, ◌≤◌, ◌⊎◌, refl, sym, ◌∙◌, arith, cond, Option, Some}
 use Rattle.cap_core.specs.declared.profile.ProfileName.{ProfileName}
 use Rattle.cap_core.specs.declared.profile.ProfileName.TheVariants.{Wide, Narrow}
 use Rattle.cap_core.specs.declared.capability.Guard.{Guard}
@@ -60,28 +60,6 @@ next_only p from left word slot base radix index guard to more next more' e r is
     let next_is' : next ≡ word + (guard.value * 2 ^ radix + index) * 2 ^ (left - (guard.size + radix)) = rw (guard', radix', index') at n.word in
     rw (m.first, m.second, more_is, next_is') refl
 
--- no next word where no slot is chosen, and none from another capability
-pub next_none : (p : ProfileName) (from : Cap) (left word slot base radix : ℕ) (guard : Guard) (to : Cap) (more next : ℕ) → from ≡ CNode base radix guard →
-    (r : Option ℕ) → ((i : ℕ) → i < 2 ^ radix → slot ≡ slot_of p base i → r ≡ Some i) → IsNext p from left word slot to more next → (i : ℕ) × (r ≡ Some i)
-next_none p from left word slot base radix guard to more next e r each n =
-    let same : CNode base radix guard ≡ CNode n.base n.radix n.guard = sym e ∙ n.node in
-    let base' : n.base ≡ base = cc in
-    let radix' : n.radix ≡ radix = cc in
-    (n.index, each n.index (rw radix' at n.within) (rw base' at n.chosen))
-
--- each step uses bits
-cond_below : (t : Bool) (m left : ℕ) → m < left → cond t m 0 < left
-cond_below true m left h = h
-cond_below false m left h = omega arith
-
-pub next_below : (p : ProfileName) (memory : ℕ) (from : Cap) (left word slot : ℕ) (to : Cap) (more next : ℕ) → (from ≡ Null) ⊎ IsLawful p memory from →
-    IsNext p from left word slot to more next → more < left
-next_below p memory from left word slot to more next lawful n =
-    let node = lawful_node p memory n.base n.radix n.guard (rw n.node at lawful) in
-    let some : 1 ≤ n.radix = node.holds.some in
-    let fits : n.guard.size + n.radix ≤ left = n.fits in
-    rw n.bits (cond_below (is_cnode to) (left - (n.guard.size + n.radix)) left (omega arith))
-
 -- where the slots of a CNode lie
 pub record Spans (base radix s : ℕ) : Type 0 where
   pub ones : 1 * 2 ^ radix % 2 ^ 64 ≡ 2 ^ radix
@@ -122,7 +100,3 @@ no_slot_of p (Untyped base bits free) slot none h = h
 no_slot_of p (Endpoint base badge rights) slot none h = h
 no_slot_of p (CNode base radix guard) slot none h = none base radix guard refl
 no_slot_of p (Tcb base) slot none h = h
-
-pub not_next : (p : ProfileName) (from : Cap) (left word slot : ℕ) (to : Cap) (more next : ℕ) →
-    ((base radix : ℕ) (guard : Guard) → from ≡ CNode base radix guard → ⊥) → IsNext p from left word slot to more next → ⊥
-not_next p from left word slot to more next none n = none n.base n.radix n.guard n.node

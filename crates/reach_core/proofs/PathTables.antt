@@ -28,9 +28,6 @@ up_to a b c (inl h) (inr k) = inl (let e = k.0 in omega arith)
 up_to a b c (inr h) (inl k) = inl (let e = h.0 in omega arith)
 up_to a b c (inr h) (inr k) = inr (h.0 ∙ k.0, (let x = h.1 in let y = k.1 in omega arith))
 
-is_earlier : Path → Path → Bool
-is_earlier b a = nat_lt b.word a.word || (b.word == a.word && nat_lt b.index a.index)
-
 -- the lesser of two paths is one of them, and up to both
 record Lesser (a b c : Path) : Type 0 where
   one : (c ≡ a) ⊎ (c ≡ b)
@@ -339,11 +336,6 @@ extend_row_all p read filled count more a b past s = record {
       | inl h ↦ h
       | inr late ↦ absurd (let none : path_in row k ≡ None = ap (option_and_then (λ (path : Option Path). path)) (slice_get_past row k late) in cc)
     ]
-
--- what is read behind a row's places is nothing
-pub path_read : {A : Type 0} (items : A → List (Option Path)) (rows : List A) (read place : ℕ) (row : A) → read < length rows → row ≡ get_or rows read row →
-    path_at (map items rows) read place ≡ path_in (items row) place
-path_read items rows read place row h at = ap (λ (r : List (Option Path)). path_in r place) (row_read items rows read row h at)
 
 -- a step is to a slot of the CNode, and reads bits
 pub step_inside : (p : ProfileName) (from : Cap) (read : ℕ) (path : Path) (slot more : ℕ) (next : Path) → IsStep p from read path slot more next → IsSlotOf p from slot

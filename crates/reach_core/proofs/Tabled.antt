@@ -202,14 +202,6 @@ at_least_kept : (new : List (List (Option ℕ))) (old : List (List (Option ℕ))
     (t k w : ℕ) → IsAtMost old t k w → IsAtMost new t k w
 at_least_kept new old kept t k w m = at_most new t k m.0 w m.1.0 (kept t k m.0 m.1.1)
 
--- one place more
-pub spread_none : (p : ProfileName) (from : Cap) (left word : ℕ) (filled : List FullSlot) (rows : List (List (Option ℕ))) → Spreads p from left word filled 0 rows rows
-spread_none p from left word filled rows = record {
-  kept = λ t k w e. (w, (omega arith, e));
-  only = λ t k w e. inl e;
-  noted = λ t k w h n. absurd (omega arith);
-}
-
 pub spread_more : (p : ProfileName) (from : Cap) (left word : ℕ) (filled : List FullSlot) (count : ℕ) (a b c : List (List (Option ℕ))) →
     Spreads p from left word filled count a b → Visits p from left word filled count b c →
     Spreads p from left word filled (count + 1) a c

@@ -5,12 +5,11 @@ ghost use Rattle.cap_core.specs.Numbers.{word_bits};
 ghost use Rattle.derivation.specs.Forest.{Forest};
 ghost use Rattle.derivation.specs.Entries.{Entry};
 ghost use Rattle.reach_core.specs.declared.held.Held.{Held as HeldOf};
-ghost use Rattle.reach_core.specs.declared.paths.Path.{Path as PathOf};
 ghost use Rattle.reach_core.specs.declared.filled.FullSlot.{FullSlot as FullSlotOf};
 ghost use Rattle.reach_core.specs.FullSlots.{AreFullSlots, AreLawful, AreRising};
 ghost use Rattle.reach_core.specs.Lists.{AreReached};
 ghost use Rattle.reach_core.specs.Holding.{AreHeld};
-ghost use Rattle.reach_core.specs.Private.Paths.{path_at, IsWide};
+ghost use Rattle.reach_core.specs.Private.Paths.{IsWide};
 ghost use Rattle.reach_core.specs.Private.Exploring.{AreStarts};
 ghost use Rattle.reach_core.specs.Private.Entries.{HasStarts, earlier, IsHeldAt, IsListed, HasEntry, AreDepths};
 

@@ -9,7 +9,7 @@ ghost use Rattle.derivation.specs.Forest.{Forest};
 ghost use Rattle.derivation.specs.Entries.{Entry, cap_at};
 ghost use Rattle.reach_core.specs.declared.filled.FullSlot.{FullSlot as FullSlotOf};
 ghost use Rattle.reach_core.specs.FullSlots.{AreLawful, AreRising, AreFullSlots};
-ghost use Rattle.reach_core.specs.Private.Search.{Visits, Spreads, RowSpreads, IsBounded, IsNextAt, IsSearch};
+ghost use Rattle.reach_core.specs.Private.Search.{Visits, Spreads, RowSpreads, IsBounded, IsSearch};
 
 use crate::filled::FullSlot;
 use crate::nodes::next_word;

@@ -1,5 +1,5 @@
 //! The table of a search. A row has its places from the first word on that is noted in it: few numbers of bits are ever left.
-ghost use Rattle.std.specs.Prelude.{◌≡◌, ◌+◌, ◌<◌, ◌≤◌, length, map, vec_len, IfOk, OnOk, None, replicate};
+ghost use Rattle.std.specs.Prelude.{◌≡◌, ◌+◌, ◌<◌, length, map, vec_len, IfOk, OnOk, None, replicate};
 ghost use Rattle.cap_core.specs.Numbers.{word_bits};
 ghost use Rattle.reach_core.specs.Private.Tables.{row_at, noted_in, noted, AreEmpty, IsWide, IsOpened, IsNoted, SameShape, IsFirst};
 

@@ -1,5 +1,5 @@
 -- What follows a first `@`.
-use Rattle.std.proofs.Common.{◌≡◌, ◌≢◌, ◌==◌, Bool, ap, true, false, ◌∙◌, ℕ, List, [], ◌∷◌, Option, Some, None, option_copied, refl, sym, arith}
+use Rattle.std.proofs.Common.{◌≡◌, ◌≢◌, ◌==◌, Bool, ap, true, false, ℕ, List, [], ◌∷◌, Option, Some, None, option_copied, refl, sym, arith}
 use Rattle.std.specs.Prelude.{MatchOption}
 use Rattle.std.specs.Borrow.{Bor}
 use Rattle.std.proofs.lemmas.Bool.Decides.{nat_tests}

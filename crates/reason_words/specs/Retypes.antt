@@ -8,7 +8,7 @@ use Rattle.reasons.specs.declared.reason.Word.TheVariants.{Invoked}
 use Rattle.reasons.specs.declared.reason.Reason.{Reason}
 use Rattle.reasons.specs.declared.reason.Reason.TheVariants.{NoKind, NoSize, TooLarge, TooSmall, NoNode, NoOffset, NoCount, FewSlots, SomeFull, NoRoom}
 use Rattle.reason_words.specs.Text.{told, content_text, object_text, radix_of, power_text, last_text}
-use Rattle.reason_words.specs.Asked.{AskedView, key_said, led_said}
+use Rattle.reason_words.specs.Asked.{AskedView, key_said}
 use Rattle.reason_words.specs.Facts.{fact_lines}
 
 -- the bits of an untyped region's size in bytes

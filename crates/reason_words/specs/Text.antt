@@ -1,5 +1,5 @@
 -- The parts of a line. Numbers are decimal.
-use Rattle.std.specs.Prelude.{codes, ℕ, ◌-◌, ◌^◌, List, ◌++◌, Bool, if◌then◌else◌, nat_lt, Option, None, Some}
+use Rattle.std.specs.Prelude.{codes, ℕ, ◌-◌, ◌^◌, List, ◌++◌, if◌then◌else◌, nat_lt, Option, None, Some}
 use Rattle.std.specs.Fmt.{decimal}
 use Rattle.cap_core.specs.declared.capability.Cap.{Cap}
 use Rattle.cap_core.specs.declared.capability.Cap.TheVariants.{Null, CNode}

@@ -1,5 +1,5 @@
 //! The lines of a lookup that fails.
-ghost use Rattle.std.specs.Prelude.{◌≡◌, ◌≤◌, ◌-◌, ◌++◌, length, take, IfOk, OnOk, Some, string_bytes};
+ghost use Rattle.std.specs.Prelude.{◌≡◌, ◌≤◌, ◌-◌, ◌++◌, length, take, OnOk, Some, string_bytes};
 ghost use Rattle.cap_core.specs.Numbers.{word_bits};
 ghost use Rattle.reason_words.specs.Asked.{asked_view};
 ghost use Rattle.reason_words.specs.Text.{told};

@@ -13,7 +13,7 @@ use Rattle.abstract_kernel.specs.declared.call.ThreadState.TheVariants as state
 use Rattle.abstract_kernel.specs.declared.invocation.Invocation.{Invocation}
 use Rattle.abstract_kernel.specs.declared.invocation.Invocation.TheVariants as invocation
 use Rattle.abstract_kernel.specs.Decode as plain
-use Rattle.abstract_kernel.specs.Decode.{decoded_op, decoded_call}
+use Rattle.abstract_kernel.specs.Decode.{decoded_call}
 use Rattle.abstract_kernel.specs.Shown.{Shown, ThreadView}
 use Rattle.abstract_kernel.specs.State.{State, shown, endpoint_at}
 use Rattle.abstract_kernel.specs.Step.{Outcome, send_record, receive_record, reply_to_send, reply_to_receive, where_awaited, is_send_awaited, is_receive_awaited, send_accepted, receive_accepted, performed, outcome, step}

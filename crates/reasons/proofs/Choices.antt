@@ -6,12 +6,11 @@ use Rattle.std.proofs.Math.Seq.{take-append_seam, drop-append_seam}
 use Rattle.std.specs.Int.Digits.{number_from_digits}
 use Rattle.cap_core.specs.declared.profile.ProfileName.{ProfileName}
 use Rattle.cap_core.specs.declared.capability.Guard.{Guard}
-use Rattle.cap_core.specs.declared.capability.Cap.{Cap}
-use Rattle.cap_core.specs.declared.capability.Cap.TheVariants.{Null, Untyped, Endpoint, CNode, Tcb}
+use Rattle.cap_core.specs.declared.capability.Cap.TheVariants.{CNode}
 use Rattle.cspace_core.specs.Bits.{low_bits, after_front}
 use Rattle.cspace_core.specs.Resolution.{guard_bits, slot_of}
 use Rattle.cspace_core.proofs.Bits.{length-low_bits, low_bits-add, number-low_bits, begins, begins_length, begins_only}
-use Rattle.reasons.specs.declared.reason.Miss.TheVariants.{NoRoot, OtherGuard, TooFewBits}
+use Rattle.reasons.specs.declared.reason.Miss.TheVariants.{OtherGuard, TooFewBits}
 use Rattle.reasons.specs.Lookups.{chosen}
 
 after_front-append : (front rest : List ℕ) → after_front front (front ++ rest) ≡ Some rest
@@ -48,14 +47,6 @@ read_all s n word h =
     let l : length (low_bits n word) ≤ s = let e = length-low_bits n word in omega arith in
     let one : word / 2 ^ 0 ≡ word = omega arith in
     ap (number_from_digits 2) (take_all s (low_bits n word) l) ∙ rw one (number-low_bits n word)
-
-pub not_a_node : (p : ProfileName) (slot : ℕ) (cap : Cap) (bits : List ℕ) →
-    ((base radix : ℕ) (guard : Guard) → cap ≡ CNode base radix guard → ⊥) → Err NoRoot ≡ chosen p slot cap bits
-not_a_node p slot Null bits h = refl
-not_a_node p slot (Untyped base bits' free) bits h = refl
-not_a_node p slot (Endpoint base badge rights) bits h = refl
-not_a_node p slot (CNode base radix guard) bits h = absurd (h base radix guard refl)
-not_a_node p slot (Tcb base) bits h = refl
 
 pub shorter_than_guard : (p : ProfileName) (slot base radix : ℕ) (guard : Guard) (n word : ℕ) → n < guard.size →
     Err (OtherGuard (record { slot = slot; cap = CNode base radix guard }) n (word / 2 ^ 0 % 2 ^ n))

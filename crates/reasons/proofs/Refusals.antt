@@ -35,14 +35,14 @@ use Rattle.abstract_kernel.specs.declared.invocation.RetypeArguments.{RetypeArgu
 use Rattle.abstract_kernel.specs.declared.invocation.Invocation.{Invocation}
 use Rattle.abstract_kernel.specs.declared.invocation.Invocation.TheVariants as invocation
 use Rattle.abstract_kernel.specs.Lookups as plain
-use Rattle.abstract_kernel.specs.Lookups.{slot_found, slot_named, looked_up, invoked_slot, held_in, extra_cap, ensure_kind, is_of_kind}
+use Rattle.abstract_kernel.specs.Lookups.{slot_found, looked_up, invoked_slot, held_in, is_of_kind}
 use Rattle.abstract_kernel.specs.CNodes as cnodes
 use Rattle.abstract_kernel.specs.CNodes.{decoded_placement, changed_cap}
 use Rattle.abstract_kernel.specs.Deletion.{decoded_slot, decoded_badge}
 use Rattle.abstract_kernel.specs.Deletion as deletion
 use Rattle.abstract_kernel.specs.Threads.{decoded_tcb, decoded_space}
 use Rattle.abstract_kernel.specs.Retyping as retyping
-use Rattle.abstract_kernel.specs.Retyping.{are_slots, some_full, node_cap, decoded_objects, decoded_retype}
+use Rattle.abstract_kernel.specs.Retyping.{node_cap, decoded_objects, decoded_retype}
 use Rattle.abstract_kernel.specs.Shown.{has_child}
 use Rattle.abstract_kernel.specs.Decode.{service_of, decoded_invocation, decoded_op, service_word, objects_asked}
 use Rattle.reasons.specs.declared.reason.Word.{Word}

@@ -1,10 +1,8 @@
 //! The checks of a retype, with their reasons.
-ghost use Rattle.std.specs.Prelude.{◌≡◌, ◌≤◌, ◌<◌, ◌⊎◌, ◌+◌, ◌*◌, ◌%◌, ◌^◌, IfOk, IfSome};
+ghost use Rattle.std.specs.Prelude.{◌≡◌, ◌≤◌, ◌<◌, ◌+◌, ◌*◌, ◌%◌, ◌^◌, IfOk, IfSome};
 ghost use Rattle.cap_core.specs.Numbers.{slot_size, word_bits};
 ghost use Rattle.cap_core.specs.Kinds.{kind_numbered, size_of};
 ghost use Rattle.cap_core.specs.Limits.{max_retype_count};
-ghost use Rattle.cspace_core.specs.Resolution.{slot_of};
-ghost use Rattle.cap_core.specs.Objects.{IsLawful};
 ghost use Rattle.cap_core.specs.declared.capability.Cap.TheVariants.{Null};
 ghost use Rattle.derivation.specs.Entries.{cap_at};
 ghost use Rattle.slot_core.specs.Places.{address_of};

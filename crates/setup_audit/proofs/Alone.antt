@@ -95,9 +95,6 @@ count_rising q (x ∷ xs) h =
 
 -- ---- full slots by their addresses
 
-abbrev at_slot : ℕ → Derived → Bool
-at_slot n d = slot_of d == n
-
 found_some : (list : List Derived) (n : ℕ) → is_in n (map slot_of list) ≡ true → (d : Derived) × ((found list n ≡ Some d) × (In d list × (slot_of d ≡ n)))
 found_some [] n h = cc
 found_some (d ∷ list) n h = go (slot_of d == n) refl (found_some list n)

@@ -1,5 +1,5 @@
 //! The audit of a state, and that of one slot.
-ghost use Rattle.std.specs.Prelude.{◌≡◌, IfOk, ℕ, string_bytes, true};
+ghost use Rattle.std.specs.Prelude.{◌≡◌, IfOk, ℕ, true};
 ghost use Rattle.derivation.specs.Entries.{is_full};
 ghost use Rattle.abstract_kernel.specs.Memory.{IsInMemory};
 ghost use Rattle.abstract_kernel.specs.Reached.{IsReached};

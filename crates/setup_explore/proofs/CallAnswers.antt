@@ -1,5 +1,5 @@
 -- The answers of a call tell all that is told of it.
-use Rattle.std.proofs.Common.{◌≡◌, ℕ, ◌+◌, ◌==◌, ◌&&◌, ◌||◌, not, Bool, true, false, cond, List, [], ◌∷◌, ◌++◌, filter, zero, suc, codes, Option, None, Some, IfSome, slice_get, refl, ap, sym, subst, ◌∙◌, append_assoc}
+use Rattle.std.proofs.Common.{◌≡◌, ℕ, ◌+◌, ◌==◌, ◌&&◌, ◌||◌, not, Bool, true, false, cond, List, [], ◌∷◌, ◌++◌, filter, zero, suc, codes, Option, None, Some, IfSome, slice_get, refl, ap, sym, subst, ◌∙◌}
 use Rattle.std.proofs.lemmas.Bool.{eqb-true, eqb-false}
 use Rattle.std.proofs.lemmas.List.{append-nil}
 use Rattle.std.specs.List.{list_any}
@@ -16,16 +16,6 @@ use Rattle.setup_explore.specs.Rows.{AreEmpty, HasMore}
 pub if_some : {X : Type 0} (o : Option X) {P Q : X → Type 0} → IfSome o P → ((x : X) → P x → Q x) → IfSome o Q
 if_some None h f = tt
 if_some (Some x) h f = f x h
-
--- one answer is moved from those that are left into its row
-pub row_more : (before after : Option (Vec FoundAnswer)) (b : Bool) (x : Answered) (left all : List Answered) → HasMore before after (cond b (x ∷ []) []) →
-    IfSome before (λ (row : Vec FoundAnswer). answers_of row.items ++ cond b (x ∷ left) left ≡ all) → IfSome after (λ (row : Vec FoundAnswer). answers_of row.items ++ left ≡ all)
-row_more before None b x left all more h = tt
-row_more None (Some row) b x left all more h = absurd more
-row_more (Some row) (Some row') b x left all more h =
-    ap (λ l. l ++ left) more ∙ append_assoc (answers_of row.items) (cond b (x ∷ []) []) left
-    ∙ ap (λ l. answers_of row.items ++ l) (elim b as (λ t. cond t (x ∷ []) [] ++ left ≡ cond t (x ∷ left) left) [ true ↦ refl | false ↦ refl ])
-    ∙ h
 
 -- ---- rows with nothing in them
 

@@ -1,13 +1,10 @@
 -- What an exploration of a set-up gives is what the report tells.
-use Rattle.std.proofs.Common.{◌≡◌, ℕ, ◌+◌, ◌==◌, Bool, List, [], length, refl, ap, sym, ◌∙◌}
+use Rattle.std.proofs.Common.{◌≡◌, ℕ, ◌+◌, ◌==◌, Bool, List, [], length, ap, sym, ◌∙◌}
 use Rattle.std.proofs.lemmas.List.{length-map}
 use Rattle.cap_core.specs.declared.profile.ProfileName.{ProfileName}
 use Rattle.abstract_kernel.specs.declared.call.Call.{Call}
 use Rattle.abstract_kernel.specs.Boot.{boot}
 use Rattle.abstract_kernel.specs.State.{State}
-use Rattle.abstract_kernel.specs.Step.{state_after}
-use Rattle.abstract_kernel.specs.Reached.{IsReached}
-use Rattle.abstract_kernel.specs.Plan.{Plan, IsPlan}
 use Rattle.setup_format.specs.Views.{SetupView}
 use Rattle.kinds.specs.Kinds.{firsts}
 use Rattle.orders.specs.contracts.answer.AnswerPartialEq.TheImpl as answer_eq

@@ -1,5 +1,5 @@
 //! The calls of a set-up by the clients that make them.
-ghost use Rattle.std.specs.Prelude.{◌≡◌, IfOk, map, take};
+ghost use Rattle.std.specs.Prelude.{◌≡◌, IfOk};
 ghost use Rattle.explore_core.specs.Nodes.{own_calls as items_of};
 ghost use Rattle.setup_explore.specs.Clients.{client_calls, own_calls, first_clients};
 

@@ -1,5 +1,5 @@
 //! The numbers of a set-up's calls, from 1 on, by the clients that make them.
-ghost use Rattle.std.specs.Prelude.{◌≡◌, ◌++◌, ◌==◌, List, ℕ, IfOk, OnOk, [], count_by, string_bytes};
+ghost use Rattle.std.specs.Prelude.{◌≡◌, ◌++◌, ◌==◌, ℕ, IfOk, OnOk, [], count_by, string_bytes};
 ghost use Rattle.setup_explore.specs.Numbers.{client_numbers, numbers_of, numbers_in, number_in, order_numbers as numbers_of_order, order_text};
 
 use explore_core::Order;

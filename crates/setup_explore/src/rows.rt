@@ -1,5 +1,5 @@
 //! The answers of each call, found by the call's number.
-ghost use Rattle.std.specs.Prelude.{◌≡◌, ℕ, ◌++◌, ◌∷◌, [], ◌==◌, IfOk, IfSome, OnOk, cond, filter, slice_get};
+ghost use Rattle.std.specs.Prelude.{◌≡◌, ℕ, ◌++◌, ◌∷◌, [], ◌==◌, IfOk, OnOk, cond, filter, slice_get};
 ghost use Rattle.explore_core.specs.Found.{answer_of, answers_of};
 ghost use Rattle.setup_explore.specs.Numbers.{numbers_in};
 ghost use Rattle.setup_explore.specs.Rows.{AreEmpty, AreRows, HasMore};

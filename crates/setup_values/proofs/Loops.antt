@@ -2,7 +2,7 @@
 use Rattle.std.proofs.Common.{◌≡◌, ℕ, ◌+◌, ◌<◌, ◌≤◌, List, [], ◌∷◌, ◌++◌, length, get_or, drop, map, Result, Ok, Err, refl, sym, ap, ◌∙◌, append_assoc, arith, cond, Some, le-leb}
 use Rattle.std.proofs.lemmas.List.{drop_more, append-nil, length-map}
 use Rattle.std.proofs.lemmas.Bool.{lt-leb}
-use Rattle.toml.specs.Data.{Data, as_array, as_table}
+use Rattle.toml.specs.Data.{Data, as_array}
 use Rattle.toml.specs.View.{view, items_view}
 use Rattle.toml.specs.declared.value.Value.{Value}
 use Rattle.setup_values.specs.declared.values.Wrong.TheVariants.{OtherValue}
@@ -10,7 +10,7 @@ use Rattle.cap_core.specs.declared.profile.ProfileName.{ProfileName}
 use Rattle.cap_core.specs.declared.limits.TheConstants.{MAX_MESSAGE_WORDS}
 use Rattle.setup_values.specs.Names.{Names}
 use Rattle.cap_core.specs.Checks.{◌>>=◌}
-use Rattle.setup_values.specs.Kinds.{each, item_list, array_in, between, word, words, filled, tables, table_in}
+use Rattle.setup_values.specs.Kinds.{each, item_list, array_in, between, word, words, filled}
 
 -- the elements of an array
 pub item_list_view : (vs : List Value) → item_list (items_view vs) ≡ map view vs
@@ -71,6 +71,3 @@ array_fits low high vs le le' = array_is low high vs ∙ rw (le-leb low (length 
 
 pub words_are : (p : ProfileName) (names : Names) (d : Data) (xs : List Data) → Ok xs ≡ array_in 0 MAX_MESSAGE_WORDS (as_array d) → words p names d ≡ (each (λ _. word p names) 0 xs >>= λ ws. Ok (filled ws))
 words_are p names d xs e = rw (← e) refl
-
-pub tables_are : (low high : ℕ) (d : Data) (xs : List Data) → Ok xs ≡ array_in low high (as_array d) → tables low high d ≡ each (λ _ x. table_in (as_table x)) 0 xs
-tables_are low high d xs e = rw (← e) refl

@@ -1,9 +1,9 @@
 //! The kinds of value that a set-up's keys take.
-ghost use Rattle.std.specs.Prelude.{◌≡◌, ◌<◌, ◌≤◌, ◌^◌, length, drop, IfSome, IfOk, Some, map, nat_lt};
+ghost use Rattle.std.specs.Prelude.{◌≡◌, ◌<◌, ◌≤◌, ◌^◌, length, IfSome, IfOk, Some, map, nat_lt};
 ghost use Rattle.std.specs.List.{list_all};
 ghost use Rattle.toml.specs.View.{view, table_view};
 ghost use Rattle.toml.specs.Data.{as_array, as_integer, as_str, as_table};
-ghost use Rattle.cap_core.specs.Numbers.{word_bits, label_bits};
+ghost use Rattle.cap_core.specs.Numbers.{word_bits};
 ghost use Rattle.setup_values.specs.Names.{names_view};
 ghost use Rattle.setup_values.specs.Kinds.{seen};
 ghost use Rattle.setup_values.specs.Kinds as kind;

@@ -1,5 +1,5 @@
 //! The kernel that is shared: two threads, one endpoint and one untyped region.
-ghost use Rattle.std.specs.Prelude.{◌≡◌, IfSome};
+ghost use Rattle.std.specs.Prelude.{IfSome};
 ghost use Rattle.cap_core.specs.declared.profile.ProfileName.TheVariants as Name;
 ghost use Rattle.abstract_kernel.specs.Plan.{IsPlan};
 

@@ -1,5 +1,5 @@
 -- The slots on a stack as rows of the list, the last of them first.
-use Rattle.std.specs.Prelude.{ℕ, List, map, reverse}
+use Rattle.std.specs.Prelude.{List, map, reverse}
 use Rattle.derivation.specs.Marked.{Marked}
 use Rattle.slot_core.specs.declared.slot.Slot.{Slot}
 use Rattle.slot_core.specs.declared.linked.table.Link.{Link}

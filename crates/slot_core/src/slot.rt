@@ -1,5 +1,5 @@
 //! Slots, by their places in the simulated memory.
-ghost use Rattle.std.specs.Prelude.{⊤, ◌==◌, ◌≡◌, ◌+◌, ◌*◌, ◌/◌, ◌%◌, ◌^◌, ◌<◌, ◌≤◌, ◌⊎◌, IfSome, IfNone, ◌≢◌};
+ghost use Rattle.std.specs.Prelude.{⊤, ◌==◌, ◌≡◌, ◌+◌, ◌*◌, ◌%◌, ◌^◌, ◌<◌, ◌≤◌, ◌⊎◌, IfSome, IfNone, ◌≢◌};
 ghost use Rattle.std.proofs.Common.{rules};
 ghost use Rattle.std.specs.Cmp.Rules.{comparing};
 ghost use Rattle.cap_core.specs.Numbers.{slot_size, word_bits};

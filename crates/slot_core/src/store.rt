@@ -1,5 +1,5 @@
 //! What a capability store does.
-ghost use Rattle.std.specs.Prelude.{◌≡◌, ℕ, ◌^◌, ◌<◌, ◌≤◌, true, false, IfOk, option_map, ◌⊎◌, None};
+ghost use Rattle.std.specs.Prelude.{◌≡◌, ℕ, ◌^◌, ◌<◌, ◌≤◌, true, false, IfOk, option_map, ◌⊎◌};
 ghost use Rattle.cap_core.specs.Objects.{IsLawful, is_untyped, badge_of, contains};
 ghost use Rattle.cap_core.specs.declared.capability.Cap.TheVariants.{Null};
 ghost use Rattle.slot_core.specs.Places.{address_of};

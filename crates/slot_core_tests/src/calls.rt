@@ -6,7 +6,7 @@ ghost use Rattle.cap_core.specs.Objects.{IsLawful, is_null as is_null_in, is_unt
 ghost use Rattle.cap_core.specs.Objects.{base_of, end_of, contains, are_apart};
 ghost use Rattle.cap_core.specs.declared.capability.Cap.TheVariants.{Null};
 ghost use Rattle.derivation.specs.Forest.{preorder};
-ghost use Rattle.derivation.specs.Entries.{Entry, is_at, is_full, first_child};
+ghost use Rattle.derivation.specs.Entries.{Entry, is_full, first_child};
 ghost use Rattle.derivation.specs.Derivation.{names_same};
 ghost use Rattle.slot_core.specs.Places.{address_of};
 ghost use Rattle.slot_core.specs.Calls.{IsChildless};

@@ -1,5 +1,5 @@
 -- What holds of a capability with so many that are derived from it.
-use Rattle.std.proofs.Common.{◌≡◌, ◌≢◌, ℕ, zero, suc, ◌+◌, ◌*◌, ◌<◌, ◌≤◌, Bool, true, false, cond, ◌==◌, ◌||◌, refl, sym, ap, ◌∙◌, arith, eq-eqb}
+use Rattle.std.proofs.Common.{◌≡◌, ◌≢◌, ℕ, zero, suc, ◌+◌, ◌≤◌, true, false, cond, ◌==◌, ◌||◌, refl, sym, ap, ◌∙◌, arith, eq-eqb}
 use Rattle.std.specs.List.{AllByRecursion as Each, Contains}
 use Rattle.std.proofs.lemmas.Bool.Decides.{nat_tests}
 use Rattle.cap_core.specs.declared.profile.ProfileName.TheVariants.{Wide}
@@ -11,7 +11,7 @@ use Rattle.derivation.specs.Disjoint.{IsDisjoint}
 use Rattle.derivation.proofs.Trees.Forests.{each-contained}
 use Rattle.derivation.proofs.Slots.Edits.{each-derived, full-derived, cap-derived_other}
 use Rattle.derivation.proofs.Disjoint.Disjointness.{disjoint-none, disjoint-rooted, disjoint-derived}
-use Rattle.store_cycle.specs.Cycle.{endpoint, at, whole, family}
+use Rattle.store_cycle.specs.Cycle.{endpoint, at, family}
 
 other_place : (i j : ℕ) → i ≢ j → (at i == at j) ≡ false
 other_place i j ne = grind (arith, nat_tests)

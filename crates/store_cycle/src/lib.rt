@@ -1,8 +1,7 @@
 //! A round of derivations and removals over the linked form of a capability store, to be measured.
 #![tactic(auto)]
 
-ghost use Rattle.std.specs.Prelude.{◌≡◌, ◌*◌, ◌<◌, ◌≤◌, IfOk};
-ghost use Rattle.cap_core.specs.Numbers.{slot_size};
+ghost use Rattle.std.specs.Prelude.{◌≡◌, ◌<◌};
 ghost use Rattle.cap_core.specs.declared.profile.ProfileName.TheVariants.{Wide as wide};
 ghost use Rattle.derivation.specs.Forest.{none};
 ghost use Rattle.slot_core.specs.Places.{address_of};

@@ -2,7 +2,7 @@
 ghost use Rattle.std.specs.Prelude.{◌≡◌, ◌++◌, ◌∷◌, [], IfOk, IsTrue, OnOk, Some, map};
 ghost use Rattle.std.specs.List.{flat_map};
 ghost use Rattle.trace_lines.specs.Lines as spec;
-ghost use Rattle.trace_lines.specs.Views.{endpoint_line, inbox_line, line_view, thread_line};
+ghost use Rattle.trace_lines.specs.Views.{endpoint_line, inbox_line, thread_line};
 
 use crate::changes::StateLine;
 use crate::rows::Row;

@@ -1,5 +1,5 @@
 -- A clear and a revocation keep what holds of the store of every kernel, and no object becomes live by them.
-use Rattle.std.proofs.Common.{◌≡◌, ℕ, ◌+◌, ◌^◌, ◌≤◌, Bool, true, false, not, cond, ◌==◌, ◌||◌, List, [], ◌∷◌, map, filter, Option, Some, None, All, eqb, inl, inr, refl, sym, ap, subst, ◌∙◌}
+use Rattle.std.proofs.Common.{◌≡◌, ℕ, ◌+◌, ◌≤◌, Bool, true, false, not, cond, ◌==◌, ◌||◌, List, [], ◌∷◌, map, filter, Option, Some, None, All, eqb, inl, inr, refl, sym, ap, subst, ◌∙◌}
 use Rattle.std.specs.List.{list_any, filter_map, cons_option, Contains, IsDistinct}
 use Rattle.std.proofs.lemmas.Bool.{false≢true, eqb-true}
 use Rattle.cap_core.specs.declared.profile.ProfileName.{ProfileName}
@@ -12,8 +12,6 @@ use Rattle.derivation.proofs.Slots.Holding.{cap-entry}
 use Rattle.clearing.specs.Least.{cleared}
 use Rattle.clearing.specs.Clear.{clear}
 use Rattle.clearing.specs.Revoke.{revoke}
-use Rattle.clearing.specs.Work.{IsClearable}
-use Rattle.clearing.proofs.Clearable.{clearable_from}
 use Rattle.clearing.proofs.Members.{any_in, any_of, tells}
 use Rattle.clearing.proofs.Rounds.{cleared_least}
 use Rattle.clearing.proofs.Without.{preorder-without}
@@ -56,13 +54,6 @@ store-clear p memory s f store = record {
 pub store-revoke : (p : ProfileName) (memory s : ℕ) (f : Forest Entry) → IsKernelStore p memory f →
     IsKernelStore p memory (revoke p s f)
 store-revoke p memory s f store = kept-revoke p (IsKernelStore p memory) (λ c g h. store-clear p memory c g h) s f store
-
--- a slot of it can be cleared
-pub store-clearable : (p : ProfileName) (memory : ℕ) (f : Forest Entry) → IsKernelStore p memory f →
-    IsClearable p (2 ^ memory) (preorder f)
-store-clearable p memory f store =
-    clearable_from p memory f store.slots_distinct (λ i d low. (store.slots_placed i d low).within)
-    store.lawful store.disjoint
 
 -- a slot that stays full holds what it held
 pub cap-clear : (p : ProfileName) (s n : ℕ) (f : Forest Entry) → IsDistinct eqb (slots f) →

@@ -20,10 +20,6 @@ abbrev pub names_base : ℕ → Option ℕ → Bool
 names_base e None = false
 names_base e (Some k) = e == k
 
-or_assoc : (a b c : Bool) → ((a || b) || c) ≡ (a || (b || c))
-or_assoc true b c = refl
-or_assoc false b c = refl
-
 or_swap : (a b : Bool) → (a || b) ≡ (b || a)
 or_swap true true = refl
 or_swap true false = refl

@@ -10,7 +10,7 @@ use Rattle.cap_core.specs.declared.capability.Cap.TheVariants.{Null, Untyped, En
 use Rattle.cap_core.specs.Objects.{is_null, is_untyped, base_of, bits_of, end_of, same_object, contains, are_apart}
 use Rattle.derivation.specs.Forest.{Forest, none, preorder, below_those, ancestors, below, after}
 use Rattle.derivation.specs.Entries.{Entry, entry, is_at, is_full, cap_at, is_original}
-use Rattle.derivation.specs.Derivation.{derived, derived_entry, rooted, names_same}
+use Rattle.derivation.specs.Derivation.{derived, derived_entry, rooted}
 use Rattle.derivation.specs.Disjoint.{are_disjoint, AreInLine, IsDisjoint}
 use Rattle.derivation.proofs.Trees.Forests.{each-contained, each-contains, below_those-root, ancestors-root, ancestors-below, ancestors-after, each-below_those_below, each-below_those_after}
 use Rattle.derivation.proofs.Trees.Lines.{any_none}
@@ -258,15 +258,3 @@ disjoint-derived p source slot cap f d full empty same outside = record { object
           ]
           | inr e ↦ absurd (let w : is_untyped cap ≡ true = (let Q : Entry → Type 0 = λ y. is_untyped y.cap ≡ true in subst Q (sym e) t) in let z : is_untyped cap ≡ false = (are_same p stands.0.cap cap is_same).second in cc)
         ]
-
--- capabilities of one name that are no untyped ones name one object
-pub same_object-named : (a b : Cap) → names_same a b ≡ true → is_untyped b ≡ false → same_object a b ≡ true
-same_object-named (Untyped i bits free) (Untyped j bits' free') h u = cc
-same_object-named Null b h u = h
-same_object-named (Endpoint i badge rights) b h u = h
-same_object-named (CNode i radix guard) b h u = h
-same_object-named (Tcb i) b h u = h
-same_object-named (Untyped i bits free) Null h u = h
-same_object-named (Untyped i bits free) (Endpoint j badge rights) h u = h
-same_object-named (Untyped i bits free) (CNode j radix guard) h u = h
-same_object-named (Untyped i bits free) (Tcb j) h u = h

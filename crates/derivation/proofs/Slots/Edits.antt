@@ -5,11 +5,10 @@ use Rattle.std.proofs.lemmas.Bool.Decides.{nat_tests}
 use Rattle.std.proofs.lemmas.List.Elements.{filter-append, Contains-append_right}
 use Rattle.std.proofs.lemmas.List.{append-nil}
 use Rattle.cap_core.specs.declared.capability.Cap.{Cap}
-use Rattle.cap_core.specs.Objects.{same_object}
-use Rattle.derivation.specs.Forest.{Forest, preorder, tops, below, after}
-use Rattle.derivation.specs.Entries.{Entry, entry, is_at, is_full, cap_at, cap_in, is_original, original_in, first_child, first_slot}
-use Rattle.derivation.specs.Derivation.{derived, derived_entry, rooted, is_new_original, is_named}
-use Rattle.derivation.proofs.Trees.Forests.{each-root, each-below, each-after, contains-root, contains-root_old, contains-below, contains-below_old, contains-after, contains-after_old, preorder-root, any-root, any-below, any-after, filter-below, filter-after, below_those-root}
+use Rattle.derivation.specs.Forest.{Forest, preorder, below, after}
+use Rattle.derivation.specs.Entries.{Entry, entry, is_at, is_full, cap_at, cap_in, is_original, original_in}
+use Rattle.derivation.specs.Derivation.{derived, derived_entry, rooted}
+use Rattle.derivation.proofs.Trees.Forests.{each-root, each-below, each-after, contains-root, contains-below, contains-after, preorder-root, any-root, any-below, any-after, filter-below, filter-after}
 
 -- what holds of each entry
 
@@ -29,9 +28,6 @@ each-derived P source slot cap f h e =
 pub contains-rooted : (slot : ℕ) (cap : Cap) (f : Forest Entry) (e : Entry) → Contains (preorder (rooted slot cap f)) e → Contains (preorder f) e ⊎ (entry slot cap true ≡ e)
 contains-rooted slot cap f e h = contains-root (entry slot cap true) f e h
 
-pub contains-rooted_old : (slot : ℕ) (cap : Cap) (f : Forest Entry) (e : Entry) → Contains (preorder f) e → Contains (preorder (rooted slot cap f)) e
-contains-rooted_old slot cap f e h = contains-root_old (entry slot cap true) f e h
-
 pub contains-derived : (source slot : ℕ) (cap : Cap) (f : Forest Entry) (e : Entry) → Contains (preorder (derived source slot cap f)) e
     → Contains (preorder f) e ⊎ (derived_entry source slot cap f ≡ e)
 contains-derived source slot cap f e h =
@@ -39,13 +35,6 @@ contains-derived source slot cap f e h =
       | true ↦ contains-below (is_at source) (derived_entry source slot cap f) f e
       | false ↦ contains-after (is_at source) (derived_entry source slot cap f) f e
     ]) h
-
-pub contains-derived_old : (source slot : ℕ) (cap : Cap) (f : Forest Entry) (e : Entry) → Contains (preorder f) e → Contains (preorder (derived source slot cap f)) e
-contains-derived_old source slot cap f e h =
-    elim (is_original source f) as (λ c. Contains (preorder (cond c (below (is_at source) (derived_entry source slot cap f) f) (after (is_at source) (derived_entry source slot cap f) f))) e) [
-      | true ↦ contains-below_old (is_at source) (derived_entry source slot cap f) f e h
-      | false ↦ contains-after_old (is_at source) (derived_entry source slot cap f) f e h
-    ]
 
 -- whether an entry passes a test
 
@@ -70,13 +59,6 @@ full-derived a source slot cap f h = any-derived (is_at a) source slot cap f h
 
 -- whether an object is named
 
-pub named-rooted : (object : Cap) (slot : ℕ) (cap : Cap) (f : Forest Entry) → is_named object (rooted slot cap f) ≡ (is_named object f || same_object cap object)
-named-rooted object slot cap f = any-rooted (λ (e : Entry). same_object e.cap object) slot cap f
-
-pub named-derived : (object : Cap) (source slot : ℕ) (cap : Cap) (f : Forest Entry) → is_full source f ≡ true
-    → is_named object (derived source slot cap f) ≡ (is_named object f || same_object cap object)
-named-derived object source slot cap f h = any-derived (λ (e : Entry). same_object e.cap object) source slot cap f h
-
 -- what a slot holds is what the entries at it say
 
 cap_in-filter : (a : ℕ) (l : List Entry) → cap_in a (filter (is_at a) l) ≡ cap_in a l
@@ -97,9 +79,6 @@ original_in-filter a (e ∷ l) =
 
 cap_in-same : (a : ℕ) (l m : List Entry) → filter (is_at a) l ≡ filter (is_at a) m → cap_in a l ≡ cap_in a m
 cap_in-same a l m h = sym (cap_in-filter a l) ∙ ap (cap_in a) h ∙ cap_in-filter a m
-
-original_in-same : (a : ℕ) (l m : List Entry) → filter (is_at a) l ≡ filter (is_at a) m → original_in a l ≡ original_in a m
-original_in-same a l m h = sym (original_in-filter a l) ∙ ap (original_in a) h ∙ original_in-filter a m
 
 pub other_at : (a slot : ℕ) → a ≢ slot → (slot == a) ≡ false
 other_at a slot h = grind (arith, nat_tests)
@@ -123,12 +102,6 @@ cap-rooted_other a slot cap f h = cap_in-same a (preorder (rooted slot cap f)) (
 
 pub cap-derived_other : (a source slot : ℕ) (cap : Cap) (f : Forest Entry) → a ≢ slot → cap_at (derived source slot cap f) a ≡ cap_at f a
 cap-derived_other a source slot cap f h = cap_in-same a (preorder (derived source slot cap f)) (preorder f) (entries-derived a source slot cap f h)
-
-pub original-rooted_other : (a slot : ℕ) (cap : Cap) (f : Forest Entry) → a ≢ slot → is_original a (rooted slot cap f) ≡ is_original a f
-original-rooted_other a slot cap f h = original_in-same a (preorder (rooted slot cap f)) (preorder f) (entries-rooted a slot cap f h)
-
-pub original-derived_other : (a source slot : ℕ) (cap : Cap) (f : Forest Entry) → a ≢ slot → is_original a (derived source slot cap f) ≡ is_original a f
-original-derived_other a source slot cap f h = original_in-same a (preorder (derived source slot cap f)) (preorder f) (entries-derived a source slot cap f h)
 
 -- the slot holds what was put
 
@@ -163,39 +136,7 @@ none_at P a (e ∷ l) h =
     rest true c h = cc
     rest false c h = h
 
-self_at : (b : Bool) (slot : ℕ) → (b || (slot == slot)) ≡ true
-self_at b slot = let e : (slot == slot) ≡ true = grind (arith, nat_tests) in rw e (or-true b)
-  where
-    or-true : (b : Bool) → (b || true) ≡ true
-    or-true true = refl
-    or-true false = refl
-
-pub cap-rooted_same : (slot : ℕ) (cap : Cap) (f : Forest Entry) → is_full slot f ≡ false → cap_at (rooted slot cap f) slot ≡ cap
-cap-rooted_same slot cap f h =
-    cap_in-all slot cap (preorder (rooted slot cap f)) (full-rooted slot slot cap f ∙ self_at (is_full slot f) slot)
-    (each-rooted (λ (e : Entry). (e.slot == slot) ≡ true → e.cap ≡ cap) slot cap f (none_at (λ (e : Entry). e.cap ≡ cap) slot (preorder f) h) (λ t. refl))
-
-pub cap-derived_same : (source slot : ℕ) (cap : Cap) (f : Forest Entry) → is_full source f ≡ true → is_full slot f ≡ false → cap_at (derived source slot cap f) slot ≡ cap
-cap-derived_same source slot cap f s h =
-    cap_in-all slot cap (preorder (derived source slot cap f)) (full-derived slot source slot cap f s ∙ self_at (is_full slot f) slot)
-    (each-derived (λ (e : Entry). (e.slot == slot) ≡ true → e.cap ≡ cap) source slot cap f (none_at (λ (e : Entry). e.cap ≡ cap) slot (preorder f) h) (λ t. refl))
-
-pub original-rooted_same : (slot : ℕ) (cap : Cap) (f : Forest Entry) → is_full slot f ≡ false → is_original slot (rooted slot cap f) ≡ true
-original-rooted_same slot cap f h =
-    original_in-all slot true (preorder (rooted slot cap f)) (full-rooted slot slot cap f ∙ self_at (is_full slot f) slot)
-    (each-rooted (λ (e : Entry). (e.slot == slot) ≡ true → e.original ≡ true) slot cap f (none_at (λ (e : Entry). e.original ≡ true) slot (preorder f) h) (λ t. refl))
-
-pub original-derived_same : (source slot : ℕ) (cap : Cap) (f : Forest Entry) → is_full source f ≡ true → is_full slot f ≡ false
-    → is_original slot (derived source slot cap f) ≡ is_new_original (cap_at f source) cap
-original-derived_same source slot cap f s h =
-    original_in-all slot (is_new_original (cap_at f source) cap) (preorder (derived source slot cap f)) (full-derived slot source slot cap f s ∙ self_at (is_full slot f) slot)
-    (each-derived (λ (e : Entry). (e.slot == slot) ≡ true → e.original ≡ is_new_original (cap_at f source) cap) source slot cap f
-    (none_at (λ (e : Entry). e.original ≡ is_new_original (cap_at f source) cap) slot (preorder f) h) (λ t. refl))
-
 -- a tree of its own is no child
-
-pub first_child-rooted : (a slot : ℕ) (cap : Cap) (f : Forest Entry) → first_child a (rooted slot cap f) ≡ first_child a f
-first_child-rooted a slot cap f = ap (λ g. first_slot (tops g)) (below_those-root (is_at a) (entry slot cap true) f)
 
 -- a full slot has an entry, with its capability
 

@@ -1,19 +1,16 @@
 -- What is left where a slot is emptied.
-use Rattle.std.proofs.Common.{◌≡◌, ◌≢◌, ℕ, Bool, true, false, cond, not, ◌&&◌, ◌||◌, ◌==◌, eqb, List, [], ◌∷◌, ◌++◌, filter, refl, sym, subst, arith}
+use Rattle.std.proofs.Common.{◌≡◌, ℕ, Bool, true, false, cond, ◌||◌, eqb, List, [], ◌∷◌, ◌++◌, filter, refl, sym, subst}
 use Rattle.std.specs.List.{AllByRecursion as Each, Contains, list_any, IsDistinct}
-use Rattle.std.proofs.lemmas.Bool.Decides.{nat_tests}
 use Rattle.std.proofs.lemmas.List.Elements.{filter-append}
 use Rattle.std.proofs.lemmas.List.Folds.{list_any-append}
-use Rattle.cap_core.specs.declared.capability.Cap.TheVariants.{Null}
 use Rattle.derivation.specs.Forest.{Forest, none, tree, preorder, join, out}
-use Rattle.derivation.specs.Entries.{Entry, is_at, is_full, cap_at, is_original, slots}
+use Rattle.derivation.specs.Entries.{Entry, is_at, slots}
 use Rattle.derivation.specs.Derivation.{emptied}
 use Rattle.derivation.specs.Without.{without}
 use Rattle.derivation.proofs.Trees.Without.{out_once}
 use Rattle.derivation.proofs.Trees.Forests.{each-append, each-left_part, each-right_part, each-weaker, each-contained, each-contains, preorder-join}
 use Rattle.derivation.proofs.Trees.Built.{Absent, Once, once-right_part}
 use Rattle.derivation.proofs.Slots.Distinct.{once_at}
-use Rattle.derivation.proofs.Slots.Holding.{cap_in-same_entries, original_in-same_entries, cap-empty}
 use Rattle.derivation.proofs.Slots.DistinctEntries.{AreDistinct, IsApartFrom, distinct-head, distinct-tail, distinct-cons, distinct-left, distinct-right, distinct-across, distinct-append}
 
 -- of any forest
@@ -43,11 +40,6 @@ each-out_old {A} P is (tree a k r) h =
 
 pub contains-out : {A : Type 0} (is : A → Bool) (f : Forest A) (e : A) → Contains (preorder (out is f)) e → Contains (preorder f) e
 contains-out is f e h = each-contained (Contains (preorder f)) (preorder (out is f)) e (each-out (Contains (preorder f)) is f (each-contains (preorder f))) h
-
-pub contains-out_old : {A : Type 0} (is : A → Bool) (f : Forest A) (e : A) → is e ≡ false → Contains (preorder f) e → Contains (preorder (out is f)) e
-contains-out_old {A} is f e n h =
-    let P : A → Type 0 = λ b. is b ≡ false → Contains (preorder (out is f)) b in
-    each-contained P (preorder f) e (each-out_old (Contains (preorder (out is f))) is f (each-contains (preorder (out is f)))) h n
 
 -- what passes a test that the one taken out fails
 pub filter-out : {A : Type 0} (is q : A → Bool) (f : Forest A) → ((a : A) → is a ≡ true → q a ≡ false) → filter q (preorder (out is f)) ≡ filter q (preorder f)
@@ -84,50 +76,9 @@ absent-out {A} is (tree a k r) o =
 pub each-emptied : (P : Entry → Type 0) (slot : ℕ) (f : Forest Entry) → Each P (preorder f) → Each P (preorder (emptied slot f))
 each-emptied P slot f h = each-out P (is_at slot) f h
 
-pub contains-emptied : (slot : ℕ) (f : Forest Entry) (e : Entry) → Contains (preorder (emptied slot f)) e → Contains (preorder f) e
-contains-emptied slot f e h = contains-out (is_at slot) f e h
-
-pub contains-emptied_old : (slot : ℕ) (f : Forest Entry) (e : Entry) → (e.slot == slot) ≡ false → Contains (preorder f) e → Contains (preorder (emptied slot f)) e
-contains-emptied_old slot f e n h = contains-out_old (is_at slot) f e n h
-
 -- which slots are full
 
-apart_slots : (a slot i : ℕ) → a ≢ slot → (i == slot) ≡ true → (i == a) ≡ false
-apart_slots a slot i h t = grind (arith, nat_tests)
-
-pub full-emptied_other : (a slot : ℕ) (f : Forest Entry) → a ≢ slot → is_full a (emptied slot f) ≡ is_full a f
-full-emptied_other a slot f h = any-out (is_at slot) (is_at a) f (λ e t. apart_slots a slot e.slot h t)
-
-pub full-emptied_here : (slot : ℕ) (f : Forest Entry) → IsDistinct eqb (slots f) → is_full slot (emptied slot f) ≡ false
-full-emptied_here slot f d = go (preorder (emptied slot f)) (absent-out (is_at slot) f (once_at slot (preorder f) d))
-  where
-    go : (l : List Entry) → Absent (is_at slot) l → list_any (is_at slot) l ≡ false
-    go [] h = refl
-    go (e ∷ l) h = rw h.0 (go l h.1)
-
-pub full-emptied : (a slot : ℕ) (f : Forest Entry) → IsDistinct eqb (slots f) → is_full a (emptied slot f) ≡ (not (slot == a) && is_full a f)
-full-emptied a slot f d =
-    (elim (slot == a) as (λ c. (slot == a) ≡ c → is_full a (emptied slot f) ≡ (not c && is_full a f)) [
-      | true ↦ λ t. let P : ℕ → Type 0 = λ n. is_full n (emptied slot f) ≡ false in subst P (same t) (full-emptied_here slot f d)
-      | false ↦ λ t. full-emptied_other a slot f (other t)
-    ]) refl
-  where
-    same : (slot == a) ≡ true → slot ≡ a
-    same t = grind (arith, nat_tests)
-
-    other : (slot == a) ≡ false → a ≢ slot
-    other t = grind (arith, nat_tests)
-
 -- what they hold
-
-pub cap-emptied_here : (slot : ℕ) (f : Forest Entry) → IsDistinct eqb (slots f) → cap_at (emptied slot f) slot ≡ Null
-cap-emptied_here slot f d = cap-empty slot (emptied slot f) (full-emptied_here slot f d)
-
-pub cap-emptied_other : (a slot : ℕ) (f : Forest Entry) → a ≢ slot → cap_at (emptied slot f) a ≡ cap_at f a
-cap-emptied_other a slot f h = cap_in-same_entries a (preorder (emptied slot f)) (preorder f) (filter-out (is_at slot) (is_at a) f (λ e t. apart_slots a slot e.slot h t))
-
-pub original-emptied_other : (a slot : ℕ) (f : Forest Entry) → a ≢ slot → is_original a (emptied slot f) ≡ is_original a f
-original-emptied_other a slot f h = original_in-same_entries a (preorder (emptied slot f)) (preorder f) (filter-out (is_at slot) (is_at a) f (λ e t. apart_slots a slot e.slot h t))
 
 -- slots stay distinct
 

@@ -2,10 +2,8 @@
 use Rattle.std.proofs.Common.{◌≡◌, ℕ, Bool, true, false, cond, ◌||◌, ◌++◌, Some, None, refl, sym, ◌∙◌, ap, arith}
 use Rattle.std.specs.List.{Contains, list_any}
 use Rattle.std.proofs.lemmas.List.Folds.{list_any-append}
-use Rattle.cap_core.specs.declared.capability.Cap.{Cap}
-use Rattle.derivation.specs.Forest.{Forest, none, tree, preorder, join, tops, below_those, descendants, below, after}
-use Rattle.derivation.specs.Entries.{Entry, entry, is_at, is_full, is_original, first_child, first_slot}
-use Rattle.derivation.specs.Derivation.{retyped, derived, derived_entry}
+use Rattle.derivation.specs.Forest.{Forest, none, tree, preorder, join, tops, below_those, descendants, below}
+use Rattle.derivation.specs.Entries.{Entry, is_at, first_child, first_slot}
 use Rattle.derivation.proofs.Trees.Built.{fixed-below, below_those_none}
 use Rattle.derivation.proofs.Trees.Lines.{any_none, one_of}
 
@@ -26,14 +24,6 @@ first-below is x (tree a k r) h =
                 ∙ first-below is x r (one_of (list_any is (preorder k)) (list_any is (preorder r)) (sym (list_any-append is (preorder k) (preorder r)) ∙ g) e)
           ]) refl)
     ]) refl h
-
-pub first_child-retyped : (parent slot : ℕ) (cap : Cap) (f : Forest Entry) → is_full parent f ≡ true → first_child parent (retyped parent slot cap f) ≡ Some slot
-first_child-retyped parent slot cap f h = first-below (is_at parent) (entry slot cap true) f h
-
-pub first_child-derived : (source slot : ℕ) (cap : Cap) (f : Forest Entry) → is_full source f ≡ true → is_original source f ≡ true → first_child source (derived source slot cap f) ≡ Some slot
-first_child-derived source slot cap f h o =
-    ap (λ b. first_slot (tops (below_those (is_at source) (cond b (below (is_at source) (derived_entry source slot cap f) f) (after (is_at source) (derived_entry source slot cap f) f))))) o
-    ∙ first-below (is_at source) (derived_entry source slot cap f) f h
 
 -- below a slot that has no child there is nothing
 pub childless-bare : (a : ℕ) (f : Forest Entry) → first_child a f ≡ None → (u : Entry) → Contains (descendants (is_at a) f) u → ⊥

@@ -1,17 +1,17 @@
 -- What another free index changes: the one capability, and no slot.
-use Rattle.std.proofs.Common.{◌≡◌, ◌≢◌, ℕ, Bool, true, false, cond, ◌||◌, ◌==◌, eqb, List, [], ◌∷◌, map, filter, Some, refl, sym, ◌∙◌, ap, subst, arith}
+use Rattle.std.proofs.Common.{◌≡◌, ◌≢◌, ℕ, Bool, true, false, cond, ◌||◌, ◌==◌, eqb, List, [], ◌∷◌, map, filter, refl, sym, ◌∙◌, ap, subst, arith}
 use Rattle.std.specs.List.{AllByRecursion as Each, Contains, list_any, IsDistinct}
 use Rattle.std.proofs.lemmas.Bool.Decides.{nat_tests}
 use Rattle.cap_core.specs.declared.capability.Cap.{Cap}
 use Rattle.cap_core.specs.declared.capability.Cap.TheVariants.{Null, Untyped, Endpoint, CNode, Tcb}
 use Rattle.cap_core.specs.Objects.{same_object}
-use Rattle.derivation.specs.Forest.{Forest, preorder, tops, below_those}
-use Rattle.derivation.specs.Entries.{Entry, entry, is_at, is_full, cap_at, cap_in, is_original, original_in, slots, first_child, first_slot}
+use Rattle.derivation.specs.Forest.{Forest, preorder}
+use Rattle.derivation.specs.Entries.{Entry, entry, is_at, is_full, cap_at, cap_in, slots}
 use Rattle.derivation.specs.Derivation.{freed, with_free, is_named}
 use Rattle.derivation.proofs.Trees.Forests.{each-contains}
-use Rattle.derivation.proofs.Trees.Built.{preorder-renamed, renamed-below_those, tops-renamed}
+use Rattle.derivation.proofs.Trees.Built.{preorder-renamed}
 use Rattle.derivation.proofs.Slots.Holding.{cap_in-same_entries}
-use Rattle.derivation.proofs.Trees.Renamed.{each-renamed, contains-renamed, contains-renamed_old, below_those-agree}
+use Rattle.derivation.proofs.Trees.Renamed.{each-renamed}
 
 -- the entry with its new free index
 abbrev pub freed_entry : ℕ → ℕ → Entry → Entry
@@ -24,12 +24,6 @@ pub slot-freed_entry : (slot free : ℕ) (e : Entry) → (freed_entry slot free 
 slot-freed_entry slot free e = elim (e.slot == slot) as (λ c. (cond c (entry e.slot (with_free free e.cap) e.original) e).slot ≡ e.slot) [ true ↦ refl | false ↦ refl ]
 
 -- which entries there are, and what holds of each
-
-pub contains-freed : (slot free : ℕ) (f : Forest Entry) (e : Entry) → Contains (preorder (freed slot free f)) e → (a : Entry) × Contains (preorder f) a × (e ≡ freed_entry slot free a)
-contains-freed slot free f e h = contains-renamed (freed_entry slot free) f e h
-
-pub contains-freed_old : (slot free : ℕ) (f : Forest Entry) (a : Entry) → Contains (preorder f) a → Contains (preorder (freed slot free f)) (freed_entry slot free a)
-contains-freed_old slot free f a h = contains-renamed_old (freed_entry slot free) f a h
 
 pub each-freed : (P : Entry → Type 0) (slot free : ℕ) (f : Forest Entry) → Each P (preorder f)
     → ((e : Entry) → Contains (preorder f) e → e.slot ≡ slot → P (entry slot (with_free free e.cap) e.original)) → Each P (preorder (freed slot free f))
@@ -114,30 +108,4 @@ cap-freed_other a slot free f h =
           | false ↦ λ t. ap (λ m. cond (e.slot == a) (e ∷ m) m) (go l)
         ]) refl
 
-pub original-freed : (a slot free : ℕ) (f : Forest Entry) → is_original a (freed slot free f) ≡ is_original a f
-original-freed a slot free f = ap (original_in a) (preorder-freed slot free f) ∙ go (preorder f)
-  where
-    go : (l : List Entry) → original_in a (map (freed_entry slot free) l) ≡ original_in a l
-    go [] = refl
-    go (e ∷ l) =
-        elim (e.slot == slot) as (λ c. original_in a (cond c (entry e.slot (with_free free e.cap) e.original) e ∷ map (freed_entry slot free) l) ≡ original_in a (e ∷ l)) [
-          | true ↦ ap (λ b. cond (e.slot == a) e.original b) (go l)
-          | false ↦ ap (λ b. cond (e.slot == a) e.original b) (go l)
-        ]
-
 -- and the children are the same
-
-pub first_child-freed : (a slot free : ℕ) (f : Forest Entry) → first_child a (freed slot free f) ≡ first_child a f
-first_child-freed a slot free f =
-    ap (λ g. first_slot (tops g)) (renamed-below_those (freed_entry slot free) (is_at a) f)
-    ∙ ap first_slot (tops-renamed (freed_entry slot free) (below_those (λ e. is_at a (freed_entry slot free e)) f))
-    ∙ first (tops (below_those (λ e. is_at a (freed_entry slot free e)) f))
-    ∙ ap (λ g. first_slot (tops g)) (below_those-agree (is_at a) (λ e. is_at a (freed_entry slot free e)) f (all (preorder f)))
-  where
-    all : (l : List Entry) → Each (λ (e : Entry). is_at a (freed_entry slot free e) ≡ is_at a e) l
-    all [] = tt
-    all (e ∷ l) = (ap (λ i. i == a) (slot-freed_entry slot free e), all l)
-
-    first : (l : List Entry) → first_slot (map (freed_entry slot free) l) ≡ first_slot l
-    first [] = refl
-    first (e ∷ l) = ap Some (slot-freed_entry slot free e)

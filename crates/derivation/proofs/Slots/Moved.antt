@@ -1,17 +1,16 @@
 -- What a move changes: which slots are full, and of what.
 use Rattle.std.proofs.Common.{◌≡◌, ◌≢◌, ℕ, Bool, true, false, cond, not, ◌&&◌, ◌||◌, ◌==◌, eqb, List, [], ◌∷◌, map, filter, refl, sym, ◌∙◌, ap, subst, arith}
-use Rattle.std.specs.List.{AllByRecursion as Each, Contains, list_any, IsDistinct}
+use Rattle.std.specs.List.{AllByRecursion as Each, list_any, IsDistinct}
 use Rattle.std.proofs.lemmas.Bool.Decides.{nat_tests}
 use Rattle.cap_core.specs.declared.capability.Cap.{Cap}
-use Rattle.cap_core.specs.declared.capability.Cap.TheVariants.{Null}
 use Rattle.derivation.specs.Forest.{Forest, preorder}
-use Rattle.derivation.specs.Entries.{Entry, entry, is_at, is_full, cap_at, is_original, original_in, slots}
+use Rattle.derivation.specs.Entries.{Entry, entry, is_at, is_full, cap_at, slots}
 use Rattle.derivation.specs.Derivation.{moved}
 use Rattle.derivation.proofs.Trees.Forests.{each-weaker}
 use Rattle.derivation.proofs.Trees.Built.{preorder-renamed}
-use Rattle.derivation.proofs.Slots.Holding.{cap_in-same_entries, original_in-same_entries, cap_in-one, none_stands, cap-empty}
+use Rattle.derivation.proofs.Slots.Holding.{cap_in-same_entries, none_stands}
 use Rattle.derivation.proofs.Slots.DistinctEntries.{AreDistinct, IsApartFrom, distinct-head, distinct-tail, distinct-cons, distinct-nil}
-use Rattle.derivation.proofs.Trees.Renamed.{each-map, each-renamed, contains-renamed, contains-renamed_old}
+use Rattle.derivation.proofs.Trees.Renamed.{each-map, each-renamed}
 
 -- the entry in its slot after the move
 abbrev pub moved_entry : ℕ → ℕ → Cap → Entry → Entry
@@ -21,13 +20,6 @@ pub preorder-moved : (source slot : ℕ) (cap : Cap) (f : Forest Entry) → preo
 preorder-moved source slot cap f = preorder-renamed (moved_entry source slot cap) f
 
 -- which entries there are, and what holds of each
-
-pub contains-moved : (source slot : ℕ) (cap : Cap) (f : Forest Entry) (e : Entry) → Contains (preorder (moved source slot cap f)) e
-    → (a : Entry) × Contains (preorder f) a × (e ≡ moved_entry source slot cap a)
-contains-moved source slot cap f e h = contains-renamed (moved_entry source slot cap) f e h
-
-pub contains-moved_old : (source slot : ℕ) (cap : Cap) (f : Forest Entry) (a : Entry) → Contains (preorder f) a → Contains (preorder (moved source slot cap f)) (moved_entry source slot cap a)
-contains-moved_old source slot cap f a h = contains-renamed_old (moved_entry source slot cap) f a h
 
 pub each-moved : (P : Entry → Type 0) (source slot : ℕ) (cap : Cap) (f : Forest Entry) → Each P (preorder f) → ((original : Bool) → P (entry slot cap original)) → Each P (preorder (moved source slot cap f))
 each-moved P source slot cap f h k =
@@ -68,17 +60,6 @@ any_moved a source slot cap (e ∷ l) =
     other : (i source a : ℕ) → (i == source) ≡ false → (i == a) ≡ true → (source == a) ≡ false
     other i source a t u = grind (arith, nat_tests)
 
-pub full-moved : (a source slot : ℕ) (cap : Cap) (f : Forest Entry) → is_full source f ≡ true → is_full a (moved source slot cap f) ≡ ((not (source == a) && is_full a f) || (slot == a))
-full-moved a source slot cap f h =
-    ap (list_any (is_at a)) (preorder-moved source slot cap f) ∙ any_moved a source slot cap (preorder f)
-    ∙ ap (λ b. (b && (slot == a)) || (not (source == a) && is_full a f)) h ∙ swap (slot == a) (not (source == a) && is_full a f)
-  where
-    swap : (b c : Bool) → (b || c) ≡ (c || b)
-    swap true true = refl
-    swap true false = refl
-    swap false true = refl
-    swap false false = refl
-
 -- a full slot is none that is empty
 pub full_differs : (source slot : ℕ) (f : Forest Entry) → is_full source f ≡ true → is_full slot f ≡ false → (slot == source) ≡ false
 full_differs source slot f h k =
@@ -90,45 +71,7 @@ full_differs source slot f h k =
     same : (i j : ℕ) → (i == j) ≡ true → j ≡ i
     same i j t = grind (arith, nat_tests)
 
-pub full-moved_source : (source slot : ℕ) (cap : Cap) (f : Forest Entry) → is_full source f ≡ true → is_full slot f ≡ false → is_full source (moved source slot cap f) ≡ false
-full-moved_source source slot cap f h k =
-    let e : (source == source) ≡ true = grind (arith, nat_tests) in
-    full-moved source source slot cap f h ∙ rw (e, full_differs source slot f h k) refl
-
-pub full-moved_new : (source slot : ℕ) (cap : Cap) (f : Forest Entry) → is_full source f ≡ true → is_full slot (moved source slot cap f) ≡ true
-full-moved_new source slot cap f h =
-    let e : (slot == slot) ≡ true = grind (arith, nat_tests) in
-    full-moved slot source slot cap f h ∙ rw e (or_true (not (source == slot) && is_full slot f))
-  where
-    or_true : (b : Bool) → (b || true) ≡ true
-    or_true true = refl
-    or_true false = refl
-
 -- what they hold
-
-pub cap-moved_source : (source slot : ℕ) (cap : Cap) (f : Forest Entry) → is_full source f ≡ true → is_full slot f ≡ false → cap_at (moved source slot cap f) source ≡ Null
-cap-moved_source source slot cap f h k = cap-empty source (moved source slot cap f) (full-moved_source source slot cap f h k)
-
-pub cap-moved_new : (source slot : ℕ) (cap : Cap) (f : Forest Entry) → is_full source f ≡ true → is_full slot f ≡ false → cap_at (moved source slot cap f) slot ≡ cap
-cap-moved_new source slot cap f h k =
-    cap_in-one slot cap (preorder (moved source slot cap f)) (full-moved_new source slot cap f h)
-    (each-moved (λ (e : Entry). (e.slot == slot) ≡ true → e.cap ≡ cap) source slot cap f
-    (each-weaker (λ (e : Entry). (e.slot == slot) ≡ false) (λ (e : Entry). (e.slot == slot) ≡ true → e.cap ≡ cap) (λ e n t. absurd (let m : (e.slot == slot) ≡ false = n in cc)) (preorder f) (none_stands slot (preorder f) k))
-    (λ original t. refl))
-
-pub original-moved_new : (source slot : ℕ) (cap : Cap) (f : Forest Entry) → is_full slot f ≡ false → is_original slot (moved source slot cap f) ≡ is_original source f
-original-moved_new source slot cap f k = ap (original_in slot) (preorder-moved source slot cap f) ∙ go (preorder f) (none_stands slot (preorder f) k)
-  where
-    self : (slot == slot) ≡ true
-    self = grind (arith, nat_tests)
-
-    go : (l : List Entry) → Each (λ (e : Entry). (e.slot == slot) ≡ false) l → original_in slot (map (moved_entry source slot cap) l) ≡ original_in source l
-    go [] n = refl
-    go (e ∷ l) n =
-        elim (e.slot == source) as (λ c. original_in slot (cond c (entry slot cap e.original) e ∷ map (moved_entry source slot cap) l) ≡ cond c e.original (original_in source l)) [
-          | true ↦ rw self refl
-          | false ↦ rw n.0 (go l n.1)
-        ]
 
 entries-moved : (a source slot : ℕ) (cap : Cap) → a ≢ source → a ≢ slot → (l : List Entry) → filter (is_at a) (map (moved_entry source slot cap) l) ≡ filter (is_at a) l
 entries-moved a source slot cap h k [] = refl
@@ -147,10 +90,6 @@ entries-moved a source slot cap h k (e ∷ l) =
 pub cap-moved_other : (a source slot : ℕ) (cap : Cap) (f : Forest Entry) → a ≢ source → a ≢ slot → cap_at (moved source slot cap f) a ≡ cap_at f a
 cap-moved_other a source slot cap f h k =
     cap_in-same_entries a (preorder (moved source slot cap f)) (preorder f) (ap (filter (is_at a)) (preorder-moved source slot cap f) ∙ entries-moved a source slot cap h k (preorder f))
-
-pub original-moved_other : (a source slot : ℕ) (cap : Cap) (f : Forest Entry) → a ≢ source → a ≢ slot → is_original a (moved source slot cap f) ≡ is_original a f
-original-moved_other a source slot cap f h k =
-    original_in-same_entries a (preorder (moved source slot cap f)) (preorder f) (ap (filter (is_at a)) (preorder-moved source slot cap f) ∙ entries-moved a source slot cap h k (preorder f))
 
 -- slots stay distinct
 

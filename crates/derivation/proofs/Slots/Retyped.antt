@@ -1,16 +1,14 @@
 -- What a retype changes: which slots are full, and of what.
-use Rattle.std.proofs.Common.{◌≡◌, ◌≢◌, ℕ, Bool, true, false, ◌&&◌, ◌||◌, ◌==◌, eqb, ◌⊎◌, refl, ◌∙◌, ap, arith}
+use Rattle.std.proofs.Common.{◌≡◌, ◌≢◌, ℕ, Bool, true, false, ◌&&◌, ◌||◌, ◌==◌, eqb, ◌⊎◌, ◌∙◌, ap}
 use Rattle.std.specs.List.{AllByRecursion as Each, Contains, list_any, IsDistinct}
-use Rattle.std.proofs.lemmas.Bool.Decides.{nat_tests}
 use Rattle.cap_core.specs.declared.capability.Cap.{Cap}
-use Rattle.cap_core.specs.Objects.{same_object}
 use Rattle.derivation.specs.Forest.{Forest, preorder}
-use Rattle.derivation.specs.Entries.{Entry, entry, is_at, is_full, cap_at, is_original, slots}
-use Rattle.derivation.specs.Derivation.{retyped, is_named}
-use Rattle.derivation.proofs.Trees.Forests.{each-below, contains-below, contains-below_old, any-below, filter-below}
+use Rattle.derivation.specs.Entries.{Entry, entry, is_at, is_full, cap_at, slots}
+use Rattle.derivation.specs.Derivation.{retyped}
+use Rattle.derivation.proofs.Trees.Forests.{each-below, contains-below, any-below, filter-below}
 use Rattle.derivation.proofs.Slots.Edits.{other_at}
 use Rattle.derivation.proofs.Slots.Distinct.{inserted-below, once_at}
-use Rattle.derivation.proofs.Slots.Holding.{cap_in-same_entries, original_in-same_entries, cap_in-one, original_in-one, all_of_none}
+use Rattle.derivation.proofs.Slots.Holding.{cap_in-same_entries}
 use Rattle.derivation.proofs.Slots.DistinctEntries.{distinct-inserted}
 
 -- which entries there are, and what holds of each
@@ -21,9 +19,6 @@ each-retyped P parent slot cap f h e = each-below P (is_at parent) (entry slot c
 pub contains-retyped : (parent slot : ℕ) (cap : Cap) (f : Forest Entry) (e : Entry) → Contains (preorder (retyped parent slot cap f)) e → Contains (preorder f) e ⊎ (entry slot cap true ≡ e)
 contains-retyped parent slot cap f e h = contains-below (is_at parent) (entry slot cap true) f e h
 
-pub contains-retyped_old : (parent slot : ℕ) (cap : Cap) (f : Forest Entry) (e : Entry) → Contains (preorder f) e → Contains (preorder (retyped parent slot cap f)) e
-contains-retyped_old parent slot cap f e h = contains-below_old (is_at parent) (entry slot cap true) f e h
-
 -- which slots are full, and which objects are named
 
 pub any-retyped : (q : Entry → Bool) (parent slot : ℕ) (cap : Cap) (f : Forest Entry) → is_full parent f ≡ true
@@ -33,38 +28,13 @@ any-retyped q parent slot cap f h = any-below (is_at parent) q (entry slot cap t
 pub full-retyped : (a parent slot : ℕ) (cap : Cap) (f : Forest Entry) → is_full parent f ≡ true → is_full a (retyped parent slot cap f) ≡ (is_full a f || (slot == a))
 full-retyped a parent slot cap f h = any-retyped (is_at a) parent slot cap f h
 
-pub named-retyped : (object : Cap) (parent slot : ℕ) (cap : Cap) (f : Forest Entry) → is_full parent f ≡ true
-    → is_named object (retyped parent slot cap f) ≡ (is_named object f || same_object cap object)
-named-retyped object parent slot cap f h = any-retyped (λ (e : Entry). same_object e.cap object) parent slot cap f h
-
 -- other slots hold what they held
 
 pub cap-retyped_other : (a parent slot : ℕ) (cap : Cap) (f : Forest Entry) → a ≢ slot → cap_at (retyped parent slot cap f) a ≡ cap_at f a
 cap-retyped_other a parent slot cap f h =
     cap_in-same_entries a (preorder (retyped parent slot cap f)) (preorder f) (filter-below (is_at parent) (is_at a) (entry slot cap true) f (other_at a slot h))
 
-pub original-retyped_other : (a parent slot : ℕ) (cap : Cap) (f : Forest Entry) → a ≢ slot → is_original a (retyped parent slot cap f) ≡ is_original a f
-original-retyped_other a parent slot cap f h =
-    original_in-same_entries a (preorder (retyped parent slot cap f)) (preorder f) (filter-below (is_at parent) (is_at a) (entry slot cap true) f (other_at a slot h))
-
 -- the slot holds the new capability, which is original
-
-or_self : (b : Bool) (slot : ℕ) → (b || (slot == slot)) ≡ true
-or_self b slot = let e : (slot == slot) ≡ true = grind (arith, nat_tests) in rw e (or-true b)
-  where
-    or-true : (b : Bool) → (b || true) ≡ true
-    or-true true = refl
-    or-true false = refl
-
-pub cap-retyped_new : (parent slot : ℕ) (cap : Cap) (f : Forest Entry) → is_full parent f ≡ true → is_full slot f ≡ false → cap_at (retyped parent slot cap f) slot ≡ cap
-cap-retyped_new parent slot cap f s h =
-    cap_in-one slot cap (preorder (retyped parent slot cap f)) (full-retyped slot parent slot cap f s ∙ or_self (is_full slot f) slot)
-    (each-retyped (λ (e : Entry). (e.slot == slot) ≡ true → e.cap ≡ cap) parent slot cap f (all_of_none (λ (e : Entry). e.cap ≡ cap) slot (preorder f) h) (λ t. refl))
-
-pub original-retyped_new : (parent slot : ℕ) (cap : Cap) (f : Forest Entry) → is_full parent f ≡ true → is_full slot f ≡ false → is_original slot (retyped parent slot cap f) ≡ true
-original-retyped_new parent slot cap f s h =
-    original_in-one slot true (preorder (retyped parent slot cap f)) (full-retyped slot parent slot cap f s ∙ or_self (is_full slot f) slot)
-    (each-retyped (λ (e : Entry). (e.slot == slot) ≡ true → e.original ≡ true) parent slot cap f (all_of_none (λ (e : Entry). e.original ≡ true) slot (preorder f) h) (λ t. refl))
 
 -- slots stay distinct
 

@@ -127,10 +127,6 @@ NotNamed p tables names i = names (waiter_of ((links_of p tables).thread i) i) �
 abbrev pub StandsBefore : ProfileName → Tables → ℕ → Option ℕ → (Waiter → Bool) → Type 0
 StandsBefore p tables e here names = StandsAt p tables e here (NotNamed p tables names)
 
-pub at_start : (p : ProfileName) (a : Tables) (linked : IsLinked p a) (e : ℕ) (here : Option ℕ) (names : Waiter → Bool) → here ≡ ((links_of p a).endpoint e).first → StandsBefore p a e here names
-at_start p a linked e here names is =
-    record { done = []; todo = orders_in p a e; split = refl; at = is ∙ first_of_queue p a linked e; all_passed = tt }
-
 each_snoc : (P : ℕ → Type 0) (list : List ℕ) (t : ℕ) → Each P list → P t → Each P (list ++ t ∷ [])
 each_snoc P [] t all one = (one, tt)
 each_snoc P (i ∷ list) t all one = (all.0, each_snoc P list t all.1 one)

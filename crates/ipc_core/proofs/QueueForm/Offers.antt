@@ -1,5 +1,5 @@
 -- What the row of a thread says that it sends is what it sends in the queue of its endpoint.
-use Rattle.std.proofs.Common.{◌≡◌, ℕ, ◌==◌, ◌||◌, Bool, true, false, cond, List, [], ◌∷◌, map, Option, None, Some, refl, sym, ap, ◌∙◌, inl, inr}
+use Rattle.std.proofs.Common.{◌≡◌, ℕ, ◌==◌, ◌||◌, true, cond, List, [], ◌∷◌, map, Option, None, Some, refl, sym, ap, ◌∙◌, inl, inr}
 use Rattle.std.specs.Option.{option_or}
 use Rattle.std.proofs.lemmas.Bool.Decides.{eqb_tells}
 use Rattle.cap_core.specs.declared.profile.ProfileName.{ProfileName}
@@ -8,7 +8,6 @@ use Rattle.ipc_core.specs.declared.waiter.Role.{Role}
 use Rattle.ipc_core.specs.declared.waiter.Role.TheVariants.{Sending, Receiving}
 use Rattle.ipc_core.specs.declared.tables.QueueRow.{QueueRow}
 use Rattle.ipc_core.specs.declared.tables.Tables.{Tables}
-use Rattle.ipc_core.specs.Waits.{thread_of}
 use Rattle.ipc_core.specs.Offers as waits
 use Rattle.ipc_core.specs.Representation.Chains.{has}
 use Rattle.ipc_core.specs.Representation.Linked.{Links, links_of, waiter_in, waiter_of, waits_in, orders_in, IsLinked, offer_by, offer_in}

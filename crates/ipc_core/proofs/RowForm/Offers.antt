@@ -1,16 +1,14 @@
 -- What the row of a thread says that it sends is what it sends in the waiting list of the row's endpoint.
-use Rattle.std.proofs.Common.{◌≡◌, ℕ, ◌==◌, Bool, true, false, cond, List, [], ◌∷◌, map, filter, find, Option, None, Some, option_map, option_and_then, refl, sym, ap, subst, ◌∙◌, inl, inr, eq-eqb}
+use Rattle.std.proofs.Common.{◌≡◌, ℕ, ◌==◌, Bool, true, false, cond, List, [], ◌∷◌, find, Option, None, Some, option_map, option_and_then, refl, sym, ap, ◌∙◌, inl, inr, eq-eqb}
 use Rattle.std.specs.Option.{option_or}
 use Rattle.std.proofs.lemmas.Bool.Decides.{eqb_tells}
-use Rattle.cap_core.specs.declared.message.Message.{Message}
-use Rattle.cap_core.specs.declared.capability.Badge.{Badge}
 use Rattle.ipc_core.specs.declared.waiter.Waiter.{Waiter}
 use Rattle.ipc_core.specs.declared.waiter.Waiter.TheVariants.{Sender, Receiver}
 use Rattle.ipc_core.specs.declared.waiter.Offer.{Offer}
 use Rattle.ipc_core.specs.declared.row.WaitRow.{WaitRow}
-use Rattle.ipc_core.specs.Waits.{thread_of, role_at}
+use Rattle.ipc_core.specs.Waits.{role_at}
 use Rattle.ipc_core.specs.Offers.{offer_by, offer_in, offer_as, offer_of}
-use Rattle.ipc_core.specs.Representation.Rows.{row_thread, row_role, is_at, is_of, waiting_at, waits_of}
+use Rattle.ipc_core.specs.Representation.Rows.{row_thread, row_role, is_of, waiting_at, waits_of}
 use Rattle.ipc_core.specs.Evidence.RowsAgree.{with_first}
 
 -- the first row of a thread that sends is also the first of that thread in the waiting list

@@ -204,10 +204,3 @@ mapped_some h (Some x) y e = refl
 
 pub stated_row : (p : ProfileName) (f : Forest Entry) (rows : List (Option ThreadRow)) (w : Waits) (v : Shown) (t : ℕ) (s : ThreadState) → kernel_shown p f rows w ≡ v → state_at v t ≡ Some s → IsSome (get (rows_map (tcb_size p) rows) t)
 stated_row p f rows w v t s view is = mapped_some (λ (row : ThreadRow). state_with (w.role t) row.inactive) _ s (state_seen p f rows w v t _ view refl ∙ is)
-
--- an endpoint that a slot names is live in what is shown
-pub live_endpoint : (p : ProfileName) (f : Forest Entry) (rows : List (Option ThreadRow)) (w : Waits) (v : Shown) (e : ℕ) →
-    kernel_shown p f rows w ≡ v → list_any (λ k. e == k) (endpoints_of f) ≡ true → IsLiveEndpoint v e
-live_endpoint p f rows w v e view live =
-    subst (λ (u : Shown). IsLiveEndpoint u e) view
-    (subst IsSome (sym (get_table (endpoints_of f) w.queue e ∙ ap (λ (b : Bool). cond b (Some (w.queue e)) None) live)) refl)

@@ -2,7 +2,7 @@
 use Rattle.std.proofs.Common.{◌≡◌, ℕ, ℤ, pos, negsuc, true, List, Option, Some, None, Ok, refl, sym, ap, ◌∙◌, inl, inr, arith}
 use Rattle.std.proofs.lemmas.Bool.{cases_Bool}
 use Rattle.std.proofs.lemmas.Bool.Decides.{nat_tests}
-use Rattle.toml.specs.Data.{Data, as_integer}
+use Rattle.toml.specs.Data.{as_integer}
 use Rattle.setup_values.specs.Kinds.{between, number, number_in}
 use Rattle.setup_format.specs.declared.limits.TheConstants.{FIRST_FORMAT, NEWEST_FORMAT}
 use Rattle.setup_format.specs.declared.fault.Place.TheVariants as places

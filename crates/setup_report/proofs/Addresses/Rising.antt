@@ -97,10 +97,6 @@ rising_same xs ys h =
     same_rising (rising xs) (rising ys) (sorted_rising xs) (sorted_rising ys)
     (λ q. any_rising (λ a. q == a) xs ∙ h q ∙ sym (any_rising (λ a. q == a) ys))
 
--- a list that rises is in rising order
-pub rising_sorted : (xs : List ℕ) → IsStrictlySortedBy nat_cmp xs → rising xs ≡ xs
-rising_sorted xs h = same_rising (rising xs) xs (sorted_rising xs) h (λ q. any_rising (λ a. q == a) xs)
-
 -- the addresses of a set that `collect` made of a list
 pub rising_made : (xs : List ℕ) (made : BTreeSet ℕ) → IsFromIterResult nat_cmp xs made → made.keys ≡ rising xs
 rising_made xs made h =

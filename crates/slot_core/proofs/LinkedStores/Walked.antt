@@ -1,10 +1,9 @@
 -- A walk along the list of a linked store, with those above at hand, tells who is derived from whom.
-use Rattle.std.proofs.Common.{◌≡◌, ℕ, zero, suc, ◌+◌, ◌-◌, ◌*◌, Bool, List, [], ◌∷◌, ◌++◌, map, reverse, length, Option, Some, None, refl, sym, ◌∙◌, ap, arith}
+use Rattle.std.proofs.Common.{◌≡◌, ℕ, zero, suc, ◌+◌, ◌-◌, ◌*◌, List, [], ◌∷◌, ◌++◌, map, reverse, length, Option, Some, None, refl, sym, ◌∙◌, ap}
 use Rattle.std.specs.Prelude.{option_map, slice_get}
 use Rattle.std.proofs.lemmas.List.{map-append, append_assoc, append-nil, reverse-append}
 use Rattle.cap_core.specs.declared.profile.ProfileName.{ProfileName}
 use Rattle.cap_core.specs.Numbers.{slot_size}
-use Rattle.derivation.specs.Forest.{parented, build}
 use Rattle.derivation.specs.Entries.{Entry, entry, derivations_of}
 use Rattle.derivation.specs.Marked.{Marked, is_parent, entry_of, forest_of}
 use Rattle.derivation.proofs.Trees.Parented.{still_above, innermost, innermost-map, last_first, walked, walked-derivations, entry_pair, still_above-alike}
@@ -13,7 +12,7 @@ use Rattle.slot_core.specs.declared.linked.table.Link.{Link}
 use Rattle.slot_core.specs.declared.derivations.Derivation.{Derivation}
 use Rattle.slot_core.specs.Places.{address_of}
 use Rattle.slot_core.specs.Calls.{derivation_view}
-use Rattle.slot_core.specs.Links.{link_at, next_of, row_of, unplaced, walk, rows_of, order_of, place_in}
+use Rattle.slot_core.specs.Links.{link_at, next_of, row_of, unplaced, walk, rows_of, place_in}
 use Rattle.slot_core.specs.Walks.{stack_of}
 
 addresses : (p : ProfileName) (links : List Link) (o : Option Slot)

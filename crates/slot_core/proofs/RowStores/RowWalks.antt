@@ -1,5 +1,5 @@
 -- A walk over the rows, with those above at hand, tells who is derived from whom.
-use Rattle.std.proofs.Common.{◌≡◌, ℕ, Bool, List, [], ◌∷◌, ◌++◌, map, reverse, Option, Some, None, refl, sym, ◌∙◌, ap}
+use Rattle.std.proofs.Common.{◌≡◌, ℕ, List, [], ◌∷◌, ◌++◌, map, reverse, Option, Some, None, refl, ◌∙◌, ap}
 use Rattle.std.specs.Prelude.{option_map}
 use Rattle.std.proofs.lemmas.List.{map-append, append_assoc, append-nil, reverse-append}
 use Rattle.cap_core.specs.declared.profile.ProfileName.{ProfileName}

@@ -1,5 +1,5 @@
 //! Who is derived from whom, by one walk along the list of a linked store.
-ghost use Rattle.std.specs.Prelude.{◌≡◌, map};
+ghost use Rattle.std.specs.Prelude.{◌≡◌};
 ghost use Rattle.derivation.specs.Marked.{is_parent as is_parent_in};
 ghost use Rattle.derivation.proofs.Trees.Parented.{still_above};
 ghost use Rattle.slot_core.specs.Links.{unplaced};

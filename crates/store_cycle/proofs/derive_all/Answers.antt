@@ -1,4 +1,4 @@
-use Rattle.std.proofs.Common.{◌≡◌, ◌+◌, suc, inr, ap, arith}
+use Rattle.std.proofs.Common.{◌+◌, suc, inr, ap, arith}
 use Rattle.cap_core.specs.Objects.{badge_of}
 use Rattle.derivation.specs.Derivation.{names_same}
 use Rattle.store_cycle.specs.Cycle.{endpoint}

@@ -1,5 +1,5 @@
 -- The proof of `waiting_threads_are_told`: the goals that a search leaves open.
-use Rattle.std.proofs.Common.{◌≡◌, ◌&&◌, ◌==◌, Bool, true, false, eq-eqb, refl, sym, ap}
+use Rattle.std.proofs.Common.{◌≡◌, ◌&&◌, Bool, true, false, eq-eqb, sym, ap}
 use Rattle.ipc_core.specs.Records.{SendRecord, ReceiveRecord, Instance}
 use Rattle.abstract_kernel.specs.State.{State}
 use Rattle.abstract_kernel.specs.Cancelling.{is_thread_live}

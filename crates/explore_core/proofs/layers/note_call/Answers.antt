@@ -1,4 +1,4 @@
-use Rattle.std.proofs.Common.{List, ℕ, ◌∷◌, [], ◌++◌, ap, ◌∙◌}
+use Rattle.std.proofs.Common.{List, ℕ, ◌++◌, ap, ◌∙◌}
 use Rattle.kinds.specs.Kinds.{with_firsts}
 use Rattle.orders.specs.declared.answer.WaitingCall.{WaitingCall}
 use Rattle.orders.specs.World.{place_of}

@@ -1,4 +1,4 @@
-use Rattle.std.proofs.Common.{◌≡◌, ℕ, List, ◌++◌, filter, slice_get, ap}
+use Rattle.std.proofs.Common.{List, ◌++◌, filter, slice_get, ap}
 use Rattle.explore_core.specs.declared.found.FoundAnswer.{FoundAnswer}
 use Rattle.explore_core.specs.Found.{answers_of}
 use Rattle.setup_explore.specs.Numbers.{numbers_in}

@@ -1,4 +1,4 @@
-use Rattle.std.proofs.Common.{List, Option, option_and_then, find, ap, sym, ◌∙◌}
+use Rattle.std.proofs.Common.{option_and_then, find, ap, sym, ◌∙◌}
 use Rattle.ipc_core.specs.declared.row.WaitRow.{WaitRow}
 use Rattle.ipc_core.specs.Offers.{offer_by}
 use Rattle.ipc_core.specs.Representation.Rows.{is_of}

@@ -1,5 +1,5 @@
 -- The proof of `offer`: the goals that a search leaves open.
-use Rattle.std.proofs.Common.{◌≡◌, List, Option, Some, IsSome, ap, sym, subst, refl, ◌∙◌}
+use Rattle.std.proofs.Common.{List, Option, IsSome, ap, sym, subst, refl, ◌∙◌}
 use Rattle.std.specs.FinMap.{get}
 use Rattle.cap_core.specs.Numbers.{tcb_size}
 use Rattle.kernel_core.specs.declared.rows.ThreadRow.{ThreadRow}

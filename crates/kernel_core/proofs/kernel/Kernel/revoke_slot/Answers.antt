@@ -2,7 +2,7 @@
 use Rattle.std.proofs.Common.{ap, sym, ◌∙◌}
 use Rattle.clearing.specs.Revoke.{revoke}
 use Rattle.abstract_kernel.specs.Shown.{Shown, tcb_base, endpoint_base}
-use Rattle.abstract_kernel.specs.State.{State, shown}
+use Rattle.abstract_kernel.specs.State.{shown}
 use Rattle.abstract_kernel.specs.Private.Endings.{after_ending}
 use Rattle.abstract_kernel.proofs.Capabilities.StoresCleared.{live-revoke}
 use Rattle.abstract_kernel.proofs.Cancelling.Ended.{ending_shown}

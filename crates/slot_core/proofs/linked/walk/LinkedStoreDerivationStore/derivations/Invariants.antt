@@ -1,4 +1,4 @@
-use Rattle.std.proofs.Common.{◌≡◌, ◌-◌, ◌≤◌, length, []}
+use Rattle.std.proofs.Common.{◌≡◌, ◌-◌, length, []}
 use Rattle.slot_core.proofs.LinkedStores.Walked.{found_on}
 use Rattle.slot_core.proofs.linked.walk.LinkedStoreDerivationStore.derivations.Given as goal
 
