@@ -7,13 +7,13 @@ use Rattle.engine_core.specs.declared.fault.Verdict.{Verdict}
 use Rattle.engine.specs.Program.{program}
 use Rattle.engine.specs.Migrations.{IsMigration}
 use Rattle.engine_audit.specs.Audits.{IsAuditOfBytes}
-use Rattle.engine_ever.specs.Ever.{IsEverOfBytes}
-use Rattle.engine_ever.specs.Never.{Asked, IsNeverOfBytes}
+use Rattle.setup_ever.specs.Told.{IsEverOfBytes}
+use Rattle.engine_never.specs.Never.{Asked, IsNeverOfBytes}
 use Rattle.engine_explore.specs.Explorations.{explored_of_bytes}
 use Rattle.engine_threads.specs.SharedRuns.{IsSharedProgram}
-use Rattle.engine_trace.specs.Traces.{trace_of_bytes}
-use Rattle.engine_tree.specs.Trees.{IsTreeOfBytes}
-use Rattle.engine_why.specs.Explained.{why_of_bytes}
+use Rattle.setup_trace.specs.Traces.{trace_of_bytes}
+use Rattle.setup_tree.specs.Trees.{IsTreeOfBytes}
+use Rattle.setup_why.specs.Explained.{why_of_bytes}
 use Rattle.setup_tree.specs.declared.form.Form.{Form}
 use Rattle.setup_tree.specs.declared.form.Form.TheVariants.{Lines, Dot}
 use Rattle.program.specs.Commas.{words_in}

@@ -1,7 +1,7 @@
 //! Runs of set-ups from bytes to bytes: the text that is written, and the exit status.
 use crate::stored as wanted;
 use engine::{ReaderSource, WriterSink, status_of};
-use engine_trace::trace_run;
+use setup_trace::trace_run;
 use std::alloc::Global;
 use std::process::Abort;
 

@@ -3,11 +3,8 @@ use Rattle.std.proofs.Common.{◌≡◌, ℕ, zero, suc, ◌+◌, ◌<◌, ◌�
 use Rattle.toml.specs.Data.{Members}
 use Rattle.cap_core.specs.declared.profile.ProfileName.{ProfileName}
 use Rattle.abstract_kernel.specs.declared.call.Call.{Call}
-use Rattle.abstract_kernel.specs.Plan.{Plan, IsPlan}
-use Rattle.abstract_kernel.specs.Boot.{boot}
 use Rattle.abstract_kernel.specs.State.{State, shown}
-use Rattle.abstract_kernel.specs.Step.{step, replies_of, state_after}
-use Rattle.abstract_kernel.specs.Reached.{IsReached}
+use Rattle.abstract_kernel.specs.Step.{step}
 use Rattle.setup_format.specs.Views.{CallView}
 use Rattle.setup_why.specs.Tables.{call_table}
 use Rattle.setup_why.specs.Why.{call_lines, calls_lines, explained}

@@ -1,5 +1,5 @@
 -- What is said of the calls of a set-up: of each refused one, or of one that is chosen.
-use Rattle.std.specs.Prelude.{codes, ℕ, ◌+◌, ◌==◌, List, [], ◌∷◌, ◌++◌, length, map, Bool, true, false, if◌then◌else◌, Option, None, Some, is_some, option_map}
+use Rattle.std.specs.Prelude.{codes, ℕ, ◌+◌, ◌==◌, List, [], ◌∷◌, ◌++◌, length, Bool, true, false, if◌then◌else◌, Option, None, Some, is_some, option_map}
 use Rattle.std.specs.List.{filter}
 use Rattle.std.specs.Fmt.{decimal}
 use Rattle.toml.specs.Data.{Members}
@@ -9,9 +9,10 @@ use Rattle.abstract_kernel.specs.declared.call.Reply.TheVariants.{Refused}
 use Rattle.abstract_kernel.specs.Boot.{boot}
 use Rattle.abstract_kernel.specs.Shown.{Shown}
 use Rattle.abstract_kernel.specs.State.{State, shown}
-use Rattle.abstract_kernel.specs.Step.{step, replies_of}
+use Rattle.abstract_kernel.specs.Step.{step}
 use Rattle.setup_format.specs.Views.{SetupView, CallView}
 use Rattle.setup_report.specs.Report.{terminated, call_text, met_count, expectation_count, count_line}
+use Rattle.engine.specs.Program.{replies_to}
 use Rattle.reasons.specs.Calls.{reason_of}
 use Rattle.reason_words.specs.Text.{told}
 use Rattle.reason_words.specs.Asked.{AskedView}
@@ -66,10 +67,6 @@ ending None calls refused met expected =
 abbrev pub ending_of : Option ℕ → List CallView → List Reply → List ℕ
 ending_of chosen calls replies =
     ending chosen (length calls) (refused_count replies) (met_count calls replies) (expectation_count calls replies)
-
--- what the abstract kernel answers to the calls of a set-up, from its boot on
-abbrev pub replies_to : ProfileName → SetupView → List Reply
-replies_to p setup = replies_of p (boot p setup.plan) (map (λ (c : CallView). c.call) setup.calls)
 
 -- all that is said of a set-up's calls, by the table that spells it
 unfoldable pub why_of : ProfileName → Members → Option ℕ → SetupView → List ℕ

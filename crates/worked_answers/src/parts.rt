@@ -2,7 +2,8 @@
 use crate::answer::Answer;
 use crate::files::read;
 use engine_core::{ReaderSource, RunFault, Verdict, WriterSink, status_of};
-use engine_ever::{Question, ever_run, never_run};
+use engine_never::{Question, never_run};
+use setup_ever::ever_run;
 use std::alloc::Global;
 use std::fs::Files;
 

@@ -2,8 +2,7 @@
 use crate::answer::Answer;
 use crate::files::number_in;
 use engine_core::{ReaderSource, WriterSink, status_of};
-use engine_tree::tree_run;
-use setup_tree::Form;
+use setup_tree::{Form, tree_run};
 use std::alloc::Global;
 
 /// The form that a file's name asks for.

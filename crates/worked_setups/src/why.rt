@@ -1,6 +1,6 @@
 //! Why the calls of a set-up are refused.
 use engine::{ReaderSource, Verdict, WriterSink};
-use engine_why::why_run;
+use setup_why::why_run;
 use std::alloc::Global;
 
 /// What is written of why the calls of a set-up are refused, over the linked forms, and the verdict.

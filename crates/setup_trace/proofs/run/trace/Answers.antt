@@ -8,7 +8,8 @@ use Rattle.setup_values.specs.Names.{names_view}
 use Rattle.setup_report.specs.Report.{terminated, met_count, expectation_count}
 use Rattle.trace_lines.specs.Names.{name_lines}
 use Rattle.trace_lines.specs.Told.{told_changes, told_lines, nothing_told}
-use Rattle.setup_trace.specs.Trace.{head_line, calls_lines, count_line, replies_to, trace_of}
+use Rattle.engine.specs.Program.{replies_to}
+use Rattle.setup_trace.specs.Trace.{head_line, calls_lines, count_line, trace_of}
 use Rattle.setup_report.proofs.Runs.{boot_reached, replies_length}
 use Rattle.setup_trace.proofs.Steps.{whole_text}
 use Rattle.setup_trace.proofs.run.trace.Goals as goal
@@ -19,6 +20,7 @@ add_calls-requires-clause-reached g c =
     (boot p c.args.setup.now.plan, boot_reached p c.args.setup.now.plan c.requires, c.in_ok-kernel.ensures.shows ∙ ap (λ plan. shown (boot p plan)) c.plan.ensures.plan)
 
 pub expectations-requires : goal.expectations-requires
+unfolding replies_to
 expectations-requires g c =
     let p = g.P.Profile.profile in
     let plan = c.args.setup.now.plan in
@@ -30,7 +32,7 @@ expectations-requires g c =
     ∙ length-map c.args.setup.now.calls (λ (k : CallView). k.call)
 
 pub returns-clause-text : goal.returns-clause-text
-unfolding trace_of
+unfolding trace_of replies_to
 returns-clause-text g c =
     let p = g.P.Profile.profile in
     let plan = c.args.setup.now.plan in
@@ -54,6 +56,7 @@ returns-clause-text g c =
     ((c.in_ok-count.ensures.expected ∙ ap (expectation_count calls) replies) i))))
 
 pub returns-clause-met : goal.returns-clause-met
+unfolding replies_to
 returns-clause-met g c =
     let p = g.P.Profile.profile in
     let plan = c.args.setup.now.plan in
@@ -63,6 +66,7 @@ returns-clause-met g c =
     c.in_ok-count.ensures.met ∙ ap (met_count c.args.setup.now.calls) replies
 
 pub returns-clause-expected : goal.returns-clause-expected
+unfolding replies_to
 returns-clause-expected g c =
     let p = g.P.Profile.profile in
     let plan = c.args.setup.now.plan in

@@ -6,11 +6,13 @@ use Rattle.abstract_kernel.specs.Boot.{boot}
 use Rattle.abstract_kernel.specs.State.{shown}
 use Rattle.setup_format.specs.Views.{CallView}
 use Rattle.setup_report.specs.Report.{met_count, expectation_count}
-use Rattle.setup_why.specs.Why.{calls_lines, ending, refused_count, replies_to, why_of}
+use Rattle.engine.specs.Program.{replies_to}
+use Rattle.setup_why.specs.Why.{calls_lines, ending, refused_count, why_of}
 use Rattle.setup_report.proofs.Runs.{boot_reached, replies_length}
 use Rattle.setup_why.proofs.run.why.Goals as goal
 
 pub expectations-requires : goal.expectations-requires
+unfolding replies_to
 expectations-requires g c =
     let p = g.P.Profile.profile in
     let plan = c.args.setup.now.plan in
@@ -22,6 +24,7 @@ expectations-requires g c =
     ∙ length-map c.args.setup.now.calls (λ (k : CallView). k.call)
 
 pub returns-clause-met : goal.returns-clause-met
+unfolding replies_to
 returns-clause-met g c =
     let p = g.P.Profile.profile in
     let plan = c.args.setup.now.plan in
@@ -31,6 +34,7 @@ returns-clause-met g c =
     c.in_ok-count.ensures.met ∙ ap (met_count c.args.setup.now.calls) replies
 
 pub returns-clause-expected : goal.returns-clause-expected
+unfolding replies_to
 returns-clause-expected g c =
     let p = g.P.Profile.profile in
     let plan = c.args.setup.now.plan in
@@ -40,7 +44,7 @@ returns-clause-expected g c =
     c.in_ok-count.ensures.expected ∙ ap (expectation_count c.args.setup.now.calls) replies
 
 pub returns-clause-text : goal.returns-clause-text
-unfolding why_of
+unfolding why_of replies_to
 returns-clause-text g c =
     let p = g.P.Profile.profile in
     let plan = c.args.setup.now.plan in
