@@ -18,7 +18,7 @@ use Rattle.setup_report.specs.Report.{terminated, call_text, met_count, expectat
 use Rattle.trace_lines.specs.Names.{name_lines}
 use Rattle.trace_lines.specs.Told.{ToldLines, told_lines, nothing_told, told_changes}
 use Rattle.setup_why.specs.Tables.{call_table}
-use Rattle.engine.specs.Program.{replies_to}
+pub use Rattle.engine.specs.Program.{replies_to}
 use Rattle.setup_why.specs.Why.{explained}
 use Rattle.setup_trace.specs.Words.{op_words}
 

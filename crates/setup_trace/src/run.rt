@@ -5,7 +5,6 @@ ghost use Rattle.abstract_kernel.specs.Boot.{boot};
 ghost use Rattle.abstract_kernel.specs.Plan.{IsPlan};
 ghost use Rattle.setup_values.specs.Names.{names_view};
 ghost use Rattle.setup_report.specs.Report.{terminated, met_count, expectation_count};
-ghost use Rattle.engine.specs.Program.{replies_to};
 ghost use Rattle.setup_trace.specs.Trace as spec;
 
 use crate::calls::add_calls;
@@ -58,9 +57,9 @@ pub fn trace<P: Profile, S: MakeStore<P> + DerivationStore<P>, W: MakeWaiters<P>
 ) -> Result<(Vec<u8>, ExpectationCount), AllocError>
     requires { IsPlan P.profile setup.now.plan }
     ensures text { IfOk result (λ r. r.0.items ≡ spec.trace_of P.profile (table_view table.now) (names_view names.now) setup.now) }
-    ensures met { IfOk result (λ r. r.1.met ≡ met_count setup.now.calls (replies_to P.profile setup.now)) }
+    ensures met { IfOk result (λ r. r.1.met ≡ met_count setup.now.calls (spec.replies_to P.profile setup.now)) }
     ensures expected { IfOk result (λ r. r.1.expected
-        ≡ expectation_count setup.now.calls (replies_to P.profile setup.now)) }
+        ≡ expectation_count setup.now.calls (spec.replies_to P.profile setup.now)) }
 {
     let mut kernel = Kernel::<P, S, W>::boot(alloc, setup.plan())?;
     let mut out = String::new(alloc);

@@ -12,7 +12,7 @@ use Rattle.abstract_kernel.specs.State.{State, shown}
 use Rattle.abstract_kernel.specs.Step.{step}
 use Rattle.setup_format.specs.Views.{SetupView, CallView}
 use Rattle.setup_report.specs.Report.{terminated, call_text, met_count, expectation_count, count_line}
-use Rattle.engine.specs.Program.{replies_to}
+pub use Rattle.engine.specs.Program.{replies_to}
 use Rattle.reasons.specs.Calls.{reason_of}
 use Rattle.reason_words.specs.Text.{told}
 use Rattle.reason_words.specs.Asked.{AskedView}

@@ -3,7 +3,6 @@ ghost use Rattle.std.specs.Prelude.{◌≡◌, ◌++◌, IfOk, OnOk, length, str
 ghost use Rattle.toml.specs.View.{table_view};
 ghost use Rattle.abstract_kernel.specs.Plan.{IsPlan};
 ghost use Rattle.setup_report.specs.Report.{met_count, expectation_count};
-ghost use Rattle.engine.specs.Program.{replies_to};
 ghost use Rattle.setup_why.specs.Why as spec;
 
 use crate::calls::add_calls;
@@ -69,9 +68,9 @@ pub fn why<P: Profile, S: MakeStore<P> + DerivationStore<P>, W: MakeWaiters<P>>(
 ) -> Result<(Vec<u8>, ExpectationCount), AllocError>
     requires { IsPlan P.profile setup.now.plan }
     ensures text { IfOk result (λ r. r.0.items ≡ spec.why_of P.profile (table_view table.now) chosen setup.now) }
-    ensures met { IfOk result (λ r. r.1.met ≡ met_count setup.now.calls (replies_to P.profile setup.now)) }
+    ensures met { IfOk result (λ r. r.1.met ≡ met_count setup.now.calls (spec.replies_to P.profile setup.now)) }
     ensures expected { IfOk result (λ r. r.1.expected
-        ≡ expectation_count setup.now.calls (replies_to P.profile setup.now)) }
+        ≡ expectation_count setup.now.calls (spec.replies_to P.profile setup.now)) }
 {
     let mut kernel = Kernel::<P, S, W>::boot(alloc, setup.plan())?;
     let mut out = String::new(alloc);
