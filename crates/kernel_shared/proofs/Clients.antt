@@ -11,7 +11,7 @@ use Rattle.kernel_book.specs.Laws.{Lawful, entry, count_of}
 use Rattle.kernel_book.proofs.Grows.{lawful_open, count_append}
 use Rattle.std.proofs.lemmas.Option.{slice_get_within, get_or_from_slice_get}
 use Rattle.std.proofs.lemmas.Bool.Decides.{nat_tests}
-use Rattle.kernel_shared.specs.declared.stray.Stray.{Stray}
+use Rattle.kernel_shared.specs.declared.client.Stray.{Stray}
 use Rattle.kernel_shared.specs.Fronts.{StartsWith}
 use Rattle.kernel_shared.specs.ClientStates.{IsClient, ClientState, Lost, client_state, lost, lost_of, stray_fits, strays}
 use Rattle.kernel_shared.proofs.Keeping.{starts_trans, take_same, longer}

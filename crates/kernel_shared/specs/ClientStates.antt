@@ -6,7 +6,7 @@ use Rattle.abstract_kernel.specs.declared.call.Reply.{Reply}
 use Rattle.abstract_kernel.specs.Shown.{Shown}
 use Rattle.kernel_book.specs.declared.entry.Entry.{Entry}
 use Rattle.kernel_book.specs.Laws.{Lawful, entry, calls_of, count_of}
-use Rattle.kernel_shared.specs.declared.stray.Stray.{Stray}
+use Rattle.kernel_shared.specs.declared.client.Stray.{Stray}
 use Rattle.kernel_shared.specs.Fronts.{StartsWith}
 
 -- a call that was published and not found afterwards, and the front that was answered

@@ -13,9 +13,7 @@ use crate::front::Front;
 use crate::history_copy::HistoryCopy;
 use crate::query::{Answer, Query};
 use crate::request::Request;
-use crate::rule::{Published, SeesBook};
-use crate::stray::Stray;
-use crate::view::View;
+use crate::rule::{Published, SeesBook, View};
 use crate::writer_state::{NotPublished, WriterState};
 use abstract_kernel::{Call, Reply};
 use kernel_book::{Entry, Naming};
@@ -23,6 +21,13 @@ use left_right::reader::Reader;
 use std::marker::Model;
 use std::sync::Wait;
 use std::sync::ledger::Share;
+
+/// A call that was published and not found afterwards, and how many entries the client had seen when it missed it.
+#[derive(Clone, Copy)]
+pub struct Stray {
+    pub call: Call,
+    pub seen: u32,
+}
 
 /// A client of a shared kernel. It holds its share of the ledger of all calls that were made, and a reader of its own.
 ///

@@ -4,8 +4,7 @@ ghost use Rattle.kernel_book.specs.Laws.{Lawful};
 ghost use Rattle.kernel_shared.specs.Readers.{seen_of};
 
 use crate::history_copy::HistoryCopy;
-use crate::rule::Published;
-use crate::view::View;
+use crate::rule::{Published, View};
 use kernel_book::Naming;
 use left_right::reader::Reader;
 use std::marker::{Model, PhantomData};

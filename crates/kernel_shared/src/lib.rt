@@ -17,8 +17,6 @@ pub mod rule;
 pub mod settling;
 pub mod shared;
 pub mod start;
-pub mod stray;
-pub mod view;
 pub mod writer_state;
 
 pub use driving::{DriveFault, Gate, drive};

@@ -1,12 +1,15 @@
-//! The rule of the two copies.
+//! The rule of the two copies, and what a thread knows of the history by it.
 ghost use Rattle.std.specs.Prelude.{[]};
 ghost use Rattle.kernel_shared.specs.Fronts.{Keeps, Sees};
 
 use crate::request::Request;
-use crate::view::View;
 use crossbeam_utils::rule::{Outcome, Protocol};
 use kernel_book::Entry;
 use left_right::Absorb;
+use std::collections::LinkedList;
+
+/// The entries that a thread saw. No value of it is ever made: contracts alone speak of it, as a list of entries.
+pub type View = LinkedList<Entry>;
 
 /// Each thread's view is a beginning of the published history. The first view is empty.
 pub struct Published;

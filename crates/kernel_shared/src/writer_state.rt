@@ -3,8 +3,7 @@ ghost use Rattle.std.specs.Prelude.{◌≡◌, ◌+◌, ◌<◌, ◌^◌, [], dr
 
 use crate::history_copy::HistoryCopy;
 use crate::request::Request;
-use crate::rule::{Published, SeesBook};
-use crate::view::View;
+use crate::rule::{Published, SeesBook, View};
 use kernel_book::Naming;
 use left_right::writer::Writer;
 use std::sync::ledger::Share;
