@@ -14,9 +14,9 @@ use Rattle.abstract_kernel.specs.Reached.{IsReached}
 use Rattle.abstract_kernel.proofs.Reached.Simulation.{reached_is}
 use Rattle.confinement.specs.declared.listed.PartMemory.{PartMemory}
 use Rattle.confinement.specs.declared.listed.PartUse.{PartUse}
-use Rattle.confinement.specs.Listed.{parts_listed, are_closed_in, whole_memory}
+use Rattle.confinement.specs.Listed.{parts_listed, are_closed_in}
 use Rattle.confinement.specs.Laws.{AreClosed}
-use Rattle.confinement.proofs.Tested.{closed_entries, whole_closed}
+use Rattle.confinement.proofs.Tested.{closed_entries}
 use Rattle.confinement.proofs.Runs.{stay_closed, send_within, receive_within}
 use Rattle.confinement.specs.Ever.{AreConfinedEver}
 
@@ -69,7 +69,3 @@ module _ (p : ProfileName) (memory : List PartMemory) (uses : List PartUse) wher
           let same : v.derivations ≡ A.derivations = ap (λ (w : Shown). w.derivations) is ∙ shown_derivations A in
           let test : are_closed_in p memory uses A.derivations ≡ true = subst (λ f. are_closed_in p memory uses f ≡ true) same tested in
           closed_entries p memory uses (preorder A.derivations) test slot i here
-
-pub whole_confined : (p : ProfileName) (v : Shown) → AreConfinedEver p whole_memory [] v
-whole_confined p v =
-    confined_from p whole_memory [] v (λ A reached is i. whole_closed p reached.plan.memory_bits i A.derivations (reached_is p A reached).store.lawful)

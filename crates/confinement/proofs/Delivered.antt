@@ -35,10 +35,11 @@ use Rattle.abstract_kernel.proofs.Reached.Invariant.{Invariant, IsOpen, SendIsOp
 use Rattle.abstract_kernel.proofs.Reached.Simulation.{reached_inv}
 use Rattle.abstract_kernel.proofs.Reached.Runs.{reached_after}
 use Rattle.confinement.specs.Parts.{Parts, IsClosed}
-use Rattle.confinement.specs.Laws.{AreClosed, IsOfSomePart}
+use Rattle.confinement.specs.Laws.{AreClosed, IsAllowed, OnlyPasses, MayUse}
 use Rattle.confinement.specs.Delivered.{WaitsOrIsSentWithin, WaitsOrIsReceivedWithin, TellsOnlyWithin, DeliverWithin, WaitsOrMaySend, WaitsOrMayReceive, TellsOnlyOfThose, TellWithin}
 use Rattle.confinement.proofs.Passed.{IsServed, StaysIn, op_stays}
-use Rattle.confinement.proofs.Runs.{live_found, step_closed}
+use Rattle.confinement.proofs.Messages.{IsMessage, MayBeMessage, call_passes}
+use Rattle.confinement.proofs.Runs.{live_found, some_is, step_allowed}
 
 module _ (p : ProfileName) (parts : Parts) (A : State) where
   abbrev Sent : SendRecord → Type 0
@@ -185,10 +186,12 @@ module _ (p : ProfileName) (parts : Parts) (A : State) where
 
     module _ (i t : ℕ) (own : parts.part_of t ≡ Some i) where
       sent_goes : (service : Service) (message : Message) → IsServed p parts i write_bit service → IsGoing (send_accepted B t service message)
-      sent_goes service message is = send_goes t service message (inr (i, (own, (is.rights, (is.within, is.has)))))
+      sent_goes service message is =
+          send_goes t service message (inr (λ k at. subst (λ n. MayUse p parts write_bit n service.endpoint service.badge) (some_is i k (sym own ∙ at)) (is.rights, (is.within, is.has))))
 
       received_goes : (service : Service) → IsServed p parts i read_bit service → IsGoing (receive_accepted B t service)
-      received_goes service is = receive_goes t service (inr (i, (own, (service.badge, (is.rights, (is.within, is.has))))))
+      received_goes service is =
+          receive_goes t service (inr (λ k at. (service.badge, subst (λ n. MayUse p parts read_bit n service.endpoint service.badge) (some_is i k (sym own ∙ at)) (is.rights, (is.within, is.has)))))
 
       performed_goes : (done : Invocation) → StaysIn p parts i done → IsGoing (performed p B t done)
       performed_goes (Send service message true) stays = sent_goes service message stays
@@ -224,6 +227,38 @@ module _ (p : ProfileName) (parts : Parts) (A : State) where
           let left = cancelled (is_sent_by (thread_at B tcb)) (is_received_by (thread_at B tcb)) in
           record { waits = record { sends = left.sends; receives = left.receives }; told = tt }
 
+  -- a message of a thread of no part
+  module _ (B : State) (inv : Invariant B) (wait : Wait B) (t : ℕ) (outside : parts.part_of t ≡ None) where
+    in_none : (k : ℕ) → parts.part_of t ≡ Some k → ⊥
+    in_none k at = let e : None ≡ Some k = sym outside ∙ at in cc
+
+    sent_outside : (service : Service) (message : Message) → IsGoing (send_accepted B t service message)
+    sent_outside service message = send_goes B inv wait t service message (inr (λ k at. absurd (in_none k at)))
+
+    received_outside : (service : Service) → IsGoing (receive_accepted B t service)
+    received_outside service = receive_goes B inv wait t service (inr (λ k at. absurd (in_none k at)))
+
+    performed_outside : (done : Invocation) → IsMessage done → IsGoing (performed p B t done)
+    performed_outside (Send service message true) is = sent_outside service message
+    performed_outside (Send service message false) is =
+        awaited_goes B inv wait (is_send_awaited B (endpoint_at B service.endpoint)) (send_accepted B t service message) Dropped (sent_outside service message) tt
+    performed_outside (Receive service true) is = received_outside service
+    performed_outside (Receive service false) is =
+        awaited_goes B inv wait (is_receive_awaited B (endpoint_at B service.endpoint)) (receive_accepted B t service) Empty (received_outside service) tt
+    performed_outside (Retype new) is = absurd is
+    performed_outside (Derive placement) is = absurd is
+    performed_outside (Move placement) is = absurd is
+    performed_outside (Delete slot) is = absurd is
+    performed_outside (Revoke slot) is = absurd is
+    performed_outside (CancelBadged service) is = absurd is
+    performed_outside (SetSpace new) is = absurd is
+    performed_outside (Suspend tcb) is = absurd is
+    performed_outside (Resume tcb) is = absurd is
+
+    outcome_outside : (r : Result Invocation Refusal) → MayBeMessage r → IsGoing (outcome p B t r)
+    outcome_outside (Err refusal) is = record { waits = still B inv wait; told = tt }
+    outcome_outside (Ok done) is = performed_outside done is
+
   outcome_goes : (i : ℕ) (B : State) (call : Call) (r : Result Invocation Refusal) → Invariant B → Wait B →
       IsClosed p parts i B.derivations → parts.part_of call.thread ≡ Some i → decoded_call p (shown B) call ≡ r →
       IsGoing (outcome p B call.thread r)
@@ -240,15 +275,24 @@ module _ (p : ProfileName) (parts : Parts) (A : State) where
   step_goes i B call reached wait closed own =
       outcome_goes i B call (decoded_call p (shown B) call) (reached_inv p B reached) wait closed own refl
 
+  step_outside : (B : State) (call : Call) → IsReached p B → Wait B → parts.part_of call.thread ≡ None → OnlyPasses call.op → IsGoing (step p B call)
+  unfolding step shown
+  step_outside B call reached wait outside passes =
+      outcome_outside B (reached_inv p B reached) wait call.thread outside (decoded_call p (shown B) call) (call_passes p (shown B) call passes)
+
+  step_allows : (B : State) (call : Call) → IsReached p B → AreClosed p parts B → IsAllowed parts call → Wait B → IsGoing (step p B call)
+  step_allows B call reached closed (inl (i, own)) wait = step_goes i B call reached wait (closed i) own
+  step_allows B call reached closed (inr (outside, passes)) wait = step_outside B call reached wait outside passes
+
   -- a run that goes on from a later state
-  run_told : (B : State) (calls : List Call) → IsReached p B → AreClosed p parts B → Each (IsOfSomePart parts) calls → Wait B →
+  run_told : (B : State) (calls : List Call) → IsReached p B → AreClosed p parts B → Each (IsAllowed parts) calls → Wait B →
       Each (TellsOnlyWithin p parts A) (replies_of p B calls)
   unfolding replies_of state_after
   run_told B [] reached closed of wait = tt
   run_told B (call ∷ calls) reached closed of wait =
-      let goes = step_goes of.0.0 B call reached wait (closed of.0.0) of.0.1 in (
+      let goes = step_allows B call reached closed of.0 wait in (
         goes.told,
-        run_told (step p B call).state calls (reached_after p B (call ∷ []) reached) (step_closed p parts B call reached closed of.0) of.1 goes.waits,
+        run_told (step p B call).state calls (reached_after p B (call ∷ []) reached) (step_allowed p parts B call reached closed of.0) of.1 goes.waits,
       )
 
 pub deliver_within : (p : ProfileName) (parts : Parts) (A : State) (calls : List Call) → DeliverWithin p parts A calls

@@ -3,6 +3,7 @@ pub mod Found
 pub mod Passed
 pub mod Changes
 pub mod Spared
+pub mod Messages
 pub mod Runs
 pub mod Delivered
 pub mod Lists
@@ -15,3 +16,4 @@ pub mod Tested
 pub mod Closed
 pub mod Rising
 pub mod Bounded
+pub mod Same

@@ -1,6 +1,5 @@
--- Where the test answers yes, the parts are closed; and one part that has every address is.
-use Rattle.std.proofs.Common.{◌≡◌, ℕ, Fits, w64, get_or, ◌+◌, ◌-◌, ◌^◌, ◌≤◌, ◌⊎◌, inl, inr, Bool, true, false, cond, ◌==◌, ◌||◌, List, [], ◌∷◌, map, filter, Option, Some, None, refl, sym, ap, subst, ◌∙◌, arith, bit_and}
-use Rattle.std.specs.Prelude.{option_map, is_some, ◌<◌, ◌&&◌, suc, All}
+-- Where the test answers yes, the parts are closed.
+use Rattle.std.proofs.Common.{◌≡◌, ℕ, ◌+◌, ◌-◌, ◌^◌, inl, inr, Bool, true, false, cond, ◌==◌, ◌||◌, List, [], ◌∷◌, map, filter, Option, Some, None, refl, sym, ap, subst, ◌∙◌, arith, bit_and}
 use Rattle.std.specs.List.{list_any, list_all}
 use Rattle.std.proofs.lemmas.Bool.{false≢true, eqb-true}
 use Rattle.std.proofs.lemmas.Nat.{pow_pos}
@@ -9,26 +8,21 @@ use Rattle.cap_core.specs.declared.capability.Badge.{Badge}
 use Rattle.cap_core.specs.declared.capability.Cap.{Cap}
 use Rattle.cap_core.specs.declared.capability.Cap.TheVariants.{Null, Untyped, Endpoint, CNode, Tcb}
 use Rattle.cap_core.specs.declared.rights.Rights.{Rights}
-use Rattle.cap_core.specs.declared.profile.ProfileName.TheVariants.{Wide, Narrow}
-use Rattle.cap_core.specs.Numbers.{word_bits}
-use Rattle.cap_core.specs.Objects.{base_of, bits_of, end_of, IsLawful}
+use Rattle.cap_core.specs.Objects.{base_of, bits_of}
 use Rattle.cap_core.proofs.Minting.{bit_in_both}
 use Rattle.std.specs.Int.{bit_at}
-use Rattle.derivation.specs.Forest.{Forest}
-use Rattle.derivation.specs.Entries.{Entry, caps, cap_in, cap_at}
+use Rattle.derivation.specs.Entries.{Entry, cap_in}
 use Rattle.clearing.proofs.Members.{both_true, either_true, any_of, filter_in}
 use Rattle.clearing.proofs.Clearable.{in_contains}
-use Rattle.abstract_kernel.proofs.Checks.FoundSlots.{lawful_at}
 use Rattle.confinement.specs.declared.listed.PartMemory.{PartMemory}
 use Rattle.confinement.specs.declared.listed.PartUse.{PartUse}
-use Rattle.confinement.specs.Parts.{IsOwned, IsCovered, IsWithin, IsClosed}
-use Rattle.confinement.specs.Order.{AreInParts}
-use Rattle.confinement.specs.Listed.{lies_in, part_at, use_of, parts_listed, spares, owns_range, allows, is_within, stands_in, entry_stands, whole_memory}
+use Rattle.confinement.specs.Parts.{IsOwned, IsCovered, IsWithin}
+use Rattle.confinement.specs.Listed.{part_at, use_of, parts_listed, spares, owns_range, allows, is_within, stands_in, entry_stands}
 use Rattle.confinement.proofs.Lists.{in_mapped}
 use Rattle.confinement.proofs.Growing.{owned_at, owns_last}
 
 module _ (p : ProfileName) (memory : List PartMemory) (uses : List PartUse) (part : ℕ) where
-  range_owned : (cap : Cap) → owns_range memory part (record { first = base_of cap; bits = bits_of p cap }) ≡ true →
+  pub range_owned : (cap : Cap) → owns_range memory part (record { first = base_of cap; bits = bits_of p cap }) ≡ true →
       IsOwned p (parts_listed memory uses) part cap
   range_owned cap h address low high =
       let owned = owns_last memory part (base_of cap) (base_of cap + (2 ^ bits_of p cap - 1)) _ h in
@@ -93,47 +87,3 @@ module _ (p : ProfileName) (memory : List PartMemory) (uses : List PartUse) wher
         | true ↦ λ at. stood e.cap (part_at memory e.slot) i both.0 (ap (part_at memory) (eqb-true e.slot slot at) ∙ here)
         | false ↦ λ other. closed_entries es both.1 slot i here
       ]) refl
-
--- ---- one part that has every address
-
-whole_at : (address : ℕ) → address < 2 ^ 64 → part_at whole_memory address ≡ Some 1
-whole_at address low = owned_at 1 0 (2 ^ 64 - 1) address whole_memory (omega arith) (omega (arith, low)) refl refl
-
--- there is no other part
-whole_part : (slot i : ℕ) → part_at whole_memory slot ≡ Some i → i ≡ 1
-whole_part slot i h = by (lies_in (record { part = 1; first = 0; last = 2 ^ 64 - 1 }) slot) h
-  where
-    by : (b : Bool) → option_map (λ (m : PartMemory). m.part) (cond b (Some (record { part = 1; first = 0; last = 2 ^ 64 - 1 })) None) ≡ Some i → i ≡ 1
-    by true is = cc
-    by false is = cc
-
-words : (p : ProfileName) → 2 ^ word_bits p ≤ 2 ^ 64
-words Wide = omega arith
-words Narrow = omega arith
-
-module _ (p : ProfileName) where
-  whole_owned : (cap : Cap) → end_of p cap ≤ 2 ^ word_bits p → IsOwned p (parts_listed whole_memory []) 1 cap
-  whole_owned cap end address low high = let most = words p in whole_at address (omega (arith, end, most, high))
-
-  whole_within : (cap : Cap) → end_of p cap ≤ 2 ^ word_bits p → IsWithin p (parts_listed whole_memory []) 1 cap
-  whole_within Null end = tt
-  whole_within (Untyped base bits free) end = whole_owned (Untyped base bits free) end
-  whole_within (Endpoint base badge rights) end = inl (whole_owned (Endpoint base badge rights) end)
-  whole_within (CNode base radix guard) end = whole_owned (CNode base radix guard) end
-  whole_within (Tcb base) end = whole_owned (Tcb base) end
-
-  pub whole_closed : (memory i : ℕ) (f : Forest Entry) → All (IsLawful p memory) (caps f) → IsClosed p (parts_listed whole_memory []) i f
-  whole_closed memory i f lawful slot here =
-      subst (λ k. IsWithin p (parts_listed whole_memory []) k (cap_at f slot)) (sym (whole_part slot i here))
-      (by (lawful_at p memory f lawful slot))
-    where
-      by : (cap_at f slot ≡ Null) ⊎ IsLawful p memory (cap_at f slot) → IsWithin p (parts_listed whole_memory []) 1 (cap_at f slot)
-      by (inl null) = subst (IsWithin p (parts_listed whole_memory []) 1) (sym null) tt
-      by (inr is) = whole_within (cap_at f slot) is.placed.addressed
-
--- each word lies in it
-pub whole_has : (threads : List ℕ) → ((i : ℕ) → Fits w64 (get_or threads i 0)) → AreInParts whole_memory threads
-whole_has [] h = refl
-whole_has (t ∷ threads) h =
-    ap (λ (o : Option ℕ). is_some o && list_all (λ s. is_some (part_at whole_memory s)) threads) (whole_at t (h 0).fits)
-    ∙ whole_has threads (λ i. h (suc i))

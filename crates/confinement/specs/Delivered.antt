@@ -16,7 +16,7 @@ use Rattle.abstract_kernel.specs.Step.{replies_of}
 use Rattle.abstract_kernel.specs.Deliveries.{delivery}
 use Rattle.abstract_kernel.specs.Reached.{IsReached}
 use Rattle.confinement.specs.Parts.{Parts}
-use Rattle.confinement.specs.Laws.{AreClosed, IsOfSomePart, MayUse, IsSentWithin, IsReceivedWithin}
+use Rattle.confinement.specs.Laws.{AreClosed, IsAllowed, MayUse, IsSentWithin, IsReceivedWithin}
 
 -- a send that waits in a state, or that the part of its thread may make
 abbrev pub WaitsOrIsSentWithin : ProfileName → Parts → State → SendRecord → Type 0
@@ -43,20 +43,20 @@ TellsOnlyWithin p parts A reply = ⊤
 -- whatever calls the threads of closed parts make, what is delivered may be sent and received, or waited before these calls
 abbrev pub DeliverWithin : ProfileName → Parts → State → List Call → Type 0
 DeliverWithin p parts A calls =
-    IsReached p A → AreClosed p parts A → Each (IsOfSomePart parts) calls →
+    IsReached p A → AreClosed p parts A → Each (IsAllowed parts) calls →
     Each (TellsOnlyWithin p parts A) (replies_of p A calls)
 
--- a thread is shown to wait on an endpoint with this message and badge, or lies in a part that may send so
+-- a thread is shown to wait on an endpoint with this message and badge; or the part in which it lies, if any, may send so
 abbrev pub WaitsOrMaySend : ProfileName → Parts → Shown → ℕ → ℕ → Badge → Message → Type 0
 WaitsOrMaySend p parts v endpoint thread badge message =
     Contains (waiting_at v endpoint) (Sender thread badge message)
-    ⊎ ((i : ℕ) × ((parts.part_of thread ≡ Some i) × MayUse p parts write_bit i endpoint badge))
+    ⊎ ((i : ℕ) → parts.part_of thread ≡ Some i → MayUse p parts write_bit i endpoint badge)
 
--- a thread is shown to wait to receive on an endpoint, or lies in a part that may receive there
+-- a thread is shown to wait to receive on an endpoint; or the part in which it lies, if any, may receive there
 abbrev pub WaitsOrMayReceive : ProfileName → Parts → Shown → ℕ → ℕ → Type 0
 WaitsOrMayReceive p parts v endpoint thread =
     Contains (waiting_at v endpoint) (Receiver thread)
-    ⊎ ((i : ℕ) × ((parts.part_of thread ≡ Some i) × ((badge : Badge) × MayUse p parts read_bit i endpoint badge)))
+    ⊎ ((i : ℕ) → parts.part_of thread ≡ Some i → (badge : Badge) × MayUse p parts read_bit i endpoint badge)
 
 -- a reply tells of a delivery from such a thread to such a thread, or of none
 abbrev pub TellsOnlyOfThose : ProfileName → Parts → Shown → Reply → Type 0
@@ -67,5 +67,5 @@ TellsOnlyOfThose p parts v reply = ⊤
 -- the same by the replies alone, and by what is shown before these calls
 abbrev pub TellWithin : ProfileName → Parts → State → List Call → Type 0
 TellWithin p parts A calls =
-    IsReached p A → AreClosed p parts A → Each (IsOfSomePart parts) calls →
+    IsReached p A → AreClosed p parts A → Each (IsAllowed parts) calls →
     Each (TellsOnlyOfThose p parts (shown A)) (replies_of p A calls)

@@ -10,7 +10,7 @@ use Rattle.abstract_kernel.specs.Reached.{IsReached}
 use Rattle.confinement.specs.declared.listed.PartMemory.{PartMemory}
 use Rattle.confinement.specs.declared.listed.PartUse.{PartUse}
 use Rattle.confinement.specs.Listed.{parts_listed}
-use Rattle.confinement.specs.Laws.{AreClosed, IsOfSomePart, SendsOnly, ReceivesOnly}
+use Rattle.confinement.specs.Laws.{AreClosed, IsAllowed, SendsOnly, ReceivesOnly}
 
 -- after these calls all parts are closed, and what was sent and received on the way is what they may send and receive
 pub record IsConfined (p : ProfileName) (memory : List PartMemory) (uses : List PartUse) (A : State) (calls : List Call) : Type 0 where
@@ -18,8 +18,8 @@ pub record IsConfined (p : ProfileName) (memory : List PartMemory) (uses : List 
   pub sends : SendsOnly p (parts_listed memory uses) A (state_after p A calls)
   pub receives : ReceivesOnly p (parts_listed memory uses) A (state_after p A calls)
 
--- so it is from each state that is shown, for whatever calls of threads that lie in the parts
+-- so it is from each state that is shown, for whatever calls of threads that lie in the parts, and messages of others
 abbrev pub AreConfinedEver : ProfileName → List PartMemory → List PartUse → Shown → Type 0
 AreConfinedEver p memory uses v =
-    (A : State) → IsReached p A → v ≡ shown A → (calls : List Call) → Each (IsOfSomePart (parts_listed memory uses)) calls →
+    (A : State) → IsReached p A → v ≡ shown A → (calls : List Call) → Each (IsAllowed (parts_listed memory uses)) calls →
     IsConfined p memory uses A calls

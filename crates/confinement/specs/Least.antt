@@ -11,6 +11,8 @@ use Rattle.confinement.specs.declared.listed.PartUse.{PartUse}
 use Rattle.confinement.specs.Parts.{Use, Parts, IsOwned, IsWithin}
 use Rattle.confinement.specs.Listed.{parts_listed}
 use Rattle.confinement.specs.Laws.{AreClosed}
+use Rattle.confinement.specs.Order.{AreInParts}
+use Rattle.confinement.specs.Ever.{AreConfinedEver}
 
 -- parts that are closed in a state, with the whole control block of each of these threads in one of them
 pub record AreClosedAround (p : ProfileName) (threads : List ℕ) (A : State) (others : Parts) : Type 0 where
@@ -30,3 +32,16 @@ LieIn p parts others = (i : ℕ) → (j : ℕ) × LiesIn p parts i others j
 abbrev pub AreLeast : ProfileName → List ℕ → List PartMemory → List PartUse → Shown → Type 0
 AreLeast p threads memory uses v =
     (A : State) → IsReached p A → v ≡ shown A → (others : Parts) → AreClosedAround p threads A others → LieIn p (parts_listed memory uses) others
+
+-- parts that are confined ever, have the whole control block of each of these threads, and are the least
+pub record AreLeastAround (p : ProfileName) (threads : List ℕ) (v : Shown) (memory : List PartMemory) (uses : List PartUse) : Type 0 where
+  pub ever : AreConfinedEver p memory uses v
+  pub around : AreInParts p memory threads
+  pub least : AreLeast p threads memory uses v
+
+-- of two such families each lies in the other
+abbrev pub LieInEachOther : ProfileName → List ℕ → Shown → List PartMemory → List PartUse → List PartMemory → List PartUse → Type 0
+LieInEachOther p threads v memory uses memory' uses' =
+    AreLeastAround p threads v memory uses → AreLeastAround p threads v memory' uses' →
+    (A : State) → IsReached p A → v ≡ shown A →
+    LieIn p (parts_listed memory uses) (parts_listed memory' uses') × LieIn p (parts_listed memory' uses') (parts_listed memory uses)

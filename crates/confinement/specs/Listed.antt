@@ -84,7 +84,3 @@ entry_stands p memory uses e = stands_in p memory uses e.cap (part_at memory e.s
 -- every part is closed
 abbrev pub are_closed_in : ProfileName → List PartMemory → List PartUse → Forest Entry → Bool
 are_closed_in p memory uses f = list_all (entry_stands p memory uses) (preorder f)
-
--- one part that has every address of a word
-abbrev pub whole_memory : List PartMemory
-whole_memory = record { part = 1; first = 0; last = 2 ^ 64 - 1 } ∷ []

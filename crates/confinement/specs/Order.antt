@@ -1,8 +1,8 @@
 -- Parts in the order in which they are told, with nothing in them that goes without saying.
-use Rattle.std.specs.Prelude.{◌≡◌, ℕ, ◌+◌, Bool, true, not, ◌==◌, ◌&&◌, ◌||◌, nat_le, nat_lt, List, length, is_some}
+use Rattle.std.specs.Prelude.{◌≡◌, ℕ, ◌+◌, Bool, true, false, not, ◌==◌, ◌&&◌, ◌||◌, nat_le, nat_lt, List, length, Option, Some, None}
 use Rattle.std.specs.List.{list_any, list_all, AllAdjacentBelow}
 use Rattle.cap_core.specs.declared.profile.ProfileName.{ProfileName}
-use Rattle.cap_core.specs.Numbers.{endpoint_bits}
+use Rattle.cap_core.specs.Numbers.{endpoint_bits, tcb_bits}
 use Rattle.confinement.specs.declared.listed.PartMemory.{PartMemory}
 use Rattle.confinement.specs.declared.listed.PartUse.{PartUse}
 use Rattle.confinement.specs.Listed.{part_at, owns_range, allows}
@@ -57,6 +57,14 @@ pub record AreInOrder (p : ProfileName) (memory : List PartMemory) (uses : List 
   pub uses_rising : AllAdjacentBelow (λ u w. comes_before u w ≡ true) uses (length uses)
   pub needed : list_all (is_needed p memory uses) uses ≡ true
 
--- each of these threads lies in a part
-abbrev pub AreInParts : List PartMemory → List ℕ → Type 0
-AreInParts memory threads = list_all (λ t. is_some (part_at memory t)) threads ≡ true
+-- the whole control block of a thread is memory of the part in which its first address lies
+abbrev pub owns_block : ProfileName → List PartMemory → ℕ → Option ℕ → Bool
+owns_block p memory thread None = false
+owns_block p memory thread (Some part) = owns_range memory part (record { first = thread; bits = tcb_bits p })
+
+abbrev pub has_block : ProfileName → List PartMemory → ℕ → Bool
+has_block p memory thread = owns_block p memory thread (part_at memory thread)
+
+-- the whole control block of each of these threads lies in a part
+abbrev pub AreInParts : ProfileName → List PartMemory → List ℕ → Type 0
+AreInParts p memory threads = list_all (has_block p memory) threads ≡ true

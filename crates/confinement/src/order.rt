@@ -1,7 +1,6 @@
 //! Whether parts stand in the order in which they are told, with nothing in them that goes without saying.
-ghost use Rattle.std.specs.Prelude.{◌≡◌, true, length, is_some};
+ghost use Rattle.std.specs.Prelude.{◌≡◌, true, length};
 ghost use Rattle.std.specs.List.{list_any, list_all, AllAdjacentBelow};
-ghost use Rattle.confinement.specs.Listed as listed;
 ghost use Rattle.confinement.specs.Order as spec;
 
 use crate::listed::{PartMemory, PartUse, allows, is_range_owned, part_at};
@@ -128,9 +127,23 @@ pub fn are_in_order<P: Profile>(memory: &[PartMemory], uses: &[PartUse]) -> bool
         && are_uses_needed::<P>(memory, uses)
 }
 
-/// Whether each of some threads lies in a part.
-pub fn are_in_parts(memory: &[PartMemory], threads: &[u64]) -> bool
-    ensures { result ≡ list_all (λ t. is_some (listed.part_at memory.now t)) threads.now }
+/// Whether the whole control block of a thread is memory of the part in which its first address lies.
+fn has_block<P: Profile>(memory: &[PartMemory], thread: u64) -> bool
+    ensures { result ≡ spec.has_block P.profile memory.now thread }
 {
-    threads.iter().all(|t| part_at(memory, *t).is_some())
+    let range = Range {
+        first: thread,
+        bits: P::TCB_BITS as u64,
+    };
+    match part_at(memory, thread) {
+        Some(part) => is_range_owned(memory, part, range),
+        None => false,
+    }
+}
+
+/// Whether the whole control block of each of some threads lies in a part.
+pub fn are_in_parts<P: Profile>(memory: &[PartMemory], threads: &[u64]) -> bool
+    ensures { result ≡ list_all (spec.has_block P.profile memory.now) threads.now }
+{
+    threads.iter().all(|t| has_block::<P>(memory, *t))
 }

@@ -1,8 +1,8 @@
 //! The parts of a kernel: whether they are closed, and the least ones around some threads.
-ghost use Rattle.std.specs.Prelude.{◌≡◌, true, [], IfOk};
+ghost use Rattle.std.specs.Prelude.{◌≡◌, true, IfOk};
 ghost use Rattle.std.specs.List.{list_all};
 ghost use Rattle.slot_core.specs.Calls.{derivation_view};
-ghost use Rattle.confinement.specs.Listed.{entry_stands, are_closed_in, whole_memory};
+ghost use Rattle.confinement.specs.Listed.{entry_stands, are_closed_in};
 ghost use Rattle.confinement.specs.Order.{AreInOrder, AreInParts};
 ghost use Rattle.confinement.specs.Ever.{AreConfinedEver};
 ghost use Rattle.confinement.specs.Least.{AreLeast};
@@ -74,29 +74,12 @@ fn are_right<P: Profile, S: DerivationStore<P> + Drop, W: Waiters<P> + Drop>(
 ) -> Result<bool, AllocError>
     ensures ever { IfOk result (λ right. right ≡ true → AreConfinedEver P.profile memory.now uses.now kernel.now) }
     ensures order { IfOk result (λ right. right ≡ true → AreInOrder P.profile memory.now uses.now) }
-    ensures threads { IfOk result (λ right. right ≡ true → AreInParts memory.now threads.now) }
+    ensures threads { IfOk result (λ right. right ≡ true → AreInParts P.profile memory.now threads.now) }
 {
-    if !are_in_order::<P>(memory, uses) || !are_in_parts(memory, threads) {
+    if !are_in_order::<P>(memory, uses) || !are_in_parts::<P>(memory, threads) {
         return Ok(false);
     }
     are_parts_closed(alloc, kernel, memory, uses)
-}
-
-/// One part that has every address.
-fn one_part(alloc: Global) -> Result<Parts, AllocError>
-    ensures memory { IfOk result (λ parts. parts.memory.items ≡ whole_memory) }
-    ensures uses { IfOk result (λ parts. parts.uses.items ≡ []) }
-{
-    let mut memory = Vec::new(alloc);
-    memory.push(PartMemory {
-        part: 1,
-        first: 0,
-        last: u64::MAX,
-    })?;
-    Ok(Parts {
-        memory,
-        uses: Vec::new(alloc),
-    })
 }
 
 /// The parts that are found around threads: the least ones, told in order.
@@ -118,13 +101,13 @@ fn found_around<P: Profile, S: DerivationStore<P> + Drop, W: Waiters<P> + Drop>(
 /// another use says.
 ///
 /// They hold ever, by `are_parts_closed`. They are the least such parts: each lies in a part of every closed family that has
-/// these threads' control blocks, with all of its memory and all that it may use (`least`). What is found is tested; if it
-/// did not pass, as where a control block would end past the last address, the answer is one part that has every address,
-/// and of that part `least` says nothing. No kernel is known to bring it about of its own live threads.
+/// these threads' control blocks, with all of its memory and all that it may use (`least`). So there are no others, but for
+/// their numbers: `least_parts_are_the_same`.
 ///
 /// # Errors
 ///
-/// Memory was refused.
+/// Memory was refused; or what was found did not pass its test, as where a control block would end past the last address.
+/// No kernel is known to bring that about of its own live threads.
 pub fn parts_around<P: Profile, S: DerivationStore<P> + Drop, W: Waiters<P> + Drop>(
     alloc: Global,
     kernel: &Kernel<P, S, W>,
@@ -132,8 +115,8 @@ pub fn parts_around<P: Profile, S: DerivationStore<P> + Drop, W: Waiters<P> + Dr
 ) -> Result<Parts, AllocError>
     ensures ever { IfOk result (λ parts. AreConfinedEver P.profile parts.memory.items parts.uses.items kernel.now) }
     ensures order { IfOk result (λ parts. AreInOrder P.profile parts.memory.items parts.uses.items) }
-    ensures threads { IfOk result (λ parts. AreInParts parts.memory.items threads.now) }
-    ensures least { IfOk result (λ parts. (parts.memory.items ≡ whole_memory → ⊥) → AreLeast P.profile threads.now parts.memory.items parts.uses.items kernel.now) }
+    ensures threads { IfOk result (λ parts. AreInParts P.profile parts.memory.items threads.now) }
+    ensures least { IfOk result (λ parts. AreLeast P.profile threads.now parts.memory.items parts.uses.items kernel.now) }
 {
     let parts = found_around(alloc, kernel, threads)?;
     let memory = parts.memory.as_slice();
@@ -141,6 +124,6 @@ pub fn parts_around<P: Profile, S: DerivationStore<P> + Drop, W: Waiters<P> + Dr
     if are_right(alloc, kernel, threads, memory, uses)? {
         Ok(parts)
     } else {
-        one_part(alloc)
+        Err(AllocError)
     }
 }

@@ -5,7 +5,7 @@ use Rattle.engine_core.specs.Devices.{Gave, GaveAsMany, Took, TookFront}
 use Rattle.engine_core.specs.declared.fault.Verdict.{Verdict}
 use Rattle.engine_core.specs.declared.fault.RunFault.{RunFault}
 use Rattle.engine_core.specs.declared.fault.RunFault.TheVariants.{Reading, Writing, Memory, Thread}
-use Rattle.engine_core.specs.declared.limits.TheConstants.{INPUT_LIMIT}
+use Rattle.engine_core.specs.Limits.{input_limit}
 use Rattle.engine_core.specs.declared.sink.Sink.{Ghosts as SinkGhosts}
 use Rattle.engine_core.specs.declared.source.Source.{Ghosts as SourceGhosts}
 
@@ -19,10 +19,10 @@ pub record IsRun {S K : Type 0} (means : List ℕ → List ℕ → Verdict → T
       × Took to.taken to.written sink_old sink_new text
       × means input text verdict)
   pub end : OnOk result (IsAtEnd (from.left source_new))
-  pub short : OnOk result (from.given source_new < from.given source_old + INPUT_LIMIT)
+  pub short : OnOk result (from.given source_new < from.given source_old + input_limit)
   -- Reading: a read failed, or the source gave that many bytes without an end; nothing was written
   pub reading : result ≡ Err Reading
-      → (from.failed source_new ≡ true) ⊎ GaveAsMany from.left from.given source_old source_new INPUT_LIMIT
+      → (from.failed source_new ≡ true) ⊎ GaveAsMany from.left from.given source_old source_new input_limit
   pub reading_keeps : result ≡ Err Reading → sink_new ≡ sink_old
   pub source_marked : from.failed source_new ≡ true → result ≡ Err Reading
   -- Writing: a write failed; the sink took a beginning of a text that is right for the input with some verdict

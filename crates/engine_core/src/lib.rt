@@ -15,7 +15,7 @@ pub use device::DeviceFault;
 pub use engines::{Engine, run_engine};
 pub use fault::{RunFault, Verdict, status_of};
 pub use kept::{KeptReader, KeptWriter};
-pub use limits::INPUT_LIMIT;
+pub use limits::{INPUT_LIMIT, limit_is_that_of_the_definitions};
 pub use sink::{Sink, WriterSink};
 pub use source::{ReaderSource, Source};
 pub use streams::{read_below, write_all};

@@ -13,7 +13,7 @@ use Rattle.engine_core.specs.Statuses.{run_status}
 use Rattle.engine_core.specs.declared.fault.Verdict.{Verdict}
 use Rattle.engine_core.specs.declared.fault.RunFault.{RunFault}
 use Rattle.engine_core.specs.declared.fault.RunFault.TheVariants.{Reading, Writing, Memory}
-use Rattle.engine_core.specs.declared.limits.TheConstants.{INPUT_LIMIT}
+use Rattle.engine_core.specs.Limits.{input_limit}
 use Rattle.engine_core.specs.declared.sink.Sink.{Ghosts as SinkGhosts}
 use Rattle.engine_core.specs.declared.source.Source.{Ghosts as SourceGhosts}
 use Rattle.engine_files.specs.declared.tally.Tally.{Tally}
@@ -22,8 +22,8 @@ use Rattle.engine_files.specs.declared.tally.Tally.{Tally}
 
 -- the source gave these bytes to its end; or a read failed, or it gave as many bytes as no set-up has
 abbrev pub HasContents : {S : Type 0} → SourceGhosts S → S → S → Option (List ℕ) → Type 0
-HasContents from old new (Some bytes) = Gave from.left from.given old new bytes × (from.given new < from.given old + INPUT_LIMIT)
-HasContents from old new None = (from.failed new ≡ true) ⊎ GaveAsMany from.left from.given old new INPUT_LIMIT
+HasContents from old new (Some bytes) = Gave from.left from.given old new bytes × (from.given new < from.given old + input_limit)
+HasContents from old new None = (from.failed new ≡ true) ⊎ GaveAsMany from.left from.given old new input_limit
 
 -- the contents of standard input
 abbrev pub IsStandard : {S : Type 0} → (S → Type 0) → SourceGhosts S → Option (List ℕ) → Type 0

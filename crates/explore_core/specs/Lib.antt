@@ -1,4 +1,5 @@
 pub mod Nodes
+pub mod States
 pub mod Counts
 pub mod Found
 pub mod Known

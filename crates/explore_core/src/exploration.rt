@@ -7,6 +7,7 @@ ghost use Rattle.abstract_kernel.specs.Reached.{IsReached};
 ghost use Rattle.orders.specs.World.{World, start};
 ghost use Rattle.orders.specs.Orders.{orders};
 ghost use Rattle.explore_core.specs.Nodes.{own_calls, layer, IsNode};
+ghost use Rattle.explore_core.specs.States.{AreTakenTogether};
 ghost use Rattle.explore_core.specs.Found.{IsMade};
 ghost use Rattle.explore_core.specs.Counts.{saturated};
 ghost use Rattle.explore_core.specs.Explorations.{IsExplored, IsBegun, is_last};
@@ -229,4 +230,10 @@ pub fn explore<P: Profile, S: MakeStore<P> + DerivationStore<P>, W: MakeWaiters<
 pub fn empty_layers_are_the_last()
     ensures { (p : ProfileName) (own : List (List CallOf)) (w : World) (first : List ℕ) (count more : ℕ)
         → layer p own w first count ≡ [] → orders p own w first (count + more) ≡ [] }
+{}
+
+/// Orders are taken together exactly where they lead to the same state: each client has made as many calls, the same calls
+/// wait, and the kernel shows the same. Nothing is done.
+pub fn orders_to_the_same_state_are_taken_together()
+    ensures { (p : ProfileName) (own : List (List CallOf)) (w : World) (order order' : List ℕ) → IsReached p w.kernel → AreTakenTogether p own w order order' }
 {}

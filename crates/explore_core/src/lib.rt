@@ -15,7 +15,9 @@ mod stuck;
 mod waits;
 mod words;
 
-pub use exploration::{Explored, empty_layers_are_the_last, explore};
+pub use exploration::{
+    Explored, empty_layers_are_the_last, explore, orders_to_the_same_state_are_taken_together,
+};
 pub use found::{FoundAnswer, FoundAnswers};
 pub use node::Node;
 pub use order::Order;

@@ -35,10 +35,10 @@ module _ {X : Type 0} (same : X → X → Bool) where
   pub has_kind_of-back : (ys zs : List X) (x : X) → has_kind_of same zs x ≡ true → has_kind_of same (ys ++ zs) x ≡ true
   has_kind_of-back ys zs x h = list_any-append (λ y. same y x) ys zs ∙ or_right (has_kind_of same ys x) (has_kind_of same zs x) h
 
-  with_first-keeps : (ys : List X) (x z : X) → has_kind_of same ys z ≡ true → has_kind_of same (with_first same ys x) z ≡ true
+  pub with_first-keeps : (ys : List X) (x z : X) → has_kind_of same ys z ≡ true → has_kind_of same (with_first same ys x) z ≡ true
   with_first-keeps ys x z h = elim (has_kind_of same ys x) as (λ b. has_kind_of same (cond b ys (ys ++ x ∷ [])) z ≡ true) [ true ↦ h | false ↦ has_kind_of-front ys (x ∷ []) z h ]
 
-  with_firsts-keeps : (xs ys : List X) (z : X) → has_kind_of same ys z ≡ true → has_kind_of same (with_firsts same ys xs) z ≡ true
+  pub with_firsts-keeps : (xs ys : List X) (z : X) → has_kind_of same ys z ≡ true → has_kind_of same (with_firsts same ys xs) z ≡ true
   with_firsts-keeps [] ys z h = h
   with_firsts-keeps (x ∷ xs) ys z h = with_firsts-keeps xs (with_first same ys x) z (with_first-keeps ys x z h)
 
@@ -59,7 +59,7 @@ module _ {X : Type 0} (same : X → X → Bool) where
     with_firsts-has [] ys = tt
     with_firsts-has (x ∷ xs) ys = (with_firsts-keeps xs (with_first same ys x) x (with_first-has ys x), with_firsts-has xs (with_first same ys x))
 
-    through : (ys : List X) (v u : X) → has_kind_of same ys v ≡ true → same v u ≡ true → has_kind_of same ys u ≡ true
+    pub through : (ys : List X) (v u : X) → has_kind_of same ys v ≡ true → same v u ≡ true → has_kind_of same ys u ≡ true
     through [] v u h k = h
     through (y ∷ ys) v u h k =
         elim (or_cases (same y v) (has_kind_of same ys v) h) as (λ _. has_kind_of same (y ∷ ys) u ≡ true) [

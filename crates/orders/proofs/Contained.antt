@@ -6,7 +6,7 @@ use Rattle.std.proofs.lemmas.List.Elements.{Contains-append_left, Contains-appen
 use Rattle.std.proofs.lemmas.Bool.Decides.{nat_tests, eqb_tells}
 use Rattle.orders.specs.Orders.{below}
 
-contains-nil : {X : Type 0} (x : X) → Contains [] x → ⊥
+pub contains-nil : {X : Type 0} (x : X) → Contains [] x → ⊥
 contains-nil x h = let lt : h.0 < 0 = h.1 in omega (arith, lt)
 
 contains-one : {X : Type 0} (y x : X) → Contains (y ∷ []) x → y ≡ x
@@ -15,10 +15,10 @@ contains-one {X} y x h = elim (Contains-push_cases [] y x h) [ inl absent ↦ ab
 pub contains-cases : {X : Type 0} (y : X) (ys : List X) (x : X) → Contains (y ∷ ys) x → (y ≡ x) ⊎ Contains ys x
 contains-cases {X} y ys x h = elim (Contains-append_cases (y ∷ []) ys x h) as (λ _. (y ≡ x) ⊎ Contains ys x) [ inl one ↦ inl (contains-one y x one) | inr more ↦ inr more ]
 
-contains-head : {X : Type 0} (y : X) (ys : List X) (x : X) → y ≡ x → Contains (y ∷ ys) x
+pub contains-head : {X : Type 0} (y : X) (ys : List X) (x : X) → y ≡ x → Contains (y ∷ ys) x
 contains-head {X} y ys x e = subst (λ (z : X). Contains (y ∷ ys) z) e (Contains-append_left (y ∷ []) ys y (Contains-push [] y))
 
-contains-tail : {X : Type 0} (y : X) (ys : List X) (x : X) → Contains ys x → Contains (y ∷ ys) x
+pub contains-tail : {X : Type 0} (y : X) (ys : List X) (x : X) → Contains ys x → Contains (y ∷ ys) x
 contains-tail y ys x h = Contains-append_right (y ∷ []) ys x h
 
 pub each-contained : {X : Type 0} (P : X → Type 0) (xs : List X) (x : X) → Each P xs → Contains xs x → P x
@@ -56,7 +56,7 @@ contains-below (suc n) k lt = elim (eqb_tells k n) as (λ _. Contains (below n +
 
 -- ---- facts of each element
 
-each_append : {X : Type 0} (P : X → Type 0) (us vs : List X) → Each P us → Each P vs → Each P (us ++ vs)
+pub each_append : {X : Type 0} (P : X → Type 0) (us vs : List X) → Each P us → Each P vs → Each P (us ++ vs)
 each_append P [] vs h k = k
 each_append P (u ∷ us) vs h k = (h.0, each_append P us vs h.1 k)
 

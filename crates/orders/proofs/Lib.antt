@@ -1,3 +1,9 @@
 pub mod Contained
 pub mod Possible
 pub mod Shuffles
+pub mod Sums
+pub mod OneAnswer
+pub mod NoLonger
+pub mod Behind
+pub mod Shortest
+pub mod Tests

@@ -10,7 +10,7 @@ use Rattle.setup_report.specs.Text.{numbers_text}
 use Rattle.reasons.specs.declared.reason.Word.TheVariants.{Root, Index, SourceIndex}
 use Rattle.reasons.specs.declared.reason.Reason.{Reason}
 use Rattle.reasons.specs.declared.reason.Reason.TheVariants.{NoThread, NotReady, NotFound, NoDepth, NoCapability, OtherKind, NoRight, IsFull, IsEmpty, HasBadge, LongGuard, HasChildren, NotAllRights, NoSpace}
-use Rattle.reason_words.specs.declared.threads.TheConstants.{THREADS_TOLD}
+use Rattle.reason_words.specs.Limits.{threads_told}
 use Rattle.reason_words.specs.Text.{told, name_text, radix_of}
 use Rattle.reason_words.specs.Asked.{AskedView, thread_name}
 use Rattle.reason_words.specs.Facts.{nothing_in, fact_lines, kind_lines, right_lines, badge_text, guard_text, children_lines}
@@ -24,12 +24,12 @@ thread_text a = decimal a.call.thread ++ name_text (thread_name a)
 
 -- the live threads: the first of them, and how many there are besides
 abbrev pub more_text : ℕ → List ℕ
-more_text count = if nat_lt THREADS_TOLD count then codes " and " ++ (decimal (count - THREADS_TOLD) ++ codes " more") else codes ""
+more_text count = if nat_lt threads_told count then codes " and " ++ (decimal (count - threads_told) ++ codes " more") else codes ""
 
 unfoldable pub live_line : List ℕ → List ℕ
 live_line [] = told (codes "no thread is live")
 live_line (first ∷ rest) =
-    told (codes "live threads:" ++ (numbers_text (take THREADS_TOLD (first ∷ rest)) ++ more_text (length (first ∷ rest))))
+    told (codes "live threads:" ++ (numbers_text (take threads_told (first ∷ rest)) ++ more_text (length (first ∷ rest))))
 
 unfoldable pub no_thread_line : AskedView → List ℕ
 no_thread_line a = told (codes "no live thread is at " ++ thread_text a)

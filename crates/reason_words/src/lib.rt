@@ -16,4 +16,6 @@ pub use asked::Asked;
 pub use capabilities::add_capability;
 pub use keys::{KeyWord, KeyWords, key_words, sent};
 pub use lookups::{add_no_depth, add_not_found};
-pub use threads::{add_address, add_live, add_not_ready};
+pub use threads::{
+    add_address, add_live, add_not_ready, threads_told_are_those_of_the_definitions,
+};

@@ -1,4 +1,5 @@
 //! The lines of reasons that are about the calling thread.
+ghost use Rattle.reason_words.specs.Limits.{threads_told};
 ghost use Rattle.std.specs.Prelude.{◌≡◌, ◌++◌, take, OnOk, Some, string_bytes};
 ghost use Rattle.reason_words.specs.Asked.{asked_view};
 ghost use Rattle.reason_words.specs.Reasons as spec;
@@ -111,3 +112,8 @@ pub fn add_not_ready(
     writeln!(out, "  thread {thread} {does}")?;
     writeln!(out, "  a call is made by a thread that is ready")
 }
+
+/// The number of the code is that of the definitions.
+pub fn threads_told_are_those_of_the_definitions()
+    ensures { THREADS_TOLD ≡ threads_told }
+{}

@@ -7,3 +7,5 @@ pub mod Calls
 pub mod Ways
 pub mod Depths
 pub mod Nowhere
+pub mod Endings
+pub mod HintsTrue

@@ -5,7 +5,6 @@ use Rattle.abstract_kernel.specs.Shown.{Shown}
 use Rattle.confinement.specs.declared.listed.PartMemory.{PartMemory}
 use Rattle.confinement.specs.declared.listed.PartUse.{PartUse}
 use Rattle.confinement.specs.Order.{AreInOrder, AreInParts}
-use Rattle.confinement.specs.Listed.{whole_memory}
 use Rattle.confinement.specs.Ever.{AreConfinedEver}
 use Rattle.confinement.specs.Least.{AreLeast}
 use Rattle.setup_values.specs.Names.{Names}
@@ -14,13 +13,13 @@ use Rattle.setup_ever.specs.Threads.{callers}
 use Rattle.setup_ever.specs.Text.{ever_text}
 
 -- Parts that may be told: whatever calls their threads make, nothing leaves them; they stand in order, with nothing in them
--- that goes without saying; where they are not one part of every address, they lie in all parts that are closed around the
--- live threads that are not trusted; and each of these threads lies in one
+-- that goes without saying; they lie in all parts that are closed around the live threads that are not trusted; and the whole
+-- control block of each of these threads lies in one
 pub record AreRightParts (p : ProfileName) (v : Shown) (without : List ℕ) (memory : List PartMemory) (uses : List PartUse) : Type 0 where
   pub ever : AreConfinedEver p memory uses v
   pub order : AreInOrder p memory uses
-  pub least : (memory ≡ whole_memory → ⊥) → AreLeast p (callers p v without) memory uses v
-  pub callers : AreInParts memory (callers p v without)
+  pub least : AreLeast p (callers p v without) memory uses v
+  pub callers : AreInParts p memory (callers p v without)
 
 -- the text of such parts
 abbrev pub IsTextOf : ProfileName → Names → SetupView → ℕ → List ℕ → Shown → List ℕ → Type 0

@@ -196,6 +196,9 @@ fn add_ways_on<P: Profile>(
     ensures { OnOk result (ways.new.items ≡ ways.old.items ++ spec.ways_on P.profile memory.now uses.now from endpoint) }
 {
     let badges = badges::<P>(alloc, memory, uses, from, endpoint)?;
+    if badges.is_empty() {
+        return Ok(());
+    }
     let receivers = receivers::<P>(alloc, memory, uses, parts, from, endpoint)?;
     add_ways_with(
         ways,

@@ -3,3 +3,5 @@ pub mod Explored
 pub mod Lines
 pub mod CallAnswers
 pub mod Entries
+pub mod NoLonger
+pub mod Limits

@@ -5,3 +5,4 @@ pub mod Views
 pub mod Report
 pub mod Witnesses
 pub mod Rows
+pub mod Laws

@@ -29,11 +29,11 @@ answer_text NotMade = codes "not made"
 abbrev pub reply_meets : List ℕ → Reply → Bool
 reply_meets expected reply = begins_as (reply_text reply) expected
 
--- whether an answer meets an expectation: where the call waited, at first or in the end
+-- whether an answer meets an expectation: by its text, or, where the call waited, by what the wait came to
 abbrev pub meets : List ℕ → Answer → Bool
 meets expected (Replied reply) = reply_meets expected reply
-meets expected (Served reply) = begins_as (codes "waiting") expected || reply_meets expected reply
-meets expected Cancelled = begins_as (codes "waiting") expected || begins_as (codes "cancelled") expected
+meets expected (Served reply) = begins_as (answer_text (Served reply)) expected || reply_meets expected reply
+meets expected Cancelled = begins_as (answer_text Cancelled) expected || begins_as (codes "cancelled") expected
 meets expected Waits = begins_as (codes "waiting") expected
 meets expected NotMade = begins_as (codes "not made") expected
 

@@ -4,7 +4,7 @@ use Rattle.std.specs.List.{flat_map}
 use Rattle.toml.specs.Data.{Data, integer, array, table, Items, Members, no_members, member, same_key, get_item}
 use Rattle.toml.specs.View.{items_of}
 use Rattle.cap_core.specs.declared.profile.ProfileName.{ProfileName}
-use Rattle.setup_format.specs.declared.limits.TheConstants.{NEWEST_FORMAT}
+use Rattle.setup_format.specs.Limits.{newest_format}
 use Rattle.setup_format.specs.Views.{SetupView}
 use Rattle.setup_migrate.specs.Migration.{with_member, with_changed}
 use Rattle.orders.specs.Answers.{Answered}
@@ -75,7 +75,7 @@ chosen_calls kept numbers d = d
 -- the table of a set-up with these calls alone, in the newest format
 abbrev pub with_calls : ℕ → List ℕ → Members → Members
 with_calls kept numbers document =
-    with_changed (codes "call") (chosen_calls kept numbers) (with_member (codes "format") (integer (pos NEWEST_FORMAT)) document)
+    with_changed (codes "call") (chosen_calls kept numbers) (with_member (codes "format") (integer (pos newest_format)) document)
 
 -- ---- the witness
 

@@ -57,17 +57,23 @@ fn reply_meets(alloc: Global, reply: Reply, expected: &str) -> Result<bool, Allo
     Ok(begins_as(text.as_str(), expected))
 }
 
-/// Whether what a call comes to meets an expectation: where it waited, at first or in the end.
+/// Whether the text of an answer is the expected one, or begins with it followed by a space.
+fn text_meets(alloc: Global, answer: Answer, expected: &str) -> Result<bool, AllocError>
+    ensures { IfOk result (λ met. met ≡ begins_as (spec.answer_text answer) expected.now) }
+{
+    let text = AnswerText(answer).to_string(alloc)?;
+    Ok(begins_as(text.as_str(), expected))
+}
+
+/// Whether what a call comes to meets an expectation: by its text, or, where it waited, by what the wait came to.
 fn meets(alloc: Global, answer: Answer, expected: &str) -> Result<bool, AllocError>
     ensures { IfOk result (λ met. met ≡ spec.meets expected.now answer) }
 {
-    let waits = begins_as("waiting", expected);
+    let is_met = text_meets(alloc, answer, expected)?;
     match answer {
-        Answer::Replied(reply) => reply_meets(alloc, reply, expected),
-        Answer::Served(reply) => Ok(waits || reply_meets(alloc, reply, expected)?),
-        Answer::Cancelled => Ok(waits || begins_as("cancelled", expected)),
-        Answer::Waits => Ok(waits),
-        Answer::NotMade => Ok(begins_as("not made", expected)),
+        Answer::Served(reply) => Ok(is_met || reply_meets(alloc, reply, expected)?),
+        Answer::Cancelled => Ok(is_met || begins_as("cancelled", expected)),
+        Answer::Replied(_) | Answer::Waits | Answer::NotMade => Ok(is_met),
     }
 }
 

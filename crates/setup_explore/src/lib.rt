@@ -6,6 +6,7 @@ mod answers;
 mod calls;
 mod clients;
 mod ends;
+pub mod laws;
 mod making;
 mod marks;
 mod numbers;

@@ -2,6 +2,7 @@
 pub use Rattle.setup_values.specs.Names
 pub use Rattle.setup_values.specs.Keys
 pub use Rattle.setup_values.specs.Kinds
+pub mod Limits
 pub mod Faults
 pub mod Tables
 pub mod Views

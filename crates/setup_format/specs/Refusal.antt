@@ -4,7 +4,7 @@ use Rattle.std.specs.List.{list_all}
 use Rattle.std.specs.Fmt.{decimal}
 use Rattle.abstract_kernel.specs.declared.plan.PlanDefect.{PlanDefect}
 use Rattle.abstract_kernel.specs.declared.plan.PlanDefect.TheVariants.{Outside, Unaligned, UntypedOutside, Overlap, Slots}
-use Rattle.setup_format.specs.declared.limits.TheConstants.{MAX_SHOWN_KEY_BYTES}
+use Rattle.setup_format.specs.Limits.{max_shown_key_bytes}
 use Rattle.setup_format.specs.declared.fault.Place.{Place}
 use Rattle.setup_format.specs.declared.fault.Place.TheVariants as places
 use Rattle.setup_format.specs.declared.fault.SetupFault.{SetupFault}
@@ -18,7 +18,7 @@ is_plain_byte c = between 48 57 c || (between 65 90 c || (between 97 122 c || (c
 
 -- a key of 1 to 40 such bytes, and `?` for any other
 abbrev pub key_text : List ℕ → List ℕ
-key_text key = if between 1 MAX_SHOWN_KEY_BYTES (length key) && list_all is_plain_byte key then key else codes "?"
+key_text key = if between 1 max_shown_key_bytes (length key) && list_all is_plain_byte key then key else codes "?"
 
 abbrev pub place_text : Place → List ℕ
 place_text places.Top = codes "top"

@@ -9,7 +9,7 @@ use Rattle.cap_core.specs.Limits.{min_memory_bits, max_memory_bits, min_root_rad
 use Rattle.cap_core.specs.Numbers.{min_untyped_bits, max_object_bits}
 use Rattle.abstract_kernel.specs.declared.plan.PlanDefect.{PlanDefect}
 use Rattle.abstract_kernel.specs.Plan.{Plan, planned, first_defect}
-use Rattle.setup_format.specs.declared.limits.TheConstants.{FIRST_FORMAT, NEWEST_FORMAT, MAX_CALLS}
+use Rattle.setup_format.specs.Limits.{first_format, newest_format, max_calls}
 use Rattle.setup_format.specs.declared.fault.Place.{Place}
 use Rattle.setup_format.specs.declared.fault.Place.TheVariants as places
 use Rattle.setup_format.specs.declared.setup.Sizes.{Sizes}
@@ -60,7 +60,7 @@ abbrev pub first_keys : List (List ℕ)
 first_keys = size_keys ++ table_keys
 
 abbrev pub top_keys : ℕ → List (List ℕ)
-top_keys format = if format == FIRST_FORMAT then first_keys else size_keys ++ codes "names" ∷ table_keys
+top_keys format = if format == first_format then first_keys else size_keys ++ codes "names" ∷ table_keys
 
 unfoldable pub sizes_at : Place → Members → Result Sizes Fault
 sizes_at place table = do
@@ -105,23 +105,23 @@ setup_at p table = do
   limit ← optional places.Top table (codes "limit") 0 (number 1 max_history_limit)
   names ← names_of p table
   untyped ← optional places.Top table (codes "untyped") [] (tables 0 max_boot_untypeds)
-  call ← optional places.Top table (codes "call") [] (tables 0 MAX_CALLS)
+  call ← optional places.Top table (codes "call") [] (tables 0 max_calls)
   setup_with p names sizes clients limit untyped call
 
 -- a table in one of the formats up to the newest that is taken
 unfoldable pub setup_up_to : ℕ → Members → Result SetupView Fault
 setup_up_to newest table = do
-  format ← required places.Top table (codes "format") (number FIRST_FORMAT newest)
+  format ← required places.Top table (codes "format") (number first_format newest)
   known ← known_only places.Top table (top_keys format)
   profile ← optional places.Top table (codes "profile") Wide profile
   setup_at profile table
 
 -- a table in any format that is read, and a table in the first format alone
 abbrev pub setup_of : Members → Result SetupView Fault
-setup_of table = setup_up_to NEWEST_FORMAT table
+setup_of table = setup_up_to newest_format table
 
 abbrev pub first_format_setup_of : Members → Result SetupView Fault
-first_format_setup_of table = setup_up_to FIRST_FORMAT table
+first_format_setup_of table = setup_up_to first_format table
 
 -- a set-up, beside the names that its table gives to words: they are how it is spelt, and no part of it
 unfoldable pub named_setup_of : Members → Result (Names × SetupView) Fault

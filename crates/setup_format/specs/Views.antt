@@ -4,7 +4,7 @@ use Rattle.cap_core.specs.declared.profile.ProfileName.{ProfileName}
 use Rattle.abstract_kernel.specs.declared.call.Call.{Call}
 use Rattle.abstract_kernel.specs.Plan.{Plan}
 use Rattle.cap_core.specs.Limits.{max_clients, max_history_limit}
-use Rattle.setup_format.specs.declared.limits.TheConstants.{MAX_CALLS}
+use Rattle.setup_format.specs.Limits.{max_calls}
 use Rattle.setup_format.specs.declared.setup.Caller.{Caller}
 
 -- a call, the client that makes it, and what its reply is expected to begin with
@@ -44,5 +44,5 @@ pub record IsWithinBounds (s : SetupView) : Type 0 where
   pub clients_most : s.clients ≤ max_clients
   pub limit_least : 1 ≤ s.limit
   pub limit_most : s.limit ≤ max_history_limit
-  pub calls_most : length s.calls ≤ MAX_CALLS
+  pub calls_most : length s.calls ≤ max_calls
   pub each_client : All (λ call. call.client < s.clients) s.calls

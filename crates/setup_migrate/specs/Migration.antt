@@ -11,7 +11,7 @@ use Rattle.abstract_kernel.specs.Plan.{Plan, tcb_place}
 use Rattle.setup_values.specs.Names.{Names}
 use Rattle.cap_core.specs.Checks.{◌>>=◌}
 use Rattle.setup_values.specs.Kinds.{word}
-use Rattle.setup_format.specs.declared.limits.TheConstants.{NEWEST_FORMAT}
+use Rattle.setup_format.specs.Limits.{newest_format}
 use Rattle.setup_format.specs.Faults.{Fault}
 use Rattle.setup_format.specs.Setups.{document_of, first_format_setup_of}
 
@@ -84,7 +84,7 @@ abbrev pub migrated : ProfileName → Plan → Members → Members
 migrated p plan ms =
     with_changed (codes "call") (named_calls p plan)
     (with_member (codes "names") (table (with_words (boot_names p plan) no_members))
-    (with_member (codes "format") (integer (pos NEWEST_FORMAT)) ms))
+    (with_member (codes "format") (integer (pos newest_format)) ms))
 
 -- the table that the bytes of a set-up of the first format are migrated to, or its first fault
 unfoldable pub migrated_bytes : List ℕ → Result Members Fault

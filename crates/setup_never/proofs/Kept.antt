@@ -25,10 +25,11 @@ use Rattle.confinement.specs.declared.listed.PartMemory.{PartMemory}
 use Rattle.confinement.specs.declared.listed.PartUse.{PartUse}
 use Rattle.confinement.specs.Parts.{Parts, IsOwned, IsWithin}
 use Rattle.confinement.specs.Listed.{part_at, parts_listed}
-use Rattle.confinement.specs.Laws.{AreClosed, IsOfSomePart, MayUse}
+use Rattle.confinement.specs.Laws.{AreClosed, IsAllowed, MayUse}
 use Rattle.confinement.specs.Delivered.{WaitsOrIsSentWithin, WaitsOrIsReceivedWithin, TellsOnlyWithin}
 use Rattle.confinement.specs.Ever.{AreConfinedEver}
 use Rattle.confinement.proofs.Delivered.{deliver_within}
+use Rattle.confinement.proofs.Same.{names_its_own}
 use Rattle.setup_report.specs.State.{is_in}
 use Rattle.setup_report.proofs.Addresses.Rising.{any_rising}
 use Rattle.setup_never.specs.declared.waits.Wait.{Wait}
@@ -153,10 +154,8 @@ module _ (p : ProfileName) (memory : List PartMemory) (uses : List PartUse) (A :
         may = true_right _ _ (true_right _ _ waiting);
         place = inr (waited_met uses ws e (is_sender memory i e) (sender_at memory i e) waiting);
       }
-  sent s (inr (k, (own, may))) at =
-      let same : k ≡ i = (let e : Some k ≡ Some i = sym own ∙ at in cc) in
-      sends_used s.endpoint.base
-      (may_use p memory uses i write_bit s.endpoint.base s.badge write_kept (subst (λ n. MayUse p parts write_bit n s.endpoint.base s.badge) same may))
+  sent s (inr within) at =
+      sends_used s.endpoint.base (may_use p memory uses i write_bit s.endpoint.base s.badge write_kept (within i at))
 
   received : (a : ReceiveRecord) → WaitsOrIsReceivedWithin p parts A a → part_at memory a.thread.base ≡ Some j → Receives a.endpoint.base
   received a (inl there) at =
@@ -166,10 +165,9 @@ module _ (p : ProfileName) (memory : List PartMemory) (uses : List PartUse) (A :
         may = true_right _ _ (true_right _ _ waiting);
         place = inr (waited_met uses ws e (is_receiver memory j e) (receiver_at memory j e) waiting);
       }
-  received a (inr (k, (own, (badge, may)))) at =
-      let same : k ≡ j = (let e : Some k ≡ Some j = sym own ∙ at in cc) in
-      receives_used a.endpoint.base
-      (may_use p memory uses j read_bit a.endpoint.base badge read_kept (subst (λ n. MayUse p parts read_bit n a.endpoint.base badge) same may))
+  received a (inr within) at =
+      let may = within j at in
+      receives_used a.endpoint.base (may_use p memory uses j read_bit a.endpoint.base may.0 read_kept may.1)
 
   named_there : (e : ℕ) → Sends e → Receives e → is_in e (endpoints_met uses ws) ≡ true → is_in e by ≡ true
   named_there e s r there = elim (shut e there) [
@@ -204,13 +202,16 @@ module _ (p : ProfileName) (memory : List PartMemory) (uses : List PartUse) (by 
   now_closed v confined A reached is = (confined A reached is [] tt).closed
 
   kept_from : (A : State) → IsReached p A → are_open p memory uses (waits p (shown A)) by i j ≡ false → AreClosed p (parts_listed memory uses) A →
-      (calls : List Call) → Each (IsOfSomePart (parts_listed memory uses)) calls → AreClosed p (parts_listed memory uses) (state_after p A calls) →
+      (calls : List Call) → Each (IsAllowed (parts_listed memory uses)) calls → AreClosed p (parts_listed memory uses) (state_after p A calls) →
       AreKept p (parts_listed memory uses) by i j A calls
   kept_from A reached shut closed calls of after =
       let both = neither (i == j) _ shut in
       let differ : i ≢ j = λ same. false≢true (sym both.0 ∙ eq-eqb i j same) in
       record {
         slots = λ slot own. kept_within p memory uses A reached by i j differ both.1 (cap_at (state_after p A calls).derivations slot) (after i slot own);
+        names = λ thread slot own named.
+            kept_within p memory uses A reached by i j differ both.1 (cap_at (state_after p A calls).derivations slot)
+            (after i slot (names_its_own p (parts_listed memory uses) i (state_after p A calls).derivations thread (after i) own slot named));
         deliveries = each-weaker (TellsOnlyWithin p (parts_listed memory uses) A) (TellsKept (parts_listed memory uses) by i j)
             (tells_kept p memory uses A reached by i j differ both.1) (replies_of p A calls)
             (deliver_within p (parts_listed memory uses) A calls reached closed of);

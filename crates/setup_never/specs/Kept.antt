@@ -18,7 +18,7 @@ use Rattle.confinement.specs.declared.listed.PartMemory.{PartMemory}
 use Rattle.confinement.specs.declared.listed.PartUse.{PartUse}
 use Rattle.confinement.specs.Parts.{Parts}
 use Rattle.confinement.specs.Listed.{part_at, parts_listed}
-use Rattle.confinement.specs.Laws.{IsOfSomePart}
+use Rattle.confinement.specs.Laws.{IsAllowed, Names}
 use Rattle.setup_report.specs.State.{is_in}
 
 -- the endpoint at an address is named
@@ -47,15 +47,17 @@ TellsKept parts by i j (Delivered endpoint from to badge message) =
     parts.part_of from ≡ Some i → parts.part_of to ≡ Some j → IsNamed by endpoint
 TellsKept parts by i j reply = ⊤
 
--- after these calls no slot of part i holds more, and none of their replies tells of more
+-- after these calls no slot of part i holds more, no thread of it names more, and none of their replies tells of more
 pub record AreKept (p : ProfileName) (parts : Parts) (by : List ℕ) (i j : ℕ) (A : State) (calls : List Call) : Type 0 where
   pub slots : HoldsKept p parts by i j (state_after p A calls).derivations
+  pub names : (thread slot : ℕ) → parts.part_of thread ≡ Some i → Names p (state_after p A calls).derivations thread slot →
+      IsKeptFrom p parts by j (cap_at (state_after p A calls).derivations slot)
   pub deliveries : Each (TellsKept parts by i j) (replies_of p A calls)
 
--- so it is from each state that is shown, for whatever calls of threads that lie in the parts
+-- so it is from each state that is shown, for whatever calls of threads that lie in the parts, and messages of others
 abbrev pub AreKeptEver : ProfileName → List PartMemory → List PartUse → Shown → List ℕ → ℕ → ℕ → Type 0
 AreKeptEver p memory uses v by i j =
-    (A : State) → IsReached p A → v ≡ shown A → (calls : List Call) → Each (IsOfSomePart (parts_listed memory uses)) calls →
+    (A : State) → IsReached p A → v ≡ shown A → (calls : List Call) → Each (IsAllowed (parts_listed memory uses)) calls →
     AreKept p (parts_listed memory uses) by i j A calls
 
 -- two threads lie in parts of which the one is kept from the other

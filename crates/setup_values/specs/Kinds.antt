@@ -10,7 +10,7 @@ use Rattle.cap_core.specs.declared.rights.Rights.{Rights}
 use Rattle.cap_core.specs.Checks.{◌>>=◌}
 use Rattle.cap_core.specs.Numbers.{word_bits, label_bits}
 use Rattle.cap_core.specs.Rights.{all_rights}
-use Rattle.setup_values.specs.declared.limits.TheConstants.{MAX_EXPECT_BYTES, MAX_NAME_BYTES}
+use Rattle.setup_values.specs.Limits.{max_expect_bytes, max_name_bytes}
 use Rattle.setup_values.specs.declared.operations.OpName.{OpName}
 use Rattle.setup_values.specs.declared.values.Words.{Words}
 use Rattle.setup_values.specs.declared.values.Wrong.{Wrong}
@@ -139,7 +139,7 @@ is_name_byte c = between 97 122 c || (between 48 57 c || c == 95)
 
 -- a name: 1 to 40 lower-case letters, digits or `_`
 abbrev pub is_name : List ℕ → Bool
-is_name text = between 1 MAX_NAME_BYTES (length text) && list_all is_name_byte text
+is_name text = between 1 max_name_bytes (length text) && list_all is_name_byte text
 
 -- an entry: its name is looked at first, then its value
 abbrev pub entry : ProfileName → List ℕ × Data → Result (List ℕ × ℕ) Wrong
@@ -163,7 +163,7 @@ names p d = table_in (as_table d) >>= λ table. names_in p (entries_of table)
 -- expect: a text of 1 to 120 bytes, each from a space to `~`
 abbrev pub expect_in : Option (List ℕ) → Result (Option (List ℕ)) Wrong
 expect_in None = Err OtherType
-expect_in (Some t) = if between 1 MAX_EXPECT_BYTES (length t) && list_all (between 32 126) t then Ok (Some t) else Err OtherValue
+expect_in (Some t) = if between 1 max_expect_bytes (length t) && list_all (between 32 126) t then Ok (Some t) else Err OtherValue
 
 abbrev pub expect : Data → Result (Option (List ℕ)) Wrong
 expect d = expect_in (as_str d)

@@ -1,7 +1,7 @@
 -- The tables by which a set-up spells its calls.
 use Rattle.std.specs.Prelude.{codes, ℕ, List, slice_get, Option, None, option_and_then, Result, Ok, Err}
 use Rattle.toml.specs.Data.{Data, Members, get_member, as_array, as_table}
-use Rattle.setup_format.specs.declared.limits.TheConstants.{MAX_CALLS}
+use Rattle.setup_format.specs.Limits.{max_calls}
 use Rattle.setup_values.specs.declared.values.Wrong.{Wrong}
 use Rattle.setup_values.specs.Kinds.{array_in}
 
@@ -11,4 +11,4 @@ table_in (Ok calls) i = option_and_then as_table (slice_get calls i)
 table_in (Err wrong) i = None
 
 abbrev pub call_table : Members → ℕ → Option Members
-call_table setup i = option_and_then (λ calls. table_in (array_in 0 MAX_CALLS (as_array calls)) i) (get_member (codes "call") setup)
+call_table setup i = option_and_then (λ calls. table_in (array_in 0 max_calls (as_array calls)) i) (get_member (codes "call") setup)

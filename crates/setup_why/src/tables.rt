@@ -3,6 +3,7 @@ ghost use Rattle.std.specs.Prelude.{◌≡◌, codes, option_map};
 ghost use Rattle.toml.specs.Data.{get_member, as_array};
 ghost use Rattle.toml.specs.View.{view, table_view};
 ghost use Rattle.setup_values.specs.Kinds.{array_in};
+ghost use Rattle.setup_format.specs.Limits.{max_calls};
 ghost use Rattle.setup_why.specs.Tables as spec;
 
 use setup_format::limits::MAX_CALLS;
@@ -19,7 +20,7 @@ fn calls_in(setup: &Table) -> Option<&Value>
 /// The table at a place of an array of calls.
 fn table_in(calls: &Value, i: usize) -> Option<&Table>
     ensures { option_map (λ t. table_view t.now) result
-        ≡ spec.table_in (array_in 0 MAX_CALLS (as_array (view calls.now))) i }
+        ≡ spec.table_in (array_in 0 max_calls (as_array (view calls.now))) i }
 {
     match array(calls, 0, MAX_CALLS) {
         Ok(calls) => match calls.get(i) {

@@ -7,7 +7,7 @@ use Rattle.std.proofs.Math.Seq.{drop-append_seam}
 use Rattle.toml.specs.Data.{Data, Members, Items, as_array, get_member}
 use Rattle.cap_core.specs.declared.profile.ProfileName.{ProfileName}
 use Rattle.cap_core.specs.declared.profile.ProfileName.TheVariants.{Wide}
-use Rattle.cap_core.specs.declared.limits.TheConstants.{MAX_MESSAGE_WORDS}
+use Rattle.cap_core.specs.Limits.{MAX_MESSAGE_WORDS}
 use Rattle.cap_core.specs.Numbers.{word_bits, label_bits, min_untyped_bits, max_object_bits}
 use Rattle.cap_core.specs.Rights.{all_rights}
 use Rattle.abstract_kernel.specs.declared.plan.PlanDefect.{PlanDefect}
@@ -23,7 +23,7 @@ use Rattle.setup_values.specs.declared.operations.OpName.TheVariants as op_names
 use Rattle.setup_format.specs.declared.setup.Sizes.{Sizes}
 use Rattle.setup_values.specs.declared.values.Words.{Words}
 use Rattle.setup_values.specs.Names.{Names}
-use Rattle.setup_format.specs.declared.limits.TheConstants.{NEWEST_FORMAT}
+use Rattle.setup_format.specs.Limits.{newest_format}
 use Rattle.setup_format.specs.Views.{SetupView}
 use Rattle.setup_format.specs.Faults.{Fault, text, at, layout, Gives}
 use Rattle.cap_core.specs.Checks.{◌>>=◌}
@@ -280,12 +280,12 @@ reads_setup newest table =
     (λ known _. then_reads Anything HaveMessages _ _ (reads_any _ table (codes "profile") Wide _) (λ p _. reads_setup_at p table)))
 
 pub messages_read : (table : Members) (r : Result SetupView SetupFault) → Gives (λ s. s) r (setup_of table) → IfOk r (λ s. All (HasMessage s.profile) s.calls)
-messages_read table (Ok s) h = All-from_recursion (HasMessage s.profile) s.calls (subst (Reads HaveMessages) h (reads_setup NEWEST_FORMAT table))
+messages_read table (Ok s) h = All-from_recursion (HasMessage s.profile) s.calls (subst (Reads HaveMessages) h (reads_setup newest_format table))
 messages_read table (Err e) h = tt
 
 pub never_text : (table : Members) (r : Result SetupView SetupFault) → Gives (λ s. s) r (setup_of table) → IfErr r (λ e. e ≢ faults.Text)
 never_text table (Ok s) h = tt
-never_text table (Err faults.Text) h = absurd (subst (Reads HaveMessages) h (reads_setup NEWEST_FORMAT table))
+never_text table (Err faults.Text) h = absurd (subst (Reads HaveMessages) h (reads_setup newest_format table))
 never_text table (Err (faults.At wrong place key)) h = λ e. cc
 never_text table (Err (faults.Layout defect)) h = λ e. cc
 never_text table (Err faults.Memory) h = λ e. cc

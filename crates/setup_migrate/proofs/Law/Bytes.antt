@@ -4,7 +4,7 @@ use Rattle.std.proofs.lemmas.Bool.{cases_Bool}
 use Rattle.std.proofs.lemmas.Bool.Decides.{nat_tests}
 use Rattle.toml.specs.Data.{as_integer}
 use Rattle.setup_values.specs.Kinds.{between, number, number_in}
-use Rattle.setup_format.specs.declared.limits.TheConstants.{FIRST_FORMAT, NEWEST_FORMAT}
+use Rattle.setup_format.specs.Limits.{first_format, newest_format}
 use Rattle.setup_format.specs.declared.fault.Place.TheVariants as places
 use Rattle.std.specs.Prelude.{codes}
 use Rattle.toml.specs.Data.{Members}
@@ -31,19 +31,19 @@ setup_of_table bytes t u s h plan = ap setup_of h.rewritten ∙ (same_setup t s 
 
 -- ---- a set-up of the first format is read as the same by the reader of all formats
 
-first_in : (o : Option ℤ) → Follows (number_in FIRST_FORMAT FIRST_FORMAT o) (number_in FIRST_FORMAT NEWEST_FORMAT o)
+first_in : (o : Option ℤ) → Follows (number_in first_format first_format o) (number_in first_format newest_format o)
 first_in None = same _
 first_in (Some (negsuc n)) = same _
 first_in (Some (pos n)) =
-    elim (cases_Bool (between FIRST_FORMAT FIRST_FORMAT n)) [
-      | inl first ↦ let newest : between FIRST_FORMAT NEWEST_FORMAT n ≡ true = grind (arith, nat_tests) in rw (first, newest) (same _)
+    elim (cases_Bool (between first_format first_format n)) [
+      | inl first ↦ let newest : between first_format newest_format n ≡ true = grind (arith, nat_tests) in rw (first, newest) (same _)
       | inr other ↦ rw other (record { follows = λ x e. no_answer _ x e })
     ]
 
 first_is_read : (t : Members) → Follows (first_format_setup_of t) (setup_of t)
 unfolding setup_up_to
 first_is_read t =
-    after (required_follows places.Top t t (codes "format") (number FIRST_FORMAT FIRST_FORMAT) (number FIRST_FORMAT NEWEST_FORMAT) refl (λ d. first_in (as_integer d)))
+    after (required_follows places.Top t t (codes "format") (number first_format first_format) (number first_format newest_format) refl (λ d. first_in (as_integer d)))
     (λ format. same _)
 
 first_bytes : (bytes : List ℕ) → Follows (first_format_setup_of_bytes bytes) (setup_of_bytes bytes)

@@ -10,14 +10,14 @@ use Rattle.std.specs.Str.{bytes_eq}
 use Rattle.toml.specs.Data.{Data, integer, table, Members, no_members, member, get_member, as_integer, same_key}
 use Rattle.cap_core.specs.declared.profile.ProfileName.{ProfileName}
 use Rattle.cap_core.specs.declared.profile.ProfileName.TheVariants.{Wide}
-use Rattle.cap_core.specs.declared.limits.TheConstants.{MAX_BOOT_UNTYPEDS, MAX_CLIENTS, MAX_HISTORY_LIMIT}
+use Rattle.cap_core.specs.Limits.{MAX_BOOT_UNTYPEDS, MAX_CLIENTS, MAX_HISTORY_LIMIT}
 use Rattle.abstract_kernel.specs.Plan.{Plan, IsPlan}
 use Rattle.setup_values.specs.declared.values.Wrong.{Wrong}
 use Rattle.setup_values.specs.declared.values.Wrong.TheVariants.{OtherValue}
 use Rattle.setup_values.specs.Names.{Names}
 use Rattle.setup_values.specs.Keys.{keys_of, least, lesser}
 use Rattle.setup_values.specs.Kinds.{between, number, number_in, names, profile, tables, each}
-use Rattle.setup_format.specs.declared.limits.TheConstants.{FIRST_FORMAT, NEWEST_FORMAT, MAX_CALLS}
+use Rattle.setup_format.specs.Limits.{first_format, newest_format, max_calls}
 use Rattle.setup_format.specs.declared.fault.Place.TheVariants as places
 use Rattle.setup_format.specs.declared.setup.Sizes.{Sizes}
 use Rattle.setup_format.specs.Faults.{Fault}
@@ -35,7 +35,7 @@ use Rattle.setup_migrate.proofs.Law.Plans.{name_table, table_named, names_thread
 
 -- the table with the newest format, and then with the names
 abbrev formatted : Members → Members
-formatted t = with_member (codes "format") (integer (pos NEWEST_FORMAT)) t
+formatted t = with_member (codes "format") (integer (pos newest_format)) t
 
 abbrev with_table : ProfileName → Plan → Members → Members
 with_table p plan t = with_member (codes "names") (table (name_table p plan)) (formatted t)
@@ -44,12 +44,12 @@ other_member : (p : ProfileName) (plan : Plan) (t : Members) (k : List ℕ) → 
     → get_member k (migrated p plan t) ≡ get_member k t
 other_member p plan t k format names call =
     get_changed_other k (codes "call") (named_calls p plan) (with_table p plan t) call
-    ∙ (get_with_other k (codes "names") (table (name_table p plan)) (formatted t) names ∙ get_with_other k (codes "format") (integer (pos NEWEST_FORMAT)) t format)
+    ∙ (get_with_other k (codes "names") (table (name_table p plan)) (formatted t) names ∙ get_with_other k (codes "format") (integer (pos newest_format)) t format)
 
-format_member : (p : ProfileName) (plan : Plan) (t : Members) → get_member (codes "format") (migrated p plan t) ≡ Some (integer (pos NEWEST_FORMAT))
+format_member : (p : ProfileName) (plan : Plan) (t : Members) → get_member (codes "format") (migrated p plan t) ≡ Some (integer (pos newest_format))
 format_member p plan t =
     get_changed_other (codes "format") (codes "call") (named_calls p plan) (with_table p plan t) refl
-    ∙ (get_with_other (codes "format") (codes "names") (table (name_table p plan)) (formatted t) refl ∙ get_with (codes "format") (integer (pos NEWEST_FORMAT)) t)
+    ∙ (get_with_other (codes "format") (codes "names") (table (name_table p plan)) (formatted t) refl ∙ get_with (codes "format") (integer (pos newest_format)) t)
 
 names_member : (p : ProfileName) (plan : Plan) (t : Members) → get_member (codes "names") (migrated p plan t) ≡ Some (table (name_table p plan))
 names_member p plan t =
@@ -59,7 +59,7 @@ call_member : (p : ProfileName) (plan : Plan) (t : Members) → get_member (code
 call_member p plan t =
     get_changed (codes "call") (named_calls p plan) (with_table p plan t)
     ∙ ap (option_map (named_calls p plan)) (get_with_other (codes "call") (codes "names") (table (name_table p plan)) (formatted t) refl
-    ∙ get_with_other (codes "call") (codes "format") (integer (pos NEWEST_FORMAT)) t refl)
+    ∙ get_with_other (codes "call") (codes "format") (integer (pos newest_format)) t refl)
 
 -- ---- the keys
 
@@ -109,19 +109,19 @@ more_in k key (x ∷ xs) ys e = either (bytes_eq x k) (is_one_of (xs ++ ys) k) (
     either true b c h e = refl
     either false b c h e = h e
 
-more_known : (k : List ℕ) → not (is_one_of first_keys k) ≡ false → not (is_one_of (top_keys NEWEST_FORMAT) k) ≡ false
+more_known : (k : List ℕ) → not (is_one_of first_keys k) ≡ false → not (is_one_of (top_keys newest_format) k) ≡ false
 more_known k e = more_in k (codes "names") size_keys table_keys e
 
 -- no key of the table is unknown, and so none of the migrated one is
-known_after : (p : ProfileName) (plan : Plan) (t : Members) (n : ℕ) → known_only places.Top t (top_keys FIRST_FORMAT) ≡ Ok n
-    → known_only places.Top (migrated p plan t) (top_keys NEWEST_FORMAT) ≡ Ok n
+known_after : (p : ProfileName) (plan : Plan) (t : Members) (n : ℕ) → known_only places.Top t (top_keys first_format) ≡ Ok n
+    → known_only places.Top (migrated p plan t) (top_keys newest_format) ≡ Ok n
 known_after p plan t n e =
-    let test = λ (key : List ℕ). not (is_one_of (top_keys NEWEST_FORMAT) key) in
+    let test = λ (key : List ℕ). not (is_one_of (top_keys newest_format) key) in
     let before : filter (λ key. not (is_one_of first_keys key)) (keys_of t) ≡ [] = all_known (filter (λ key. not (is_one_of first_keys key)) (keys_of t)) n e in
     let after : filter test (keys_of t) ≡ [] = fewer (λ key. not (is_one_of first_keys key)) test (keys_of t) more_known before in
     let keys : filter test (keys_of (migrated p plan t)) ≡ [] =
     ap (filter test) (keys_changed (codes "call") (named_calls p plan) (with_table p plan t))
-    ∙ (keys_with test (codes "names") (table (name_table p plan)) (formatted t) refl ∙ (keys_with test (codes "format") (integer (pos NEWEST_FORMAT)) t refl ∙ after)) in
+    ∙ (keys_with test (codes "names") (table (name_table p plan)) (formatted t) refl ∙ (keys_with test (codes "format") (integer (pos newest_format)) t refl ∙ after)) in
     rw keys (all_known_is (filter (λ key. not (is_one_of first_keys key)) (keys_of t)) n e)
 
 -- a key that a test would leave is no key of the table
@@ -140,7 +140,7 @@ not_a_key test k (member l d ms) passes e =
           | inr other ↦ other
         ]
 
-no_names : (t : Members) (n : ℕ) → known_only places.Top t (top_keys FIRST_FORMAT) ≡ Ok n → get_member (codes "names") t ≡ None
+no_names : (t : Members) (n : ℕ) → known_only places.Top t (top_keys first_format) ≡ Ok n → get_member (codes "names") t ≡ None
 no_names t n e = not_a_key (λ key. not (is_one_of first_keys key)) (codes "names") t refl (all_known (filter (λ key. not (is_one_of first_keys key)) (keys_of t)) n e)
 
 -- ---- a table whose format, keys and profile are known
@@ -162,14 +162,14 @@ optional_same p plan t k default kind e = ap (λ o. at_key places.Top k (given_o
 names_after : (p : ProfileName) (plan : Plan) (t : Members) → IsPlan p plan → optional places.Top (migrated p plan t) (codes "names") [] (names p) ≡ Ok (names_read (name_table p plan))
 names_after p plan t h = rw (names_member p plan t, names_of_table p (name_table p plan) (table_named p plan h))
 
-calls_after : (p : ProfileName) (plan : Plan) (t : Members) (calls : List Members) → optional places.Top t (codes "call") [] (tables 0 MAX_CALLS) ≡ Ok calls
-    → optional places.Top (migrated p plan t) (codes "call") [] (tables 0 MAX_CALLS) ≡ Ok (map (renamed p plan) calls)
+calls_after : (p : ProfileName) (plan : Plan) (t : Members) (calls : List Members) → optional places.Top t (codes "call") [] (tables 0 max_calls) ≡ Ok calls
+    → optional places.Top (migrated p plan t) (codes "call") [] (tables 0 max_calls) ≡ Ok (map (renamed p plan) calls)
 calls_after p plan t calls e = rw (call_member p plan t) (at (get_member (codes "call") t) e)
   where
-    at : (o : Option Data) → at_key places.Top (codes "call") (given_or [] (tables 0 MAX_CALLS) o) ≡ Ok calls
-        → at_key places.Top (codes "call") (given_or [] (tables 0 MAX_CALLS) (option_map (named_calls p plan) o)) ≡ Ok (map (renamed p plan) calls)
+    at : (o : Option Data) → at_key places.Top (codes "call") (given_or [] (tables 0 max_calls) o) ≡ Ok calls
+        → at_key places.Top (codes "call") (given_or [] (tables 0 max_calls) (option_map (named_calls p plan) o)) ≡ Ok (map (renamed p plan) calls)
     at None e = let none : [] ≡ calls = cc in rw (← none)
-    at (Some d) e = rw (tables_named p plan 0 MAX_CALLS d calls (at_key_gives places.Top (codes "call") (tables 0 MAX_CALLS d) calls e))
+    at (Some d) e = rw (tables_named p plan 0 max_calls d calls (at_key_gives places.Top (codes "call") (tables 0 max_calls d) calls e))
 
 with_names : (p : ProfileName) (none ns : Names) (sizes : Sizes) (clients limit : ℕ) (untyped call : List Members) (s : SetupView) → none ≡ [] → setup_with p none sizes clients limit untyped call ≡ Ok s
     → (s.profile ≡ p → NamesThreads p s.plan ns) → (s.profile ≡ p) × (setup_with p ns sizes clients limit untyped (map (renamed p s.plan) call) ≡ Ok s)
@@ -198,7 +198,7 @@ at_profile p t s none e h =
     let (ns, e4, r4) = parts (optional places.Top t (codes "names") [] (names p)) _ s r3 in
     let empty : ns ≡ [] = no_entries p t ns none e4 in
     let (untyped, e5, r5) = parts (optional places.Top t (codes "untyped") [] (tables 0 MAX_BOOT_UNTYPEDS)) _ s r4 in
-    let (call, e6, r6) = parts (optional places.Top t (codes "call") [] (tables 0 MAX_CALLS)) _ s r5 in
+    let (call, e6, r6) = parts (optional places.Top t (codes "call") [] (tables 0 max_calls)) _ s r5 in
     let plan = s.plan in
     let is_plan : s.profile ≡ p → IsPlan p plan = λ same. rw (← same) h in
     let (same, done) = with_names p ns (names_read (name_table p plan)) sizes clients limit untyped call s empty r6 (λ same. names_threads p plan (is_plan same)) in (
@@ -213,43 +213,43 @@ at_profile p t s none e h =
 
 -- ---- the law
 
-one_number : (z : Option ℤ) (n : ℕ) → number_in FIRST_FORMAT FIRST_FORMAT z ≡ Ok n → n ≡ FIRST_FORMAT
+one_number : (z : Option ℤ) (n : ℕ) → number_in first_format first_format z ≡ Ok n → n ≡ first_format
 one_number None n e = no_answer _ n e
 one_number (Some (negsuc m)) n e = no_answer _ n e
 one_number (Some (pos m)) n e =
-    elim (cases_Bool (between FIRST_FORMAT FIRST_FORMAT m)) [
+    elim (cases_Bool (between first_format first_format m)) [
       | inl within ↦
           let given : ◌≡◌ {A = Result ℕ Wrong} (Ok m) (Ok n) = rw within at e in
           let here : m ≡ n = cc in
-          let one : m ≡ FIRST_FORMAT = grind (arith, nat_tests, within) in
+          let one : m ≡ first_format = grind (arith, nat_tests, within) in
           sym here ∙ one
       | inr outside ↦ no_answer OtherValue n (rw outside at e)
     ]
 
-first_needed : (o : Option Data) (n : ℕ) → needed (number FIRST_FORMAT FIRST_FORMAT) o ≡ Ok n → n ≡ FIRST_FORMAT
+first_needed : (o : Option Data) (n : ℕ) → needed (number first_format first_format) o ≡ Ok n → n ≡ first_format
 first_needed None n e = no_answer _ n e
 first_needed (Some d) n e = one_number (as_integer d) n e
 
-first_only : (t : Members) (n : ℕ) → required places.Top t (codes "format") (number FIRST_FORMAT FIRST_FORMAT) ≡ Ok n → n ≡ FIRST_FORMAT
+first_only : (t : Members) (n : ℕ) → required places.Top t (codes "format") (number first_format first_format) ≡ Ok n → n ≡ first_format
 first_only t n e = first_needed (get_member (codes "format") t) n (at_key_gives places.Top (codes "format") _ n e)
 
-first_known : (t : Members) (n known : ℕ) → n ≡ FIRST_FORMAT → known_only places.Top t (top_keys n) ≡ Ok known → known_only places.Top t (top_keys FIRST_FORMAT) ≡ Ok known
+first_known : (t : Members) (n known : ℕ) → n ≡ first_format → known_only places.Top t (top_keys n) ≡ Ok known → known_only places.Top t (top_keys first_format) ≡ Ok known
 first_known t n known e h = subst (λ m. known_only places.Top t (top_keys m) ≡ Ok known) e h
 
-newest : (t : Members) (s : SetupView) (p : ProfileName) (known : ℕ) → known_only places.Top t (top_keys FIRST_FORMAT) ≡ Ok known → optional places.Top t (codes "profile") Wide profile ≡ Ok p
+newest : (t : Members) (s : SetupView) (p : ProfileName) (known : ℕ) → known_only places.Top t (top_keys first_format) ≡ Ok known → optional places.Top t (codes "profile") Wide profile ≡ Ok p
     → setup_at p (migrated p s.plan t) ≡ Ok s → setup_of (migrated p s.plan t) ≡ Ok s
 unfolding setup_up_to
 newest t s p known e1 e2 e3 =
-    together _ _ NEWEST_FORMAT s (ap (λ o. at_key places.Top (codes "format") (needed (number FIRST_FORMAT NEWEST_FORMAT) o)) (format_member p s.plan t))
+    together _ _ newest_format s (ap (λ o. at_key places.Top (codes "format") (needed (number first_format newest_format) o)) (format_member p s.plan t))
     (together _ _ known s (known_after p s.plan t known e1)
     (together _ _ p s (optional_same p s.plan t (codes "profile") Wide _ (other_member p s.plan t (codes "profile") refl refl refl) ∙ e2) e3))
 
 pub same_setup : (t : Members) (s : SetupView) → first_format_setup_of t ≡ Ok s → IsPlan s.profile s.plan → setup_of (migrated s.profile s.plan t) ≡ Ok s
 unfolding setup_up_to
 same_setup t s e h =
-    let (format, e1, r1) = parts (required places.Top t (codes "format") (number FIRST_FORMAT FIRST_FORMAT)) _ s e in
+    let (format, e1, r1) = parts (required places.Top t (codes "format") (number first_format first_format)) _ s e in
     let (known, e2, r2) = parts (known_only places.Top t (top_keys format)) _ s r1 in
     let (p, e3, r3) = parts (optional places.Top t (codes "profile") Wide profile) _ s r2 in
-    let known_first : known_only places.Top t (top_keys FIRST_FORMAT) ≡ Ok known = first_known t format known (first_only t format e1) e2 in
+    let known_first : known_only places.Top t (top_keys first_format) ≡ Ok known = first_known t format known (first_only t format e1) e2 in
     let (same, done) = at_profile p t s (no_names t known known_first) r3 h in
     subst (λ q. setup_of (migrated q s.plan t) ≡ Ok s) (sym same) (newest t s p known known_first e3 done)

@@ -1,0 +1,8 @@
+use Rattle.orders.proofs.Tests.{same_answer, same_left}
+use Rattle.orders.proofs.laws.what_is_told_apart_is_told.Goals as goal
+
+pub returns-clause-answers : goal.returns-clause-answers
+returns-clause-answers c = same_answer
+
+pub returns-clause-left : goal.returns-clause-left
+returns-clause-left c = same_left
