@@ -457,6 +457,18 @@ def wrong_helps(program):
             yield f"help {words}: status {done.returncode}, wrote\n{done.stdout}{done.stderr}"
 
 
+def wrong_many(program):
+    """As many calls as a set-up can have, all refused, with long expectations but for the last: twenty expectations that no
+    reply can meet and the number of the others are told, and the refused call that expects nothing."""
+    calls, text = 65536, "x" * 120
+    refused = CALL.replace("cap = 4", "cap = 9") + 'op = "send"\n'
+    status, error = said(program, ["check"], FIRST + (refused + f'expect = "{text}"\n') * (calls - 1) + refused)
+    wanted = [*(f'call {n}: no reply to send begins with "{text}"' for n in range(1, 21)), f"{calls - 21} more",
+              f"1 call was refused where nothing was expected: {calls}; sel4sim why tells why"]
+    if status != 1 or not fits(error.splitlines(), wanted):
+        yield f"{calls} calls: status {status}, said\n{error[:4000]}"
+
+
 def wrong_lines(program):
     for words, first, part in LINES:
         status, error = said(program, words, "")
@@ -476,10 +488,10 @@ def wrong_streams(program):
 def main():
     program = sys.argv[1]
     wrong = [*wrong_setups(program), *wrong_expectations(program), *wrong_words(program), *wrong_places(program),
-             *wrong_lines(program), *wrong_helps(program), *wrong_streams(program)]
+             *wrong_many(program), *wrong_lines(program), *wrong_helps(program), *wrong_streams(program)]
     for text in wrong:
         print(text)
-    expectations = len(BEGINNINGS) + len(NO_BEGINNINGS) + len(REFUSALS) + len(NO_REFUSALS) + 5 * len(WORDS) + len(COMMANDS) + 1
+    expectations = len(BEGINNINGS) + len(NO_BEGINNINGS) + len(REFUSALS) + len(NO_REFUSALS) + 5 * len(WORDS) + len(COMMANDS) + 2
     print(f"{len(SETUPS) + expectations + len(PLACES) + len(LINES) + len(STREAMS)} messages, {len(wrong)} wrong")
     return 1 if wrong else 0
 

@@ -22,10 +22,13 @@ fn is_of_call(line: &str) -> bool {
 }
 
 /// The numbers of the calls of a report that were refused and have no expectation. The lines of the calls stand first: the
-/// others, which a full memory has many of, are not read.
+/// others, which a full memory has many of, are not read, nor is a last line without its end.
 fn unexpected_in(alloc: Global, report: &str) -> Result<Vec<&str>, AllocError> {
     let mut numbers = Vec::new(alloc);
-    for line in report.lines() {
+    for line in report.split_inclusive('\n') {
+        let Some(line) = line.strip_suffix('\n') else {
+            break;
+        };
         if !is_of_call(line) {
             break;
         }

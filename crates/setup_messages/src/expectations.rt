@@ -1,4 +1,5 @@
 //! Expectations that no reply can meet.
+ghost use Rattle.std.specs.Prelude.{◌<◌, length};
 ghost use Rattle.abstract_kernel.specs.Plan.{IsPlan};
 
 use crate::message::question;
@@ -29,6 +30,9 @@ const ENDPOINT_PLACE: usize = 1;
 
 /// The expectation of an exercise that is not answered yet. It is never met, and nothing is said of it.
 const UNANSWERED: &str = "?";
+
+/// How many expectations are told at the most.
+const MOST_WARNINGS: u64 = 20;
 
 /// What is said of a text that begins as a delivery, and is none.
 const DELIVERY: &str = "; a delivery reads delivered E from F to T badge B label L words W ..";
@@ -145,28 +149,63 @@ fn hint(alloc: Global, word: &str, text: &str) -> Result<String, AllocError> {
     }
 }
 
-/// A line for each call with whose expectation no reply of its operation begins.
+/// The expectation of a call, where it is answered and no reply of the call's operation begins with it.
+fn unmeetable(setup: &Setup, i: usize) -> Option<&str>
+    requires { i < length setup.now.calls }
+{
+    let expectation = setup.expect(i)?;
+    let word = word_of(op_name(&setup.calls()[i].op));
+    if expectation == UNANSWERED || is_beginning(word, expectation) {
+        None
+    } else {
+        Some(expectation)
+    }
+}
+
+/// Adds the line of a call whose expectation no reply of its operation begins with.
+fn add_warning(
+    message: &mut String,
+    alloc: Global,
+    named: &NamedSetup,
+    i: usize,
+    expectation: &str,
+) -> Result<(), AllocError>
+    requires plan { IsPlan named.now.setup.profile named.now.setup.plan }
+    requires call { i < length named.now.setup.calls }
+{
+    let op = op_name(&named.setup.calls()[i].op);
+    let (n, name, word) = (i.saturating_add(1), op.text(), word_of(op));
+    let numbered = with_numbers(alloc, named, expectation.trim())?;
+    let hint = hint(alloc, word, numbered.as_str())?;
+    writeln!(
+        message,
+        "call {n}: no reply to {name} begins with {expectation:?}{hint}"
+    )
+}
+
+/// A line for each of the first calls whose expectation no reply of their operation begins with, and how many more there are.
 fn warnings_on(alloc: Global, named: &NamedSetup) -> Result<String, AllocError>
     requires { IsPlan named.now.setup.profile named.now.setup.plan }
 {
-    let (setup, mut message) = (&named.setup, String::new(alloc));
-    for i in 0..setup.calls().len() {
-        let op = op_name(&setup.calls()[i].op);
-        let (n, name, word) = (i.saturating_add(1), op.text(), word_of(op));
-        let expectation = setup.expect(i).unwrap_or(UNANSWERED);
-        if expectation != UNANSWERED && !is_beginning(word, expectation) {
-            let numbered = with_numbers(alloc, named, expectation.trim())?;
-            let hint = hint(alloc, word, numbered.as_str())?;
-            write!(
-                message,
-                "call {n}: no reply to {name} begins with {expectation:?}{hint}\n"
-            )?;
+    let (mut message, mut count) = (String::new(alloc), 0_u64);
+    for i in 0..named.setup.calls().len() {
+        let Some(expectation) = unmeetable(&named.setup, i) else {
+            continue;
+        };
+        count = count.saturating_add(1);
+        if count <= MOST_WARNINGS {
+            add_warning(&mut message, alloc, named, i, expectation)?;
         }
+    }
+    if count > MOST_WARNINGS {
+        let more = count - MOST_WARNINGS;
+        writeln!(message, "{more} more")?;
     }
     Ok(message)
 }
 
-/// A line for each call of a set-up with whose expectation no reply of its operation begins; none where the set-up is refused.
+/// A line for each of the first 20 calls of a set-up whose expectation no reply of their operation begins with, and a line with
+/// how many more there are; nothing where the set-up is refused.
 ///
 /// # Errors
 /// Where memory was refused.
