@@ -50,8 +50,8 @@ pub fn first_orders_are_the_shortest()
     ensures stuck { (p : ProfileName) (own : List (List Call)) (w : World) (first : List ℕ) (count : ℕ) → AreShortestStuck p own w first count }
 {}
 
-/// Two answers, or two calls that are left, pass the test by which they are taken for one only where they are one.
-pub fn what_is_told_apart_is_told()
+/// Two answers that `==` takes for equal are the same, and so are two calls that are left.
+pub fn answers_that_compare_equal_are_the_same()
     ensures answers { (a b : AnswerOf) → ⟦<Answer as PartialEq>⟧.eq a b ≡ true → a ≡ b }
     ensures left { (a b : LeftCallOf) → ⟦<LeftCall as PartialEq>⟧.eq a b ≡ true → a ≡ b }
 {}

@@ -7,7 +7,7 @@ use Rattle.std.proofs.Math.Seq.{drop-append_seam}
 use Rattle.toml.specs.Data.{Data, Members, Items, as_array, get_member}
 use Rattle.cap_core.specs.declared.profile.ProfileName.{ProfileName}
 use Rattle.cap_core.specs.declared.profile.ProfileName.TheVariants.{Wide}
-use Rattle.cap_core.specs.Limits.{MAX_MESSAGE_WORDS}
+use Rattle.cap_core.specs.declared.limits.TheConstants.{MAX_MESSAGE_WORDS}
 use Rattle.cap_core.specs.Numbers.{word_bits, label_bits, min_untyped_bits, max_object_bits}
 use Rattle.cap_core.specs.Rights.{all_rights}
 use Rattle.abstract_kernel.specs.declared.plan.PlanDefect.{PlanDefect}

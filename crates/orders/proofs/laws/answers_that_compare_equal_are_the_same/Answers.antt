@@ -1,5 +1,5 @@
 use Rattle.orders.proofs.Tests.{same_answer, same_left}
-use Rattle.orders.proofs.laws.what_is_told_apart_is_told.Goals as goal
+use Rattle.orders.proofs.laws.answers_that_compare_equal_are_the_same.Goals as goal
 
 pub returns-clause-answers : goal.returns-clause-answers
 returns-clause-answers c = same_answer
