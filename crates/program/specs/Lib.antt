@@ -1,5 +1,6 @@
 pub mod Commas
 pub mod Ends
+pub mod Host
 pub mod Jobs
 pub mod NewWords
 pub mod Texts

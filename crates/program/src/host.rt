@@ -1,20 +1,22 @@
 //! The program over the process that it runs in: its words, its standard streams and its files.
 ghost use Rattle.std.specs.Prelude.{⊤};
+ghost use Rattle.clap.specs.Walk.{texts};
+ghost use Rattle.program.specs.Host.{IsStatusOf, IsUnread};
 
 use crate::front::FrontWriter;
 use crate::lines::run_words;
 use command_line::LineFault;
 use engine::CountedText;
-use engine_core::{KeptReader, KeptWriter, ReaderSource, WriterSink};
+use engine_core::{KeptReader, KeptWriter, ReaderSource, Sink, Source, WriterSink};
 use engine_files::{Inputs, Listener, Used};
 use program_messages::{Output, complain, tell, tell_of_file};
 use std::env::{self, Env};
 use std::fs::{self, Files};
-use std::io::{self, Eprint, ErrorKind, Input};
+use std::io::{self, Eprint, ErrorKind, Input, Printer};
 use std::sync::Wait;
 use std::thread::Threads;
 
-/// The inputs of a process, whose bytes nobody can name.
+/// The inputs of a process. Nobody can name their bytes: of what was opened is known that nothing was read of it yet.
 #[derive(Clone, Copy)]
 struct HostInputs<'a, R> {
     rt: &'a R,
@@ -27,9 +29,9 @@ impl<R: Files + Input + AllocGlobal> Inputs for HostInputs<'_, R> {
 
     type Fault = io::Error;
 
-    ghost is_standard = { λ host source. ⊤ };
+    ghost is_standard = { λ host source. IsUnread source };
 
-    ghost is_file = { λ host name source. ⊤ };
+    ghost is_file = { λ host name source. IsUnread source };
 
     ghost is_fault = { λ host name fault. ⊤ };
 
@@ -86,7 +88,11 @@ fn refuse<R: Eprint>(rt: &R, fault: LineFault) -> u8 {
 fn run_texts<R: Files + Input + Print + Eprint + AllocGlobal + Threads + Wait + Sync>(
     rt: &R,
     words: &[&str],
-) -> u8 {
+) -> u8
+    ensures { IsStatusOf IsUnread (λ name. IsUnread) (λ name fault. ⊤)
+        ⟦<ReaderSource<KeptReader<R::Reader>> as Source>⟧ ⟦<ReaderSource<KeptReader<R::File>> as Source>⟧
+        ⟦<WriterSink<FrontWriter<KeptWriter<Printer<'_, R>>>> as Sink>⟧ (texts words.now) result }
+{
     let writer = FrontWriter::new(rt.alloc(), KeptWriter::new(io::writer(rt)));
     let mut sink = WriterSink::new(writer);
     let ended = run_words(
