@@ -27,8 +27,9 @@ pub fn checked_text(alloc: Global, bytes: &[u8]) -> Result<CountedText, AllocErr
     >(alloc, bytes)
 }
 
-/// Makes the report of a set-up's run, by the linked forms.
-struct Checker;
+/// The report of a set-up's run, by the linked forms. The verdict is that of the expectations.
+#[derive(Clone, Copy)]
+pub struct Checker;
 
 impl Engine for Checker {
     ghost means = { λ checker input text verdict. program input ≡ (text, verdict) };

@@ -3,13 +3,17 @@
 #![tactic(auto)]
 
 mod checking;
+mod command;
 mod migrating;
 mod run;
+mod state;
 
-pub use checking::{check, checked_text};
+pub use checking::{Checker, check, checked_text};
+pub use command::{Command, OnSetup, answered};
 pub use engine_core::{
     DeviceFault, Engine, INPUT_LIMIT, ReaderSource, RunFault, Sink, Source, Verdict, WriterSink,
     read_below, run_engine, status_of, write_all,
 };
-pub use migrating::{migrate_run, table_text};
+pub use migrating::{Migrator, table_text};
 pub use run::{CountedText, counted_text_of, refusal, text_of, verdict_on};
+pub use state::{OnState, StateCommand};

@@ -6,4 +6,4 @@ mod making;
 mod text;
 
 pub use asked::NewSetup;
-pub use making::new_run;
+pub use making::Maker;

@@ -1,13 +1,12 @@
 //! The engine that makes a set-up to start from.
-ghost use Rattle.std.specs.Prelude.{◌≡◌, ◌≢◌, true, false, [], option_copied, IfOk, IfSome};
+ghost use Rattle.std.specs.Prelude.{◌≡◌, true, [], option_copied, IfOk, IfSome};
 ghost use Rattle.abstract_kernel.specs.Plan.{IsPlan};
-ghost use Rattle.engine_core.specs.Runs.{IsRun};
 ghost use Rattle.engine_new.specs.New.{IsMade, IsMadeOf, IsNew};
 
 use crate::asked::NewSetup;
 use crate::text::{sizes_text, whole_text};
 use cap_core::limits::MAX_MEMORY_BITS;
-use engine_core::{Engine, RunFault, Sink, Source, Verdict, run_engine};
+use engine_core::{Engine, RunFault, Verdict};
 use setup_format::{Setup, SetupFault, read_setup};
 use std::alloc::{AllocError, Global};
 
@@ -66,10 +65,12 @@ fn made_of(alloc: Global, asked: &NewSetup) -> Result<(Vec<u8>, Verdict), AllocE
     }
 }
 
-/// Makes a set-up of the sizes that are given, if they are.
+/// A set-up of the sizes that are given, whatever the input is, with a name for each thread, each capability's slot and one call
+/// as an example. The verdict is `AllMet`, or `Absent` with nothing written: where no sizes are given, where no memory has room
+/// for such a set-up, or where a size is none that a set-up can have.
 #[derive(Clone, Copy)]
-struct Maker<'a> {
-    asked: Option<&'a NewSetup>,
+pub struct Maker<'a> {
+    pub asked: Option<&'a NewSetup>,
 }
 
 impl Maker<'_> {
@@ -90,27 +91,4 @@ impl Engine for Maker<'_> {
     fn make(&self, alloc: Global, input: &[u8]) -> Result<(Vec<u8>, Verdict), RunFault> {
         self.made(alloc).map_err(|_| RunFault::Memory)
     }
-}
-
-/// Reads the source to its end, whatever it has, and writes to the sink a set-up of the sizes that are asked for, with a name
-/// for each thread, each capability's slot and one call as an example. The verdict is `AllMet`, or `Absent` with nothing
-/// written: where no sizes are given, where no memory has room for such a set-up, or where a size is none that a set-up can
-/// have.
-///
-/// # Errors
-/// `Reading` where a read failed in this call, or where `INPUT_LIMIT` bytes came without an end; nothing is written
-/// then. `Writing` where a write failed or took no byte; a front of the text was written then. `Memory`; nothing is
-/// written then.
-pub fn new_run<S: Source, K: Sink>(
-    alloc: Global,
-    asked: Option<&NewSetup>,
-    source: &mut S,
-    sink: &mut K,
-) -> Result<Verdict, RunFault>
-    requires source { S.failed source.old ≡ false }
-    requires sink { K.failed sink.old ≡ false }
-    ensures run { IsRun (IsMade (option_copied asked.entry)) S.Source K.Sink source.old source.new sink.old sink.new result }
-    ensures never_thread { result ≢ Err RunFault.Thread }
-{
-    run_engine(alloc, &Maker { asked }, source, sink)
 }

@@ -1,14 +1,15 @@
 //! Migrations by the program's engine, read back by its check.
 use crate::fakes::{reader, writer};
 use crate::stored_run::STORED;
-use engine::{ReaderSource, WriterSink, check, migrate_run, status_of};
+use engine::{Migrator, ReaderSource, WriterSink, check, run_engine, status_of};
 use std::alloc::Global;
 
 /// The text that a migration of a set-up writes, and the exit status.
 fn migrated(alloc: Global, setup: &[u8]) -> (Vec<u8>, u8) {
     let mut out = writer(alloc, usize::MAX, usize::MAX, false);
     let mut source = ReaderSource::new(reader(setup, 64, usize::MAX));
-    let answer = migrate_run(alloc, &mut source, &mut WriterSink::new(&mut out));
+    let mut sink = WriterSink::new(&mut out);
+    let answer = run_engine(alloc, &Migrator, &mut source, &mut sink);
     (out.taken, status_of(&answer))
 }
 

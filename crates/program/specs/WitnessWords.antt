@@ -3,7 +3,8 @@ use Rattle.std.specs.Prelude.{◌≡◌, ℕ, codes, true, false, List, Option, 
 use Rattle.std.specs.Str.{bytes_eq}
 use Rattle.command_line.specs.CommandLine.{Says}
 use Rattle.engine_core.specs.declared.fault.Verdict.{Verdict}
-use Rattle.engine_explore.specs.Witnessed.{IsWitness, witness_of_bytes}
+use Rattle.engine.specs.Commands.{IsAnswerTo}
+use Rattle.engine_explore.specs.Witnessed.{IsWitness}
 use Rattle.setup_explore.specs.declared.witness.Witness.{Witness}
 use Rattle.setup_explore.specs.declared.witness.Witness.TheVariants.{Answer, Stuck}
 use Rattle.program.specs.Texts.{before_mark, behind_mark}
@@ -29,4 +30,4 @@ Names which (Stuck place) = (bytes_eq (before_dot which) (codes "stuck") ≡ tru
 -- the set-up with the calls of the order that the text names
 abbrev pub IsNamedWitness : List ℕ → ℕ → ℕ → List ℕ → List ℕ → Verdict → Type 0
 IsNamedWitness which first states input text verdict =
-    (witness : Witness) × Names which witness × IsWitness (witness_of_bytes first states witness input) text verdict
+    (witness : Witness) × Names which witness × IsAnswerTo (IsWitness first states witness) input text verdict

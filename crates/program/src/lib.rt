@@ -9,6 +9,7 @@ mod lines;
 mod marks;
 mod new_setup;
 mod witness;
+mod work;
 
 pub use engine_files::{Inputs, Listener, Used};
 pub use host::run;

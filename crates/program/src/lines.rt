@@ -5,7 +5,7 @@ ghost use Rattle.engine_files.specs.Files.{IsCheckOf, IsInput};
 ghost use Rattle.program.specs.Ends.{IsDone, IsEnd, IsWriting, named_input};
 ghost use Rattle.program.specs.NewWords.{IsNewOf};
 
-use crate::jobs::{run_job, write_new};
+use crate::jobs::{run_job, run_work};
 use command_line::{Job, Line, LineFault, line};
 use engine_core::{ReaderSource, RunFault, Sink, write_all};
 use engine_files::{Inputs, Listener, Used, check_files};
@@ -77,7 +77,7 @@ fn run_new<'a, S, F, E, K: Sink>(alloc: Global, line: Line<'a>, sink: &mut K) ->
 {
     let nothing: &[u8] = &[];
     let mut source = ReaderSource::new(nothing);
-    let answer = write_new(alloc, line.options, &mut source, sink);
+    let answer = run_work(alloc, Job::New, line.options, &mut source, sink);
     Done {
         line,
         input: Used::Nothing,

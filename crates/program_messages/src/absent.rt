@@ -1,7 +1,7 @@
 //! What the options of a command line name and a set-up does not have.
 use crate::sizes::absent_size;
 use command_line::{Job, Line, Options};
-use setup_format::{NamedSetup, read_named_setup};
+use setup_format::{ReadSetup, read};
 use std::alloc::{AllocError, Global};
 
 /// From this number on no digits are an address.
@@ -14,7 +14,7 @@ fn is_address(word: &str) -> bool {
 }
 
 /// Whether a word is an address or a name of the set-up, which can have a `@` before it.
-fn is_known(named: &NamedSetup, word: &str) -> bool {
+fn is_known(named: &ReadSetup, word: &str) -> bool {
     let text = word.strip_prefix("@").unwrap_or(word);
     let is_name = named.names.iter().any(|name| name.text.as_str() == text);
     is_name || is_address(word)
@@ -23,7 +23,7 @@ fn is_known(named: &NamedSetup, word: &str) -> bool {
 /// Of the words of an option the first that means nothing.
 fn absent_word(
     alloc: Global,
-    named: &NamedSetup,
+    named: &ReadSetup,
     option: &str,
     words: &str,
 ) -> Result<Option<String>, AllocError> {
@@ -43,7 +43,7 @@ fn absent_word(
 /// What is absent of the two threads of `--never`: one of them is asked for, where no word is at fault.
 fn absent_threads(
     alloc: Global,
-    named: &NamedSetup,
+    named: &ReadSetup,
     threads: &str,
 ) -> Result<Option<String>, AllocError> {
     if threads.split(',').count() != 2 {
@@ -92,7 +92,7 @@ fn absent_calls(
 /// Of the words of some options the first that means nothing.
 fn absent_words(
     alloc: Global,
-    named: &NamedSetup,
+    named: &ReadSetup,
     options: Options<'_>,
 ) -> Result<Option<String>, AllocError> {
     if let Some(without) = options.without {
@@ -127,7 +127,7 @@ fn absent_slot(
 /// What is absent of an audit.
 fn absent_in_audit(
     alloc: Global,
-    named: &NamedSetup,
+    named: &ReadSetup,
     options: Options<'_>,
     calls: u64,
 ) -> Result<Option<String>, AllocError> {
@@ -158,7 +158,7 @@ fn absent_order(alloc: Global, options: Options<'_>) -> Result<Option<String>, A
 fn absent_in(
     alloc: Global,
     line: &Line<'_>,
-    named: &NamedSetup,
+    named: &ReadSetup,
 ) -> Result<Option<String>, AllocError> {
     let calls = named.setup.calls().len() as u64;
     match line.job {
@@ -179,7 +179,7 @@ pub fn absence(alloc: Global, line: &Line<'_>, bytes: &[u8]) -> Result<Option<St
     if let Job::New = line.job {
         return Ok(Some(absent_size(alloc, line.options)?));
     }
-    match read_named_setup(alloc, bytes) {
+    match read(alloc, bytes) {
         Ok(named) => absent_in(alloc, line, &named),
         Err(_) => Ok(None),
     }

@@ -8,7 +8,6 @@ use Rattle.abstract_kernel.specs.State.{State, shown}
 use Rattle.setup_values.specs.Names.{Names}
 use Rattle.setup_format.specs.Views.{SetupView}
 use Rattle.setup_report.specs.State.{endpoints, slot_rows}
-use Rattle.setup_report.specs.Behind.{state_behind, calls_made}
 use Rattle.trace_lines.specs.Changes.{changes, state_lines}
 use Rattle.trace_lines.specs.Names.{name_lines}
 use Rattle.setup_audit.specs.declared.threads.ThreadSlots.{ThreadSlots}
@@ -57,11 +56,3 @@ IsWholeAnswer p names setup made A answer = (text : List ℕ) × ((answer ≡ So
 abbrev pub IsAuditOf : ProfileName → Names → SetupView → ℕ → Option ℕ → State → Option (List ℕ) → Type 0
 IsAuditOf p names setup made None A answer = IsWholeAnswer p names setup made A answer
 IsAuditOf p names setup made (Some slot) A answer = answer ≡ slot_answer p names setup made slot A
-
-abbrev pub IsAuditBehind : ProfileName → Names → SetupView → Option ℕ → Option ℕ → Option (List ℕ) → Type 0
-IsAuditBehind p names setup None slot answer = answer ≡ None
-IsAuditBehind p names setup (Some made) slot answer = IsAuditOf p names setup made slot (state_behind p setup made) answer
-
--- a text, or none: where the set-up has fewer calls than are asked for, and where no full slot is asked for
-abbrev pub IsAudit : ProfileName → Names → SetupView → Option ℕ → Option ℕ → Option (List ℕ) → Type 0
-IsAudit p names setup after slot answer = IsAuditBehind p names setup (calls_made setup after) slot answer

@@ -6,3 +6,4 @@ pub mod Channels
 pub mod Ends
 pub mod Revokes
 pub mod Audit
+pub mod Audits

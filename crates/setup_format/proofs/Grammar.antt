@@ -4,3 +4,5 @@ pub mod Keys
 pub mod Ends
 pub mod Beside
 pub mod Entries
+pub mod Parts
+pub mod Reads

@@ -9,6 +9,7 @@ pub mod Views
 pub mod Operations
 pub mod Messages
 pub mod Setups
-pub mod Named
+pub mod Read
+pub mod Laws
 pub mod Refusal
 pub mod Private

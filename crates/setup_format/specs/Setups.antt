@@ -20,7 +20,7 @@ use Rattle.setup_format.specs.Faults.{Fault, text, layout}
 use Rattle.setup_format.specs.Tables.{required, optional, known_only}
 use Rattle.setup_values.specs.Operations.{call_keys}
 use Rattle.setup_format.specs.Operations.{operation_at}
-use Rattle.setup_format.specs.Views.{CallView, SetupView}
+use Rattle.setup_format.specs.Views.{CallView, SetupView, ReadView}
 
 -- ---- untyped tables
 
@@ -123,12 +123,12 @@ setup_of table = setup_up_to newest_format table
 abbrev pub first_format_setup_of : Members → Result SetupView Fault
 first_format_setup_of table = setup_up_to first_format table
 
--- a set-up, beside the names that its table gives to words: they are how it is spelt, and no part of it
-unfoldable pub named_setup_of : Members → Result (Names × SetupView) Fault
-named_setup_of table = do
+-- a set-up, with its table and the names that the table gives to words
+unfoldable pub read_of : Members → Result ReadView Fault
+read_of table = do
   setup ← setup_of table
   names ← names_of setup.profile table
-  Ok (names, setup)
+  Ok (record { table = table; names = names; setup = setup })
 
 -- ---- bytes
 
@@ -146,5 +146,5 @@ setup_of_bytes bytes = document_of bytes >>= setup_of
 unfoldable pub first_format_setup_of_bytes : List ℕ → Result SetupView Fault
 first_format_setup_of_bytes bytes = document_of bytes >>= first_format_setup_of
 
-unfoldable pub named_setup_of_bytes : List ℕ → Result (Names × SetupView) Fault
-named_setup_of_bytes bytes = document_of bytes >>= named_setup_of
+unfoldable pub read_of_bytes : List ℕ → Result ReadView Fault
+read_of_bytes bytes = document_of bytes >>= read_of

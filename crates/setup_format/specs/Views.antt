@@ -1,6 +1,8 @@
 -- What is seen of a set-up.
 use Rattle.std.specs.Prelude.{ℕ, ◌≤◌, ◌<◌, List, [], ◌∷◌, length, All, Option, option_map, string_bytes}
+use Rattle.toml.specs.Data.{Members}
 use Rattle.cap_core.specs.declared.profile.ProfileName.{ProfileName}
+use Rattle.setup_values.specs.Names.{Names}
 use Rattle.abstract_kernel.specs.declared.call.Call.{Call}
 use Rattle.abstract_kernel.specs.Plan.{Plan}
 use Rattle.cap_core.specs.Limits.{max_clients, max_history_limit}
@@ -19,6 +21,12 @@ pub record SetupView : Type 0 where
   pub clients : ℕ
   pub limit : ℕ
   pub calls : List CallView
+
+-- a set-up as it was read: with the table of its text and the names by which it is spelt, which are no part of it
+pub record ReadView : Type 0 where
+  pub table : Members
+  pub names : Names
+  pub setup : SetupView
 
 -- ---- what a set-up is, as the code keeps it
 

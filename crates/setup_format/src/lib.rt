@@ -3,16 +3,17 @@
 
 pub mod fault;
 pub mod limits;
+mod laws;
 mod operations;
-mod read;
+mod reading;
 mod refusal;
 pub mod setup;
 mod tables;
 
 pub use fault::{Key, Place, SetupFault, Wrong};
+pub use laws::what_is_read_is_the_set_up;
 pub use operations::op_name;
-pub use read::{
-    read_document, read_first_format, read_named_setup, read_setup, read_table, top_keys,
-    untyped_keys,
+pub use reading::{
+    read, read_document, read_first_format, read_setup, read_table, top_keys, untyped_keys,
 };
-pub use setup::{NamedSetup, Setup};
+pub use setup::{ReadSetup, Setup};

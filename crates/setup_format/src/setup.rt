@@ -9,6 +9,7 @@ use setup_values::Name;
 pub use setup_values::{OpName, Words};
 use std::alloc::{AllocError, Global};
 use std::marker::Model;
+use toml::Table;
 
 /// The sizes of a boot plan.
 #[derive(Clone, Copy)]
@@ -109,9 +110,11 @@ pub struct Setup {
     calls: SetupCalls,
 }
 
-/// A set-up, and the names by which it is spelt, in the order of their bytes. They are no part of what it means.
+/// A set-up as it was read: the table of its text, and the names by which it is spelt, in the order of their bytes. Neither is
+/// a part of what the set-up means.
 #[derive(Drop)]
-pub struct NamedSetup {
+pub struct ReadSetup {
+    pub table: Table,
     pub names: Vec<Name>,
     pub setup: Setup,
 }

@@ -6,7 +6,7 @@ use crate::message::question;
 use crate::near::nearest;
 use cap_core::limits::MAX_MESSAGE_WORDS;
 use cap_core::{Narrow, ProfileName, Wide};
-use setup_format::{NamedSetup, Setup, op_name, read_named_setup};
+use setup_format::{ReadSetup, Setup, op_name, read};
 use setup_values::OpName;
 use std::alloc::{AllocError, Global};
 use std::fmt::Write;
@@ -106,7 +106,7 @@ fn endpoint_at(setup: &Setup, slot: u64) -> Option<u64>
 
 /// The number that a reply has at a place, 0 the first, for a text of `@` and a name. An endpoint's name stands for its slot, and
 /// a reply has its address.
-fn number_of_name(named: &NamedSetup, place: usize, text: &str) -> Option<u64>
+fn number_of_name(named: &ReadSetup, place: usize, text: &str) -> Option<u64>
     requires { IsPlan named.now.setup.profile named.now.setup.plan }
 {
     let text = text.strip_prefix('@')?;
@@ -118,7 +118,7 @@ fn number_of_name(named: &NamedSetup, place: usize, text: &str) -> Option<u64>
 }
 
 /// An expectation with numbers in the place of names.
-fn with_numbers(alloc: Global, named: &NamedSetup, text: &str) -> Result<String, AllocError>
+fn with_numbers(alloc: Global, named: &ReadSetup, text: &str) -> Result<String, AllocError>
     requires { IsPlan named.now.setup.profile named.now.setup.plan }
 {
     let mut numbered = String::new(alloc);
@@ -166,7 +166,7 @@ fn unmeetable(setup: &Setup, i: usize) -> Option<&str>
 fn add_warning(
     message: &mut String,
     alloc: Global,
-    named: &NamedSetup,
+    named: &ReadSetup,
     i: usize,
     expectation: &str,
 ) -> Result<(), AllocError>
@@ -184,7 +184,7 @@ fn add_warning(
 }
 
 /// A line for each of the first calls whose expectation no reply of their operation begins with, and how many more there are.
-fn warnings_on(alloc: Global, named: &NamedSetup) -> Result<String, AllocError>
+fn warnings_on(alloc: Global, named: &ReadSetup) -> Result<String, AllocError>
     requires { IsPlan named.now.setup.profile named.now.setup.plan }
 {
     let (mut message, mut count) = (String::new(alloc), 0_u64);
@@ -210,7 +210,7 @@ fn warnings_on(alloc: Global, named: &NamedSetup) -> Result<String, AllocError>
 /// # Errors
 /// Where memory was refused.
 pub fn unmet_warnings(alloc: Global, bytes: &[u8]) -> Result<String, AllocError> {
-    match read_named_setup(alloc, bytes) {
+    match read(alloc, bytes) {
         Ok(named) => warnings_on(alloc, &named),
         Err(_) => Ok(String::new(alloc)),
     }

@@ -1,7 +1,7 @@
 //! Runs of set-ups from bytes to bytes: the text that is written, and the exit status.
 use crate::stored as wanted;
-use engine::{ReaderSource, WriterSink, status_of};
-use setup_trace::trace_run;
+use engine::{OnSetup, ReaderSource, WriterSink, run_engine, status_of};
+use setup_trace::Trace;
 use std::alloc::Global;
 use std::process::Abort;
 
@@ -19,7 +19,8 @@ fn traced(alloc: Global, setup: &[u8]) -> (Vec<u8>, u8) {
     let mut out = Vec::new(alloc);
     let mut source = ReaderSource::new(setup);
     let mut sink = WriterSink::new(&mut out);
-    let answer = trace_run(alloc, &mut source, &mut sink);
+    let command = Trace;
+    let answer = run_engine(alloc, &OnSetup { command }, &mut source, &mut sink);
     (out, status_of(&answer))
 }
 

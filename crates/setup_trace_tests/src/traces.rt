@@ -2,7 +2,7 @@
 use crate::stored as wanted;
 use cap_core::{Narrow, ProfileName, Wide};
 use ipc_core::{LinkedWaiters, MakeWaiters, RowWaiters};
-use setup_format::{NamedSetup, SetupFault, read_document, read_named_setup};
+use setup_format::{ReadSetup, SetupFault, read};
 use setup_trace::trace;
 use slot_core::{DerivationStore, LinkedStore, MakeStore, RowStore};
 use std::alloc::Global;
@@ -13,8 +13,11 @@ fn trace_of<S: MakeStore<Wide> + DerivationStore<Wide>, W: MakeWaiters<Wide>>(
     alloc: Global,
     text: &str,
 ) -> Result<Vec<u8>, SetupFault> {
-    let table = read_document(alloc, text.as_bytes())?;
-    let NamedSetup { names, setup } = read_named_setup(alloc, text.as_bytes())?;
+    let ReadSetup {
+        table,
+        names,
+        setup,
+    } = read(alloc, text.as_bytes())?;
     let names = names.as_slice();
     let traced = match setup.profile() {
         ProfileName::Wide => trace::<Wide, S, W>(alloc, &table, names, &setup),

@@ -3,7 +3,6 @@
 use Rattle.std.specs.Prelude.{codes, ℕ, List, [], ◌∷◌, ◌++◌, length, Option, Some, None}
 use Rattle.std.specs.List.{flat_map}
 use Rattle.std.specs.Fmt.{decimal}
-use Rattle.cap_core.specs.declared.profile.ProfileName.{ProfileName}
 use Rattle.cap_core.specs.declared.capability.Cap.{Cap}
 use Rattle.cap_core.specs.declared.capability.Cap.TheVariants.{Null, Untyped, Endpoint, CNode, Tcb}
 use Rattle.derivation.specs.Forest.{Forest}
@@ -15,7 +14,6 @@ use Rattle.setup_format.specs.Views.{SetupView}
 use Rattle.setup_report.specs.Text.{cap_text}
 use Rattle.setup_report.specs.Report.{terminated}
 use Rattle.setup_report.specs.State.{Derived}
-use Rattle.setup_report.specs.Behind.{state_behind, calls_made}
 use Rattle.setup_tree.specs.declared.form.Form.{Form}
 use Rattle.setup_tree.specs.declared.form.Form.TheVariants.{Lines, Dot}
 
@@ -91,17 +89,8 @@ abbrev pub graph_text : Names → SetupView → ℕ → Forest Entry → List �
 graph_text names setup made f =
     (graph_head (head_text setup made) ++ flat_map (node_lines names) (derivations_of f)) ++ terminated (codes "}")
 
--- ---- behind so many calls
+-- ---- in a form
 
 abbrev pub text_in : Form → Names → SetupView → ℕ → Forest Entry → List ℕ
 text_in Lines names setup made f = forest_text names setup made f
 text_in Dot names setup made f = graph_text names setup made f
-
--- of the state behind so many calls
-abbrev pub tree_behind : ProfileName → Form → Names → SetupView → Option ℕ → Option (List ℕ)
-tree_behind p form names setup None = None
-tree_behind p form names setup (Some made) = Some (text_in form names setup made (state_behind p setup made).derivations)
-
--- behind the calls that are asked for; none where the set-up has fewer
-abbrev pub tree_of : ProfileName → Form → Names → SetupView → Option ℕ → Option (List ℕ)
-tree_of p form names setup after = tree_behind p form names setup (calls_made setup after)

@@ -1,16 +1,14 @@
-//! The derivation forest of a set-up, from the bytes of an input to the text that is written for it: each full slot below the
-//! slot that it is derived from, or a graph.
+//! The derivation forest of a set-up as text: each full slot below the slot that it is derived from, or a graph.
 #![tactic(auto)]
 
-mod drawing;
+mod command;
 mod form;
 mod graph;
 mod head;
 mod lines;
 mod path;
-mod run;
 mod slot;
+mod text;
 
-pub use drawing::tree_run;
+pub use command::Tree;
 pub use form::Form;
-pub use run::tree;

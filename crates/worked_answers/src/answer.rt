@@ -1,5 +1,8 @@
 //! What a set-up answers, and the answer that is wanted.
 use crate::files::read;
+use engine::{Command, OnSetup};
+use engine_core::{ReaderSource, WriterSink, run_engine, status_of};
+use std::alloc::Global;
 use std::fs::Files;
 
 /// The text that was written, and the exit status.
@@ -7,6 +10,18 @@ use std::fs::Files;
 pub struct Answer {
     pub text: Vec<u8>,
     pub status: u8,
+}
+
+/// What a command writes of a set-up, and the exit status.
+pub fn answer_of<C: Command + Drop>(alloc: Global, command: C, setup: &[u8]) -> Answer {
+    let mut text = Vec::new(alloc);
+    let mut source = ReaderSource::new(setup);
+    let mut sink = WriterSink::new(&mut text);
+    let end = run_engine(alloc, &OnSetup { command }, &mut source, &mut sink);
+    Answer {
+        text,
+        status: status_of(&end),
+    }
 }
 
 /// Whether a line tells of something that is not well: that a part is not kept from another, that an expectation is not met,

@@ -1,8 +1,7 @@
 //! What every order of the calls of a set-up's clients comes to.
-use crate::answer::Answer;
+use crate::answer::{Answer, answer_of};
 use crate::files::number_in;
-use engine_core::{ReaderSource, WriterSink, status_of};
-use engine_explore::{ExploreOptions, explore_run};
+use engine_explore::{Explore, ExploreOptions};
 use std::alloc::Global;
 
 /// The limit on states that the program takes where none is given.
@@ -16,16 +15,5 @@ pub fn answer(alloc: Global, file: &str, setup: &[u8]) -> anyhow::Result<Answer>
         first: usize::try_from(first)?,
         states,
     };
-    Ok(exploration(alloc, options, setup))
-}
-
-fn exploration(alloc: Global, options: ExploreOptions, setup: &[u8]) -> Answer {
-    let mut text = Vec::new(alloc);
-    let mut source = ReaderSource::new(setup);
-    let mut sink = WriterSink::new(&mut text);
-    let end = explore_run(alloc, options, &mut source, &mut sink);
-    Answer {
-        text,
-        status: status_of(&end),
-    }
+    Ok(answer_of(alloc, Explore { options }, setup))
 }

@@ -1,9 +1,9 @@
 //! What the threads of a set-up can ever get, and whether the part of one is kept from that of another.
-use crate::answer::Answer;
+use crate::answer::{Answer, answer_of};
 use crate::files::read;
-use engine_core::{ReaderSource, RunFault, Verdict, WriterSink, status_of};
-use engine_never::{Question, never_run};
-use setup_ever::ever_run;
+use engine::OnState;
+use engine_never::Question;
+use setup_ever::Ever;
 use std::alloc::Global;
 use std::fs::Files;
 
@@ -71,34 +71,25 @@ impl<'a> Asked<'a> {
         Ok(())
     }
 
-    /// Writes what is asked of a set-up.
-    fn write(&self, alloc: Global, setup: &[u8], text: &mut Vec<u8>) -> Result<Verdict, RunFault> {
-        let mut source = ReaderSource::new(setup);
-        let mut sink = WriterSink::new(text);
+    /// The answer to what is asked of a set-up.
+    fn answer(&self, alloc: Global, setup: &[u8]) -> Answer {
         let after = self.after;
         let without = self.without.as_slice();
         match self.between {
-            None => ever_run(alloc, after, without, &mut source, &mut sink),
+            None => {
+                let command = Ever { without };
+                answer_of(alloc, OnState { command, after }, setup)
+            }
             Some((from, to)) => {
                 let by = self.by.as_slice();
-                let question = Question {
-                    after,
+                let command = Question {
                     without,
                     from,
                     to,
                     by,
                 };
-                never_run(alloc, &question, &mut source, &mut sink)
+                answer_of(alloc, OnState { command, after }, setup)
             }
-        }
-    }
-
-    fn answer(&self, alloc: Global, setup: &[u8]) -> Answer {
-        let mut text = Vec::new(alloc);
-        let end = self.write(alloc, setup, &mut text);
-        Answer {
-            text,
-            status: status_of(&end),
         }
     }
 }

@@ -1,8 +1,8 @@
 //! The derivation forest of a set-up, as lines or as a graph.
-use crate::answer::Answer;
+use crate::answer::{Answer, answer_of};
 use crate::files::number_in;
-use engine_core::{ReaderSource, WriterSink, status_of};
-use setup_tree::{Form, tree_run};
+use engine::OnState;
+use setup_tree::{Form, Tree};
 use std::alloc::Global;
 
 /// The form that a file's name asks for.
@@ -17,16 +17,8 @@ fn form_of(file: &str) -> Form {
 /// The forest that a file's name asks for: in which form, and behind how many calls.
 pub fn answer(alloc: Global, file: &str, setup: &[u8]) -> anyhow::Result<Answer> {
     let after = number_in(file, "after-")?;
-    Ok(tree(alloc, form_of(file), after, setup))
-}
-
-fn tree(alloc: Global, form: Form, after: Option<u64>, setup: &[u8]) -> Answer {
-    let mut text = Vec::new(alloc);
-    let mut source = ReaderSource::new(setup);
-    let mut sink = WriterSink::new(&mut text);
-    let end = tree_run(alloc, form, after, &mut source, &mut sink);
-    Answer {
-        text,
-        status: status_of(&end),
-    }
+    let command = Tree {
+        form: form_of(file),
+    };
+    Ok(answer_of(alloc, OnState { command, after }, setup))
 }

@@ -12,7 +12,8 @@ use Rattle.abstract_kernel.specs.Plan.{IsPlan}
 use Rattle.setup_format.specs.Setups.{document_of, first_format_setup_of, first_format_setup_of_bytes, setup_of, setup_of_bytes, setup_up_to}
 use Rattle.setup_format.specs.Views.{SetupView}
 use Rattle.setup_migrate.specs.Migration.{migrated, migrated_bytes}
-use Rattle.setup_migrate.proofs.Law.Follows.{Follows, same, after, no_answer, required_follows, together}
+use Rattle.setup_migrate.proofs.Law.Follows.{Follows, same, after, required_follows, together}
+use Rattle.setup_format.proofs.Grammar.Parts.{no_answer}
 use Rattle.setup_migrate.proofs.Law.Setups.{same_setup}
 
 -- a table that was rewritten by the profile and the plan of the set-up that it was read as

@@ -21,7 +21,8 @@ use Rattle.setup_values.specs.Operations.{call_keys}
 use Rattle.setup_format.specs.Setups.{call_at}
 use Rattle.setup_migrate.specs.Migration.{with_changed, each_item, thread_at, thread_or, named_thread, named_call, named_calls}
 use Rattle.setup_migrate.proofs.Parts.{get_changed, get_changed_other, keys_changed}
-use Rattle.setup_migrate.proofs.Law.Follows.{Follows, same, equal, after, no_answer, parts, together, at_key_follows, required_follows, optional_follows}
+use Rattle.setup_migrate.proofs.Law.Follows.{Follows, same, equal, after, together, at_key_follows, required_follows, optional_follows}
+use Rattle.setup_format.proofs.Grammar.Parts.{no_answer, parts}
 use Rattle.setup_migrate.proofs.Law.Operations.{AgreesPast, word_follows, operation_follows}
 
 -- each boot thread's name stands for its address

@@ -6,6 +6,7 @@ use Rattle.cap_core.specs.Checks.{◌>>=◌}
 use Rattle.setup_values.specs.Kinds.{each}
 use Rattle.setup_format.specs.declared.fault.Place.{Place}
 use Rattle.setup_format.specs.Tables.{required, optional, needed, given_or, at_key}
+use Rattle.setup_format.proofs.Grammar.Parts.{no_answer}
 
 pub record Follows {A E : Type 0} (r s : Result A E) : Type 0 where
   pub follows : (x : A) → r ≡ Ok x → s ≡ Ok x
@@ -15,15 +16,6 @@ same r = record { follows = λ x e. e }
 
 pub equal : {A E : Type 0} (r s : Result A E) → s ≡ r → Follows r s
 equal r s e = record { follows = λ x given. e ∙ given }
-
--- a fault is no answer
-pub no_answer : {A E Y : Type 0} (e : E) (x : A) → ◌≡◌ {A = Result A E} (Err e) (Ok x) → Y
-no_answer e x h = absurd (cc)
-
--- where one reading after another gives something, the first one does, and then the second
-pub parts : {A B E : Type 0} (r : Result A E) (f : A → Result B E) (y : B) → (r >>= f) ≡ Ok y → (x : A) × (r ≡ Ok x) × (f x ≡ Ok y)
-parts (Ok x) f y e = (x, refl, e)
-parts (Err wrong) f y e = no_answer wrong y e
 
 pub together : {A B E : Type 0} (r : Result A E) (f : A → Result B E) (x : A) (y : B) → r ≡ Ok x → f x ≡ Ok y → (r >>= f) ≡ Ok y
 together r f x y first then = rw first then

@@ -12,7 +12,8 @@ use Rattle.setup_values.specs.Kinds.{natural_in, spelt, or_other, word, words, f
 use Rattle.setup_format.specs.declared.fault.Place.{Place}
 use Rattle.setup_format.specs.Tables.{required, optional}
 use Rattle.setup_format.specs.Operations.{operation_at, retype_at, slots_at, rights_at, copy_at, mint_at, move_at, mutate_at, slot_at, message_at, set_space_at}
-use Rattle.setup_migrate.proofs.Law.Follows.{Follows, same, after, no_answer, required_follows, optional_follows, each_follows}
+use Rattle.setup_migrate.proofs.Law.Follows.{Follows, same, after, required_follows, optional_follows, each_follows}
+use Rattle.setup_format.proofs.Grammar.Parts.{no_answer}
 
 -- ---- a word
 

@@ -26,7 +26,8 @@ use Rattle.setup_format.specs.Setups.{size_keys, table_keys, first_keys, top_key
 use Rattle.setup_format.specs.Views.{SetupView}
 use Rattle.setup_migrate.specs.Migration.{with_member, named_calls, migrated}
 use Rattle.setup_migrate.proofs.Parts.{get_changed, get_changed_other, get_with, get_with_other, keys_changed, keys_with, past, texts_tied}
-use Rattle.setup_migrate.proofs.Law.Follows.{no_answer, parts, together, at_key_gives}
+use Rattle.setup_migrate.proofs.Law.Follows.{together, at_key_gives}
+use Rattle.setup_format.proofs.Grammar.Parts.{no_answer, parts}
 use Rattle.setup_migrate.proofs.Law.Names.{names_read, names_of_table}
 use Rattle.setup_migrate.proofs.Law.Calls.{NamesThreads, renamed, calls_follow, tables_named}
 use Rattle.setup_migrate.proofs.Law.Plans.{name_table, table_named, names_threads}

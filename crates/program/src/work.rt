@@ -1,0 +1,253 @@
+//! The job of a command line as an engine: what it makes of an input, by the options.
+ghost use Rattle.std.specs.Prelude.{◌≡◌, ◌≢◌, IfErr, IfOk, map};
+ghost use Rattle.engine.specs.Commands.{IsAnswerTo, IsStateAnswer};
+ghost use Rattle.program.specs.Jobs.{IsAudit, IsAuditOfState, IsExplorationBy, by_of, form_of as form_of_options, question_of, without_of};
+ghost use Rattle.program.specs.NewWords.{IsNewOf};
+ghost use Rattle.program.specs.WitnessWords.{IsNamedWitness};
+ghost use Rattle.setup_ever.specs.Told.{IsEver};
+ghost use Rattle.engine_never.specs.Never.{IsNever};
+
+use crate::commas::words_in;
+use crate::marks::around;
+use crate::new_setup::asked_by;
+use crate::witness::witness_named;
+use command_line::{Job, Options};
+use engine::{Checker, Command, Migrator, OnSetup, OnState, StateCommand};
+use engine_core::{Engine, RunFault, Verdict};
+use engine_explore::{Explore, ExploreOptions, WriteWitness};
+use engine_never::Question;
+use engine_new::Maker;
+use setup_audit::Audit;
+use setup_ever::Ever;
+use setup_trace::Trace;
+use setup_tree::{Form, Tree};
+use setup_why::Why;
+use std::alloc::Global;
+
+/// How many states are kept at the most, where no number is given.
+const MOST_STATES: u64 = 100_000;
+
+/// What a command makes of an input.
+fn on_setup<C: Command + Drop>(
+    alloc: Global,
+    command: C,
+    input: &[u8],
+) -> Result<(Vec<u8>, Verdict), RunFault>
+    ensures made { IfOk result (λ made. IsAnswerTo (C.answers command) input.now made.0.items made.1) }
+    ensures memory { IfErr result (λ fault. fault ≡ RunFault.Memory) }
+{
+    OnSetup { command }.make(alloc, input)
+}
+
+/// What a command on a state makes of an input.
+fn on_state<C: StateCommand + Drop>(
+    alloc: Global,
+    after: Option<u64>,
+    command: C,
+    input: &[u8],
+) -> Result<(Vec<u8>, Verdict), RunFault>
+    ensures made { IfOk result (λ made. IsAnswerTo (IsStateAnswer (C.answers command) after) input.now made.0.items made.1) }
+    ensures memory { IfErr result (λ fault. fault ≡ RunFault.Memory) }
+{
+    on_setup(alloc, OnState { command, after }, input)
+}
+
+/// What threads can never get, where those of `--without` make no more calls.
+fn make_ever(
+    alloc: Global,
+    options: Options<'_>,
+    input: &[u8],
+) -> Result<(Vec<u8>, Verdict), RunFault>
+    ensures made { IfOk result (λ made. IsAnswerTo (IsStateAnswer (IsEver (without_of options.entry)) options.entry.after) input.now made.0.items made.1) }
+    ensures memory { IfErr result (λ fault. fault ≡ RunFault.Memory) }
+{
+    match words_in(alloc, options.without) {
+        Ok(words) => {
+            let without = words.as_slice();
+            on_state(alloc, options.after, Ever { without }, input)
+        }
+        Err(_) => Err(RunFault::Memory),
+    }
+}
+
+/// The audit of a state or of one slot, or, with `--ever`, what threads can never get.
+fn make_state_audit(
+    alloc: Global,
+    options: Options<'_>,
+    input: &[u8],
+) -> Result<(Vec<u8>, Verdict), RunFault>
+    ensures made { IfOk result (λ made. IsAuditOfState options.entry input.now made.0.items made.1) }
+    ensures memory { IfErr result (λ fault. fault ≡ RunFault.Memory) }
+{
+    if options.ever {
+        make_ever(alloc, options, input)
+    } else {
+        let Options { after, slot, .. } = options;
+        on_state(alloc, after, Audit { slot }, input)
+    }
+}
+
+/// Whether the part of the first of two threads is kept from that of the other, but by the endpoints `by`, where those of
+/// `without` make no more calls.
+fn make_never_between(
+    alloc: Global,
+    options: Options<'_>,
+    threads: &str,
+    without: &[&str],
+    by: &[&str],
+    input: &[u8],
+) -> Result<(Vec<u8>, Verdict), RunFault>
+    requires without { map (λ w. w.now) without.now ≡ without_of options }
+    requires by { map (λ w. w.now) by.now ≡ by_of options }
+    ensures made { IfOk result (λ made. IsAnswerTo (IsStateAnswer (IsNever (question_of options.entry threads.now)) options.entry.after) input.now made.0.items made.1) }
+    ensures memory { IfErr result (λ fault. fault ≡ RunFault.Memory) }
+{
+    let (from, to) = around(threads, ',');
+    let question = Question {
+        without,
+        from,
+        to,
+        by,
+    };
+    on_state(alloc, options.after, question, input)
+}
+
+/// The same, by the options.
+fn make_never(
+    alloc: Global,
+    options: Options<'_>,
+    threads: &str,
+    input: &[u8],
+) -> Result<(Vec<u8>, Verdict), RunFault>
+    ensures made { IfOk result (λ made. IsAnswerTo (IsStateAnswer (IsNever (question_of options.entry threads.now)) options.entry.after) input.now made.0.items made.1) }
+    ensures memory { IfErr result (λ fault. fault ≡ RunFault.Memory) }
+{
+    let Ok(without) = words_in(alloc, options.without) else {
+        return Err(RunFault::Memory);
+    };
+    let Ok(by) = words_in(alloc, options.by) else {
+        return Err(RunFault::Memory);
+    };
+    make_never_between(
+        alloc,
+        options,
+        threads,
+        without.as_slice(),
+        by.as_slice(),
+        input,
+    )
+}
+
+fn make_audit(
+    alloc: Global,
+    options: Options<'_>,
+    input: &[u8],
+) -> Result<(Vec<u8>, Verdict), RunFault>
+    ensures made { IfOk result (λ made. IsAudit options.entry input.now made.0.items made.1) }
+    ensures memory { IfErr result (λ fault. fault ≡ RunFault.Memory) }
+{
+    match options.never {
+        Some(threads) => make_never(alloc, options, threads, input),
+        None => make_state_audit(alloc, options, input),
+    }
+}
+
+/// The set-up of the order that a text names.
+fn make_witness(
+    alloc: Global,
+    options: ExploreOptions,
+    which: &str,
+    input: &[u8],
+) -> Result<(Vec<u8>, Verdict), RunFault>
+    ensures made { IfOk result (λ made. IsNamedWitness which.now options.first options.states input.now made.0.items made.1) }
+    ensures memory { IfErr result (λ fault. fault ≡ RunFault.Memory) }
+{
+    let witness = witness_named(which);
+    on_setup(alloc, WriteWitness { options, witness }, input)
+}
+
+fn make_exploration(
+    alloc: Global,
+    options: Options<'_>,
+    input: &[u8],
+) -> Result<(Vec<u8>, Verdict), RunFault>
+    ensures made { IfOk result (λ made. IsExplorationBy options.entry input.now made.0.items made.1) }
+    ensures memory { IfErr result (λ fault. fault ≡ RunFault.Memory) }
+{
+    let asked = ExploreOptions {
+        first: options.first.unwrap_or(0) as usize,
+        states: options.states.unwrap_or(MOST_STATES),
+    };
+    match options.witness {
+        None => on_setup(alloc, Explore { options: asked }, input),
+        Some(which) => make_witness(alloc, asked, which, input),
+    }
+}
+
+/// The form of a derivation forest.
+fn form_of(options: Options<'_>) -> Form
+    ensures { result ≡ form_of_options options.entry }
+{
+    if options.dot { Form::Dot } else { Form::Lines }
+}
+
+/// A set-up of the sizes that the options ask for, whatever the input is.
+fn make_new(
+    alloc: Global,
+    options: Options<'_>,
+    input: &[u8],
+) -> Result<(Vec<u8>, Verdict), RunFault>
+    ensures made { IfOk result (λ made. IsNewOf options.entry made.0.items made.1) }
+    ensures memory { IfErr result (λ fault. fault ≡ RunFault.Memory) }
+{
+    match asked_by(alloc, options) {
+        Ok(asked) => Maker {
+            asked: asked.as_ref(),
+        }
+        .make(alloc, input),
+        Err(_) => Err(RunFault::Memory),
+    }
+}
+
+/// What a command line asks for, but the run by threads, which makes no text of an input alone.
+#[derive(Clone, Copy)]
+pub(crate) struct Work<'a> {
+    job: Job,
+    options: Options<'a>,
+    ghost without_threads: { job ≢ Job.Threads },
+}
+
+impl<'a> Work<'a> {
+    /// The job, with its options.
+    pub(crate) fn new(job: Job, options: Options<'a>) -> Work<'a>
+        requires { job ≢ Job.Threads }
+        ensures job { result.job ≡ job }
+        ensures options { result.options ≡ options.entry }
+    {
+        Work { job, options }
+    }
+}
+
+impl Engine for Work<'_> {
+    ghost use Rattle.program.specs.Jobs.{meaning};
+
+    ghost means = { λ work. meaning work.job work.options };
+
+    fn make(&self, alloc: Global, input: &[u8]) -> Result<(Vec<u8>, Verdict), RunFault> {
+        let options = self.options;
+        match self.job {
+            Job::Check => Checker.make(alloc, input),
+            Job::Trace => on_setup(alloc, Trace, input),
+            Job::Threads => unreachable!(),
+            Job::Migrate => Migrator.make(alloc, input),
+            Job::Why => on_setup(alloc, Why { call: options.call }, input),
+            Job::Audit => make_audit(alloc, options, input),
+            Job::Explore => make_exploration(alloc, options, input),
+            Job::Tree => {
+                let form = form_of(options);
+                on_state(alloc, options.after, Tree { form }, input)
+            }
+            Job::New => make_new(alloc, options, input),
+        }
+    }
+}
