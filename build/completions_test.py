@@ -86,7 +86,7 @@ class Completions(unittest.TestCase):
 
     def output(self, *words):
         env = {**os.environ, "HOME": self.folder, "TERM": "dumb"}
-        done = subprocess.run(words, cwd=f"{self.folder}/work", env=env, capture_output=True, text=True, timeout=60)
+        done = subprocess.run(words, cwd=f"{self.folder}/work", env=env, capture_output=True, text=True, timeout=600)
         self.assertEqual(done.stderr, "")
         return done.stdout.splitlines()
 

@@ -11,7 +11,9 @@ import unittest
 
 HERE = os.path.dirname(os.path.abspath(__file__))
 CRATES = "# the bottom\nlow:\nleft: low\nright: low bitflags\nother:\nsel4sim: left right\n"
-SECONDS = "low 5\nleft 20\nright 5\nsel4sim 5\n"
+COSTS = "low 5\nleft 20\nright 5\nsel4sim 5\n"
+# So long a test waits for what has to come.
+SECONDS = 600
 HEAD = """#!{python}
 import os, shutil, sys, time
 note = lambda *words: open({log!r}, "a").write(" ".join(map(str, words)) + "\\n")
@@ -25,8 +27,9 @@ os.chmod(program, 0o755)
 note(sys.argv[1])
 os.execv(program, ["cat", sys.argv[-1]])
 """
-# It notes when it begins and ends, takes as long as the file `slow` says, and fails where there is a file `wrong`. What it
-# builds has the crate's file and the texts of what it is built over.
+# It notes when it begins and ends, takes as long as the file `slow` says, behind a note that it waits for where the file
+# `until` has one, and fails where there is a file `wrong`. What it builds has the crate's file and the texts of what it is
+# built over.
 RATTLE = HEAD + """
 words = sys.argv[1:]
 value = lambda flag: words[words.index(flag) + 1]
@@ -36,9 +39,15 @@ ours = [it for it in below if "rlibs" not in it]
 for it in ours:
     if not os.path.isfile(os.path.join(it, "format")):
         sys.exit(f"rattle: there is no {{it}}")
+read = lambda path, otherwise: open(path).read() if os.path.exists(path) else otherwise
+slow, until = float(read("src/slow", "0.3")), read("src/until", "")
 note("begin", crate, "jobs", value("--jobs"), "over", len(below) - len(ours), *sorted(map(os.path.basename, ours)))
-time.sleep(float(open("src/slow").read()) if os.path.exists("src/slow") else 0.3)
+end = time.monotonic() + {seconds}
+while until not in open({log!r}).read() and time.monotonic() < end:
+    time.sleep(0.05)
+time.sleep(slow)
 if os.path.exists("src/wrong"):
+    note("wrong", crate)
     sys.exit("fn wrong: not proved")
 text = open(words[words.index("--crate-name") + 2]).read() + "".join(open(os.path.join(it, "format")).read() for it in ours)
 if "--statements" in words:
@@ -60,12 +69,16 @@ class Small(unittest.TestCase):
         self.top = tempfile.mkdtemp(prefix="small repository ")
         self.addCleanup(shutil.rmtree, self.top)
         shutil.copytree(HERE, self.path("build"), ignore=shutil.ignore_patterns("out", "__pycache__"))
+        # How many crates run side by side is not to hang on the memory that others leave.
+        script = self.read("build/prove.py")
+        self.assertIn("\nBYTES_A_JOB = 3 << 30\n", script)
+        self.write("build/prove.py", script.replace("\nBYTES_A_JOB = 3 << 30\n", "\nBYTES_A_JOB = 1\n"))
         os.mkdir(self.path("bin"))
         for name, text in (("rt", RT), ("rattle", RATTLE), ("rattle-link", LINK)):
-            self.write(f"bin/{name}", text.format(python=sys.executable, log=self.path("log")))
+            self.write(f"bin/{name}", text.format(python=sys.executable, log=self.path("log"), seconds=SECONDS))
             os.chmod(self.path(f"bin/{name}"), 0o755)
         self.write("crates.txt", CRATES)
-        self.write("build/seconds.txt", SECONDS)
+        self.write("build/seconds.txt", COSTS)
         for name in ("low", "left", "right", "other"):
             self.write(f"crates/{name}/src/lib.rt", name)
         self.write("crates/sel4sim/src/main.rt", "sel4sim")
@@ -82,6 +95,17 @@ class Small(unittest.TestCase):
     def read(self, name):
         with open(self.path(name), encoding="utf-8") as file:
             return file.read()
+
+    def note(self, text):
+        with open(self.path("log"), "a", encoding="utf-8") as file:
+            file.write(text + "\n")
+
+    def wait_for(self, text):
+        """Waits until the stand-ins have noted a text."""
+        end = time.monotonic() + SECONDS
+        while text not in self.read("log"):
+            self.assertLess(time.monotonic(), end, f"nobody noted {text!r}")
+            time.sleep(0.05)
 
     def log(self):
         lines = [line.split() for line in self.read("log").splitlines()]
@@ -117,9 +141,9 @@ class Prove(Small):
         self.assertRegex(said, r"1/4 low \d+ s\n(2/4 left \d+ s\n3/4 right|2/4 right \d+ s\n3/4 left) \d+ s\n4/4 sel4sim \d+ s\n")
 
     def test_crates_run_side_by_side(self):
-        # Long enough that the second has begun before the first ends, on a busy machine too.
-        self.write("crates/left/src/slow", "2")
-        self.write("crates/right/src/slow", "2")
+        # Neither ends before the other has begun.
+        self.write("crates/left/src/until", "begin right")
+        self.write("crates/right/src/until", "begin left")
         self.assertEqual(self.run_script("prove.py")[0], 0)
         kinds = [it[0] for it in self.log()]
         self.assertEqual(kinds, ["begin", "end", "begin", "begin", "end", "end", "begin", "end", "link"])
@@ -151,8 +175,7 @@ class Prove(Small):
     def test_an_edit_while_its_crate_is_built_is_not_lost(self):
         self.write("crates/low/src/slow", "2")
         tool = self.started("prove.py")
-        while "begin low" not in self.read("log"):
-            time.sleep(0.05)
+        self.wait_for("begin low")
         self.write("crates/low/proofs/A.antt", "a proof")
         tool.communicate("")
         self.log()
@@ -175,7 +198,8 @@ class Prove(Small):
 
     def test_behind_a_failure_only_what_has_begun_is_built(self):
         self.write("crates/left/src/wrong", "")
-        self.write("crates/right/src/slow", "3")
+        self.write("crates/right/src/until", "wrong left")
+        self.write("crates/right/src/slow", "2")
         status, out, said = self.run_script("prove.py")
         self.assertEqual((status, out), (1, ""))
         self.assertIn("fn wrong: not proved\nbuild: left failed with status 1", said)
@@ -186,11 +210,10 @@ class Prove(Small):
         self.assertEqual(self.begun(), ["left", "sel4sim"])
 
     def test_goes_on_after_an_interrupt(self):
+        self.write("crates/left/src/until", "left may end")
         for number in (signal.SIGINT, signal.SIGTERM, signal.SIGKILL):
-            self.write("crates/left/src/slow", "5" if number == signal.SIGKILL else "30")
             tool = self.started("prove.py")
-            while "begin left" not in self.read("log"):
-                time.sleep(0.05)
+            self.wait_for("begin left")
             time.sleep(0.3)
             self.log()
             tool.send_signal(number)
@@ -198,9 +221,11 @@ class Prove(Small):
             self.assertEqual(tool.returncode, -9 if number == signal.SIGKILL else 130)
             self.assertEqual("goes on from here" in said, number != signal.SIGKILL)
         # What was started by the one that was killed goes on, and the next one waits for it.
-        self.write("crates/left/src/slow", "0")
-        status, _, said = self.run_script("prove.py")
-        self.assertEqual((status, "waiting for another build" in said), (0, True), said)
+        tool = self.started("prove.py")
+        self.assertIn("waiting for another build", tool.stderr.readline())
+        self.note("left may end")
+        tool.communicate("set-up\n")
+        self.assertEqual(tool.returncode, 0)
         log = self.log()
         begun = [it[1] for it in log if it[0] == "begin"]
         self.assertEqual(("left" in begun, begun[-1]), (True, "sel4sim"))

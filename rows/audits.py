@@ -32,7 +32,7 @@ def status_with(text):
 
 def faults(program, file, wanted):
     setup = file.with_name(file.name.split(".")[0] + ".toml")
-    done = subprocess.run([program, *command(file), str(setup)], capture_output=True, timeout=60)
+    done = subprocess.run([program, *command(file), str(setup)], capture_output=True, timeout=600)
     if done.stdout != wanted:
         yield f"wanted\n{wanted.decode()}got\n{done.stdout.decode('utf-8', 'replace')}"
     if done.returncode != status_with(wanted):

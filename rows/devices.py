@@ -15,7 +15,7 @@ import tempfile
 SUBCOMMANDS = [["check"], ["trace"], ["threads"], ["migrate"], ["why"], ["audit"], ["audit", "--ever"], ["explore"], ["tree"], ["tree", "--dot"],
                ["audit", "--never", "2048,4096"]]
 
-SECONDS = 60
+SECONDS = 600
 NOBODY = 65534
 INPUT = "standard input"
 TOO_LONG = "67108864 bytes or more; a set-up has to be shorter"

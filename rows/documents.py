@@ -67,7 +67,7 @@ class Runner:
 
     def run(self, command, errors):
         """What a command writes to standard output, where standard error goes there too or to nothing."""
-        return subprocess.run(["sh", "-c", command], cwd=self.folder, env=self.environment, timeout=60, text=True,
+        return subprocess.run(["sh", "-c", command], cwd=self.folder, env=self.environment, timeout=600, text=True,
                               stdin=subprocess.DEVNULL, stdout=subprocess.PIPE, stderr=errors).stdout
 
     def console(self, _, lines):

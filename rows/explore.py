@@ -34,7 +34,7 @@ def status_of(text):
 
 def differs(program, report, wanted):
     """Whether the report or the status is another than is wanted."""
-    done = subprocess.run([program, "explore", *words_of(report)], capture_output=True, timeout=300)
+    done = subprocess.run([program, "explore", *words_of(report)], capture_output=True, timeout=600)
     return done.stdout != wanted or done.returncode != status_of(wanted.decode())
 
 
@@ -58,7 +58,7 @@ def orders_told(text):
 
 def answer_in(program, witness, place):
     """What `check` of a witness says of the call at a place, without its number and its mark."""
-    done = subprocess.run([program, "check", "-"], input=witness, capture_output=True, timeout=300)
+    done = subprocess.run([program, "check", "-"], input=witness, capture_output=True, timeout=600)
     line = done.stdout.decode().splitlines()[place]
     return re.sub(r" \[(not )?met.*\]$", "", line.split(": ", 1)[1])
 
@@ -75,7 +75,7 @@ def wrong_witnesses(program, report):
     """Yields the names of the witnesses of a report that are wrong, and None for each that is right."""
     document = tomllib.loads(setup_of(report).read_text())
     for name, call, answer, order in orders_told(report.read_text()):
-        done = subprocess.run([program, "explore", "--witness", name, *words_of(report)], capture_output=True, timeout=300)
+        done = subprocess.run([program, "explore", "--witness", name, *words_of(report)], capture_output=True, timeout=600)
         right = done.returncode == 0 and tomllib.loads(done.stdout.decode()) == set_up_with(document, order, call)
         yield None if right and is_answered(program, done.stdout, call, answer, order) else name
 

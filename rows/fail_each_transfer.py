@@ -81,7 +81,7 @@ POOL = 4
 
 
 def answer_of(words, text, changed):
-    done = subprocess.run(words, input=text, capture_output=True, timeout=60, env={**os.environ, **changed})
+    done = subprocess.run(words, input=text, capture_output=True, timeout=600, env={**os.environ, **changed})
     return done.returncode, done.stdout, done.stderr
 
 

@@ -65,7 +65,7 @@ def is_answer(status, output, errors):
 
 
 def check(program, text):
-    done = subprocess.run([program, "check"], input=text, capture_output=True, timeout=60)
+    done = subprocess.run([program, "check"], input=text, capture_output=True, timeout=600)
     return done.returncode, done.stdout, done.stderr
 
 

@@ -362,7 +362,7 @@ PLACES = [
 
 def said(program, words, text, output=subprocess.PIPE):
     text = text.encode("utf-8", "surrogateescape")
-    done = subprocess.run([program, *words], input=text, stdout=output, stderr=subprocess.PIPE, timeout=60)
+    done = subprocess.run([program, *words], input=text, stdout=output, stderr=subprocess.PIPE, timeout=600)
     return done.returncode, done.stderr.decode()
 
 
@@ -451,7 +451,7 @@ def wrong_words(program):
 def wrong_helps(program):
     """`help` answers as `--help`, also of a command."""
     for words in [[], *([command] for command in COMMANDS)]:
-        wanted, done = [subprocess.run([program, *line], capture_output=True, text=True, timeout=60)
+        wanted, done = [subprocess.run([program, *line], capture_output=True, text=True, timeout=600)
                         for line in ([*words, "--help"], ["help", *words])]
         if not wanted.stdout or (wanted.stdout, "", 0) != (done.stdout, done.stderr, done.returncode):
             yield f"help {words}: status {done.returncode}, wrote\n{done.stdout}{done.stderr}"

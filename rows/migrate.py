@@ -13,7 +13,7 @@ FIRST_FORMAT = re.compile(rb"^format *= *1 *(#.*)?$", re.MULTILINE)
 
 
 def run(program, job, text):
-    done = subprocess.run([program, job], input=text, capture_output=True, timeout=60)
+    done = subprocess.run([program, job], input=text, capture_output=True, timeout=600)
     return done.returncode, done.stdout
 
 

@@ -20,7 +20,7 @@ WRONG = (["--threads", "0"], ["--threads", "65"], ["--threads", "4294967297"], [
 
 
 def run(program, words, text=b""):
-    return subprocess.run([program, *words], input=text, capture_output=True, timeout=60)
+    return subprocess.run([program, *words], input=text, capture_output=True, timeout=600)
 
 
 def names_wanted(profile, radix, threads, endpoints, regions):

@@ -33,7 +33,7 @@ DELIVERED = re.compile(r"delivered \d+ from (\d+) to (\d+) ")
 
 
 def run(program, words, text):
-    done = subprocess.run([program, *words], input=text.encode(), capture_output=True, timeout=300)
+    done = subprocess.run([program, *words], input=text.encode(), capture_output=True, timeout=600)
     return done.returncode, done.stdout.decode()
 
 

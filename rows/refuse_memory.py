@@ -1,12 +1,12 @@
 #!/usr/bin/env python3
 """refuse_memory.py PROGRAM CALLS SETUP..: lets each request for memory of a run fail in turn, counting up until a run
 meets none: by each of the program's subcommands with each set-up, from a file and from standard input, of several
-files, of the help and of a refused command line. Each set-up has one client, so that `threads` has one answer too. CALLS is the program
+files, of set-ups that are refused, of the help and of a refused command line. Each set-up has one client, so that `threads` has one answer too. CALLS is the program
 of `crates/refused_memory`, which says how calls of the libraries end.
 
 Each answer of the program has to be that of a run with ample memory, or exit status 3 with `sel4sim: out of memory`, or
 where a thread wanted it `sel4sim: thread not started`, and nothing written. For the words that follow a fault's line on
-standard error there may be no memory. Each answer of CALLS has to be that of a run with ample memory, but that one call
+standard error there may be no memory: then there is none of them. Each answer of CALLS has to be that of a run with ample memory, but that one call
 may end `out of memory, then done` in place of `done`; and each call has to end so at least once, but for those that take
 no memory.
 The requests are counted, and one is refused, by a small library that stands before the C library's (gcc builds it).
@@ -80,6 +80,12 @@ int posix_memalign(void **made, size_t alignment, size_t size)
 
 SUBCOMMANDS = [["check"], ["trace"], ["threads"], ["migrate"], ["why"], ["audit"], ["audit", "--ever"], ["explore"], ["tree"], ["tree", "--dot"],
                ["audit", "--never", "2048,4096"], ["new"]]
+# Set-ups whose words show a part of the text: a value, an element of an array, a table without a key, and the place at which
+# the text breaks off.
+SIZES = b"format = 2\nmemory_bits = 16\nroot_radix = 4\nthreads = 2\nendpoints = 1\nnames = { a = 2048, endpoint = 4 }\n"
+REFUSED = [SIZES + b'call = [{ thread = "@a", op = "nbsend", cap = "@endpiont" }]\n',
+           SIZES + b'[[call]]\nthread = "@a"\nop = "nbsend"\ncap = 4\nwords = [1, "@b"]\n',
+           SIZES + b'[[call]]\nthread = "@a"\nop = "nbsend"\n', SIZES + b'[[call]]\nthread = "@a\n']
 POOL = 4
 MEMORY = (3, b"", b"sel4sim: out of memory\n")
 THREAD = (3, b"", b"sel4sim: thread not started\n")
@@ -87,7 +93,7 @@ WITHOUT_MEMORY = [b"settle: done\n"]
 
 
 def answer_of(words, text, changed):
-    done = subprocess.run(words, input=text, capture_output=True, timeout=60, env={**os.environ, **changed})
+    done = subprocess.run(words, input=text, capture_output=True, timeout=600, env={**os.environ, **changed})
     return done.returncode, done.stdout, done.stderr
 
 
@@ -153,6 +159,8 @@ def runs_of(program, calls, setups):
         for setup in setups:
             yield [program, *job, setup], b""
             yield [program, *job], pathlib.Path(setup).read_bytes()
+    for text in REFUSED:
+        yield [program, "check"], text
     yield [program, "check", setups[0], "-", setups[0]], pathlib.Path(setups[0]).read_bytes()
     yield [program, "--help"], b""
     yield [program, "--cheque"], b""

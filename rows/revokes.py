@@ -28,7 +28,7 @@ REFUSED = 2
 
 
 def run(program, words, text):
-    done = subprocess.run([program, *words], input=text.encode(), capture_output=True, timeout=60)
+    done = subprocess.run([program, *words], input=text.encode(), capture_output=True, timeout=600)
     return done.returncode, done.stdout.decode()
 
 

@@ -11,7 +11,7 @@ import sys
 
 
 def faults(program, setup):
-    done = subprocess.run([program, "check", str(setup)], capture_output=True, timeout=60)
+    done = subprocess.run([program, "check", str(setup)], capture_output=True, timeout=600)
     report = setup.with_suffix(".report").read_bytes()
     status = setup.with_suffix(".status")
     wanted = int(status.read_text()) if status.exists() else 0

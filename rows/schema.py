@@ -88,7 +88,7 @@ def document(table):
 def answered(program, texts):
     """The exit status of `check` and what it writes, for each of the texts."""
     def one(text):
-        done = subprocess.run([program, "check"], input=text.encode(), capture_output=True, timeout=60)
+        done = subprocess.run([program, "check"], input=text.encode(), capture_output=True, timeout=600)
         return done.returncode, done.stdout.decode()
 
     with concurrent.futures.ThreadPoolExecutor(len(os.sched_getaffinity(0))) as pool:
@@ -157,7 +157,7 @@ def wrong_files(program, folders, valid):
     import tomllib
     left = dict(BEYOND)
     for path in sorted(it for folder in folders for it in pathlib.Path(folder).rglob("*.toml")):
-        status = subprocess.run([program, "check", path], capture_output=True, timeout=60).returncode
+        status = subprocess.run([program, "check", path], capture_output=True, timeout=600).returncode
         why = left.pop(path.stem, None) if status == 2 else None
         try:
             is_valid = valid(tomllib.loads(path.read_bytes().decode()))

@@ -12,7 +12,7 @@ import subprocess
 import sys
 import tempfile
 
-SECONDS = 120
+SECONDS = 600
 SIZES = "format = 2\nmemory_bits = 16\nroot_radix = 4\nthreads = 2\nendpoints = 1\n"
 CALL = '[[call]]\nthread = 2048\nop = "nbsend"\ncap = 4\n'
 # the text of a file, and the end of its line

@@ -22,7 +22,7 @@ MOST_FORESTS = 12
 
 
 def run(program, job, setup, *words):
-    done = subprocess.run([program, job, *words, str(setup)], capture_output=True, timeout=60)
+    done = subprocess.run([program, job, *words, str(setup)], capture_output=True, timeout=600)
     return done.returncode, done.stdout.decode()
 
 

@@ -45,7 +45,7 @@ def main():
     calls = [RETYPE, SEND, DELETE] * rounds + [RETYPE, RECEIVE]
     setup = SIZES + "call = [\n" + "".join(f"  {call},\n" for call in calls) + "]\n"
     wanted = "".join(f"{number} {REPLIES[call]}\n" for number, call in enumerate(calls, 1)) + END
-    done = subprocess.run([program, "check"], input=setup.encode(), capture_output=True, timeout=120)
+    done = subprocess.run([program, "check"], input=setup.encode(), capture_output=True, timeout=600)
     right = done.returncode == 0 and done.stdout == wanted.encode()
     print(f"an address used again in {rounds} rounds: {'passed' if right else 'failed'}")
     return 0 if right else 1

@@ -17,7 +17,7 @@ ABSENT = 4
 
 
 def run(program, setup, *words):
-    done = subprocess.run([program, *words, str(setup)], capture_output=True, timeout=60)
+    done = subprocess.run([program, *words, str(setup)], capture_output=True, timeout=600)
     return done.returncode, done.stdout.decode()
 
 

@@ -62,7 +62,7 @@ def native(program, folder, words, name, text):
     """What the native program answers, in a folder that has the set-up by its name."""
     path = pathlib.Path(folder, name)
     path.write_bytes(text)
-    ran = subprocess.run([program, *words, name], cwd=folder, stdin=subprocess.DEVNULL, capture_output=True, timeout=300)
+    ran = subprocess.run([program, *words, name], cwd=folder, stdin=subprocess.DEVNULL, capture_output=True, timeout=chromium.SECONDS)
     path.unlink()
     return ran.returncode, ran.stdout, ran.stderr
 
@@ -88,7 +88,7 @@ class Tester:
 
     def settle(self, still=0.4):
         """Waits until what was typed has been run; what is typed is run after it stands still for a while."""
-        until = time.time() + 30
+        until = time.time() + chromium.SECONDS
         time.sleep(still)
         while not self.browser.value("sel4sim.page.isAtRest"):
             if time.time() > until:
@@ -376,8 +376,10 @@ def files(test, stored):
     browser.call("Browser.setDownloadBehavior", behavior="allow", browserContextId=browser.context,
                  downloadPath=str(folder / "saved"))
     browser.value("document.getElementById('save').click()")
-    time.sleep(1)
     saved = folder / "saved" / "mine.toml"
+    until = time.time() + chromium.SECONDS
+    while not saved.exists() and time.time() < until:
+        time.sleep(0.1)
     test.wanted(saved.exists() and saved.read_bytes() == stored, f"what is saved: {list((folder / 'saved').iterdir())}")
 
 

@@ -8,7 +8,7 @@ import tempfile
 import time
 
 PROGRAMS = ("firefox-esr", "firefox")
-SECONDS = 60
+SECONDS = 600
 PREFERENCES = """user_pref("marionette.port", {port});
 user_pref("network.proxy.type", 1);
 user_pref("network.proxy.http", "127.0.0.1");

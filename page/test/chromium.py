@@ -17,7 +17,7 @@ import tempfile
 import threading
 
 PROGRAMS = ("chromium", "chromium-browser", "google-chrome")
-SECONDS = 60
+SECONDS = 600
 NOBODY = "127.0.0.1:1"
 BECOME = "import os, sys; _, read, write, *words = sys.argv; os.dup2(int(read), 3); os.dup2(int(write), 4); " \
     "os.execv(words[0], words)"

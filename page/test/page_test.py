@@ -42,7 +42,7 @@ def needs():
 
 def make_page(program, setup, folder, page=PAGE):
     """Makes a page by page.sh and gives its path; a refused set-up has none."""
-    made = subprocess.run([page / "page.sh", program, setup], capture_output=True, timeout=120)
+    made = subprocess.run([page / "page.sh", program, setup], capture_output=True, timeout=600)
     if made.returncode > 1:
         return None
     path = folder / f"{setup.stem}.html"
@@ -152,7 +152,7 @@ def step_through(browser, program, setups, folder):
 
 
 def trace_of(program, setup):
-    return subprocess.run([program, "trace", setup], capture_output=True, text=True, timeout=120).stdout
+    return subprocess.run([program, "trace", setup], capture_output=True, text=True, timeout=600).stdout
 
 
 def faults_of_planted(browser, program, folder):

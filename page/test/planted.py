@@ -71,7 +71,7 @@ def plant(page, folder, fault):
     text = path.read_text()
     assert text.count(old) == 1, f"{old} stands {text.count(old)} times in {module}"
     path.write_text(text.replace(old, new))
-    subprocess.run([copied / "join.py"], check=True, timeout=60)
+    subprocess.run([copied / "join.py"], check=True, timeout=600)
     return copied
 
 

@@ -77,6 +77,14 @@ def text(browser, name):
     return browser.value(f"document.getElementById('{name}').textContent")
 
 
+def comes(browser, position):
+    """Whether the page comes to a position, however long it takes."""
+    until = time.monotonic() + 60
+    while text(browser, "position") != position and time.monotonic() < until:
+        time.sleep(0.05)
+    return text(browser, "position") == position
+
+
 # A set-up's name that means something to a shell, to sed and to a browser.
 ODD_NAME = "a&b<i>$(c)|\\1%s"
 
@@ -93,7 +101,7 @@ def page_sh(_, page, folder):
             (2, "echo set-up refused 200 at text; exit 2", b""), (3, f"head -c 99 {trace}; exit 3", b""))
     for status, lines, wanted in ways:
         program = script_of(folder, f"ends_with_{status}", lines)
-        made = subprocess.run([page / "page.sh", program, f"x/{ODD_NAME}.toml"], capture_output=True, timeout=60)
+        made = subprocess.run([page / "page.sh", program, f"x/{ODD_NAME}.toml"], capture_output=True, timeout=600)
         if made.returncode != status or made.stdout != wanted:
             yield f"page.sh ended with {made.returncode}, the program with {status}; {len(made.stdout)} bytes"
         if (status > 1) != (f"ended with status {status}".encode() in made.stderr):
@@ -101,13 +109,13 @@ def page_sh(_, page, folder):
         if status == 2 and b"set-up refused 200 at text" not in made.stderr:
             yield "page.sh does not say why the set-up was refused"
     full = f"{page / 'page.sh'} {folder / 'ends_with_0'} x > /dev/full"
-    if subprocess.run(["sh", "-c", full], stderr=subprocess.DEVNULL, timeout=60).returncode != 3:
+    if subprocess.run(["sh", "-c", full], stderr=subprocess.DEVNULL, timeout=600).returncode != 3:
         yield "page.sh does not say that its page could not be written"
     words = [folder / "linked", folder / "ends_with_0", f"{ODD_NAME}.toml"]
-    linked = subprocess.run(words, capture_output=True, timeout=60)
+    linked = subprocess.run(words, capture_output=True, timeout=600)
     if linked.stdout != whole:
         yield f"page.sh by a link: {linked.stderr}"
-    if subprocess.run([page / "page.sh", folder / "none", "x"], capture_output=True, timeout=60).returncode != 127:
+    if subprocess.run([page / "page.sh", folder / "none", "x"], capture_output=True, timeout=600).returncode != 127:
         yield "page.sh does not say that there is no program"
 
 
@@ -119,7 +127,7 @@ def open_run(browser, folder):
 
 def make_run(page, folder):
     """Makes the page of the run with texts that mean harm."""
-    made = subprocess.run([page / "page.sh", folder / "ends_with_0", "x"], capture_output=True, check=True, timeout=60)
+    made = subprocess.run([page / "page.sh", folder / "ends_with_0", "x"], capture_output=True, check=True, timeout=600)
     (folder / "run.html").write_bytes(made.stdout)
 
 
@@ -261,11 +269,14 @@ def playing(browser, _, folder):
     """Space plays and stops, and so does its button; the question mark shows the keys, and Escape closes them."""
     open_run(browser, folder)
     browser.press(" ")
-    wait(browser, 3300)
+    for call in (1, 2):
+        if not comes(browser, f"call {call} of {COUNT}"):
+            yield f"playing does not lead to call {call}, but to {text(browser, 'position')}"
     browser.press(" ")
+    stopped = text(browser, "position")
     wait(browser, 1700)
-    if f"call 2 of {COUNT}" != text(browser, "position"):
-        yield f"two steps of playing lead to {text(browser, 'position')}"
+    if text(browser, "position") != stopped:
+        yield f"it plays on from {stopped} to {text(browser, 'position')}"
     browser.value("document.getElementById('play').click()")
     browser.press("Home")
     wait(browser, 1700)
@@ -365,7 +376,7 @@ def without_scripts(browser, _, folder):
 
 def made_by_join(_, page, __):
     """The pages that stand in the repository are those that join.py makes."""
-    checked = subprocess.run([page / "join.py", "--check"], capture_output=True, text=True, timeout=60)
+    checked = subprocess.run([page / "join.py", "--check"], capture_output=True, text=True, timeout=600)
     if checked.returncode != 0:
         yield checked.stdout + checked.stderr
 
@@ -373,7 +384,7 @@ def made_by_join(_, page, __):
 def modules(_, page, __):
     """The tests of the modules, without a browser."""
     words = ["node", "--test", page / "test" / "modules.test.mjs"]
-    tested = subprocess.run(words, capture_output=True, text=True, timeout=120)
+    tested = subprocess.run(words, capture_output=True, text=True, timeout=600)
     if tested.returncode != 0:
         yield tested.stdout + tested.stderr
 

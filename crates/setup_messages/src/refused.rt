@@ -93,7 +93,7 @@ fn fault_words(
         // No fault of a document is one of its text.
         SetupFault::Memory | SetupFault::Text => return Err(AllocError),
     };
-    match source.excerpt_at(alloc, SoughtKey { place, key, part }) {
+    match source.excerpt_at(alloc, SoughtKey { place, key, part })? {
         Some(excerpt) => format!(in alloc; "{words}\n{excerpt}\n"),
         None => format!(in alloc; "{words}\n"),
     }

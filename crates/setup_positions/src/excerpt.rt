@@ -1,6 +1,6 @@
 //! A line of a text, with some of its bytes underlined.
 use crate::search::{SoughtKey, span_at};
-use std::alloc::Global;
+use std::alloc::{AllocError, Global};
 use std::fmt;
 use std::ops::Range;
 
@@ -26,9 +26,17 @@ impl<'a> NamedText<'a> {
     }
 
     /// The bytes of the text that are a key of a table, or a part of its value, or, where the key is missing, those with which
-    /// the table begins. None where the text is no TOML document, or memory was refused.
-    pub fn excerpt_at(self, alloc: Global, sought: SoughtKey<'_>) -> Option<Excerpt<'a>> {
-        Some(self.excerpt(span_at(alloc, self.text, sought)?))
+    /// the table begins. None where the text is no TOML document.
+    ///
+    /// # Errors
+    /// Where memory was refused.
+    pub fn excerpt_at(
+        self,
+        alloc: Global,
+        sought: SoughtKey<'_>,
+    ) -> Result<Option<Excerpt<'a>>, AllocError> {
+        let span = span_at(alloc, self.text, sought)?;
+        Ok(span.map(|span| self.excerpt(span)))
     }
 }
 

@@ -1,12 +1,12 @@
 //! The search for a key of a set-up in its text.
 use crate::steps::{
-    after_bracket, after_comma, after_value, begins_with, entry_of, head_of, is_key,
+    Unfound, after_bracket, after_comma, after_value, begins_with, entry_of, found, head_of, is_key,
 };
 use setup_format::Place;
-use std::alloc::Global;
+use std::alloc::{AllocError, Global};
 use std::ops::Range;
-use toml_parser::dotted_key;
 use toml_parser::text::{first, skip_blank};
+use toml_parser::{ParseError, dotted_key};
 
 /// A part of a key with its value.
 #[derive(Clone, Copy)]
@@ -40,25 +40,25 @@ pub fn array_of(place: Place) -> Option<(&'static str, usize)> {
 }
 
 /// The text from an element of an array on, 1 the first; the text begins with the array.
-fn element_at(alloc: Global, text: &str, n: usize) -> Option<&str> {
+fn element_at(alloc: Global, text: &str, n: usize) -> Result<&str, Unfound> {
     let mut rest = after_bracket(text)?;
     for _passed in 1..n {
         rest = after_comma(after_value(alloc, rest)?)?;
     }
-    Some(rest)
+    Ok(rest)
 }
 
 /// The text from a key of an inline table on; the text begins with the table.
-fn key_within<'t>(alloc: Global, text: &'t str, name: &str) -> Option<&'t str> {
+fn key_within<'t>(alloc: Global, text: &'t str, name: &str) -> Result<&'t str, Unfound> {
     let mut rest = after_bracket(text)?;
     for _passed in 0..text.len() {
         let (key, value) = entry_of(alloc, rest)?;
         if begins_with(&key, name) {
-            return Some(rest);
+            return Ok(rest);
         }
         rest = after_comma(after_value(alloc, value)?)?;
     }
-    None
+    Err(Unfound::Nowhere)
 }
 
 /// How far the search for a key of a table is, behind some lines of a document.
@@ -82,7 +82,7 @@ struct Search<'t, 's> {
 
 impl<'t> Search<'t, '_> {
     /// Passes the head of a table, and gives the text behind it.
-    fn pass_head(&mut self, alloc: Global, at: &'t str) -> Option<&'t str> {
+    fn pass_head(&mut self, alloc: Global, at: &'t str) -> Result<&'t str, Unfound> {
         let (key, is_element, rest) = head_of(alloc, at)?;
         self.is_top = false;
         self.is_inside = false;
@@ -97,18 +97,19 @@ impl<'t> Search<'t, '_> {
         if self.is_inside {
             self.table = Some(at);
         }
-        Some(rest)
+        Ok(rest)
     }
 
     /// Passes a key with its value, and gives the text behind it.
-    fn pass_entry(&mut self, alloc: Global, at: &'t str) -> Option<&'t str> {
+    fn pass_entry(&mut self, alloc: Global, at: &'t str) -> Result<&'t str, Unfound> {
         let (key, value) = entry_of(alloc, at)?;
         match self.array {
             _ if self.is_inside && begins_with(&key, self.name) => self.key = Some(at),
             Some((array, n)) if self.is_top && is_key(&key, array) => {
-                let table = element_at(alloc, value, n);
-                self.key = table.and_then(|table| key_within(alloc, table, self.name));
-                self.table = table.or(self.table);
+                if let Some(table) = found(element_at(alloc, value, n))? {
+                    self.key = found(key_within(alloc, table, self.name))?;
+                    self.table = Some(table);
+                }
             }
             _ => {}
         }
@@ -116,8 +117,8 @@ impl<'t> Search<'t, '_> {
     }
 }
 
-/// The text from the key on; from the head of the table on, where the key is not there. None where neither was found.
-fn text_from<'t>(alloc: Global, text: &'t str, sought: SoughtKey<'_>) -> Option<&'t str> {
+/// The text from the key on; from the head of the table on, where the key is not there.
+fn text_from<'t>(alloc: Global, text: &'t str, sought: SoughtKey<'_>) -> Result<&'t str, Unfound> {
     let array = array_of(sought.place);
     let mut search = Search {
         name: sought.key,
@@ -139,36 +140,55 @@ fn text_from<'t>(alloc: Global, text: &'t str, sought: SoughtKey<'_>) -> Option<
         };
         at = skip_blank(rest, true);
     }
-    search.key.or(search.table)
+    search.key.or(search.table).ok_or(Unfound::Nowhere)
 }
 
 /// How many bytes of a text its first key has, its first bracket, or both brackets of a table of an array.
-fn length_at(alloc: Global, text: &str) -> usize {
+fn length_at(alloc: Global, text: &str) -> Result<usize, AllocError> {
     match dotted_key(alloc, text) {
-        Ok((_, rest)) => text.strip_suffix(rest).unwrap_or("").trim_end().len(),
-        Err(_) if text.starts_with("[[") => 2,
-        Err(_) => 1,
+        Ok((_, rest)) => Ok(text.strip_suffix(rest).unwrap_or("").trim_end().len()),
+        Err(ParseError::OutOfMemory) => Err(AllocError),
+        Err(_) if text.starts_with("[[") => Ok(2),
+        Err(_) => Ok(1),
     }
 }
 
 /// The text from the value on that stands behind a key, or from an element of it on, and how many bytes that has.
-fn value_at(alloc: Global, text: &str, part: Part) -> Option<(&str, usize)> {
+fn value_at(alloc: Global, text: &str, part: Part) -> Result<(&str, usize), Unfound> {
     let (_, value) = entry_of(alloc, text)?;
     let from = match part {
-        Part::Key => return None,
+        Part::Key => return Err(Unfound::Nowhere),
         Part::Value => value,
         Part::Element(n) => element_at(alloc, value, n)?,
     };
     let rest = after_value(alloc, from)?;
-    Some((from, from.len().checked_sub(rest.len())?))
+    let length = from.len().checked_sub(rest.len());
+    Ok((from, length.ok_or(Unfound::Nowhere)?))
+}
+
+/// The text from a part of a key on, and how many bytes it has: those of the key where the part is not there.
+fn part_at(alloc: Global, text: &str, part: Part) -> Result<(&str, usize), AllocError> {
+    match found(value_at(alloc, text, part))? {
+        Some(value) => Ok(value),
+        None => Ok((text, length_at(alloc, text)?)),
+    }
 }
 
 /// Which bytes of a set-up's text are a key of a table, as it is written, or the part of its value that is looked for; where the
-/// key is missing, those with which the table begins. None where the text is no TOML document, or memory was refused.
-pub fn span_at(alloc: Global, text: &str, sought: SoughtKey<'_>) -> Option<Range<usize>> {
-    let at = text_from(alloc, text, sought)?;
-    let whole = (at, length_at(alloc, at));
-    let (from, length) = value_at(alloc, at, sought.part).unwrap_or(whole);
-    let start = text.len().checked_sub(from.len())?;
-    Some(start..start.checked_add(length)?)
+/// key is missing, those with which the table begins. None where the text is no TOML document.
+///
+/// # Errors
+/// Where memory was refused.
+pub fn span_at(
+    alloc: Global,
+    text: &str,
+    sought: SoughtKey<'_>,
+) -> Result<Option<Range<usize>>, AllocError> {
+    let Some(at) = found(text_from(alloc, text, sought))? else {
+        return Ok(None);
+    };
+    let (from, length) = part_at(alloc, at, sought.part)?;
+    let start = text.len().checked_sub(from.len());
+    let end = start.and_then(|start| start.checked_add(length));
+    Ok(start.zip(end).map(|(start, end)| start..end))
 }
