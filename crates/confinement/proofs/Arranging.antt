@@ -1,22 +1,24 @@
 -- What is kept where parts are put in order.
 use Rattle.std.proofs.Common.{◌≡◌, ℕ, ◌+◌, ◌-◌, ◌≤◌, ◌<◌, inl, inr, Bool, true, false, cond, ◌==◌, nat_lt, List, [], ◌∷◌, ◌++◌, map, length, get_or, drop, append_assoc, Some, None, refl, sym, ap, subst, ◌∙◌, arith}
 use Rattle.std.specs.Prelude.{nat_le, not, suc}
-use Rattle.std.specs.List.{list_any, filter, Contains, position_or_len, dedup}
-use Rattle.std.specs.List.Sorted.{IsPermutation}
+use Rattle.std.specs.List.{list_any, list_all, position_or_len}
+use Rattle.std.specs.List.Sorted.{IsPermutation, IsNonDecreasingBy}
 use Rattle.std.proofs.lemmas.Bool.{false≢true, eqb-true}
 use Rattle.std.proofs.lemmas.Bool.Decides.{nat_tests}
 use Rattle.std.proofs.lemmas.List.{at_drop_more, at_drop_all}
 use Rattle.std.proofs.lemmas.List.Sorted.{Contains-permutation, IsPermutation-sym}
-use Rattle.std.proofs.lemmas.List.Kept.{Contains-from_dedup}
 use Rattle.clearing.specs.Members.{In}
-use Rattle.clearing.proofs.Members.{both_true, any_of, in_left, in_right, eqb_self, in_filter}
+use Rattle.clearing.proofs.Members.{both_true, any_of, in_left, in_right, eqb_self}
 use Rattle.clearing.proofs.Clearable.{in_contains, contains_in}
 use Rattle.confinement.specs.declared.listed.PartMemory.{PartMemory}
 use Rattle.confinement.specs.declared.listed.PartUse.{PartUse}
 use Rattle.confinement.specs.Listed.{lies_in}
-use Rattle.confinement.specs.Private.Search.{memory_in, use_in, AreSound}
-use Rattle.confinement.specs.Private.Arranging.{goes_on, joined_with, joined_from, joined_all, labels_from, number_in, number_of, AreArranged}
-use Rattle.confinement.proofs.Lists.{from_mapped, and_true}
+use Rattle.confinement.specs.Order.{is_numbered}
+use Rattle.confinement.specs.Private.Search.{memory_in, AreSound}
+use Rattle.confinement.specs.Private.Arranging.{goes_on, joined_with, joined_from, joined_all, labels_from, number_in, number_of, IsMemoryTold}
+use Rattle.confinement.proofs.Lists.{in_mapped, from_mapped, and_true}
+use Rattle.confinement.proofs.Joined.{AreApart, IsChain, all_rise, all_cover, all_long, chain_adjacent, chain_numbered}
+use Rattle.confinement.proofs.Numbered.{are_numbered}
 
 -- ---- stretches that are joined
 
@@ -66,23 +68,6 @@ from_joined first (n ∷ ns) m i address low high =
     by true going j one two = widen m (one j) going
     by false apart (inl same) one two = (first, (inl refl, (ap (λ (x : PartMemory). x.part) (sym same), subst (λ (x : PartMemory). lies_in x address ≡ true) same (lies m low high))))
     by false apart (inr more) one two = let w = two more in (w.0, (inr w.1.0, w.1.1))
-
-pub joined_has : (first : PartMemory) (ns : List PartMemory) (n : PartMemory) → In n (first ∷ ns) → (m : PartMemory) × (In m (joined_from first ns) × (m.part ≡ n.part))
-joined_has first [] n i = elim i [ inl same ↦ (first, (inl refl, ap (λ (x : PartMemory). x.part) (sym same))) | inr none ↦ absurd none ]
-joined_has first (k ∷ ks) n i = by (goes_on first k) refl i (joined_has (joined_with first k) ks n) (λ j. joined_has k ks n j) (joined_has (joined_with first k) ks (joined_with first k) (inl refl))
-  where
-    by : (b : Bool) → goes_on first k ≡ b → In n (first ∷ (k ∷ ks)) →
-        (In n (joined_with first k ∷ ks) → (m : PartMemory) × (In m (joined_from (joined_with first k) ks) × (m.part ≡ n.part))) →
-        (In n (k ∷ ks) → (m : PartMemory) × (In m (joined_from k ks) × (m.part ≡ n.part))) →
-        ((m : PartMemory) × (In m (joined_from (joined_with first k) ks) × (m.part ≡ first.part))) →
-        (m : PartMemory) × (In m (cond b (joined_from (joined_with first k) ks) (first ∷ joined_from k ks)) × (m.part ≡ n.part))
-    by true going (inl same) one two both = (both.0, (both.1.0, both.1.1 ∙ ap (λ (x : PartMemory). x.part) (sym same)))
-    by true going (inr (inl same)) one two both =
-        let parts = both_true (first.part == k.part) _ going in
-        (both.0, (both.1.0, both.1.1 ∙ eqb-true first.part k.part parts.0 ∙ ap (λ (x : PartMemory). x.part) (sym same)))
-    by true going (inr (inr more)) one two both = one (inr more)
-    by false apart (inl same) one two both = (first, (inl refl, ap (λ (x : PartMemory). x.part) (sym same)))
-    by false apart (inr more) one two both = let w = two more in (w.0, (inr w.1.0, w.1.1))
 
 -- ---- labels and numbers
 
@@ -141,50 +126,65 @@ from_all : (sorted : List PartMemory) (m : PartMemory) → In m (joined_all sort
 from_all [] m i address low high = absurd i
 from_all (n ∷ ns) m i address low high = from_joined n ns m i address low high
 
-all_has : (sorted : List PartMemory) (n : PartMemory) → In n sorted → (m : PartMemory) × (In m (joined_all sorted) × (m.part ≡ n.part))
-all_has [] n i = absurd i
-all_has (k ∷ ks) n i = joined_has k ks n i
+module _ (memory : List PartMemory) (uses : List PartUse) (S : AreSound memory uses) (sorted joined : List PartMemory) (labels : List ℕ) (numbered : List PartMemory)
+    (moved : IsPermutation memory sorted) (rising : IsNonDecreasingBy (λ (x : PartMemory). x.first) sorted) (joins : joined ≡ joined_all sorted)
+    (labelled : labels ≡ labels_from [] joined) (memory_is : numbered ≡ map (memory_in (number_of labels)) joined) where
+  back : (n : PartMemory) → In n sorted → In n memory
+  back n i = contains_in memory n (Contains-permutation sorted memory n (IsPermutation-sym memory sorted moved) (in_contains sorted n i))
 
-pub arranged_from : (memory : List PartMemory) (uses : List PartUse) (sorted joined : List PartMemory) (labels : List ℕ) (numbered : List PartMemory)
-    (used told : List PartUse) → IsPermutation memory sorted → joined ≡ joined_all sorted → labels ≡ labels_from [] joined →
-    numbered ≡ map (memory_in (number_of labels)) joined → used ≡ map (use_in (number_of labels)) uses →
-    ((u : PartUse) → Contains told u → Contains used u) → AreArranged memory uses numbered told
-arranged_from memory uses sorted joined labels numbered used told moved joins labelled memory_is uses_are kept = record {
-  label = λ k. get_or labels (k - 1) 0;
-  memory_from = memory_from;
-  uses_from = uses_from;
-}
-  where
-    back : (n : PartMemory) → In n sorted → In n memory
-    back n i = contains_in memory n (Contains-permutation sorted memory n (IsPermutation-sym memory sorted moved) (in_contains sorted n i))
+  forth : (n : PartMemory) → In n memory → In n sorted
+  forth n i = contains_in sorted n (Contains-permutation memory sorted n moved (in_contains memory n i))
 
-    forth : (n : PartMemory) → In n memory → In n sorted
-    forth n i = contains_in sorted n (Contains-permutation memory sorted n moved (in_contains memory n i))
+  apart : AreApart sorted
+  apart = record { stretches = λ m i. S.stretches m (back m i); apart = λ m n i j. S.apart m n (back m i) (back n j) }
 
-    labelled_all : (m : PartMemory) → In m joined → In m.part labels
-    labelled_all m i = subst (λ (l : List ℕ). In m.part l) (sym labelled) (labels_have joined [] m i)
+  chain : IsChain joined
+  chain = subst IsChain (sym joins) (all_rise sorted apart rising)
 
-    memory_from : AreSound memory uses → (m : PartMemory) → In m numbered → (address : ℕ) → m.first ≤ address → address ≤ m.last →
-        (n : PartMemory) × (In n memory × ((n.part ≡ get_or labels (m.part - 1) 0) × (lies_in n address ≡ true)))
-    memory_from S m i address low high =
-        let w = from_mapped (memory_in (number_of labels)) joined m (subst (λ (l : List PartMemory). In m l) memory_is i) in
-        let o = from_all sorted w.0 (subst (λ (l : List PartMemory). In w.0 l) joins w.1.0) address
-        (subst (λ n. n ≤ address) (ap (λ (x : PartMemory). x.first) w.1.1) low) (subst (λ n. address ≤ n) (ap (λ (x : PartMemory). x.last) w.1.1) high) in
-        let number : get_or labels (m.part - 1) 0 ≡ w.0.part =
-        ap (λ (x : PartMemory). get_or labels (x.part - 1) 0) w.1.1 ∙ number_is labels w.0.part (labelled_all w.0 w.1.0) in
-        (o.0, (back o.0 o.1.0, (o.1.1.0 ∙ sym number, o.1.1.1)))
+  long : (m : PartMemory) → In m joined → m.first ≤ m.last
+  long m i = all_long sorted apart rising m (subst (λ (l : List PartMemory). In m l) joins i)
 
-    uses_from : AreSound memory uses → (u : PartUse) → In u told →
-        (w : PartUse) × (In w uses × ((w.part ≡ get_or labels (u.part - 1) 0) × ((w.endpoint ≡ u.endpoint) × ((w.badge ≡ u.badge) × (w.rights ≡ u.rights)))))
-    uses_from S u i =
-        let w = from_mapped (use_in (number_of labels)) uses u (subst (λ (l : List PartUse). In u l) uses_are (contains_in used u (kept u (in_contains told u i)))) in
-        let m = S.used w.0 w.1.0 in
-        let j = all_has sorted m.0 (forth m.0 m.1.0) in
-        let has : In w.0.part labels =
-        subst (λ k. In k labels) (j.1.1 ∙ m.1.1) (labelled_all j.0 (subst (λ (l : List PartMemory). In j.0 l) (sym joins) j.1.0)) in
-        let number : get_or labels (u.part - 1) 0 ≡ w.0.part =
-        ap (λ (x : PartUse). get_or labels (x.part - 1) 0) w.1.1 ∙ number_is labels w.0.part has in
-        (w.0, (w.1.0, (sym number, (sym (ap (λ (x : PartUse). x.endpoint) w.1.1), (sym (ap (λ (x : PartUse). x.badge) w.1.1), sym (ap (λ (x : PartUse). x.rights) w.1.1))))))
+  covered : (n : PartMemory) → In n memory → (m : PartMemory) × (In m joined × ((m.part ≡ n.part) × ((m.first ≤ n.first) × (n.last ≤ m.last))))
+  covered n i = let w = all_cover sorted apart rising n (forth n i) in (w.0, (subst (λ (l : List PartMemory). In w.0 l) (sym joins) w.1.0, w.1.1))
+
+  abbrev label : ℕ → ℕ
+  label k = get_or labels (k - 1) 0
+
+  labelled_all : (m : PartMemory) → In m joined → In m.part labels
+  labelled_all m i = subst (λ (l : List ℕ). In m.part l) (sym labelled) (labels_have joined [] m i)
+
+  label_is : (m : PartMemory) → In m joined → label (number_of labels m.part) ≡ m.part
+  label_is m i = number_is labels m.part (labelled_all m i)
+
+  joined_at : (m : PartMemory) → In m numbered → (n : PartMemory) × (In n joined × (m ≡ memory_in (number_of labels) n))
+  joined_at m i = from_mapped (memory_in (number_of labels)) joined m (subst (λ (l : List PartMemory). In m l) memory_is i)
+
+  numbered_at : (n : PartMemory) → In n joined → In (memory_in (number_of labels) n) numbered
+  numbered_at n i = subst (λ (l : List PartMemory). In (memory_in (number_of labels) n) l) (sym memory_is) (in_mapped (memory_in (number_of labels)) n joined i)
+
+  told_from : (m : PartMemory) → In m numbered → (address : ℕ) → m.first ≤ address → address ≤ m.last →
+      (n : PartMemory) × (In n memory × ((n.part ≡ label m.part) × ((m.part ≡ number_of labels n.part) × (lies_in n address ≡ true))))
+  told_from m i address low high =
+      let w = joined_at m i in
+      let o = from_all sorted w.0 (subst (λ (l : List PartMemory). In w.0 l) joins w.1.0) address
+      (subst (λ n. n ≤ address) (ap (λ (x : PartMemory). x.first) w.1.1) low) (subst (λ n. address ≤ n) (ap (λ (x : PartMemory). x.last) w.1.1) high) in
+      let part_is : m.part ≡ number_of labels w.0.part = ap (λ (x : PartMemory). x.part) w.1.1 in
+      (o.0, (back o.0 o.1.0, (o.1.1.0 ∙ sym (label_is w.0 w.1.0) ∙ ap label (sym part_is), (part_is ∙ ap (number_of labels) (sym o.1.1.0), o.1.1.1))))
+
+  pub memory_told : IsMemoryTold memory numbered (number_of labels) label
+  memory_told = record {
+    memory_from = told_from;
+    memory_to = λ n i.
+        let w = covered n i in
+        (memory_in (number_of labels) w.0, (numbered_at w.0 w.1.0, (ap (number_of labels) w.1.1.0, w.1.1.1)));
+    labelled = λ n i. let w = covered n i in subst (λ k. label (number_of labels k) ≡ k) w.1.1.0 (label_is w.0 w.1.0);
+    long = λ m i. let w = joined_at m i in subst (λ (x : PartMemory). x.first ≤ x.last) (sym w.1.1) (long w.0 w.1.0);
+    rising = chain_adjacent numbered (subst IsChain (sym memory_is) (chain_numbered (number_of labels) joined same_part chain));
+    numbered = subst (λ (l : List PartMemory). list_all (is_numbered l) l ≡ true) (sym memory_is) (are_numbered joined long chain labels labelled);
+  }
+    where
+      same_part : (x y : PartMemory) → In x joined → In y joined → number_of labels x.part ≡ number_of labels y.part → x.part ≡ y.part
+      same_part x y i j same = sym (label_is x i) ∙ ap label same ∙ label_is y j
 
 -- ---- steps of the loops
 
@@ -218,10 +218,3 @@ joining_next others joined all last i d low h is =
 pub joining_end : (others joined all : List PartMemory) (last : PartMemory) (i : ℕ) → length others ≤ i → joined ++ joined_from last (drop i others) ≡ all →
     joined ++ last ∷ [] ≡ all
 joining_end others joined all last i done h = ap (λ (l : List PartMemory). joined ++ l) (sym (at_drop_all (joined_from last) others i done)) ∙ h
-
-pub from_needed : (uses sorted : List PartUse) (test : PartUse → Bool) (kept told : List PartUse) (same : PartUse → PartUse → Bool) → IsPermutation uses sorted →
-    kept ≡ filter test sorted → told ≡ dedup same kept → (u : PartUse) → Contains told u → Contains uses u
-from_needed uses sorted test kept told same moved is once u has =
-    let one = Contains-from_dedup same kept u (subst (λ (l : List PartUse). Contains l u) once has) in
-    let two = in_filter test sorted u (contains_in _ u (subst (λ (l : List PartUse). Contains l u) is one)) in
-    Contains-permutation sorted uses u (IsPermutation-sym uses sorted moved) (in_contains sorted u two.0)

@@ -1,5 +1,5 @@
 -- The test, by the list of derivations that a kernel gives, and what it shows.
-use Rattle.std.proofs.Common.{◌≡◌, ℕ, Bool, true, ◌&&◌, List, [], map, Option, Some, None, refl, sym, ap, subst, ◌∙◌}
+use Rattle.std.proofs.Common.{◌≡◌, ℕ, Bool, true, ◌&&◌, List, map, Option, Some, None, refl, sym, ap, subst, ◌∙◌}
 use Rattle.std.specs.Prelude.{option_map}
 use Rattle.std.specs.List.{list_all}
 use Rattle.std.proofs.lemmas.List.Folds.{list_all-map, list_all-append}
@@ -11,7 +11,6 @@ use Rattle.slot_core.specs.Calls.{derivation_view}
 use Rattle.abstract_kernel.specs.Shown.{Shown}
 use Rattle.abstract_kernel.specs.State.{State, shown}
 use Rattle.abstract_kernel.specs.Reached.{IsReached}
-use Rattle.abstract_kernel.proofs.Reached.Simulation.{reached_is}
 use Rattle.confinement.specs.declared.listed.PartMemory.{PartMemory}
 use Rattle.confinement.specs.declared.listed.PartUse.{PartUse}
 use Rattle.confinement.specs.Listed.{parts_listed, are_closed_in}
@@ -52,7 +51,7 @@ shown_derivations A = refl
 
 module _ (p : ProfileName) (memory : List PartMemory) (uses : List PartUse) where
   -- parts that are closed in each state that is shown are confined ever
-  confined_from : (v : Shown) → ((A : State) → IsReached p A → v ≡ shown A → AreClosed p (parts_listed memory uses) A) →
+  pub confined_from : (v : Shown) → ((A : State) → IsReached p A → v ≡ shown A → AreClosed p (parts_listed memory uses) A) →
       AreConfinedEver p memory uses v
   confined_from v closed A reached is calls of =
       record {

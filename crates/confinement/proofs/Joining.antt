@@ -1,9 +1,9 @@
 -- Parts that become one, by one at a time; and counts of what passes a test.
-use Rattle.std.proofs.Common.{◌≡◌, ℕ, ◌+◌, ◌≤◌, ◌<◌, ◌⊎◌, inl, inr, Bool, true, false, cond, ◌==◌, ◌&&◌, List, [], ◌∷◌, map, length, Option, Some, None, refl, sym, ap, subst, ◌∙◌, arith}
+use Rattle.std.proofs.Common.{◌≡◌, ℕ, ◌+◌, ◌≤◌, ◌<◌, ◌⊎◌, inl, inr, Bool, true, false, cond, ◌==◌, ◌&&◌, List, [], ◌∷◌, map, Option, Some, None, refl, sym, ap, subst, ◌∙◌, arith}
 use Rattle.std.specs.Prelude.{find, option_map, not}
 use Rattle.std.specs.List.{count_by}
 use Rattle.std.proofs.lemmas.Bool.{false≢true, eqb-true}
-use Rattle.std.proofs.lemmas.List.Sums.{count_by-le-length, sum_by-cons}
+use Rattle.std.proofs.lemmas.List.Sums.{sum_by-cons}
 use Rattle.clearing.specs.Members.{In}
 use Rattle.clearing.proofs.Members.{both_true, eqb_self}
 use Rattle.confinement.specs.declared.listed.PartMemory.{PartMemory}
@@ -44,18 +44,6 @@ count_map q f (x ∷ l) =
     ∙ ap (λ n. cond (q (f x)) 1 0 + n) (count_map q f l)
     ∙ sym (sum_by-cons (λ y. cond (q (f y)) 1 0) x l)
 
-pub count_full : {X : Type 0} (p : X → Bool) (l : List X) → length l ≤ count_by p l → (a : X) → In a l → p a ≡ true
-count_full p [] h a i = absurd i
-count_full {X} p (x ∷ l) h a i = by (p x) refl (subst (λ n. length (x ∷ l) ≤ n) (sum_by-cons (λ y. cond (p y) 1 0) x l) h) i (count_full p l)
-  where
-    by : (b : Bool) → p x ≡ b → length (x ∷ l) ≤ cond (p x) 1 0 + count_by p l → In a (x ∷ l) →
-        (length l ≤ count_by p l → (a : X) → In a l → p a ≡ true) → p a ≡ true
-    by true is h (inl same) rest = ap p same ∙ is
-    by true is h (inr more) rest = let one : cond {A = ℕ} (p x) 1 0 ≡ 1 = ap (λ b. cond {A = ℕ} b 1 0) is in rest (omega (arith, h, one)) a more
-    by false is h i rest =
-        let none : cond {A = ℕ} (p x) 1 0 ≡ 0 = ap (λ b. cond {A = ℕ} b 1 0) is in
-        let most = count_by-le-length p l in absurd (omega (arith, h, most, none))
-
 -- ---- find
 
 pub find_some : {X : Type 0} (p : X → Bool) (l : List X) (a : X) → find p l ≡ Some a → In a l × (p a ≡ true)
@@ -82,7 +70,7 @@ mapped_none : {X Y : Type 0} (f : X → Y) (o : Option X) → option_map f o ≡
 mapped_none f None h = refl
 mapped_none f (Some x) h = cc
 
-map_twice : (f g : ℕ → ℕ) (l : List PartMemory) → map (memory_in f) (map (memory_in g) l) ≡ map (memory_in (λ k. f (g k))) l
+pub map_twice : (f g : ℕ → ℕ) (l : List PartMemory) → map (memory_in f) (map (memory_in g) l) ≡ map (memory_in (λ k. f (g k))) l
 map_twice f g [] = refl
 map_twice f g (m ∷ l) = ap (λ (r : List PartMemory). memory_in (λ k. f (g k)) m ∷ r) (map_twice f g l)
 

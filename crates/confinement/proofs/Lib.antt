@@ -11,9 +11,14 @@ pub mod Joining
 pub mod Growing
 pub mod Taken
 pub mod Turns
+pub mod Joined
+pub mod Numbered
+pub mod Needed
 pub mod Arranging
+pub mod Standing
 pub mod Tested
 pub mod Closed
-pub mod Rising
+pub mod Results
 pub mod Bounded
 pub mod Same
+pub mod Addressed

@@ -1,9 +1,7 @@
 -- What the threads of a closed part name lies in it; and the least parts are the only ones.
-use Rattle.std.proofs.Common.{◌≡◌, ℕ, ◌⊎◌, inl, inr, true, List, [], Option, Some, None}
-use Rattle.std.specs.List.{Contains}
+use Rattle.std.proofs.Common.{◌≡◌, ℕ, inl, inr, true, List, [], Option, Some, None}
 use Rattle.std.proofs.lemmas.Bool.{false≢true}
 use Rattle.cap_core.specs.declared.profile.ProfileName.{ProfileName}
-use Rattle.cap_core.specs.declared.capability.Cap.{Cap}
 use Rattle.cap_core.specs.declared.capability.Cap.TheVariants.{Tcb}
 use Rattle.derivation.specs.Forest.{Forest}
 use Rattle.derivation.specs.Entries.{Entry}
@@ -18,7 +16,7 @@ use Rattle.confinement.specs.declared.listed.PartUse.{PartUse}
 use Rattle.confinement.specs.Parts.{Parts, IsOwned}
 use Rattle.confinement.specs.Listed.{part_at, parts_listed}
 use Rattle.confinement.specs.Order.{owns_block, has_block}
-use Rattle.confinement.specs.Laws.{AreClosed, Names, NamesItsOwn}
+use Rattle.confinement.specs.Laws.{AreClosed, NamesItsOwn}
 use Rattle.confinement.specs.Least.{AreClosedAround, AreLeastAround, LieInEachOther}
 use Rattle.confinement.proofs.Found.{invoked_owned, extra_within, target_owned}
 use Rattle.confinement.proofs.Tested.{range_owned}

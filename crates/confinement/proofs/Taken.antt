@@ -1,9 +1,8 @@
 -- What is kept where a stretch, or what a capability names, is taken into a part.
 use Rattle.std.proofs.Common.{◌≡◌, ℕ, ◌+◌, ◌-◌, ◌^◌, ◌≤◌, ◌⊎◌, inl, inr, Bool, true, false, cond, ◌==◌, ◌&&◌, nat_lt, List, [], ◌∷◌, ◌++◌, map, Option, Some, None, refl, sym, ap, subst, ◌∙◌, arith}
-use Rattle.std.specs.Prelude.{nat_le}
+use Rattle.std.specs.Prelude.{nat_le, length, is_some}
 use Rattle.std.specs.List.{list_any}
 use Rattle.std.specs.Int.Bits.{and_self}
-use Rattle.std.proofs.Math.Pow.{pow_mono}
 use Rattle.std.proofs.lemmas.Bool.{false≢true, eqb-true, eq-eqb}
 use Rattle.std.proofs.lemmas.Bool.Decides.{nat_tests}
 use Rattle.std.proofs.lemmas.Nat.{pow_pos}
@@ -33,6 +32,15 @@ pub record IsKept (p : ProfileName) (cap : Cap) (part : ℕ) (memory : List Part
   pub bounded : AreSound memory uses → (other : Parts) → IsWithin p other (whose other part) cap → AreBounded p other memory uses → AreBounded p other memory' uses'
   pub stays : (address : ℕ) → part_at memory address ≡ Some part → part_at memory' address ≡ Some part
   pub now : EndsInWords p cap → is_within p memory' uses' part cap ≡ true
+  pub into : ℕ → ℕ
+  pub same : into part ≡ part
+  pub more : List PartMemory
+  pub memory_is : memory' ≡ map (memory_in into) memory ++ more
+  pub pushed : (length more ≡ 0) ⊎ ((length more ≡ 1) × (is_within p memory' uses' part cap ≡ true))
+
+pub with_none : (l : List PartMemory) → l ≡ map (memory_in (λ k. k)) l ++ []
+with_none [] = refl
+with_none (m ∷ l) = ap (λ (r : List PartMemory). m ∷ r) (with_none l)
 
 -- ---- a stretch
 
@@ -164,7 +172,18 @@ module _ (p : ProfileName) (part : ℕ) (memory : List PartMemory) (uses : List 
   same_kept cap memory' uses' now same =
       subst (λ (m : List PartMemory). IsKept p cap part memory uses m uses') (sym same.0)
       (subst (λ (u : List PartUse). IsKept p cap part memory uses memory u) (sym same.1)
-      (record { sound = λ S. S; grows = λ e h. h; bounded = λ S other w B. B; stays = λ a at. at; now = now }))
+      (record {
+        sound = λ S. S;
+        grows = λ e h. h;
+        bounded = λ S other w B. B;
+        stays = λ a at. at;
+        now = now;
+        into = λ k. k;
+        same = refl;
+        more = [];
+        memory_is = with_none memory;
+        pushed = inl refl;
+      }))
 
   stretch_kept : (cap : Cap) (first last : ℕ) (memory' : List PartMemory) (uses' : List PartUse) → first ≤ last →
       ((other : Parts) (j : ℕ) → IsWithin p other j cap → (address : ℕ) → first ≤ address → address ≤ last → other.part_of address ≡ Some j) →
@@ -182,16 +201,12 @@ module _ (p : ProfileName) (part : ℕ) (memory : List PartMemory) (uses : List 
         bounded = λ S other w B. still_bounded p part first last low memory uses J.into J.joins J.all S other (lies other (whose other part) w) B;
         stays = λ a at. part_mapped J.into memory _ a part at ∙ ap Some J.joins.same;
         now = λ ends. now _ _ (owns_new part first last low memory J.into J.all);
+        into = J.into;
+        same = J.joins.same;
+        more = record { part = part; first = first; last = last } ∷ [];
+        memory_is = refl;
+        pushed = inr (refl, now _ _ (owns_new part first last low memory J.into J.all));
       }))
-
-  below_words : (cap : Cap) → EndsInWords p cap → nat_lt (bits_of p cap) 64 && nat_lt (base_of cap + (2 ^ bits_of p cap - 1)) (2 ^ 64) ≡ true
-  below_words cap ends = and_true _ _ (by (nat_lt (bits_of p cap) 64) refl) (let one = pow_pos (bits_of p cap) in grind (arith, nat_tests))
-    where
-      by : (b : Bool) → nat_lt (bits_of p cap) 64 ≡ b → nat_lt (bits_of p cap) 64 ≡ true
-      by true is = is
-      by false is =
-          let many : 64 ≤ bits_of p cap = grind (arith, nat_tests) in
-          let large = pow_mono {i = 64} {j = bits_of p cap} many in absurd (omega (arith, ends, large))
 
   -- a capability whose object is taken in as memory
   pub range_kept : (cap : Cap) (memory' : List PartMemory) (uses' : List PartUse) →
@@ -211,7 +226,7 @@ module _ (p : ProfileName) (part : ℕ) (memory : List PartMemory) (uses : List 
           ap (named_within m u part cap) named
           ∙ true_left _ _ (ap (λ t. owns_to m part (base_of cap) (cond t (Some (base_of cap + (2 ^ bits_of p cap - 1))) None)) is ∙ owned))
           taken
-      by false is taken = same_kept cap memory' uses' (λ ends. absurd (false≢true (sym is ∙ below_words cap ends))) taken
+      by false is taken = same_kept cap memory' uses' (λ ends. absurd (false≢true (sym (ap (λ t. is_some (cond t (Some last) None)) is) ∙ ends))) taken
 
   -- an endpoint is taken in as a use
   endpoint_kept : (base : ℕ) (badge : Badge) (rights : Rights) (address : ℕ) → part_at memory address ≡ Some part →
@@ -225,6 +240,11 @@ module _ (p : ProfileName) (part : ℕ) (memory : List PartMemory) (uses : List 
     stays = λ a is. is;
     now = λ ends. true_right _ _ (any_in (allows part base badge rights) (uses ++ this ∷ []) this (in_right this uses _ (inl refl))
         (and_true _ _ (eqb_self part) (and_true _ _ (eqb_self base) (and_true _ _ (true_left _ _ (eqb_self badge.0)) (eq-eqb _ _ (and_self rights.0))))));
+    into = λ k. k;
+    same = refl;
+    more = [];
+    memory_is = with_none memory;
+    pushed = inl refl;
   }
     where
       this : PartUse

@@ -1,128 +1,172 @@
 -- The turns of the search for the least parts: what is kept, and that it ends with closed parts.
-use Rattle.std.proofs.Common.{◌≡◌, ℕ, ◌+◌, ◌-◌, ◌^◌, ◌≤◌, ◌<◌, ◌⊎◌, inl, inr, Bool, true, false, ◌||◌, List, [], ◌∷◌, ◌++◌, length, take, get_or, Option, Some, None, refl, sym, ap, subst, ◌∙◌, arith}
-use Rattle.std.proofs.lemmas.List.{take_more, map-append, length-map}
+use Rattle.std.proofs.Common.{◌≡◌, ℕ, ◌+◌, ◌-◌, ◌^◌, ◌≤◌, ◌<◌, ◌⊎◌, inl, inr, Bool, true, false, not, ◌||◌, ◌&&◌, List, [], ◌∷◌, ◌++◌, map, length, take, get_or, append_assoc, Option, Some, None, refl, sym, ap, subst, ◌∙◌, arith, length-append}
+use Rattle.std.proofs.lemmas.List.{take_more, take_all, take-append-le, take-map, map-append, length-map}
 use Rattle.slot_core.specs.declared.derivations.Derivation.{Derivation}
 use Rattle.slot_core.specs.Calls.{derivation_view}
 use Rattle.std.specs.Prelude.{unwrap_or}
-use Rattle.std.specs.List.{list_all}
+use Rattle.std.specs.List.{list_all, count_by}
 use Rattle.std.proofs.lemmas.Bool.{false≢true}
 use Rattle.std.proofs.lemmas.Bool.Decides.{nat_tests}
 use Rattle.cap_core.specs.declared.profile.ProfileName.{ProfileName}
-use Rattle.cap_core.specs.declared.capability.Cap.{Cap}
 use Rattle.cap_core.specs.declared.capability.Cap.TheVariants.{Tcb}
 use Rattle.cap_core.specs.Numbers.{tcb_bits}
 use Rattle.derivation.specs.Entries.{Entry}
 use Rattle.clearing.specs.Members.{In}
-use Rattle.clearing.proofs.Members.{both_true, either_true, all_in, all_of, in_append, in_left, in_right, tells}
+use Rattle.clearing.proofs.Members.{both_true, all_of, in_append, in_left, in_right}
+use Rattle.clearing.proofs.Clearable.{contains_in}
 use Rattle.confinement.specs.declared.listed.PartMemory.{PartMemory}
 use Rattle.confinement.specs.declared.listed.PartUse.{PartUse}
 use Rattle.confinement.specs.Parts.{Parts, IsWithin}
 use Rattle.confinement.specs.Listed.{lies_in, part_at, is_within, spares, stands_in, entry_stands}
-use Rattle.confinement.specs.Private.Search.{AreSame, IsNewTaken, IsSlotTaken, IsRangeTaken, AreSound, inside_in, is_inside, EndsInWords, whose, HoldWithin, AreBounded, AreTaken, block_of, entries_of, AreAround, AreFound, AreFoundSoFar}
-use Rattle.confinement.proofs.Joining.{count_less, count_full}
-use Rattle.confinement.proofs.Growing.{at_member, owned_at, owns_last, made_inside}
-use Rattle.confinement.proofs.Taken.{IsKept, range_kept, cap_kept}
+use Rattle.confinement.specs.Private.Search.{memory_in, AreSame, IsCapTaken, IsTakenWhere, IsSlotTaken, IsRangeTaken, AreSound, inside_in, is_inside, is_outside, EndsInWords, whose, HoldWithin, AreBounded, AreGrown, AreHeld, AreLooked, AreTaken, block_of, entries_of, AreAround, AreFound, AreFoundSoFar}
+use Rattle.confinement.proofs.Lists.{in_mapped, from_mapped}
+use Rattle.confinement.proofs.Joining.{count_le, count_less, map_twice}
+use Rattle.confinement.proofs.Growing.{at_member, part_member, owned_at, owns_last, made_inside}
+use Rattle.confinement.proofs.Taken.{IsKept, with_none, range_kept, cap_kept}
+
+-- ---- what grows
+
+pub outside_before : (b c : Bool) → (b ≡ true → c ≡ true) → not c ≡ true → not b ≡ true
+outside_before true c h out = sym (ap not (h refl)) ∙ out
+outside_before false c h out = refl
+
+module _ (p : ProfileName) (es : List Entry) (memory : List PartMemory) (uses : List PartUse) where
+  pub grown_none : AreSound memory uses → AreGrown p es memory uses memory uses
+  grown_none S = record {
+    sound = S;
+    inside = λ e h. h;
+    bounded = λ other holds B. B;
+    into = λ k. k;
+    more = [];
+    memory_is = with_none memory;
+    fewer = omega arith;
+  }
+
+  pub grown_both : (memory' : List PartMemory) (uses' : List PartUse) (memory'' : List PartMemory) (uses'' : List PartUse) →
+      AreGrown p es memory uses memory' uses' → AreGrown p es memory' uses' memory'' uses'' → AreGrown p es memory uses memory'' uses''
+  grown_both memory' uses' memory'' uses'' A B = record {
+    sound = B.sound;
+    inside = λ e h. B.inside e (A.inside e h);
+    bounded = λ other holds O. B.bounded other holds (A.bounded other holds O);
+    into = λ k. B.into (A.into k);
+    more = map (memory_in B.into) A.more ++ B.more;
+    memory_is = B.memory_is ∙ ap (λ (l : List PartMemory). map (memory_in B.into) l ++ B.more) A.memory_is
+        ∙ ap (λ (l : List PartMemory). l ++ B.more) (map-append (memory_in B.into) (map (memory_in A.into) memory) A.more)
+        ∙ append_assoc (map (memory_in B.into) (map (memory_in A.into) memory)) (map (memory_in B.into) A.more) B.more
+        ∙ ap (λ (l : List PartMemory). l ++ (map (memory_in B.into) A.more ++ B.more)) (map_twice B.into A.into memory);
+    fewer =
+        let both = length-append (map (memory_in B.into) A.more) B.more in
+        let one = length-map A.more (memory_in B.into) in
+        omega (arith, A.fewer, B.fewer, both, one);
+  }
 
 -- ---- one slot
 
-module _ (p : ProfileName) (e : Entry) (memory : List PartMemory) (uses : List PartUse) where
-  new_taken : (memory' : List PartMemory) (uses' : List PartUse) → IsNewTaken p e memory uses memory' uses' → AreTaken p (e ∷ []) memory uses memory' uses' true
-  new_taken memory' uses' N =
-      let K = cap_kept p N.part memory uses e.cap memory' uses' e.slot N.lies N.takes in
+module _ (p : ProfileName) (es : List Entry) (m : PartMemory) (e : Entry) (memory : List PartMemory) (uses : List PartUse) (S : AreSound memory uses) (there : In m memory)
+    (known : In e es) where
+  at_slot : lies_in m e.slot ≡ true → part_at memory e.slot ≡ Some m.part
+  at_slot lies = part_member memory e.slot m (λ n j here. S.apart n m j there e.slot here lies) there lies
+
+  still_there : (into : ℕ → ℕ) (more memory' : List PartMemory) → into m.part ≡ m.part → memory' ≡ map (memory_in into) memory ++ more → In m memory'
+  still_there into more memory' same is =
+      let one : In (memory_in into m) memory' = subst (λ (l : List PartMemory). In (memory_in into m) l) (sym is) (in_left _ _ more (in_mapped (memory_in into) m memory there)) in
+      let whole : memory_in into m ≡ m = ap (λ (k : ℕ). memory_in (λ n. k) m) same in
+      subst (λ (x : PartMemory). In x memory') whole one
+
+  holds_there : (other : Parts) → HoldWithin p other es → AreBounded p other memory uses → lies_in m e.slot ≡ true → IsWithin p other (whose other m.part) e.cap
+  holds_there other holds B lies =
+      let low = between lies in
+      holds e known (whose other m.part) (B.memory_lies m there e.slot low.0 low.1)
+    where
+      between : lies_in m e.slot ≡ true → (m.first ≤ e.slot) × (e.slot ≤ m.last)
+      between h = (grind (arith, nat_tests), grind (arith, nat_tests))
+
+  new_looked : (memory' : List PartMemory) (uses' : List PartUse) → lies_in m e.slot ≡ true → is_within p memory uses m.part e.cap ≡ false →
+      IsCapTaken p m.part e.cap memory uses memory' uses' → AreLooked p es m (e ∷ []) memory uses memory' uses'
+  new_looked memory' uses' lies new taken =
+      let K = cap_kept p m.part memory uses e.cap memory' uses' e.slot (at_slot lies) taken in
       record {
-        sound = K.sound;
-        grows = λ S. K.grows;
-        bounded = λ S other holds B. K.bounded S other (holds_there other holds B) B;
-        more = λ _ S ends. (
-          e,
-          (
-            inl refl,
-            (
-              ap (inside_in p memory uses e.cap) N.lies ∙ N.new,
-              made_inside p memory' uses' e N.part (K.stays e.slot N.lies) (K.now (ends e (inl refl))),
-            ),
-          ),
-        );
-        none = λ h. absurd (false≢true (sym h));
+        grown = record {
+          sound = K.sound S;
+          inside = K.grows;
+          bounded = λ other holds B. K.bounded S other (holds_there other holds B lies) B;
+          into = K.into;
+          more = K.more;
+          memory_is = K.memory_is;
+          fewer = fewer K K.pushed;
+        };
+        still = still_there K.into K.more memory' K.same K.memory_is;
+        held = λ a i at ends. held K a ends i;
       }
     where
-      holds_there : (other : Parts) → HoldWithin p other (e ∷ []) → AreBounded p other memory uses → IsWithin p other (whose other N.part) e.cap
-      holds_there other holds B =
-          let m = at_member memory e.slot N.part N.lies in
-          let low = lies_low m.0 m.1.1.0 in
-          let there = B.memory_lies m.0 m.1.0 e.slot low.0 low.1 in
-          subst (λ k. IsWithin p other (whose other k) e.cap) m.1.1.1 (holds e (inl refl) (whose other m.0.part) there)
-        where
-          lies_low : (m : PartMemory) → lies_in m e.slot ≡ true → (m.first ≤ e.slot) × (e.slot ≤ m.last)
-          lies_low m h = (grind (arith, nat_tests), grind (arith, nat_tests))
+      held : IsKept p e.cap m.part memory uses memory' uses' → (a : Entry) → EndsInWords p a.cap → In a (e ∷ []) → is_inside p memory' uses' a ≡ true
+      held K a ends (inl same) =
+          subst (λ (x : Entry). EndsInWords p x.cap → is_inside p memory' uses' x ≡ true) (sym same)
+          (λ last. made_inside p memory' uses' e m.part (K.stays e.slot (at_slot lies)) (K.now last)) ends
+      held K a ends (inr none) = absurd none
 
-  pub slot_taken : (memory' : List PartMemory) (uses' : List PartUse) (t : Bool) → IsSlotTaken p e memory uses memory' uses' t →
-      AreTaken p (e ∷ []) memory uses memory' uses' t
-  slot_taken memory' uses' true N = new_taken memory' uses' N
-  slot_taken memory' uses' false N =
-      subst (λ (m : List PartMemory). AreTaken p (e ∷ []) memory uses m uses' false) (sym N.0.0)
-      (subst (λ (u : List PartUse). AreTaken p (e ∷ []) memory uses memory u false) (sym N.0.1)
-      (record {
-        sound = λ S. S;
-        grows = λ S x h. h;
-        bounded = λ S other holds B. B;
-        more = λ h. absurd (false≢true h);
-        none = λ h. ((refl, refl), all_of (entry_stands p memory uses) (e ∷ []) one);
-      }))
+      fewer : (K : IsKept p e.cap m.part memory uses memory' uses') → (length K.more ≡ 0) ⊎ ((length K.more ≡ 1) × (is_within p memory' uses' m.part e.cap ≡ true)) →
+          count_by (is_outside p memory' uses') es + length K.more ≤ count_by (is_outside p memory uses) es
+      fewer K (inl none) =
+          let less = count_le (is_outside p memory' uses') (is_outside p memory uses) (λ a. outside_before _ _ (K.grows a)) es in
+          omega (arith, less, none)
+      fewer K (inr one) =
+          let less = count_less (is_outside p memory' uses') (is_outside p memory uses) (λ a. outside_before _ _ (K.grows a)) es e known
+          (ap not (made_inside p memory' uses' e m.part (K.stays e.slot (at_slot lies)) one.1))
+          (ap not (ap (inside_in p memory uses e.cap) (at_slot lies) ∙ new)) in
+          omega (arith, less, one.0)
+
+  old_looked : (memory' : List PartMemory) (uses' : List PartUse) → (lies_in m e.slot ≡ true → is_within p memory uses m.part e.cap ≡ true) →
+      AreSame memory uses memory' uses' → AreLooked p es m (e ∷ []) memory uses memory' uses'
+  old_looked memory' uses' within same =
+      subst (λ (l : List PartMemory). AreLooked p es m (e ∷ []) memory uses l uses') (sym same.0)
+      (subst (λ (l : List PartUse). AreLooked p es m (e ∷ []) memory uses memory l) (sym same.1)
+      (record { grown = grown_none p es memory uses S; still = there; held = λ a i. held a i }))
     where
-      one : (a : Entry) → In a (e ∷ []) → entry_stands p memory uses a ≡ true
-      one a (inl same) = ap (entry_stands p memory uses) same ∙ N.1
-      one a (inr none) = absurd none
+      held : (a : Entry) → In a (e ∷ []) → lies_in m a.slot ≡ true → EndsInWords p a.cap → is_inside p memory uses a ≡ true
+      held a (inl same) =
+          subst (λ (x : Entry). lies_in m x.slot ≡ true → EndsInWords p x.cap → is_inside p memory uses x ≡ true) (sym same)
+          (λ lies ends. made_inside p memory uses e m.part (at_slot lies) (within lies))
+      held a (inr none) = absurd none
+
+  pub slot_looked : (memory' : List PartMemory) (uses' : List PartUse) → IsSlotTaken p m e memory uses memory' uses' → AreLooked p es m (e ∷ []) memory uses memory' uses'
+  slot_looked memory' uses' taken = by (lies_in m e.slot) refl (is_within p memory uses m.part e.cap) refl taken
+    where
+      by : (b : Bool) → lies_in m e.slot ≡ b → (c : Bool) → is_within p memory uses m.part e.cap ≡ c →
+          IsTakenWhere p m.part e.cap (b && not c) memory uses memory' uses' → AreLooked p es m (e ∷ []) memory uses memory' uses'
+      by true lies false new taken = new_looked memory' uses' lies new taken
+      by true lies true within same = old_looked memory' uses' (λ h. within) same
+      by false away c w same = old_looked memory' uses' (λ h. absurd (false≢true (sym away ∙ h))) same
 
 -- ---- one slot after another
 
-module _ (p : ProfileName) (es fs : List Entry) (memory : List PartMemory) (uses : List PartUse) (memory' : List PartMemory) (uses' : List PartUse)
-    (memory'' : List PartMemory) (uses'' : List PartUse) where
-  neither : (t s : Bool) → t || s ≡ false → (t ≡ false) × (s ≡ false)
-  neither true s h = absurd (false≢true (sym h))
-  neither false s h = (refl, h)
+pub taken_none : (p : ProfileName) (es : List Entry) (m : PartMemory) (memory : List PartMemory) (uses : List PartUse) → AreTaken p es m [] memory uses memory uses
+taken_none p es m memory uses S there = record { grown = grown_none p es memory uses S; still = there; held = λ e i. absurd i }
 
-  pub taken_both : (t s : Bool) → AreTaken p es memory uses memory' uses' t → AreTaken p fs memory' uses' memory'' uses'' s →
-      AreTaken p (es ++ fs) memory uses memory'' uses'' (t || s)
-  taken_both t s A B = record {
-    sound = λ S. B.sound (A.sound S);
-    grows = λ S e h. B.grows (A.sound S) e (A.grows S e h);
-    bounded = λ S other holds O. B.bounded (A.sound S) other (λ e i. holds e (in_right e es fs i)) (A.bounded S other (λ e i. holds e (in_left e es fs i)) O);
-    more = λ h S ends. more (either_true t s h) S ends;
-    none = λ h. let both = neither t s h in
-        let a = A.none both.0 in let b = B.none both.1 in
-        ((b.0.0 ∙ a.0.0, b.0.1 ∙ a.0.1), all_of (entry_stands p memory uses) (es ++ fs) (λ e i. stands a.0 a.1 b.1 e (in_append e es fs i)));
-  }
-    where
-      stands : AreSame memory uses memory' uses' → list_all (entry_stands p memory uses) es ≡ true → list_all (entry_stands p memory' uses') fs ≡ true →
-          (e : Entry) → (In e es) ⊎ (In e fs) → entry_stands p memory uses e ≡ true
-      stands same first second e (inl i) = all_in (entry_stands p memory uses) es e first i
-      stands same first second e (inr i) =
-          subst (λ (m : List PartMemory). entry_stands p m uses e ≡ true) same.0
-          (subst (λ (u : List PartUse). entry_stands p memory' u e ≡ true) same.1 (all_in (entry_stands p memory' uses') fs e second i))
+-- the derivations, and the entry of one of them
+entries_more : (p : ProfileName) (ds : List Derivation) (i : ℕ) (d : Derivation) → i < length ds → d ≡ get_or ds i d →
+    entries_of p (take (i + 1) ds) ≡ entries_of p (take i ds) ++ (derivation_view p d).0 ∷ []
+entries_more p ds i d low is =
+    ap (entries_of p) (take_more ds i d low ∙ ap (λ (x : Derivation). take i ds ++ x ∷ []) (sym is))
+    ∙ map-append (λ (x : Derivation). (derivation_view p x).0) (take i ds) (d ∷ [])
 
-      before : AreSound memory uses → (e : Entry) → is_inside p memory' uses' e ≡ false → (is_inside p memory uses e ≡ true) ⊎ (is_inside p memory uses e ≡ false) →
-          is_inside p memory uses e ≡ false
-      before S e out (inl inside) = absurd (false≢true (sym out ∙ A.grows S e inside))
-      before S e out (inr outside) = outside
-
-      more : (t ≡ true) ⊎ (s ≡ true) → AreSound memory uses → ((e : Entry) → In e (es ++ fs) → EndsInWords p e.cap) →
-          (e : Entry) × (In e (es ++ fs) × ((is_inside p memory uses e ≡ false) × (is_inside p memory'' uses'' e ≡ true)))
-      more (inl first) S ends =
-          let w = A.more first S (λ e i. ends e (in_left e es fs i)) in
-          (w.0, (in_left w.0 es fs w.1.0, (w.1.1.0, B.grows (A.sound S) w.0 w.1.1.1)))
-      more (inr second) S ends =
-          let w = B.more second (A.sound S) (λ e i. ends e (in_right e es fs i)) in
-          (w.0, (in_right w.0 es fs w.1.0, (before S w.0 w.1.1.0 (tells (is_inside p memory uses w.0)), w.1.1.1)))
-
-pub taken_none : (p : ProfileName) (memory : List PartMemory) (uses : List PartUse) → AreTaken p [] memory uses memory uses false
-taken_none p memory uses = record {
-  sound = λ S. S;
-  grows = λ S x h. h;
-  bounded = λ S other holds B. B;
-  more = λ h. absurd (false≢true h);
-  none = λ h. ((refl, refl), refl);
-}
+pub slots_more : (p : ProfileName) (ds : List Derivation) (m : PartMemory) (i : ℕ) (d : Derivation) (memory : List PartMemory) (uses : List PartUse) (memory' : List PartMemory)
+    (uses' : List PartUse) (memory'' : List PartMemory) (uses'' : List PartUse) → i < length ds → d ≡ get_or ds i d →
+    AreTaken p (entries_of p ds) m (entries_of p (take i ds)) memory uses memory' uses' → IsSlotTaken p m (derivation_view p d).0 memory' uses' memory'' uses'' →
+    AreTaken p (entries_of p ds) m (entries_of p (take (i + 1) ds)) memory uses memory'' uses''
+slots_more p ds m i d memory uses memory' uses' memory'' uses'' low is A taken S there =
+    let L = A S there in
+    let known = in_mapped (λ (x : Derivation). (derivation_view p x).0) d ds (contains_in ds d (i, low, sym is)) in
+    let M = slot_looked p (entries_of p ds) m (derivation_view p d).0 memory' uses' L.grown.sound L.still known memory'' uses'' taken in
+    record {
+      grown = grown_both p (entries_of p ds) memory uses memory' uses' memory'' uses'' L.grown M.grown;
+      still = M.still;
+      held = λ e j lies ends.
+          elim (in_append e (entries_of p (take i ds)) ((derivation_view p d).0 ∷ []) (subst (λ (l : List Entry). In e l) (entries_more p ds i d low is) j)) [
+            | inl old ↦ M.grown.inside e (L.held e old lies ends)
+            | inr new ↦ M.held e new lies ends
+          ];
+    }
 
 -- ---- the threads
 
@@ -164,65 +208,66 @@ around_more p threads t memory uses memory' uses' A taken =
 
 module _ (p : ProfileName) (es : List Entry) (threads : List ℕ) (memory : List PartMemory) (uses : List PartUse) where
   pub found_first : AreAround p threads memory uses → AreFoundSoFar p es threads memory uses 0
-  found_first A = record { sound = A.sound; has = A.has; bounded = λ other of. A.bounded other of.has; many = λ ends. omega arith }
-
-  pub found_more : (i : ℕ) (memory' : List PartMemory) (uses' : List PartUse) → AreFoundSoFar p es threads memory uses i →
-      AreTaken p es memory uses memory' uses' true → AreFoundSoFar p es threads memory' uses' (i + 1)
-  found_more i memory' uses' F T = record {
-    sound = T.sound F.sound;
-    has = λ t j ends. T.grows F.sound (block_of t) (F.has t j ends);
-    bounded = λ other of. T.bounded F.sound other of.holds (F.bounded other of);
-    many = λ ends.
-        let w = T.more refl F.sound ends in
-        let less = count_less (is_inside p memory uses) (is_inside p memory' uses') (T.grows F.sound) es w.0 w.1.0 w.1.1.0 w.1.1.1 in
-        let had = F.many ends in omega (arith, less, had);
+  found_first A = record {
+    sound = A.sound;
+    has = A.has;
+    bounded = λ other of. A.bounded other of.has;
+    low = omega arith;
+    looked = λ m i. absurd i;
   }
 
-  pub found_still : (i : ℕ) (memory' : List PartMemory) (uses' : List PartUse) → AreFoundSoFar p es threads memory uses i →
-      AreTaken p es memory uses memory' uses' false → AreFound p es threads memory' uses'
-  found_still i memory' uses' F T =
-      let n = T.none refl in
-      subst (λ (m : List PartMemory). AreFound p es threads m uses') (sym n.0.0)
-      (subst (λ (u : List PartUse). AreFound p es threads memory u) (sym n.0.1)
-      (record { sound = F.sound; has = F.has; bounded = F.bounded; closed = λ ends. n.1 }))
+  module _ (place : ℕ) (m : PartMemory) (low : place < length memory) (is : m ≡ get_or memory place m) (memory' : List PartMemory) (uses' : List PartUse)
+      (F : AreFoundSoFar p es threads memory uses place) (T : AreTaken p es m es memory uses memory' uses') where
+    looked_now : AreLooked p es m es memory uses memory' uses'
+    looked_now = T F.sound (contains_in memory m (place, low, sym is))
 
-  pub found_all : (i : ℕ) → length es ≤ i → AreFoundSoFar p es threads memory uses i → AreFound p es threads memory uses
-  found_all i all F = record { sound = F.sound; has = F.has; bounded = F.bounded; closed = closed }
+    longer : length memory' ≡ length memory + length looked_now.grown.more
+    longer = ap length looked_now.grown.memory_is ∙ length-append (map (memory_in looked_now.grown.into) memory) looked_now.grown.more
+        ∙ ap (λ n. n + length looked_now.grown.more) (length-map memory (memory_in looked_now.grown.into))
+
+    taken_first : take (place + 1) memory' ≡ map (memory_in looked_now.grown.into) (take place memory ++ m ∷ [])
+    taken_first =
+        ap (take (place + 1)) looked_now.grown.memory_is
+        ∙ take-append-le (place + 1) (map (memory_in looked_now.grown.into) memory) looked_now.grown.more (let n = length-map memory (memory_in looked_now.grown.into) in omega (arith, n))
+        ∙ take-map (memory_in looked_now.grown.into) (place + 1) memory
+        ∙ ap (map (memory_in looked_now.grown.into)) (take_more memory place m low ∙ ap (λ (x : PartMemory). take place memory ++ x ∷ []) (sym is))
+
+    pub found_more : AreFoundSoFar p es threads memory' uses' (place + 1)
+    found_more = record {
+      sound = looked_now.grown.sound;
+      has = λ t j ends. looked_now.grown.inside (block_of t) (F.has t j ends);
+      bounded = λ other of. looked_now.grown.bounded other of.holds (F.bounded other of);
+      low = let n = longer in omega (arith, n);
+      looked = λ n i.
+          let w = from_mapped (memory_in looked_now.grown.into) (take place memory ++ m ∷ []) n (subst (λ (l : List PartMemory). In n l) taken_first i) in
+          subst (λ (x : PartMemory). AreHeld p memory' uses' x es) (sym w.1.1) (held w.0 (in_append w.0 (take place memory) (m ∷ []) w.1.0));
+    }
+      where
+        held : (n : PartMemory) → (In n (take place memory)) ⊎ (In n (m ∷ [])) → AreHeld p memory' uses' n es
+        held n (inl old) = λ e i lies ends. looked_now.grown.inside e (F.looked n old e i lies ends)
+        held n (inr new) = elim new [
+          | inl same ↦ subst (λ (x : PartMemory). AreHeld p memory' uses' x es) (sym same) looked_now.held
+          | inr none ↦ absurd none
+        ]
+
+    pub turn_less : count_by (is_outside p memory' uses') es + (length memory' - (place + 1)) < count_by (is_outside p memory uses) es + (length memory - place)
+    turn_less = let n = longer in let less = looked_now.grown.fewer in omega (arith, n, less)
+
+  pub found_all : (place : ℕ) → length memory ≤ place → AreFoundSoFar p es threads memory uses place → AreFound p es threads memory uses
+  found_all place all F = record { sound = F.sound; has = F.has; bounded = F.bounded; closed = closed }
     where
-      stands : (cap : Cap) (o : Option ℕ) → inside_in p memory uses cap o ≡ true → stands_in p memory uses cap o ≡ true
-      stands cap None h = refl
-      stands cap (Some k) h = h
+      whole : take place memory ≡ memory
+      whole = take_all place memory all
+
+      stands : (e : Entry) → In e es → EndsInWords p e.cap → (o : Option ℕ) → part_at memory e.slot ≡ o → stands_in p memory uses e.cap o ≡ true
+      stands e i ends None at = refl
+      stands e i ends (Some k) at =
+          let m = at_member memory e.slot k at in
+          let inside = F.looked m.0 (subst (λ (l : List PartMemory). In m.0 l) (sym whole) m.1.0) e i m.1.1.0 ends in
+          sym (ap (inside_in p memory uses e.cap) at) ∙ inside
 
       closed : ((e : Entry) → In e es → EndsInWords p e.cap) → list_all (entry_stands p memory uses) es ≡ true
-      closed ends =
-          let many = F.many ends in
-          all_of (entry_stands p memory uses) es (λ e i. stands e.cap (part_at memory e.slot) (count_full (is_inside p memory uses) es (omega (arith, many, all)) e i))
-
--- ---- the entries of derivations
-
-entries_more : (p : ProfileName) (ds : List Derivation) (i : ℕ) (d : Derivation) → i < length ds → d ≡ get_or ds i d →
-    entries_of p (take (i + 1) ds) ≡ entries_of p (take i ds) ++ (derivation_view p d).0 ∷ []
-entries_more p ds i d low is =
-    ap (entries_of p) (take_more ds i d low ∙ ap (λ (x : Derivation). take i ds ++ x ∷ []) (sym is))
-    ∙ map-append (λ (x : Derivation). (derivation_view p x).0) (take i ds) (d ∷ [])
-
-pub slots_more : (p : ProfileName) (ds : List Derivation) (i : ℕ) (d : Derivation) (memory : List PartMemory) (uses : List PartUse) (memory' : List PartMemory) (uses' : List PartUse)
-    (memory'' : List PartMemory) (uses'' : List PartUse) (t s r : Bool) → i < length ds → d ≡ get_or ds i d →
-    AreTaken p (entries_of p (take i ds)) memory uses memory' uses' t → IsSlotTaken p (derivation_view p d).0 memory' uses' memory'' uses'' s →
-    (t || s) ≡ r → AreTaken p (entries_of p (take (i + 1) ds)) memory uses memory'' uses'' r
-slots_more p ds i d memory uses memory' uses' memory'' uses'' t s r low is A B same =
-    subst (λ (es : List Entry). AreTaken p es memory uses memory'' uses'' r) (sym (entries_more p ds i d low is))
-    (subst (λ b. AreTaken p (entries_of p (take i ds) ++ (derivation_view p d).0 ∷ []) memory uses memory'' uses'' b) same
-    (taken_both p (entries_of p (take i ds)) ((derivation_view p d).0 ∷ []) memory uses memory' uses' memory'' uses'' t s A
-    (slot_taken p (derivation_view p d).0 memory' uses' memory'' uses'' s B)))
-
-pub or_true : (t s r : Bool) → s ≡ true → r ≡ true → (t || s) ≡ r
-or_true true s r h e = sym e
-or_true false s r h e = h ∙ sym e
-
-pub or_false : (t s r : Bool) → s ≡ false → r ≡ t → (t || s) ≡ r
-or_false true s r h e = sym e
-or_false false s r h e = h ∙ sym e
+      closed ends = all_of (entry_stands p memory uses) es (λ e i. stands e i (ends e i) (part_at memory e.slot) refl)
 
 pub threads_more : (p : ProfileName) (threads : List ℕ) (i bits : ℕ) (memory : List PartMemory) (uses : List PartUse) (memory' : List PartMemory) (uses' : List PartUse) →
     i < length threads → bits ≡ tcb_bits p → AreAround p (take i threads) memory uses →
@@ -232,6 +277,3 @@ threads_more p threads i bits memory uses memory' uses' low size A taken =
     subst (λ (ts : List ℕ). AreAround p ts memory' uses') (sym (take_more threads i 0 low))
     (around_more p (take i threads) (get_or threads i 0) memory uses memory' uses' A
     (subst (λ b. IsRangeTaken (get_or threads i 0) (record { first = get_or threads i 0; bits = b }) memory uses memory' uses') size taken))
-
-pub as_many_entries : (p : ProfileName) (ds : List Derivation) → length (entries_of p ds) ≡ length ds
-as_many_entries p ds = length-map ds (λ (d : Derivation). (derivation_view p d).0)

@@ -1,5 +1,5 @@
 -- Parts as lists: stretches of memory, and endpoints that may be used; and the test of what stands in the slots of each part.
-use Rattle.std.specs.Prelude.{ℕ, ◌+◌, ◌-◌, ◌^◌, Bool, true, false, cond, ◌==◌, ◌&&◌, ◌||◌, nat_le, nat_lt, List, [], ◌∷◌, map, filter, find, Option, Some, None, option_map, bit_and}
+use Rattle.std.specs.Prelude.{ℕ, ◌+◌, ◌-◌, ◌^◌, Bool, true, false, cond, ◌==◌, ◌&&◌, ◌||◌, nat_le, nat_lt, List, map, filter, find, Option, Some, None, option_map, bit_and}
 use Rattle.std.specs.List.{list_any, list_all}
 use Rattle.cap_core.specs.declared.profile.ProfileName.{ProfileName}
 use Rattle.cap_core.specs.declared.capability.Badge.{Badge}

@@ -1,11 +1,11 @@
 -- Parts in the order in which they are told, with nothing in them that goes without saying.
-use Rattle.std.specs.Prelude.{◌≡◌, ℕ, ◌+◌, Bool, true, false, not, ◌==◌, ◌&&◌, ◌||◌, nat_le, nat_lt, List, length, Option, Some, None}
+use Rattle.std.specs.Prelude.{◌≡◌, ℕ, ◌+◌, Bool, true, false, not, ◌==◌, ◌&&◌, ◌||◌, nat_le, nat_lt, List, length, Option, Some, None, is_some}
 use Rattle.std.specs.List.{list_any, list_all, AllAdjacentBelow}
 use Rattle.cap_core.specs.declared.profile.ProfileName.{ProfileName}
 use Rattle.cap_core.specs.Numbers.{endpoint_bits, tcb_bits}
 use Rattle.confinement.specs.declared.listed.PartMemory.{PartMemory}
 use Rattle.confinement.specs.declared.listed.PartUse.{PartUse}
-use Rattle.confinement.specs.Listed.{part_at, owns_range, allows}
+use Rattle.confinement.specs.Listed.{part_at, last_in, owns_range, allows}
 
 -- a stretch has an address
 abbrev pub is_stretch : PartMemory → Bool
@@ -68,3 +68,7 @@ has_block p memory thread = owns_block p memory thread (part_at memory thread)
 -- the whole control block of each of these threads lies in a part
 abbrev pub AreInParts : ProfileName → List PartMemory → List ℕ → Type 0
 AreInParts p memory threads = list_all (has_block p memory) threads ≡ true
+
+-- each address of a thread's control block is a word
+abbrev pub is_addressed : ProfileName → ℕ → Bool
+is_addressed p thread = is_some (last_in thread (tcb_bits p))

@@ -1,11 +1,11 @@
 //! Parts put in the order in which they are told.
 ghost use Rattle.std.specs.Prelude.{◌≡◌, ◌==◌, [], map, position, IfOk};
-ghost use Rattle.std.specs.List.{filter, Contains};
-ghost use Rattle.std.specs.List.Sorted.{IsPermutation};
-ghost use Rattle.confinement.specs.declared.listed.PartUse.{PartUse};
+ghost use Rattle.std.specs.List.{filter};
+ghost use Rattle.std.specs.List.Sorted.{IsPermutation, IsNonDecreasingBy};
+ghost use Rattle.confinement.specs.declared.listed.PartMemory.{PartMemory};
 ghost use Rattle.confinement.specs.Order as order;
 ghost use Rattle.confinement.specs.Private.Search.{memory_in, use_in};
-ghost use Rattle.confinement.specs.Private.Arranging.{AreArranged, joined_all, joined_from, labels_from, number_of};
+ghost use Rattle.confinement.specs.Private.Arranging.{AreArranged, AreNeeded, joined_all, joined_from, labels_from, number_of};
 ghost use Rattle.confinement.specs.Private.Arranging as spec;
 
 use crate::listed::{PartMemory, PartUse};
@@ -66,8 +66,10 @@ fn join_sorted(alloc: Global, memory: &[PartMemory]) -> Result<Vec<PartMemory>, 
     }
 }
 
+/// Puts stretches in the order of their first addresses.
 fn sort_stretches(memory: &mut [PartMemory])
-    ensures { IsPermutation memory.old memory.new }
+    ensures moved { IsPermutation memory.old memory.new }
+    ensures rising { IsNonDecreasingBy (λ (m : PartMemory). m.first) memory.new }
 {
     memory.sort_unstable_by_key(|m| m.first);
 }
@@ -157,7 +159,7 @@ fn needed<P: Profile>(
     memory: &[PartMemory],
     uses: &mut [PartUse],
 ) -> Result<Vec<PartUse>, AllocError>
-    ensures { IfOk result (λ kept. (u : PartUse) → Contains kept.items u → Contains uses.old u) }
+    ensures { IfOk result (λ kept. AreNeeded P.profile memory.now uses.old kept.items) }
 {
     uses.sort_unstable_by_key(|u| (u.part, u.endpoint, u.badge.0, u.rights.0));
     let mut kept = needed_ones::<P>(alloc, memory, uses)?;
@@ -171,7 +173,7 @@ fn needed<P: Profile>(
 ///
 /// Memory was refused.
 pub fn arranged<P: Profile>(alloc: Global, parts: Parts) -> Result<Parts, AllocError>
-    ensures { IfOk result (λ told. AreArranged parts.memory.items parts.uses.items told.memory.items told.uses.items) }
+    ensures { IfOk result (λ told. AreArranged P.profile parts.memory.items parts.uses.items told.memory.items told.uses.items) }
 {
     let mut found = parts;
     sort_stretches(found.memory.as_mut_slice());

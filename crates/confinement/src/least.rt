@@ -5,7 +5,7 @@ ghost use Rattle.confinement.specs.declared.listed.PartMemory.{PartMemory};
 ghost use Rattle.confinement.specs.Private.Search.{AreAround, AreFound, AreJoined, AreTaken, IsCapTaken, IsRangeTaken, IsSlotTaken, entries_of, overlaps};
 ghost use Rattle.confinement.specs.Private.Search as spec;
 
-use crate::listed::{PartMemory, PartUse, is_within, last_of, part_at};
+use crate::listed::{PartMemory, PartUse, contains, is_within, last_of};
 use crate::parts::Parts;
 use cap_core::{Cap, Profile, Range, range_of};
 use slot_core::Derivation;
@@ -115,31 +115,37 @@ fn take_cap<P: Profile>(parts: &mut Parts, part: u64, cap: Cap) -> Result<(), Al
     }
 }
 
-/// Takes in what a full slot of a part names, unless it may stand there: whether something was taken in.
-fn take_slot<P: Profile>(parts: &mut Parts, derivation: &Derivation) -> Result<bool, AllocError>
-    ensures { IfOk result (λ taken. IsSlotTaken P.profile (derivation_view P.profile derivation.now).0 parts.old.memory.items parts.old.uses.items parts.new.memory.items parts.new.uses.items taken) }
+/// Takes in what a full slot in a stretch of a part names, unless it may stand there.
+fn take_slot<P: Profile>(
+    parts: &mut Parts,
+    stretch: PartMemory,
+    derivation: &Derivation,
+) -> Result<(), AllocError>
+    ensures { IfOk result (λ _. IsSlotTaken P.profile stretch (derivation_view P.profile derivation.now).0 parts.old.memory.items parts.old.uses.items parts.new.memory.items parts.new.uses.items) }
 {
-    let Some(part) = part_at(parts.memory.as_slice(), derivation.slot.address::<P>()) else {
-        return Ok(false);
-    };
+    let PartMemory { part, .. } = stretch;
+    if !contains(&stretch, derivation.slot.address::<P>()) {
+        return Ok(());
+    }
     let memory = parts.memory.as_slice();
     if is_within::<P>(memory, parts.uses.as_slice(), part, derivation.cap) {
-        return Ok(false);
+        return Ok(());
     }
-    take_cap::<P>(parts, part, derivation.cap)?;
-    Ok(true)
+    take_cap::<P>(parts, part, derivation.cap)
 }
 
-fn take_slots<P: Profile>(parts: &mut Parts, derivations: &[Derivation]) -> Result<bool, AllocError>
-    ensures { IfOk result (λ taken. AreTaken P.profile (entries_of P.profile derivations.now) parts.old.memory.items parts.old.uses.items parts.new.memory.items parts.new.uses.items taken) }
+/// Takes in what the full slots in a stretch of a part name.
+fn take_slots<P: Profile>(
+    parts: &mut Parts,
+    stretch: PartMemory,
+    derivations: &[Derivation],
+) -> Result<(), AllocError>
+    ensures { IfOk result (λ _. AreTaken P.profile (entries_of P.profile derivations.now) stretch (entries_of P.profile derivations.now) parts.old.memory.items parts.old.uses.items parts.new.memory.items parts.new.uses.items) }
 {
-    let mut taken = false;
     for derivation in derivations {
-        if take_slot::<P>(parts, derivation)? {
-            taken = true;
-        }
+        take_slot::<P>(parts, stretch, derivation)?;
     }
-    Ok(taken)
+    Ok(())
 }
 
 /// A part for each thread, of its control block.
@@ -160,8 +166,8 @@ fn thread_parts<P: Profile>(alloc: Global, threads: &[u64]) -> Result<Parts, All
     Ok(parts)
 }
 
-/// The least closed parts around some threads, each by the address of one of its threads. There are at most as many turns
-/// as full slots: with each, one more slot of a part holds what may stand there.
+/// The least closed parts around some threads, each by the address of one of its threads. The slots in each stretch are
+/// looked at once, when all stretches before it were: so what is taken in later is looked at later.
 ///
 /// # Errors
 ///
@@ -174,10 +180,11 @@ pub fn least_parts<P: Profile>(
     ensures { IfOk result (λ parts. AreFound P.profile (entries_of P.profile derivations.now) threads.now parts.memory.items parts.uses.items) }
 {
     let mut parts = thread_parts::<P>(alloc, threads)?;
-    for _ in 0..derivations.len() {
-        if !take_slots::<P>(&mut parts, derivations)? {
-            return Ok(parts);
-        }
+    let mut place = 0;
+    while place < parts.memory.len() {
+        let stretch = parts.memory[place];
+        take_slots::<P>(&mut parts, stretch, derivations)?;
+        place += 1;
     }
     Ok(parts)
 }

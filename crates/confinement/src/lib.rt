@@ -10,8 +10,8 @@ mod parts;
 
 pub use laws::{
     calls_keep_within_their_part, closed_parts_stay_closed, deliveries_stay_within_uses,
-    least_parts_are_the_same, threads_name_slots_of_their_part,
+    least_parts_are_the_same, live_threads_are_addressed, threads_name_slots_of_their_part,
 };
 pub use listed::{PartMemory, PartUse, part_at};
 pub use order::owns_endpoint;
-pub use parts::{Parts, are_parts_closed, parts_around};
+pub use parts::{Parts, PartsFault, are_parts_closed, parts_around};

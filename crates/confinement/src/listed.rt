@@ -22,7 +22,8 @@ pub struct PartUse {
     pub rights: Rights,
 }
 
-fn contains(memory: &PartMemory, address: u64) -> bool
+/// Whether an address lies in a stretch of memory.
+pub fn contains(memory: &PartMemory, address: u64) -> bool
     ensures { result ≡ spec.lies_in memory.now address }
 {
     memory.first <= address && address <= memory.last

@@ -1,17 +1,18 @@
 //! The parts of a kernel: whether they are closed, and the least ones around some threads.
-ghost use Rattle.std.specs.Prelude.{◌≡◌, true, IfOk};
+ghost use Rattle.std.specs.Prelude.{◌≡◌, true, false, IfOk, IfErr};
 ghost use Rattle.std.specs.List.{list_all};
 ghost use Rattle.slot_core.specs.Calls.{derivation_view};
 ghost use Rattle.confinement.specs.Listed.{entry_stands, are_closed_in};
+ghost use Rattle.confinement.specs.declared.parts.PartsFault.{PartsFault};
 ghost use Rattle.confinement.specs.Order.{AreInOrder, AreInParts};
+ghost use Rattle.confinement.specs.Order as order;
 ghost use Rattle.confinement.specs.Ever.{AreConfinedEver};
-ghost use Rattle.confinement.specs.Least.{AreLeast};
+ghost use Rattle.confinement.specs.Least.{AreLeast, AreLeastAround};
 
 use crate::arranged::arranged;
 use crate::least::least_parts;
-use crate::listed::{PartMemory, PartUse, may_stand};
-use crate::order::{are_in_order, are_in_parts};
-use cap_core::Profile;
+use crate::listed::{PartMemory, PartUse, last_of, may_stand};
+use cap_core::{Profile, Range};
 use ipc_core::Waiters;
 use kernel_core::Kernel;
 use slot_core::{Derivation, DerivationStore};
@@ -64,22 +65,40 @@ pub fn are_parts_closed<P: Profile, S: DerivationStore<P> + Drop, W: Waiters<P> 
     Ok(all_stand::<P>(memory, uses, derivations.as_slice()))
 }
 
-/// Whether parts are closed, stand in order, and have these threads.
-fn are_right<P: Profile, S: DerivationStore<P> + Drop, W: Waiters<P> + Drop>(
-    alloc: Global,
-    kernel: &Kernel<P, S, W>,
-    threads: &[u64],
-    memory: &[PartMemory],
-    uses: &[PartUse],
-) -> Result<bool, AllocError>
-    ensures ever { IfOk result (λ right. right ≡ true → AreConfinedEver P.profile memory.now uses.now kernel.now) }
-    ensures order { IfOk result (λ right. right ≡ true → AreInOrder P.profile memory.now uses.now) }
-    ensures threads { IfOk result (λ right. right ≡ true → AreInParts P.profile memory.now threads.now) }
-{
-    if !are_in_order::<P>(memory, uses) || !are_in_parts::<P>(memory, threads) {
-        return Ok(false);
+/// Why no parts are told.
+#[derive(Clone, Copy, Debug, PartialEq, Eq)]
+pub enum PartsFault {
+    /// Memory was refused.
+    Memory,
+    /// The control block of a thread would end past the last address.
+    Block,
+}
+
+impl From<AllocError> for PartsFault {
+    ghost use Rattle.confinement.specs.declared.parts.PartsFault.TheVariants.{Memory};
+
+    ghost from_gives = { λ _ fault. fault ≡ Memory };
+
+    fn from(_: AllocError) -> PartsFault {
+        PartsFault::Memory
     }
-    are_parts_closed(alloc, kernel, memory, uses)
+}
+
+/// Whether each address of a thread's control block is a word.
+fn is_addressed<P: Profile>(thread: u64) -> bool
+    ensures { result ≡ order.is_addressed P.profile thread }
+{
+    let range = Range {
+        first: thread,
+        bits: P::TCB_BITS as u64,
+    };
+    last_of(range).is_some()
+}
+
+fn are_addressed<P: Profile>(threads: &[u64]) -> bool
+    ensures { result ≡ list_all (order.is_addressed P.profile) threads.now }
+{
+    threads.iter().all(|t| is_addressed::<P>(*t))
 }
 
 /// The parts that are found around threads: the least ones, told in order.
@@ -88,7 +107,9 @@ fn found_around<P: Profile, S: DerivationStore<P> + Drop, W: Waiters<P> + Drop>(
     kernel: &Kernel<P, S, W>,
     threads: &[u64],
 ) -> Result<Parts, AllocError>
-    ensures { IfOk result (λ parts. AreLeast P.profile threads.now parts.memory.items parts.uses.items kernel.now) }
+    requires { list_all (order.is_addressed P.profile) threads.now ≡ true }
+    ensures around { IfOk result (λ parts. AreLeastAround P.profile threads.now kernel.now parts.memory.items parts.uses.items) }
+    ensures order { IfOk result (λ parts. AreInOrder P.profile parts.memory.items parts.uses.items) }
 {
     let derivations = kernel.derivations(alloc)?;
     let found = least_parts::<P>(alloc, derivations.as_slice(), threads)?;
@@ -106,24 +127,21 @@ fn found_around<P: Profile, S: DerivationStore<P> + Drop, W: Waiters<P> + Drop>(
 ///
 /// # Errors
 ///
-/// Memory was refused; or what was found did not pass its test, as where a control block would end past the last address.
-/// No kernel is known to bring that about of its own live threads.
+/// `Memory` where memory was refused; `Block` where the control block of one of the threads would end past the last address.
+/// No live thread is such a thread: `live_threads_are_addressed`.
 pub fn parts_around<P: Profile, S: DerivationStore<P> + Drop, W: Waiters<P> + Drop>(
     alloc: Global,
     kernel: &Kernel<P, S, W>,
     threads: &[u64],
-) -> Result<Parts, AllocError>
+) -> Result<Parts, PartsFault>
     ensures ever { IfOk result (λ parts. AreConfinedEver P.profile parts.memory.items parts.uses.items kernel.now) }
     ensures order { IfOk result (λ parts. AreInOrder P.profile parts.memory.items parts.uses.items) }
     ensures threads { IfOk result (λ parts. AreInParts P.profile parts.memory.items threads.now) }
     ensures least { IfOk result (λ parts. AreLeast P.profile threads.now parts.memory.items parts.uses.items kernel.now) }
+    ensures fault { IfErr result (λ fault. fault ≡ PartsFault.Block → list_all (order.is_addressed P.profile) threads.now ≡ false) }
 {
-    let parts = found_around(alloc, kernel, threads)?;
-    let memory = parts.memory.as_slice();
-    let uses = parts.uses.as_slice();
-    if are_right(alloc, kernel, threads, memory, uses)? {
-        Ok(parts)
-    } else {
-        Err(AllocError)
+    if !are_addressed::<P>(threads) {
+        return Err(PartsFault::Block);
     }
+    Ok(found_around(alloc, kernel, threads)?)
 }

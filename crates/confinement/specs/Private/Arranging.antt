@@ -1,11 +1,13 @@
 -- How parts are put in the order in which they are told.
-use Rattle.std.specs.Prelude.{◌≡◌, ℕ, ◌+◌, ◌≤◌, Bool, true, cond, ◌==◌, ◌&&◌, nat_le, nat_lt, List, [], ◌∷◌, ◌++◌, Option, Some, None, position}
-use Rattle.std.specs.List.{list_any}
+use Rattle.std.specs.Prelude.{◌≡◌, ℕ, ◌+◌, ◌≤◌, ◌⊎◌, Bool, true, cond, ◌==◌, ◌&&◌, nat_le, nat_lt, List, [], ◌∷◌, ◌++◌, map, length, Option, Some, None, position}
+use Rattle.std.specs.List.{list_any, list_all, AllAdjacentBelow}
+use Rattle.cap_core.specs.declared.profile.ProfileName.{ProfileName}
 use Rattle.clearing.specs.Members.{In}
 use Rattle.confinement.specs.declared.listed.PartMemory.{PartMemory}
 use Rattle.confinement.specs.declared.listed.PartUse.{PartUse}
 use Rattle.confinement.specs.Listed.{lies_in}
-use Rattle.confinement.specs.Private.Search.{AreSound}
+use Rattle.confinement.specs.Order.{lies_behind, is_numbered, comes_before, owns_endpoint, covers, is_needed}
+use Rattle.confinement.specs.Private.Search.{use_in, AreSound}
 
 -- a stretch of the same part goes on, or begins, what ends with another
 abbrev pub goes_on : PartMemory → PartMemory → Bool
@@ -37,10 +39,30 @@ number_in (Some place) = place + 1
 abbrev pub number_of : List ℕ → ℕ → ℕ
 number_of labels part = number_in (position (λ label. label == part) labels)
 
--- memory and uses of parts that are there, by the label of each number
-pub record AreArranged (memory : List PartMemory) (uses : List PartUse) (memory' : List PartMemory) (uses' : List PartUse) : Type 0 where
+-- what is left of some uses: those that are needed, in order; each that is left out is of an endpoint that its part owns, or
+-- another allows all that it does
+pub record AreNeeded (p : ProfileName) (memory : List PartMemory) (uses : List PartUse) (told : List PartUse) : Type 0 where
+  pub only : (u : PartUse) → In u told → In u uses
+  pub covered : (u : PartUse) → In u uses → (owns_endpoint p memory u.part u.endpoint ≡ true) ⊎ ((w : PartUse) × (In w told × (covers w u ≡ true)))
+  pub rising : AllAdjacentBelow (λ u w. comes_before u w ≡ true) told (length told)
+  pub needed : list_all (is_needed p memory told) told ≡ true
+
+-- memory of parts that is told is memory that is there, and all of it, by the number of each label and the label of each number
+pub record IsMemoryTold (memory memory' : List PartMemory) (number label : ℕ → ℕ) : Type 0 where
+  pub memory_from : (m : PartMemory) → In m memory' → (address : ℕ) → m.first ≤ address → address ≤ m.last →
+      (n : PartMemory) × (In n memory × ((n.part ≡ label m.part) × ((m.part ≡ number n.part) × (lies_in n address ≡ true))))
+  pub memory_to : (n : PartMemory) → In n memory → (m : PartMemory) × (In m memory' × ((m.part ≡ number n.part) × ((m.first ≤ n.first) × (n.last ≤ m.last))))
+  pub labelled : (n : PartMemory) → In n memory → label (number n.part) ≡ n.part
+  pub long : (m : PartMemory) → In m memory' → m.first ≤ m.last
+  pub rising : AllAdjacentBelow (λ m n. lies_behind m n ≡ true) memory' (length memory')
+  pub numbered : list_all (is_numbered memory') memory' ≡ true
+
+-- sound parts are told: their memory, and of their uses those that are needed
+pub record AreTold (p : ProfileName) (memory : List PartMemory) (uses : List PartUse) (memory' : List PartMemory) (uses' : List PartUse) : Type 0 where
+  pub number : ℕ → ℕ
   pub label : ℕ → ℕ
-  pub memory_from : AreSound memory uses → (m : PartMemory) → In m memory' → (address : ℕ) → m.first ≤ address → address ≤ m.last →
-      (n : PartMemory) × (In n memory × ((n.part ≡ label m.part) × (lies_in n address ≡ true)))
-  pub uses_from : AreSound memory uses → (u : PartUse) → In u uses' →
-      (w : PartUse) × (In w uses × ((w.part ≡ label u.part) × ((w.endpoint ≡ u.endpoint) × ((w.badge ≡ u.badge) × (w.rights ≡ u.rights)))))
+  pub memory_told : IsMemoryTold memory memory' number label
+  pub uses_told : AreNeeded p memory' (map (use_in number) uses) uses'
+
+abbrev pub AreArranged : ProfileName → List PartMemory → List PartUse → List PartMemory → List PartUse → Type 0
+AreArranged p memory uses memory' uses' = AreSound memory uses → AreTold p memory uses memory' uses'

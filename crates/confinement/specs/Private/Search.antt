@@ -1,11 +1,11 @@
 -- What the search for the least parts does with each thing that it takes in, and what it finds.
-use Rattle.std.specs.Prelude.{◌≡◌, ℕ, ◌≤◌, ◌<◌, ◌^◌, ◌⊎◌, Bool, true, false, cond, ◌==◌, ◌&&◌, nat_le, List, [], ◌∷◌, ◌++◌, map, Option, Some, None, unwrap_or}
+use Rattle.std.specs.Prelude.{◌≡◌, ℕ, ◌+◌, ◌≤◌, ◌⊎◌, Bool, true, false, not, cond, ◌==◌, ◌&&◌, nat_le, List, [], ◌∷◌, ◌++◌, map, take, length, Option, Some, None, is_some, unwrap_or}
 use Rattle.std.specs.List.{list_all, count_by}
 use Rattle.cap_core.specs.declared.profile.ProfileName.{ProfileName}
 use Rattle.cap_core.specs.declared.capability.Cap.{Cap}
 use Rattle.cap_core.specs.declared.capability.Cap.TheVariants.{Endpoint, Tcb}
 use Rattle.cap_core.specs.declared.object.Range.{Range}
-use Rattle.cap_core.specs.Objects.{end_of}
+use Rattle.cap_core.specs.Objects.{base_of, bits_of}
 use Rattle.cap_core.specs.Ranges.{range_named}
 use Rattle.derivation.specs.Entries.{Entry, entry}
 use Rattle.slot_core.specs.declared.derivations.Derivation.{Derivation}
@@ -78,16 +78,14 @@ IsCapTaken p part (Endpoint base badge rights) memory uses memory' uses' =
     (memory' ≡ memory) × (uses' ≡ uses ++ record { part = part; endpoint = base; badge = badge; rights = rights } ∷ [])
 IsCapTaken p part cap memory uses memory' uses' = IsNamedTaken part (range_named p cap) memory uses memory' uses'
 
--- what a slot of a part holds and may not stand there is taken in
-pub record IsNewTaken (p : ProfileName) (e : Entry) (memory : List PartMemory) (uses : List PartUse) (memory' : List PartMemory) (uses' : List PartUse) : Type 0 where
-  pub part : ℕ
-  pub lies : part_at memory e.slot ≡ Some part
-  pub new : is_within p memory uses part e.cap ≡ false
-  pub takes : IsCapTaken p part e.cap memory uses memory' uses'
+abbrev pub IsTakenWhere : ProfileName → ℕ → Cap → Bool → List PartMemory → List PartUse → List PartMemory → List PartUse → Type 0
+IsTakenWhere p part cap true memory uses memory' uses' = IsCapTaken p part cap memory uses memory' uses'
+IsTakenWhere p part cap false memory uses memory' uses' = AreSame memory uses memory' uses'
 
-abbrev pub IsSlotTaken : ProfileName → Entry → List PartMemory → List PartUse → List PartMemory → List PartUse → Bool → Type 0
-IsSlotTaken p e memory uses memory' uses' true = IsNewTaken p e memory uses memory' uses'
-IsSlotTaken p e memory uses memory' uses' false = AreSame memory uses memory' uses' × (entry_stands p memory uses e ≡ true)
+-- what a slot in a stretch of a part holds and may not stand there is taken in
+abbrev pub IsSlotTaken : ProfileName → PartMemory → Entry → List PartMemory → List PartUse → List PartMemory → List PartUse → Type 0
+IsSlotTaken p m e memory uses memory' uses' =
+    IsTakenWhere p m.part e.cap (lies_in m e.slot && not (is_within p memory uses m.part e.cap)) memory uses memory' uses'
 
 -- ---- what is kept
 
@@ -105,9 +103,13 @@ inside_in p memory uses cap (Some part) = is_within p memory uses part cap
 abbrev pub is_inside : ProfileName → List PartMemory → List PartUse → Entry → Bool
 is_inside p memory uses e = inside_in p memory uses e.cap (part_at memory e.slot)
 
--- the object ends before the last word
+-- a slot lies in no part, or may not hold what it holds
+abbrev pub is_outside : ProfileName → List PartMemory → List PartUse → Entry → Bool
+is_outside p memory uses e = not (is_inside p memory uses e)
+
+-- the object's last address is a word
 abbrev pub EndsInWords : ProfileName → Cap → Type 0
-EndsInWords p cap = end_of p cap < 2 ^ 64
+EndsInWords p cap = is_some (last_in (base_of cap) (bits_of p cap)) ≡ true
 
 -- the part in which some other parts have an address, 0 where none has
 abbrev pub whose : Parts → ℕ → ℕ
@@ -122,14 +124,29 @@ pub record AreBounded (p : ProfileName) (other : Parts) (memory : List PartMemor
   pub memory_lies : (m : PartMemory) → In m memory → (address : ℕ) → m.first ≤ address → address ≤ m.last → other.part_of address ≡ Some (whose other m.part)
   pub uses_lie : (u : PartUse) → In u uses → IsWithin p other (whose other u.part) (Endpoint u.endpoint u.badge u.rights)
 
--- what some slots hold is taken in, if it may not stand there
-pub record AreTaken (p : ProfileName) (es : List Entry) (memory : List PartMemory) (uses : List PartUse) (memory' : List PartMemory) (uses' : List PartUse) (taken : Bool) : Type 0 where
-  pub sound : AreSound memory uses → AreSound memory' uses'
-  pub grows : AreSound memory uses → (e : Entry) → is_inside p memory uses e ≡ true → is_inside p memory' uses' e ≡ true
-  pub bounded : AreSound memory uses → (other : Parts) → HoldWithin p other es → AreBounded p other memory uses → AreBounded p other memory' uses'
-  pub more : taken ≡ true → AreSound memory uses → ((e : Entry) → In e es → EndsInWords p e.cap) →
-      (e : Entry) × (In e es × ((is_inside p memory uses e ≡ false) × (is_inside p memory' uses' e ≡ true)))
-  pub none : taken ≡ false → AreSame memory uses memory' uses' × (list_all (entry_stands p memory uses) es ≡ true)
+-- what is kept where things are taken in: sound parts stay sound, what stands in a part stands there still, the parts lie
+-- in others as before, and stretches are added behind, at most as many as slots come to hold what may stand there
+pub record AreGrown (p : ProfileName) (es : List Entry) (memory : List PartMemory) (uses : List PartUse) (memory' : List PartMemory) (uses' : List PartUse) : Type 0 where
+  pub sound : AreSound memory' uses'
+  pub inside : (e : Entry) → is_inside p memory uses e ≡ true → is_inside p memory' uses' e ≡ true
+  pub bounded : (other : Parts) → HoldWithin p other es → AreBounded p other memory uses → AreBounded p other memory' uses'
+  pub into : ℕ → ℕ
+  pub more : List PartMemory
+  pub memory_is : memory' ≡ map (memory_in into) memory ++ more
+  pub fewer : count_by (is_outside p memory' uses') es + length more ≤ count_by (is_outside p memory uses) es
+
+-- each of these slots that lies in a stretch holds what may stand in its part
+abbrev pub AreHeld : ProfileName → List PartMemory → List PartUse → PartMemory → List Entry → Type 0
+AreHeld p memory uses m es = (e : Entry) → In e es → lies_in m e.slot ≡ true → EndsInWords p e.cap → is_inside p memory uses e ≡ true
+
+-- some of the slots were looked at, and what they hold was taken in where they lie in a stretch of sound parts
+pub record AreLooked (p : ProfileName) (es : List Entry) (m : PartMemory) (seen : List Entry) (memory : List PartMemory) (uses : List PartUse) (memory' : List PartMemory) (uses' : List PartUse) : Type 0 where
+  pub grown : AreGrown p es memory uses memory' uses'
+  pub still : In m memory'
+  pub held : AreHeld p memory' uses' m seen
+
+abbrev pub AreTaken : ProfileName → List Entry → PartMemory → List Entry → List PartMemory → List PartUse → List PartMemory → List PartUse → Type 0
+AreTaken p es m seen memory uses memory' uses' = AreSound memory uses → In m memory → AreLooked p es m seen memory uses memory' uses'
 
 -- the entries of derivations
 abbrev pub entries_of : ProfileName → List Derivation → List Entry
@@ -158,9 +175,10 @@ pub record AreFound (p : ProfileName) (es : List Entry) (threads : List ℕ) (me
   pub bounded : (other : Parts) → AreOf p es threads other → AreBounded p other memory uses
   pub closed : ((e : Entry) → In e es → EndsInWords p e.cap) → list_all (entry_stands p memory uses) es ≡ true
 
--- the same before they are closed, where so many slots of parts at least hold what may stand there
-pub record AreFoundSoFar (p : ProfileName) (es : List Entry) (threads : List ℕ) (memory : List PartMemory) (uses : List PartUse) (turns : ℕ) : Type 0 where
+-- the same before they are closed, where so many stretches were looked at
+pub record AreFoundSoFar (p : ProfileName) (es : List Entry) (threads : List ℕ) (memory : List PartMemory) (uses : List PartUse) (place : ℕ) : Type 0 where
   pub sound : AreSound memory uses
   pub has : (t : ℕ) → In t threads → EndsInWords p (Tcb t) → is_inside p memory uses (block_of t) ≡ true
   pub bounded : (other : Parts) → AreOf p es threads other → AreBounded p other memory uses
-  pub many : ((e : Entry) → In e es → EndsInWords p e.cap) → turns ≤ count_by (is_inside p memory uses) es
+  pub low : place ≤ length memory
+  pub looked : (m : PartMemory) → In m (take place memory) → AreHeld p memory uses m es

@@ -5,5 +5,6 @@ use Rattle.confinement.proofs.least.take_slots.Given as goal
 
 abbrev pub invariant-loop-derivation : goal.invariant-loop-derivation
 invariant-loop-derivation g l =
-    AreTaken g.P.Profile.profile (entries_of g.P.Profile.profile (take l.derivation-index l.derivations)) l.initial.parts.memory.items l.initial.parts.uses.items
-    l.parts.memory.items l.parts.uses.items l.taken
+    let p = g.P.Profile.profile in
+    AreTaken p (entries_of p l.derivations) l.stretch (entries_of p (take l.derivation-index l.derivations))
+    l.initial.parts.memory.items l.initial.parts.uses.items l.parts.memory.items l.parts.uses.items
