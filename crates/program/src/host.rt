@@ -91,7 +91,7 @@ fn run_texts<R: Files + Input + Print + Eprint + AllocGlobal + Threads + Wait + 
 ) -> u8
     ensures { IsStatusOf IsUnread (λ name. IsUnread) (λ name fault. ⊤)
         ⟦<ReaderSource<KeptReader<R::Reader>> as Source>⟧ ⟦<ReaderSource<KeptReader<R::File>> as Source>⟧
-        ⟦<WriterSink<FrontWriter<KeptWriter<Printer<'_, R>>>> as Sink>⟧ (texts words.now) result }
+        ⟦<WriterSink<FrontWriter<KeptWriter<Printer<'static, R>>>> as Sink>⟧ (texts words.now) result }
 {
     let writer = FrontWriter::new(rt.alloc(), KeptWriter::new(io::writer(rt)));
     let mut sink = WriterSink::new(writer);
