@@ -13,6 +13,7 @@
 # request for memory refused in turn, by each subcommand and by calls of the libraries, inputs and outputs that fail,
 # texts that are broken, deep or long, three clients and four in whatever order they come, and what the documents
 # print; it says first what it needs and does not find;
+# make rows-python: of these the rows that need nothing but Python and the program, as make run or make test left it;
 # make browser: site/sel4sim.html, the proved program as one page for any browser (docs/browser.md); make browser-test: tries
 # it in chromium and firefox, beside the native program (pictures=FOLDER: writes pictures of it there); they say first what
 # they need and do not find;
@@ -23,7 +24,7 @@
 # (docs/performance.md); it says first what it needs and does not find;
 # make wrong-bodies: each wrong body of each crate, in copies; CRATE=NAME: those of one crate, JOBS=N: N crates side by side
 # (docs/wrong-bodies.md). It is no part of the gate, which tries those of must-fail/ alone.
-.PHONY: run dist dist-test install test try rows rows-needs browser browser-test page page-test needs bench wrong-bodies
+.PHONY: run dist dist-test install test try rows rows-needs rows-python browser browser-test page page-test needs bench wrong-bodies
 
 program = crates/sel4sim/out/sel4sim
 calls = crates/refused_memory/out/refused_memory
@@ -54,16 +55,23 @@ try:
 	@python3 build/unproved.py $(if $(FILE),$(or $(DO),check) "$$FILE",$(DO) < $(given))
 
 rows-needs:
-	@python3 rows/schema.py --needs
+	@python3 rows/needs.py
 
 rows: rows-needs run
+	@$(MAKE) --no-print-directory rows-python
+	python3 rows/browser_page.py site/sel4sim.html
+	python3 rows/schema.py $(program) $(setups) crates/sel4sim/data $(answers) page/test/setups rows
+	python3 build/prove.py refused_memory
+	python3 rows/refuse_memory.py $(program) $(calls) $(stored) $(first_format)
+	python3 rows/fail_each_transfer.py $(program) $(stored)
+
+rows-python:
+	@python3 rows/needs.py $(program)
 	python3 build/test_build.py
 	python3 build/completions_test.py
 	python3 build/completions.py --check $(program)
 	python3 rows/private_definitions.py crates docs/definitions.md
-	python3 rows/browser_page.py site/sel4sim.html
 	python3 rows/run.py $(program) $(setups)
-	python3 rows/schema.py $(program) $(setups) crates/sel4sim/data $(answers) page/test/setups rows
 	python3 rows/several_files.py $(program) $(setups)
 	python3 rows/migrate.py $(program) $(setups)
 	python3 rows/traces.py $(program) $(setups)
@@ -75,15 +83,12 @@ rows: rows-needs run
 	python3 rows/new_set_ups.py $(program)
 	python3 rows/messages.py $(program)
 	python3 rows/use_address_again.py $(program) 1000
-	python3 build/prove.py refused_memory
-	python3 rows/refuse_memory.py $(program) $(calls) $(stored) $(first_format)
 	python3 rows/devices.py $(program) $(stored)
-	python3 rows/fail_each_transfer.py $(program) $(stored)
 	python3 rows/hostile_texts.py $(program) $(setups) $(stored)
 	python3 rows/run_clients.py $(program) $(setups)/examples/three_clients.toml 100
-	python3 rows/run_clients.py $(program) rows/four_clients.toml 100 60
+	python3 rows/run_clients.py $(program) rows/four_clients.toml 100
 	python3 rows/run_clients.py --first 2 $(program) $(answers)/explorations/badge_names_the_sender.toml 100
-	python3 rows/run_clients.py --first 5 $(program) rows/four_clients.toml 20 10
+	python3 rows/run_clients.py --first 5 $(program) rows/four_clients.toml 20
 	python3 rows/run_clients.py --first 1000 $(program) rows/four_clients.toml 5
 	python3 rows/run_clients.py --first 5 $(program) rows/three_of_four_calls.toml 5
 	python3 rows/documents.py $(dir $(program)) README.md docs/*.md

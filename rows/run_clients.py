@@ -1,6 +1,5 @@
 #!/usr/bin/env python3
-"""run_clients.py [--first N] PROGRAM SETUP TIMES [ORDERS]: runs a set-up's clients by `threads` so many times, and looks at
-each history.
+"""run_clients.py [--first N] PROGRAM SETUP TIMES: runs a set-up's clients by `threads` so many times, and looks at each history.
 
 Each client's entries have to be numbered from 0 on, and to be the first of its calls in the set-up. Then the calls of
 the history are made again, in its order, by `check`: each reply and each line of the state has to be the same. The
@@ -9,9 +8,9 @@ status is 0 where all calls of the set-up were made, and else 1.
 With `--first N` the history has to begin with the first N calls of the set-up, in its order: with all of them where there
 are fewer than N, and with as many as `limit` says where that is less. Without it, `threads` is run without the option.
 
-It counts the runs in which each client was alone, which is where it made all of its calls with no other client's call
-between them, and the orders in which the clients' calls came. Where ORDERS is given, no client may be alone in that way
-in any run, and there have to be at least so many different orders.
+It tells in how many orders the clients' calls came, and in how many runs each client was alone, which is where it made all
+of its calls with no other client's call between them. Both hang on what else the machine does, so neither is wanted to be a
+certain number: orders that a gate of the test makes are tests of `engine_threads_tests`.
 """
 import argparse
 import itertools
@@ -38,7 +37,7 @@ def text_of(setup, calls):
 
 
 def run(program, words, text):
-    done = subprocess.run([program, *words], input=text.encode(), capture_output=True, timeout=120)
+    done = subprocess.run([program, *words], input=text.encode(), capture_output=True, timeout=600)
     return done.returncode, done.stdout.decode().splitlines()
 
 
@@ -91,9 +90,8 @@ def main():
     parser.add_argument("program")
     parser.add_argument("setup")
     parser.add_argument("times", type=int)
-    parser.add_argument("orders", type=int, nargs="?")
     given = parser.parse_args()
-    program, times, wanted = given.program, given.times, given.orders
+    program, times = given.program, given.times
     with open(given.setup, encoding="utf-8") as file:
         text = file.read()
     setup = tomllib.loads(text)
@@ -107,10 +105,7 @@ def main():
     alone = sum(map(is_each_alone, orders))
     different = len(set(orders))
     print(f"{times} runs, {wrong} wrong, {alone} with each client alone, {different} orders")
-    missed = wanted is not None and (alone > 0 or different < wanted)
-    if missed:
-        print(f"wanted: no run with each client alone, and at least {wanted} orders")
-    return 1 if wrong or missed else 0
+    return 1 if wrong or not orders else 0
 
 
 sys.exit(main())

@@ -1,6 +1,5 @@
 #!/usr/bin/env python3
 """schema.py PROGRAM FOLDER..: docs/set-up.schema.json says what a set-up is, as far as a JSON schema can say it.
-schema.py --needs: says what this script needs and does not find.
 
 Of the files NAME.toml in the folders and in their folders, each that the program accepts has to be valid by the schema,
 and each that it refuses has to be invalid, except those in BEYOND. Then single keys are left out, added, or given
@@ -8,12 +7,13 @@ another value, at bounds and past them: for each key of a set-up and of each ope
 Schema and program have to agree on each, except where `beyond` says why a schema cannot.
 """
 import concurrent.futures
-import importlib.util
 import json
 import os
 import pathlib
 import subprocess
 import sys
+
+import jsonschema
 
 SCHEMA = pathlib.Path(__file__).resolve().parent.parent / "docs" / "set-up.schema.json"
 
@@ -62,14 +62,6 @@ ARRAYS = [[], [0, 1, 2, 3], [0] * 5, ["@a"], ["@none"], ["x"], [-1], [2**32], [[
 TABLES = [{}, {"A": 1}, {"": 1}, {"a" * 40: 1}, {"a" * 41: 1}, {"a": "@a"}, {"a": -1}, {"a": "0x100000000"}, *OTHER_TYPES]
 KINDS = {"profile": TEXTS, "op": TEXTS, "expect": TEXTS, "names": TABLES, "untyped": ARRAYS, "call": ARRAYS, "words": ARRAYS,
          "base": WORDS, "thread": WORDS, "cap": WORDS, "label": [*WORDS, *NUMBERS], "x": [1]}
-
-
-def needs():
-    """What is missing on this machine."""
-    if sys.version_info < (3, 11):
-        yield "Python 3.11 or later, for its module tomllib"
-    if importlib.util.find_spec("jsonschema") is None:
-        yield "the Python module jsonschema (apt-get install python3-jsonschema)"
 
 
 def toml(value):
@@ -181,13 +173,6 @@ def wrong_trials(program, tables, valid):
 
 
 def main():
-    missing = list(needs())
-    if missing:
-        print("make rows needs: " + "; ".join(missing))
-        return 1
-    if sys.argv[1:] == ["--needs"]:
-        return 0
-    import jsonschema
     program, folders = sys.argv[1], sys.argv[2:]
     schema = json.loads(SCHEMA.read_text())
     jsonschema.Draft7Validator.check_schema(schema)

@@ -1,5 +1,5 @@
-//! Tests of `engine_threads`: whole reports, a limit that is met, set-ups that are refused, faults of devices, and exit
-//! statuses.
+//! Tests of `engine_threads`: whole reports, orders that a gate makes, a limit that is met, set-ups that are refused,
+//! faults of devices, and exit statuses.
 #![tactic(auto)]
 
 #[cfg(test)]

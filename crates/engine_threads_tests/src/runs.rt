@@ -5,8 +5,9 @@ use kernel_shared::Gate;
 use std::alloc::{AllocError, Global};
 use std::process::Abort;
 use std::sync::Wait;
+use std::sync::atomic::{AtomicU64, Ordering};
 use std::test::Fail;
-use std::thread::Threads;
+use std::thread::{self, Threads};
 
 /// Two threads, at 2048 and 4096, and one endpoint, at 6144, whose capability is in slot 4.
 const BASE: &str = "format = 1\nmemory_bits = 16\nroot_radix = 4\nthreads = 2\nendpoints = 1\n";
@@ -33,6 +34,54 @@ const IN_ORDER: &str =
 const THREE_IN_ORDER: &str =
     "1 client 0 number 0: 2048 nbsend: dropped\n2 client 0 number 1: 2048 nbsend: dropped\n3 client 1 number 0: 4096 nbsend: dropped\nthread ";
 
+/// Three threads, at 2048, 4096 and 6144, each with a client, and one endpoint, at 8192, whose capability is in slot 5.
+const THREE: &str =
+    "format = 1\nmemory_bits = 16\nroot_radix = 4\nthreads = 3\nendpoints = 1\nclients = 3\n";
+
+/// What the three clients' runs leave in the slots.
+const THREE_SLOTS: &str =
+    "slot 32 cnode 0 radix 4 guard 0 size 60 children\nslot 64 tcb 2048\nslot 96 tcb 4096\nslot 128 tcb 6144\nslot 160 endpoint 8192 badge 0 rights wrgp\nslot 2048 cnode 0 radix 4 guard 0 size 60\nslot 4096 cnode 0 radix 4 guard 0 size 60\nslot 6144 cnode 0 radix 4 guard 0 size 60\n";
+
+/// Client 0 sends and waits, and then sends without waiting.
+const SENDS: &str =
+    "[[call]]\nthread = 2048\nop = \"send\"\ncap = 5\nlabel = 7\nwords = [1, 2]\n[[call]]\nthread = 2048\nop = \"nbsend\"\ncap = 5\nlabel = 8\n";
+
+/// Client 1 receives twice.
+const RECEIVES: &str =
+    "[[call]]\nthread = 4096\nop = \"recv\"\ncap = 5\nclient = 1\n[[call]]\nthread = 4096\nop = \"recv\"\ncap = 5\nclient = 1\n";
+
+/// Client 2 takes a message where one waits, and sends one where a thread waits for it.
+const LOOKS: &str =
+    "[[call]]\nthread = 6144\nop = \"nbrecv\"\ncap = 5\nclient = 2\n[[call]]\nthread = 6144\nop = \"nbsend\"\ncap = 5\nlabel = 9\nclient = 2\n";
+
+/// The most turns that a client gives up for the others.
+const TURNS: u32 = 100_000_000;
+
+/// A gate that makes the order: the call at a place is that of the client named there, and waits until those before it are
+/// answered.
+#[derive(Drop)]
+struct InOrder {
+    clients: &'static [u32],
+    answered: AtomicU64,
+}
+
+impl Gate for InOrder {
+    fn before(&self, client: u32, _number: u32) -> bool {
+        for _ in 0..TURNS {
+            let place = self.answered.load(Ordering::SeqCst) as usize;
+            if self.clients.get(place) == Some(&client) {
+                return true;
+            }
+            thread::yield_now();
+        }
+        false
+    }
+
+    fn after(&self, _client: u32, _number: u32) {
+        self.answered.fetch_add(1, Ordering::SeqCst);
+    }
+}
+
 /// A gate that ends each client after its first call.
 struct FirstCallOnly;
 
@@ -49,6 +98,8 @@ impl Gate for FirstCallOnly {
 enum Gates {
     /// A gate at which so many clients meet.
     Open(u32),
+    /// One that lets the calls through in this order of their clients.
+    InOrder(&'static [u32]),
     /// One that ends each client after its first call.
     FirstCall,
     /// None.
@@ -117,6 +168,54 @@ const CASES: &[Case] = &[
         first: 0,
         gates: Gates::Open(2),
         wanted: Wanted::Ends("", "\nentries 4 of 4\n"),
+        status: 0,
+    },
+    Case {
+        name: "the gate makes the order: each client in turn",
+        setup: [THREE, SENDS, RECEIVES, LOOKS],
+        first: 0,
+        gates: Gates::InOrder(&[0, 1, 2, 0, 1, 2]),
+        wanted: Wanted::Whole(
+            "1 client 0 number 0: 2048 send: waiting\n2 client 1 number 0: 4096 recv: delivered 8192 from 2048 to 4096 badge 0 label 7 words 1 2\n3 client 2 number 0: 6144 nbrecv: empty\n4 client 0 number 1: 2048 nbsend: dropped\n5 client 1 number 1: 4096 recv: waiting\n6 client 2 number 1: 6144 nbsend: delivered 8192 from 6144 to 4096 badge 0 label 9 words\nthread 2048 ready\nthread 4096 ready inbox badge 0 label 9 words\nthread 6144 ready\nendpoint 8192 idle\n",
+            THREE_SLOTS,
+            "entries 6 of 6\n",
+        ),
+        status: 0,
+    },
+    Case {
+        name: "the gate makes the order: the last client alone, then the second, then the first",
+        setup: [THREE, SENDS, RECEIVES, LOOKS],
+        first: 0,
+        gates: Gates::InOrder(&[2, 2, 1, 1, 0, 0]),
+        wanted: Wanted::Whole(
+            "1 client 2 number 0: 6144 nbrecv: empty\n2 client 2 number 1: 6144 nbsend: dropped\n3 client 1 number 0: 4096 recv: waiting\n4 client 1 number 1: 4096 recv: refused 101\n5 client 0 number 0: 2048 send: delivered 8192 from 2048 to 4096 badge 0 label 7 words 1 2\n6 client 0 number 1: 2048 nbsend: dropped\nthread 2048 ready\nthread 4096 ready inbox badge 0 label 7 words 1 2\nthread 6144 ready\nendpoint 8192 idle\n",
+            THREE_SLOTS,
+            "entries 6 of 6\n",
+        ),
+        status: 0,
+    },
+    Case {
+        name: "the gate makes the order: the third client takes the message before the second",
+        setup: [THREE, SENDS, RECEIVES, LOOKS],
+        first: 0,
+        gates: Gates::InOrder(&[0, 2, 1, 1, 0, 2]),
+        wanted: Wanted::Whole(
+            "1 client 0 number 0: 2048 send: waiting\n2 client 2 number 0: 6144 nbrecv: delivered 8192 from 2048 to 6144 badge 0 label 7 words 1 2\n3 client 1 number 0: 4096 recv: waiting\n4 client 1 number 1: 4096 recv: refused 101\n5 client 0 number 1: 2048 nbsend: delivered 8192 from 2048 to 4096 badge 0 label 8 words\n6 client 2 number 1: 6144 nbsend: dropped\nthread 2048 ready\nthread 4096 ready inbox badge 0 label 8 words\nthread 6144 ready inbox badge 0 label 7 words 1 2\nendpoint 8192 idle\n",
+            THREE_SLOTS,
+            "entries 6 of 6\n",
+        ),
+        status: 0,
+    },
+    Case {
+        name: "the gate makes the order: the first client's thread still waits at its second call",
+        setup: [THREE, SENDS, RECEIVES, LOOKS],
+        first: 0,
+        gates: Gates::InOrder(&[0, 0, 2, 2, 1, 1]),
+        wanted: Wanted::Whole(
+            "1 client 0 number 0: 2048 send: waiting\n2 client 0 number 1: 2048 nbsend: refused 101\n3 client 2 number 0: 6144 nbrecv: delivered 8192 from 2048 to 6144 badge 0 label 7 words 1 2\n4 client 2 number 1: 6144 nbsend: dropped\n5 client 1 number 0: 4096 recv: waiting\n6 client 1 number 1: 4096 recv: refused 101\nthread 2048 ready\nthread 4096 receiving 8192\nthread 6144 ready inbox badge 0 label 7 words 1 2\nendpoint 8192 receiving 4096\n",
+            THREE_SLOTS,
+            "entries 6 of 6\n",
+        ),
         status: 0,
     },
     Case {
@@ -207,6 +306,13 @@ fn run<R: Threads + Wait + Sync>(
     let answer = match case.gates {
         Gates::Open(clients) => {
             let gate = OpenGate::among(clients);
+            threads_run(rt, alloc, first, &mut source, &mut sink, &gate)
+        }
+        Gates::InOrder(clients) => {
+            let gate = InOrder {
+                clients,
+                answered: AtomicU64::new(0),
+            };
             threads_run(rt, alloc, first, &mut source, &mut sink, &gate)
         }
         Gates::FirstCall => threads_run(rt, alloc, first, &mut source, &mut sink, &FirstCallOnly),
