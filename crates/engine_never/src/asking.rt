@@ -1,5 +1,6 @@
 //! Whether one thread's part is kept from another's, as the answer of a command.
-ghost use Rattle.std.specs.Prelude.{◌≡◌, IfOk};
+ghost use Rattle.std.specs.Prelude.{◌≡◌, ℕ, IfOk};
+ghost use Rattle.abstract_kernel.specs.Memory.{IsInMemory};
 ghost use Rattle.setup_values.specs.Names.{names_view};
 ghost use Rattle.setup_ever.specs.Threads as meant;
 ghost use Rattle.engine_never.specs.Never as spec;
@@ -62,6 +63,7 @@ impl Question<'_> {
         from: u64,
         to: u64,
     ) -> Result<(Vec<u8>, Verdict), AllocError>
+        requires { (memory : ℕ) × IsInMemory P.profile memory kernel.now }
         ensures { IfOk result (λ made. spec.IsAnsweredOf P.profile (names_view names.now) (meant.trusted (names_view names.now) (spec.asked_of self.now).without)
             kernel.now (meant.trusted (names_view names.now) (spec.asked_of self.now).by) from to made.0.items made.1) }
     {
@@ -89,6 +91,7 @@ impl Question<'_> {
         names: &[Name],
         kernel: &Kernel<P, S, W>,
     ) -> Result<(Vec<u8>, Verdict), AllocError>
+        requires { (memory : ℕ) × IsInMemory P.profile memory kernel.now }
         ensures { IfOk result (λ made. spec.IsAnswered P.profile (names_view names.now) kernel.now (spec.asked_of self.now)
             (meant.thread_meant (names_view names.now) self.now.from.now) (meant.thread_meant (names_view names.now) self.now.to.now) made.0.items made.1) }
     {

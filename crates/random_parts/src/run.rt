@@ -4,7 +4,7 @@ use crate::calls::{drawn, drawn_number, operation};
 use crate::layout::{CLIENT_THREADS, MEMORY_SIZE, drawn_layout, hand_thread_out, load, thread_at};
 use crate::numbers::Numbers;
 use crate::tally::Tally;
-use anyhow::Result;
+use anyhow::{Context, Result};
 use cap_core::{Profile, Wide};
 use confinement::{Parts, part_at, parts_around};
 use ipc_core::{LinkedWaiters, MakeWaiters};
@@ -28,7 +28,8 @@ fn client_parts<P: Profile, S: MakeStore<P> + DerivationStore<P>, W: MakeWaiters
     for place in 1..=CLIENT_THREADS {
         threads.push(thread_at::<P>(place))?;
     }
-    Ok(parts_around::<P, S, W>(alloc, kernel, threads.as_slice())?)
+    let parts = parts_around::<P, S, W>(alloc, kernel, threads.as_slice());
+    parts.ok().context("no parts are told")
 }
 
 /// A thread of the parts that can make calls, the first from an address on that numbers choose; where there is none, a

@@ -105,6 +105,17 @@ badges p memory uses part endpoint =
 abbrev pub may_receive : ProfileName → List PartMemory → List PartUse → ℕ → ℕ → Bool
 may_receive p memory uses endpoint part = owns_endpoint p memory part endpoint || list_any (is_use read_bit part endpoint) uses
 
+-- a use that a part has, and one of an endpoint
+abbrev pub is_of_part : ℕ → PartUse → Bool
+is_of_part part u = u.part == part
+
+abbrev pub is_of_endpoint : ℕ → PartUse → Bool
+is_of_endpoint endpoint u = u.endpoint == endpoint
+
+-- the parts that may receive on an endpoint
+abbrev pub receivers_on : ProfileName → List PartMemory → List PartUse → ℕ → List ℕ
+receivers_on p memory uses endpoint = filter (may_receive p memory uses endpoint) (parts_of memory)
+
 -- the other parts that may receive on an endpoint
 abbrev pub receivers : ProfileName → List PartMemory → List PartUse → ℕ → ℕ → List ℕ
 receivers p memory uses part endpoint =

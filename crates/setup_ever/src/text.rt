@@ -1,6 +1,7 @@
 //! The text of the parts of a kernel.
-ghost use Rattle.std.specs.Prelude.{◌≡◌, ◌++◌, IfOk, OnOk, string_bytes};
+ghost use Rattle.std.specs.Prelude.{◌≡◌, ◌++◌, ℕ, IfOk, OnOk, string_bytes};
 ghost use Rattle.std.specs.List.{flat_map};
+ghost use Rattle.abstract_kernel.specs.Memory.{IsInMemory};
 ghost use Rattle.setup_values.specs.Names.{names_view};
 ghost use Rattle.setup_report.specs.State as state;
 ghost use Rattle.setup_ever.specs.Text as spec;
@@ -12,7 +13,7 @@ use crate::sets::listed;
 use crate::threads::callers;
 use crate::ways::{add_ways, parts_of, ways};
 use cap_core::Profile;
-use confinement::{Parts, parts_around};
+use confinement::{Parts, PartsFault, parts_around};
 use ipc_core::Waiters;
 use kernel_core::Kernel;
 use setup_format::Setup;
@@ -154,7 +155,7 @@ fn text_of_parts<P: Profile, S: DerivationStore<P> + Drop, W: Waiters<P> + Drop>
     Ok(out.into_bytes())
 }
 
-/// Closed parts around the live threads that are not trusted to make no more calls.
+/// The least closed parts around the live threads that are not trusted to make no more calls.
 ///
 /// # Errors
 ///
@@ -165,12 +166,17 @@ pub fn parts_of_callers<P: Profile, S: DerivationStore<P> + Drop, W: Waiters<P> 
     kernel: &Kernel<P, S, W>,
     rows: &StateRows,
 ) -> Result<Parts, AllocError>
+    requires memory { (memory : ℕ) × IsInMemory P.profile memory kernel.now }
     requires threads { rows.now.threads.keys ≡ state.threads P.profile kernel.now }
     ensures { IfOk result (λ parts. AreRightParts P.profile kernel.now without.now parts.memory.items parts.uses.items) }
 {
     let threads = listed(alloc, &rows.threads)?;
     let callers = callers(alloc, threads.as_slice(), without)?;
-    parts_around::<P, S, W>(alloc, kernel, callers.as_slice())
+    match parts_around::<P, S, W>(alloc, kernel, callers.as_slice()) {
+        Ok(parts) => Ok(parts),
+        Err(PartsFault::Memory) => Err(AllocError),
+        Err(PartsFault::Block) => unreachable!(),
+    }
 }
 
 /// What the threads of a kernel can never get, but those that are trusted to make no more calls: the text of closed parts
@@ -187,6 +193,7 @@ pub fn ever<P: Profile, S: DerivationStore<P> + Drop, W: Waiters<P> + Drop>(
     without: &[u64],
     kernel: &Kernel<P, S, W>,
 ) -> Result<Vec<u8>, AllocError>
+    requires { (memory : ℕ) × IsInMemory P.profile memory kernel.now }
     ensures { IfOk result (λ text. IsTextOf P.profile (names_view names.now) setup.now made without.now kernel.now text.items) }
 {
     let rows = state_rows::<P, S, W>(alloc, kernel)?;

@@ -1,5 +1,5 @@
 //! Ways from one part to another, by an endpoint that the one may send to, and the other receive on.
-ghost use Rattle.std.specs.Prelude.{◌≡◌, ◌++◌, IfOk, OnOk, filter, map, string_bytes};
+ghost use Rattle.std.specs.Prelude.{◌≡◌, ◌++◌, ◌==◌, not, IfOk, OnOk, filter, map, string_bytes};
 ghost use Rattle.std.specs.List.{flat_map, list_any};
 ghost use Rattle.cap_core.specs.Rights.{write_bit, read_bit};
 ghost use Rattle.setup_ever.specs.Text as spec;
@@ -128,21 +128,83 @@ fn badges<P: Profile>(
     rising(alloc, own.as_slice())
 }
 
-/// The other parts that may receive on an endpoint.
-fn receivers<P: Profile>(
+/// The uses that a part has.
+fn uses_of(alloc: Global, uses: &[PartUse], part: u64) -> Result<Vec<PartUse>, AllocError>
+    ensures { IfOk result (λ v. v.items ≡ filter (spec.is_of_part part) uses.now) }
+{
+    uses.iter()
+        .filter(|u| u.part == part)
+        .copied()
+        .collect(alloc)
+}
+
+/// The uses of an endpoint.
+fn uses_on(alloc: Global, uses: &[PartUse], endpoint: u64) -> Result<Vec<PartUse>, AllocError>
+    ensures { IfOk result (λ v. v.items ≡ filter (spec.is_of_endpoint endpoint) uses.now) }
+{
+    uses.iter()
+        .filter(|u| u.endpoint == endpoint)
+        .copied()
+        .collect(alloc)
+}
+
+/// Those of some parts that may receive on an endpoint.
+fn parts_that_receive<P: Profile>(
     alloc: Global,
     memory: &[PartMemory],
     uses: &[PartUse],
     parts: &[u64],
-    from: u64,
     endpoint: u64,
 ) -> Result<Vec<u64>, AllocError>
-    requires { parts.now ≡ spec.parts_of memory.now }
-    ensures { IfOk result (λ v. v.items ≡ spec.receivers P.profile memory.now uses.now from endpoint) }
+    ensures { IfOk result (λ v. v.items ≡ filter (spec.may_receive P.profile memory.now uses.now endpoint) parts.now) }
 {
     parts
         .iter()
-        .filter(|part| **part != from && may_receive::<P>(memory, uses, endpoint, **part))
+        .filter(|part| may_receive::<P>(memory, uses, endpoint, **part))
+        .copied()
+        .collect(alloc)
+}
+
+/// The parts that may receive on an endpoint.
+fn receivers_on<P: Profile>(
+    alloc: Global,
+    memory: &[PartMemory],
+    uses: &[PartUse],
+    parts: &[u64],
+    endpoint: u64,
+) -> Result<Vec<u64>, AllocError>
+    requires { parts.now ≡ spec.parts_of memory.now }
+    ensures { IfOk result (λ v. v.items ≡ spec.receivers_on P.profile memory.now uses.now endpoint) }
+{
+    let here = uses_on(alloc, uses, endpoint)?;
+    parts_that_receive::<P>(alloc, memory, here.as_slice(), parts, endpoint)
+}
+
+/// The parts that may receive on each of some endpoints.
+fn all_receivers<P: Profile>(
+    alloc: Global,
+    memory: &[PartMemory],
+    uses: &[PartUse],
+    parts: &[u64],
+    endpoints: &[u64],
+) -> Result<Vec<Vec<u64>>, AllocError>
+    requires { parts.now ≡ spec.parts_of memory.now }
+    ensures { IfOk result (λ all. map (λ v. v.items) all.items ≡ map (spec.receivers_on P.profile memory.now uses.now) endpoints.now) }
+{
+    let mut all = Vec::new(alloc);
+    for endpoint in endpoints {
+        all.push(receivers_on::<P>(alloc, memory, uses, parts, *endpoint)?)?;
+    }
+    Ok(all)
+}
+
+/// The others of some parts.
+fn others(alloc: Global, parts: &[u64], from: u64) -> Result<Vec<u64>, AllocError>
+    ensures { IfOk result (λ v. v.items ≡ filter (λ other. not (other == from)) parts.now) }
+{
+    parts
+        .iter()
+        .filter(|part| **part != from)
         .copied()
         .collect(alloc)
 }
@@ -183,23 +245,25 @@ fn add_ways_with(
     Ok(())
 }
 
+/// Adds the ways from a part by an endpoint, by the uses that the part has and the parts that may receive there.
 fn add_ways_on<P: Profile>(
     alloc: Global,
     ways: &mut Vec<Way>,
     memory: &[PartMemory],
-    uses: &[PartUse],
-    parts: &[u64],
+    own: &[PartUse],
+    receivers: &[u64],
     from: u64,
     endpoint: u64,
 ) -> Result<(), AllocError>
-    requires { parts.now ≡ spec.parts_of memory.now }
-    ensures { OnOk result (ways.new.items ≡ ways.old.items ++ spec.ways_on P.profile memory.now uses.now from endpoint) }
+    ensures { OnOk result (ways.new.items ≡ ways.old.items
+        ++ flat_map (λ badge. map (spec.way from endpoint badge) (filter (λ other. not (other == from)) receivers.now))
+        (spec.badges P.profile memory.now own.now from endpoint)) }
 {
-    let badges = badges::<P>(alloc, memory, uses, from, endpoint)?;
+    let badges = badges::<P>(alloc, memory, own, from, endpoint)?;
     if badges.is_empty() {
         return Ok(());
     }
-    let receivers = receivers::<P>(alloc, memory, uses, parts, from, endpoint)?;
+    let receivers = others(alloc, receivers, from)?;
     add_ways_with(
         ways,
         badges.as_slice(),
@@ -214,16 +278,18 @@ fn add_ways_from<P: Profile>(
     ways: &mut Vec<Way>,
     memory: &[PartMemory],
     uses: &[PartUse],
-    parts: &[u64],
     endpoints: &[u64],
+    receivers: &[Vec<u64>],
     from: u64,
 ) -> Result<(), AllocError>
-    requires parts { parts.now ≡ spec.parts_of memory.now }
     requires endpoints { endpoints.now ≡ spec.endpoints_used uses.now }
+    requires receivers { map (λ v. v.items) receivers.now ≡ map (spec.receivers_on P.profile memory.now uses.now) endpoints.now }
     ensures { OnOk result (ways.new.items ≡ ways.old.items ++ spec.ways_from P.profile memory.now uses.now from) }
 {
-    for endpoint in endpoints {
-        add_ways_on::<P>(alloc, ways, memory, uses, parts, from, *endpoint)?;
+    let own = uses_of(alloc, uses, from)?;
+    for (place, endpoint) in endpoints.iter().enumerate() {
+        let here = receivers[place].as_slice();
+        add_ways_on::<P>(alloc, ways, memory, own.as_slice(), here, from, *endpoint)?;
     }
     Ok(())
 }
@@ -236,13 +302,15 @@ fn add_ways_between<P: Profile>(
     uses: &[PartUse],
     parts: &[u64],
     endpoints: &[u64],
+    receivers: &[Vec<u64>],
 ) -> Result<(), AllocError>
     requires parts { parts.now ≡ spec.parts_of memory.now }
     requires endpoints { endpoints.now ≡ spec.endpoints_used uses.now }
+    requires receivers { map (λ v. v.items) receivers.now ≡ map (spec.receivers_on P.profile memory.now uses.now) endpoints.now }
     ensures { OnOk result (ways.new.items ≡ ways.old.items ++ spec.ways P.profile memory.now uses.now) }
 {
     for from in parts {
-        add_ways_from::<P>(alloc, ways, memory, uses, parts, endpoints, *from)?;
+        add_ways_from::<P>(alloc, ways, memory, uses, endpoints, receivers, *from)?;
     }
     Ok(())
 }
@@ -263,7 +331,10 @@ pub fn ways<P: Profile>(
 {
     let mut ways = Vec::new(alloc);
     let endpoints = endpoints_used(alloc, uses)?;
-    add_ways_between::<P>(alloc, &mut ways, memory, uses, parts, endpoints.as_slice())?;
+    let endpoints = endpoints.as_slice();
+    let receivers = all_receivers::<P>(alloc, memory, uses, parts, endpoints)?;
+    let receivers = receivers.as_slice();
+    add_ways_between::<P>(alloc, &mut ways, memory, uses, parts, endpoints, receivers)?;
     Ok(ways)
 }
 

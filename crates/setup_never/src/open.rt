@@ -1,6 +1,7 @@
 //! The text of an answer: whether one thread's part is kept from another's, and what is open between them.
-ghost use Rattle.std.specs.Prelude.{◌≡◌, ◌++◌, IfOk, OnOk, Some, string_bytes};
+ghost use Rattle.std.specs.Prelude.{◌≡◌, ◌++◌, ℕ, IfOk, OnOk, Some, string_bytes};
 ghost use Rattle.std.specs.List.{flat_map};
+ghost use Rattle.abstract_kernel.specs.Memory.{IsInMemory};
 ghost use Rattle.abstract_kernel.specs.Waiting.{offer_at};
 ghost use Rattle.reach_core.specs.FullSlots.{AreFullSlots};
 ghost use Rattle.setup_values.specs.Names.{names_view};
@@ -420,6 +421,7 @@ pub fn never_gets<P: Profile, S: DerivationStore<P> + Drop, W: Waiters<P> + Drop
     by: &[u64],
     kernel: &Kernel<P, S, W>,
 ) -> Result<(Vec<u8>, Never), AllocError>
+    requires { (memory : ℕ) × IsInMemory P.profile memory kernel.now }
     ensures { IfOk result (λ made. spec.IsNeverOf P.profile (names_view names.now) without.now kernel.now by.now from to made.0.items made.1) }
 {
     let rows = state_rows::<P, S, W>(alloc, kernel)?;
