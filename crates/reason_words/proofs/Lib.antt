@@ -1,2 +1,4 @@
-mod Spelt
+mod Counted
 mod Keyed
+mod Spelt
+mod Texts

@@ -1,6 +1,6 @@
 -- What is said of a refused call: Names has the names by which values are spelt, Keys the words of a call with their keys, Words
 -- the words that checks are about, Asked a call as it is spelt, Text the parts of a line, Facts, Lookups and Retypes the lines of
--- some reasons, Reasons those of each.
+-- some reasons, Reasons those of each; Laws says how many lines there are.
 pub mod Limits
 pub mod Names
 pub mod Keys
@@ -11,3 +11,4 @@ pub mod Facts
 pub mod Lookups
 pub mod Retypes
 pub mod Reasons
+pub mod Laws

@@ -5,6 +5,7 @@ mod command;
 mod form;
 mod graph;
 mod head;
+mod laws;
 mod lines;
 mod path;
 mod slot;
@@ -12,3 +13,4 @@ mod text;
 
 pub use command::Tree;
 pub use form::Form;
+pub use laws::lines_tell_the_forest;

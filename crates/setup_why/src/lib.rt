@@ -4,11 +4,13 @@
 mod calls;
 mod command;
 mod explaining;
+mod laws;
 mod run;
 mod tables;
 mod threads;
 
 pub use command::Why;
 pub use explaining::explain;
+pub use laws::names_mean_the_values_beside_them;
 pub use run::why;
 pub use tables::call_table;

@@ -1,7 +1,11 @@
 pub mod Applied
 pub mod Backwards
 pub mod Children
+pub mod Decoded
 pub mod Ordered
 pub mod Orders
+pub mod Positions
 pub mod Replays
 pub mod Reported
+pub mod Standing
+pub mod Texts

@@ -26,7 +26,7 @@ front_past x all (y ∷ xs) h k = (
   front_past x all xs h.1 k.1,
 )
 
-each_front : (xs : List Sibling) → IsDistinct (λ (a b : ℕ). a == b) (map (λ (x : Sibling). x.0) xs) → Each (λ (x : Sibling). in_front xs x.0 ≡ x.1) xs
+pub each_front : (xs : List Sibling) → IsDistinct (λ (a b : ℕ). a == b) (map (λ (x : Sibling). x.0) xs) → Each (λ (x : Sibling). in_front xs x.0 ≡ x.1) xs
 unfolding IsDistinct
 each_front [] apart = tt
 each_front (x ∷ xs) apart = (
@@ -36,7 +36,7 @@ each_front (x ∷ xs) apart = (
 
 -- ---- the slots below a slot stand in a row
 
-either_side : {X : Type 0} (is : X → Bool) (xs ys : List X) → Once is (xs ++ ys) → Absent is xs ⊎ Absent is ys
+pub either_side : {X : Type 0} (is : X → Bool) (xs ys : List X) → Once is (xs ++ ys) → Absent is xs ⊎ Absent is ys
 either_side is [] ys once = inl tt
 either_side is (x ∷ xs) ys once =
     elim (is x) as (λ b. is x ≡ b → Absent is (x ∷ xs) ⊎ Absent is ys) [

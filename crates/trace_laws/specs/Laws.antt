@@ -176,6 +176,10 @@ order_differences p plan calls = differences [] (order_in (boot p plan)) ++ run_
 abbrev pub all_changes : ProfileName → State → Call → List ℕ
 all_changes p A call = told_changes (told_lines p (shown A)) (told_lines p (shown (step p A call).state))
 
+-- of changes one after another, those of the lines of slots
+abbrev pub of_slots : List StateDifferences → List (List Difference)
+of_slots ds = map (λ (d : StateDifferences). d.slots) ds
+
 -- ---- a state's lines, and the report's
 
 -- the lines of the same kind one below another, as the report has them

@@ -6,7 +6,7 @@ ghost use Rattle.cap_core.specs.declared.refusal.Refusal.{Refusal};
 ghost use Rattle.abstract_kernel.specs.declared.call.Call.{Call};
 ghost use Rattle.abstract_kernel.specs.declared.call.Reply.TheVariants.{Dropped, Empty, Refused};
 ghost use Rattle.abstract_kernel.specs.Boot.{boot};
-ghost use Rattle.abstract_kernel.specs.Plan.{Plan};
+ghost use Rattle.abstract_kernel.specs.Plan.{IsPlan, Plan};
 ghost use Rattle.abstract_kernel.specs.Reached.{IsReached};
 ghost use Rattle.abstract_kernel.specs.Shown.{Shown};
 ghost use Rattle.abstract_kernel.specs.State.{State, shown};
@@ -16,7 +16,7 @@ ghost use Rattle.derivation.specs.Entries.{Entry, is_at, slot_of};
 ghost use Rattle.trace_lines.specs.Lines.{Lines};
 ghost use Rattle.trace_lines.specs.Siblings.{sibling_lines};
 ghost use Rattle.trace_lines.specs.Changes.{StateLines, changes, line_changes, no_lines, state_lines};
-ghost use Rattle.trace_laws.specs.Laws.{Rise, all_changes, applied, backwards, boot_differences, differences, flipped, order_differences, order_in, replayed, run_differences, state_applied, state_differences, state_flipped, state_told, told, TellsTheOrder, TellsTheThreads, TellsTheEndpoints, TellsTheSlots, TellsTheSlotLines, TellsTheCapabilities, TellsTheSelfheld};
+ghost use Rattle.trace_laws.specs.Laws.{Rise, all_changes, applied, backwards, boot_differences, differences, flipped, of_slots, order_differences, order_in, replayed, run_differences, state_applied, state_differences, state_flipped, state_told, told, TellsTheOrder, TellsTheThreads, TellsTheEndpoints, TellsTheSlots, TellsTheSlotLines, TellsTheCapabilities, TellsTheSelfheld};
 ghost use Rattle.trace_lines.specs.Calls.{call_changes, lines_in};
 
 /// The changes that are told of lines, applied to the old ones, give the new ones; and so with all lines of two states.
@@ -96,4 +96,19 @@ pub fn siblings_stand_in_the_kernels_order()
         → TellsTheOrder (shown A).derivations (map slot_of (children (is_at slot) (shown A).derivations)) }
     ensures trees { (p : ProfileName) (A : State) → IsReached p A
         → TellsTheOrder (shown A).derivations (map slot_of (tops (shown A).derivations)) }
+{}
+
+/// The lines of slots and those of siblings tell the whole derivation forest, each full slot in its place with what it
+/// holds: two states that runs reach have the same forest, if these lines are the same; and so it is with two runs, if what
+/// boot and the calls change of these lines is the same.
+pub fn lines_tell_the_forest()
+    ensures states { (p : ProfileName) (A B : State) → IsReached p A → IsReached p B
+        → (lines_in p A).slots ≡ (lines_in p B).slots → order_in A ≡ order_in B
+        → (shown A).derivations ≡ (shown B).derivations }
+    ensures runs { (p : ProfileName) (plan other : Plan) (calls others : List Call) → IsPlan p plan → IsPlan p other
+        → of_slots (boot_differences p plan ∷ run_differences p (boot p plan) calls)
+        ≡ of_slots (boot_differences p other ∷ run_differences p (boot p other) others)
+        → order_differences p plan calls ≡ order_differences p other others
+        → (shown (state_after p (boot p plan) calls)).derivations
+        ≡ (shown (state_after p (boot p other) others)).derivations }
 {}

@@ -1,0 +1,2 @@
+-- What the laws of a report's texts say.
+pub mod Laws
