@@ -1,2 +1,3 @@
 pub mod Explorations
 pub mod Witnessed
+pub mod Replayed

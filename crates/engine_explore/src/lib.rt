@@ -3,6 +3,7 @@
 #![tactic(auto)]
 
 mod exploring;
+pub mod laws;
 mod witnessing;
 
 pub use exploring::{Explore, ExploreOptions};

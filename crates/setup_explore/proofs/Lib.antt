@@ -5,3 +5,4 @@ pub mod CallAnswers
 pub mod Entries
 pub mod NoLonger
 pub mod Limits
+pub mod Replay

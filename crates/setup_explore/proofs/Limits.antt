@@ -8,11 +8,10 @@ use Rattle.abstract_kernel.specs.declared.call.Call.{Call}
 use Rattle.abstract_kernel.specs.Boot.{boot}
 use Rattle.setup_format.specs.Views.{CallView, SetupView}
 use Rattle.kinds.specs.Kinds.{firsts}
-use Rattle.orders.specs.World.{World, start}
+use Rattle.orders.specs.World.{World}
 use Rattle.orders.specs.Orders.{below, orders}
 use Rattle.setup_explore.proofs.NoLonger.{no_order_is_longer}
 use Rattle.explore_core.specs.Nodes.{lead_alike, layer}
-use Rattle.explore_core.specs.Counts.{saturated, states_before}
 use Rattle.explore_core.specs.Explorations.{is_last_layer, depth_from, depth}
 use Rattle.explore_core.proofs.Explorations.{no_orders_behind}
 use Rattle.setup_explore.specs.Clients.{client_calls, own_calls, first_clients}
@@ -75,7 +74,7 @@ sum-map : {X : Type 0} (f : ℕ → List X) (ns : List ℕ) → sum_by length (m
 sum-map f [] = refl
 sum-map f (n ∷ ns) = let a = sum_by-cons length (f n) (map f ns) in let b = sum_by-cons (λ j. length (f j)) n ns in let i = sum-map f ns in omega (arith, a, b, i)
 
-own-length : (setup : SetupView) → sum_by length (own_calls setup) ≤ length setup.calls
+pub own-length : (setup : SetupView) → sum_by length (own_calls setup) ≤ length setup.calls
 own-length setup = let a = sum-map (client_calls setup.calls) (below setup.clients) in let b = all-clients setup.calls setup.clients in omega (arith, a, b)
 
 -- ---- how far it goes

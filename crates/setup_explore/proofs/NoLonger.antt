@@ -1,15 +1,16 @@
 -- No order has more calls than the clients have.
-use Rattle.std.proofs.Common.{◌≡◌, ◌≢◌, ◌⊎◌, ◌==◌, ℕ, zero, suc, ◌+◌, ◌-◌, ◌<◌, ◌≤◌, Bool, true, false, cond, List, [], ◌∷◌, ◌++◌, map, filter, length, replicate, take, Option, None, Some, option_and_then, slice_get, slice_set, unwrap_or, get_or, add-one, refl, ap, sym, subst, ◌∙◌, inl, inr, arith}
-use Rattle.std.specs.List.{flat_map, sum_by, AllByRecursion as Each}
+use Rattle.std.proofs.Common.{◌≡◌, ◌≢◌, ℕ, zero, suc, ◌+◌, ◌-◌, ◌<◌, ◌≤◌, true, false, List, [], ◌∷◌, ◌++◌, length, replicate, take, Option, None, Some, option_and_then, slice_get, slice_set, unwrap_or, get_or, add-one, length-append, refl, ap, sym, subst, ◌∙◌, inl, inr, arith}
+use Rattle.std.specs.List.{sum_by, AllByRecursion as Each}
 use Rattle.std.proofs.lemmas.List.{take_all, get_or-set_same, get_or-set_other, get_or-replicate, length-replicate, length-set}
 use Rattle.std.proofs.lemmas.List.Sums.{sum_by_push, sum_by_more}
 use Rattle.std.proofs.lemmas.Option.{slice_get_cases, slice_get_within, slice_get-get_or, get_or_from_slice_get}
-use Rattle.std.proofs.lemmas.Bool.Decides.{nat_tests, eqb_tells}
+use Rattle.std.proofs.lemmas.Bool.Decides.{eqb_tells}
 use Rattle.cap_core.specs.declared.profile.ProfileName.{ProfileName}
 use Rattle.abstract_kernel.specs.declared.call.Call.{Call}
 use Rattle.abstract_kernel.specs.State.{State, shown}
 use Rattle.orders.specs.World.{World, start, call_at, next_call, one_more, place_of, can_be_made, may_call, with_call, after_call, world_after}
 use Rattle.orders.specs.Orders.{below, clients, longer, orders}
+use Rattle.orders.specs.Laws.{made_by, calls_made}
 use Rattle.orders.proofs.Contained.{each-flat_map, each-filter_map}
 
 -- ---- sums over the clients
@@ -116,6 +117,20 @@ module _ (own : List (List Call)) where
         let b = never_more order (after_call p own w client) in
         omega (arith, a, b)
 
+    -- each call that is made is one that was left
+    one_made : (w : World) (client : ℕ) (c : Option Call) → next_call own w.made client ≡ c → left (with_call p w client c).made + length (made_by client c) ≡ left w.made
+    one_made w client None e = omega arith
+    one_made w client (Some call) e = let u = one_used w.made client call e in omega (arith, u)
+
+    calls_used : (order : List ℕ) (w : World) → left (world_after p own w order).made + length (calls_made p own w order) ≡ left w.made
+    calls_used [] w = omega arith
+    calls_used (client ∷ order) w =
+        let c = next_call own w.made client in
+        let one = one_made w client c refl in
+        let rest = calls_used order (after_call p own w client) in
+        let both = length-append (made_by client c) (calls_made p own (after_call p own w client) order) in
+        omega (arith, one, rest, both)
+
     after_last : (order : List ℕ) (client : ℕ) (w : World) → world_after p own w (order ++ client ∷ []) ≡ after_call p own (world_after p own w order) client
     after_last [] client w = refl
     after_last (c ∷ order) client w = after_last order client (after_call p own w c)
@@ -171,3 +186,7 @@ module _ (own : List (List Call)) where
 -- no order from the start on has more calls than the clients have
 pub no_order_is_longer : (p : ProfileName) (own : List (List Call)) (A : State) (first : List ℕ) (n : ℕ) → sum_by length own < n → orders p own (start own A) first n ≡ []
 no_order_is_longer p own A first n lt = let e = left_at_first own in no_longer own p (start own A) first n (omega (arith, e, lt))
+
+-- no order from the start on makes more calls than the clients have
+pub no_more_calls : (p : ProfileName) (own : List (List Call)) (A : State) (order : List ℕ) → length (calls_made p own (start own A) order) ≤ sum_by length own
+no_more_calls p own A order = let e = left_at_first own in let u = calls_used own p order (start own A) in omega (arith, e, u)

@@ -1,5 +1,5 @@
 -- What the laws of a report on every order say.
-use Rattle.std.specs.Prelude.{◌≡◌, ◌≤◌, ◌<◌, ℕ, ◌+◌, true, false, List, [], length}
+use Rattle.std.specs.Prelude.{◌≡◌, ◌<◌, ℕ, ◌+◌, true, false, [], length}
 use Rattle.cap_core.specs.declared.profile.ProfileName.{ProfileName}
 use Rattle.abstract_kernel.specs.Boot.{boot}
 use Rattle.setup_format.specs.Views.{SetupView}

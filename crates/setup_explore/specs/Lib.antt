@@ -6,3 +6,4 @@ pub mod Report
 pub mod Witnesses
 pub mod Rows
 pub mod Laws
+pub mod Replays

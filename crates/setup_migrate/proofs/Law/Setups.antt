@@ -18,6 +18,7 @@ use Rattle.setup_values.specs.Names.{Names}
 use Rattle.setup_values.specs.Keys.{keys_of, least, lesser}
 use Rattle.setup_values.specs.Kinds.{between, number, number_in, names, profile, tables, each}
 use Rattle.setup_format.specs.Limits.{first_format, newest_format, max_calls}
+use Rattle.setup_format.specs.declared.fault.Place.{Place}
 use Rattle.setup_format.specs.declared.fault.Place.TheVariants as places
 use Rattle.setup_format.specs.declared.setup.Sizes.{Sizes}
 use Rattle.setup_format.specs.Faults.{Fault}
@@ -76,10 +77,10 @@ none_least (k ∷ ks) e = absurd (never (least (λ key. key) ks) e)
           | inr more ↦ none-some k (sym (rw more at e))
         ]
 
-cons_none : {A : Type 0} {x : A} {xs : List A} → x ∷ xs ≡ [] → ⊥
+pub cons_none : {A : Type 0} {x : A} {xs : List A} → x ∷ xs ≡ [] → ⊥
 cons_none e = cc
 
-fewer : (p q : List ℕ → Bool) (ks : List (List ℕ)) → ((k : List ℕ) → p k ≡ false → q k ≡ false) → filter p ks ≡ [] → filter q ks ≡ []
+pub fewer : (p q : List ℕ → Bool) (ks : List (List ℕ)) → ((k : List ℕ) → p k ≡ false → q k ≡ false) → filter p ks ≡ [] → filter q ks ≡ []
 fewer p q [] h e = refl
 fewer p q (k ∷ ks) h e =
     elim (cases_Bool (p k)) [
@@ -87,15 +88,15 @@ fewer p q (k ∷ ks) h e =
       | inr left ↦ rw (h k left) (fewer p q ks h (rw left at e))
     ]
 
-all_known : (ks : List (List ℕ)) (n : ℕ) → no_unknown places.Top (least (λ key. key) ks) ≡ Ok n → ks ≡ []
-all_known ks n e = none_least ks (none (least (λ key. key) ks) e)
+pub all_known : (place : Place) (ks : List (List ℕ)) (n : ℕ) → no_unknown place (least (λ key. key) ks) ≡ Ok n → ks ≡ []
+all_known place ks n e = none_least ks (none (least (λ key. key) ks) e)
   where
-    none : (o : Option (List ℕ)) → no_unknown places.Top o ≡ Ok n → o ≡ None
+    none : (o : Option (List ℕ)) → no_unknown place o ≡ Ok n → o ≡ None
     none None e = refl
     none (Some k) e = no_answer _ n e
 
-all_known_is : (ks : List (List ℕ)) (n : ℕ) → no_unknown places.Top (least (λ key. key) ks) ≡ Ok n → ◌≡◌ {A = Result ℕ Fault} (Ok 0) (Ok n)
-all_known_is ks n e = let none = all_known ks n e in rw none at e
+pub all_known_is : (place : Place) (ks : List (List ℕ)) (n : ℕ) → no_unknown place (least (λ key. key) ks) ≡ Ok n → ◌≡◌ {A = Result ℕ Fault} (Ok 0) (Ok n)
+all_known_is place ks n e = let none = all_known place ks n e in rw none at e
 
 -- a list with a key more has each key that it had
 more_in : (k key : List ℕ) (xs ys : List (List ℕ)) → not (is_one_of (xs ++ ys) k) ≡ false → not (is_one_of (xs ++ key ∷ ys) k) ≡ false
@@ -110,7 +111,7 @@ more_in k key (x ∷ xs) ys e = either (bytes_eq x k) (is_one_of (xs ++ ys) k) (
     either true b c h e = refl
     either false b c h e = h e
 
-more_known : (k : List ℕ) → not (is_one_of first_keys k) ≡ false → not (is_one_of (top_keys newest_format) k) ≡ false
+pub more_known : (k : List ℕ) → not (is_one_of first_keys k) ≡ false → not (is_one_of (top_keys newest_format) k) ≡ false
 more_known k e = more_in k (codes "names") size_keys table_keys e
 
 -- no key of the table is unknown, and so none of the migrated one is
@@ -118,12 +119,12 @@ known_after : (p : ProfileName) (plan : Plan) (t : Members) (n : ℕ) → known_
     → known_only places.Top (migrated p plan t) (top_keys newest_format) ≡ Ok n
 known_after p plan t n e =
     let test = λ (key : List ℕ). not (is_one_of (top_keys newest_format) key) in
-    let before : filter (λ key. not (is_one_of first_keys key)) (keys_of t) ≡ [] = all_known (filter (λ key. not (is_one_of first_keys key)) (keys_of t)) n e in
+    let before : filter (λ key. not (is_one_of first_keys key)) (keys_of t) ≡ [] = all_known places.Top (filter (λ key. not (is_one_of first_keys key)) (keys_of t)) n e in
     let after : filter test (keys_of t) ≡ [] = fewer (λ key. not (is_one_of first_keys key)) test (keys_of t) more_known before in
     let keys : filter test (keys_of (migrated p plan t)) ≡ [] =
     ap (filter test) (keys_changed (codes "call") (named_calls p plan) (with_table p plan t))
     ∙ (keys_with test (codes "names") (table (name_table p plan)) (formatted t) refl ∙ (keys_with test (codes "format") (integer (pos newest_format)) t refl ∙ after)) in
-    rw keys (all_known_is (filter (λ key. not (is_one_of first_keys key)) (keys_of t)) n e)
+    rw keys (all_known_is places.Top (filter (λ key. not (is_one_of first_keys key)) (keys_of t)) n e)
 
 -- a key that a test would leave is no key of the table
 not_a_key : (test : List ℕ → Bool) (k : List ℕ) (ms : Members) → test k ≡ true → filter test (keys_of ms) ≡ [] → get_member k ms ≡ None
@@ -142,7 +143,7 @@ not_a_key test k (member l d ms) passes e =
         ]
 
 no_names : (t : Members) (n : ℕ) → known_only places.Top t (top_keys first_format) ≡ Ok n → get_member (codes "names") t ≡ None
-no_names t n e = not_a_key (λ key. not (is_one_of first_keys key)) (codes "names") t refl (all_known (filter (λ key. not (is_one_of first_keys key)) (keys_of t)) n e)
+no_names t n e = not_a_key (λ key. not (is_one_of first_keys key)) (codes "names") t refl (all_known places.Top (filter (λ key. not (is_one_of first_keys key)) (keys_of t)) n e)
 
 -- ---- a table whose format, keys and profile are known
 
