@@ -33,32 +33,38 @@ def names_wanted(profile, radix, threads, endpoints, regions):
     return names | {f"untyped_{i}": 2 + threads + endpoints + i for i in range(len(regions))}
 
 
-def has_room(profile, threads, endpoints, regions):
-    """Whether the objects of the boot end before the regions begin, with the radix that `new` takes."""
+def has_room(profile, radix, threads, endpoints, regions):
+    """Whether the objects of the boot end before the regions begin, and the root CNode has a slot for each."""
     slot_bits, tcb_bits = PROFILES[profile]
-    slots = 2 * (2 + threads + endpoints + len(regions))
-    radix = next(radix for radix in range(4, 13) if slots <= 1 << radix or radix == 12)
     first = -(-(1 << (slot_bits + radix)) // (1 << tcb_bits)) << tcb_bits
-    return all(first + (threads << tcb_bits) + (endpoints << ENDPOINT_BITS) <= base for base, _ in regions)
+    end = first + (threads << tcb_bits) + (endpoints << ENDPOINT_BITS)
+    return 2 + threads + endpoints + len(regions) <= 1 << radix and all(end <= base for base, _ in regions)
+
+
+def radix_wanted(profile, threads, endpoints, regions):
+    """The radix of the root CNode: the least one from 4 on with which half of the slots are free, or 12; where that leaves
+    no room, the greatest one that does; None where none does."""
+    slots = 2 * (2 + threads + endpoints + len(regions))
+    usual = next(radix for radix in range(4, 13) if slots <= 1 << radix or radix == 12)
+    radixes = (usual, *range(12, 0, -1))
+    return next((radix for radix in radixes if has_room(profile, radix, threads, endpoints, regions)), None)
 
 
 def faults(program, profile, threads, endpoints, regions):
     words = ["new", "--profile", profile, "--threads", str(threads), "--endpoints", str(endpoints)]
     words += ["--untyped", ",".join(f"{base}:{bits}" for base, bits in regions)] if regions else []
     made = run(program, words)
-    if not has_room(profile, threads, endpoints, regions):
+    radix = radix_wanted(profile, threads, endpoints, regions)
+    if radix is None:
         return [] if (made.returncode, made.stdout) == (4, b"") else [f"status {made.returncode}, and there is no room"]
     if made.returncode or made.stderr:
         return [f"status {made.returncode}, {made.stderr}"]
     read = tomllib.loads(made.stdout.decode())
-    radix = read["root_radix"]
-    wanted = {"format": 2, "profile": profile, "threads": threads, "endpoints": endpoints,
+    wanted = {"format": 2, "profile": profile, "root_radix": radix, "threads": threads, "endpoints": endpoints,
               "names": names_wanted(profile, radix, threads, endpoints, regions)}
     found = [f"{key}: {read.get(key)}, wanted {value}" for key, value in wanted.items() if read.get(key) != value]
     if [(it["base"], it["bits"]) for it in read.get("untyped", [])] != regions:
         found.append("other regions")
-    if 2 * (2 + threads + endpoints + len(regions)) > 1 << radix and radix < 12:
-        found.append(f"radix {radix} leaves less than half of the slots free")
     report = run(program, ["check", "-"], made.stdout)
     told = {int(it) for it in re.findall(rb"^thread (\d+)", report.stdout, re.M)}
     if report.returncode or told != {wanted["names"][f"thread_{i}"] for i in range(threads)}:

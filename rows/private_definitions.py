@@ -16,6 +16,7 @@ MODULE = re.compile(r"pub mod (\w+);")
 EXPORT = re.compile(r"pub use (\w+)::(?:\{([^}]*)\}|(\w+));")
 FUNCTION = re.compile(r"(pub )?(?:const )?fn (\w+)")
 TRAIT = re.compile(r"pub trait (\w+)")
+LABEL = re.compile(r"\b(requires|ensures) \w+ \{")
 WORD = re.compile(r"[\w◌>=]+(?:\.\w+)*")
 DEFINITION = re.compile(r"^ *(?:(?:abbrev|unfoldable|opaque) )?pub (?:(?:record|data) )?([\w◌>=-]+)", re.MULTILINE)
 CASE = re.compile(r"^  ([\w]+) : ", re.MULTILINE)
@@ -55,12 +56,12 @@ def without_generics(line):
 
 
 def head(lines, start):
-    """A function from its first line to the one on which its body opens: signature and clauses."""
+    """A function from its first line to the one on which its body opens: signature and clauses, without their labels."""
     depth = indentation(lines[start])
     end = start
     while not lines[end].endswith(";") and (indentation(lines[end]) != depth or not lines[end].endswith(("{", "}"))):
         end += 1
-    return "\n".join(lines[start : end + 1])
+    return LABEL.sub(r"\1 {", "\n".join(lines[start : end + 1]))
 
 
 def member(lines, start):

@@ -1,5 +1,5 @@
 //! The search for the least parts of some threads: from their control blocks on, what the slots of a part name is taken in.
-ghost use Rattle.std.specs.Prelude.{◌≡◌, ◌&&◌, ◌==◌, not, true, map, find, option_map, IfOk};
+ghost use Rattle.std.specs.Prelude.{◌≡◌, ◌&&◌, ◌==◌, not, map, find, option_map, IfOk};
 ghost use Rattle.slot_core.specs.Calls.{derivation_view};
 ghost use Rattle.confinement.specs.declared.listed.PartMemory.{PartMemory};
 ghost use Rattle.confinement.specs.Private.Search.{AreAround, AreFound, AreJoined, AreTaken, IsCapTaken, IsRangeTaken, IsSlotTaken, entries_of, overlaps};

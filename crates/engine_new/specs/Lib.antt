@@ -1,1 +1,4 @@
+pub mod Slots
+pub mod Text
 pub mod New
+pub mod Private

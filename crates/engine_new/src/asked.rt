@@ -1,12 +1,17 @@
 //! What is asked of a new set-up.
-ghost use Rattle.std.specs.Prelude.{◌≡◌, true};
-ghost use Rattle.engine_new.specs.New.{HasSizes};
+ghost use Rattle.std.specs.Prelude.{◌≡◌, ◌≤◌, ◌↔◌, All, IsTrue};
+ghost use Rattle.abstract_kernel.specs.Plan.{IsUntypedSize};
+ghost use Rattle.engine_new.specs.New.{HasObjects};
+ghost use Rattle.engine_new.specs.Private.{IsWithin};
 
-use cap_core::ProfileName;
-use cap_core::limits::MAX_ROOT_RADIX;
-use setup_format::Setup;
+use boot_plan::BootPlan;
+use cap_core::limits::{
+    MAX_BOOT_ENDPOINTS, MAX_BOOT_THREADS, MAX_BOOT_UNTYPEDS, MAX_ROOT_RADIX, MIN_BOOT_THREADS,
+    MIN_ROOT_RADIX,
+};
+use cap_core::{Profile, ProfileName};
 
-/// The least radix of the root CNode of a new set-up.
+/// The least radix of the root CNode of a new set-up that has room for it.
 const LEAST_RADIX: u32 = 4;
 
 /// The sizes of a new set-up, and its untyped regions.
@@ -24,9 +29,21 @@ pub struct NewSetup {
 
 /// Whether two lists of regions are the same.
 fn are_alike(some: &[(u64, u32)], others: &[(u64, u32)]) -> bool
-    ensures { result ≡ true → some.now ≡ others.now }
+    ensures { IsTrue result ↔ some.now ≡ others.now }
 {
     some == others
+}
+
+/// Whether the bits of each region lie within the profile.
+fn are_sized<P: Profile>(untypeds: &[(u64, u32)]) -> bool
+    ensures { IsTrue result ↔ All (IsUntypedSize P.profile) untypeds.now }
+{
+    for region in untypeds {
+        if region.1 < P::MIN_UNTYPED_BITS || region.1 > P::MAX_OBJECT_BITS {
+            return false;
+        }
+    }
+    true
 }
 
 impl NewSetup {
@@ -40,7 +57,10 @@ impl NewSetup {
 
     /// The least radix from `LEAST_RADIX` on of a root CNode of which half of the slots are free at the least, or the
     /// greatest one.
-    pub(crate) fn root_radix(&self) -> u32 {
+    pub(crate) fn root_radix(&self) -> u32
+        ensures least { MIN_ROOT_RADIX ≤ result }
+        ensures most { result ≤ MAX_ROOT_RADIX }
+    {
         let slots = self.slots().saturating_mul(2);
         for radix in LEAST_RADIX..MAX_ROOT_RADIX {
             if slots <= 1 << radix {
@@ -50,13 +70,22 @@ impl NewSetup {
         MAX_ROOT_RADIX
     }
 
-    /// Whether a set-up has the sizes and the regions that are asked for.
-    pub(crate) fn is_met_by(&self, setup: &Setup) -> bool
-        ensures { result ≡ true → HasSizes self.now setup.now }
+    /// Whether the sizes and the regions lie within the limits of a simulation.
+    pub(crate) fn is_within_limits<P: Profile>(&self) -> bool
+        ensures { IsTrue result ↔ IsWithin P.profile self.now }
     {
-        let plan = setup.plan();
-        setup.profile() == self.profile
-            && plan.threads() == self.threads
+        MIN_BOOT_THREADS <= self.threads
+            && self.threads <= MAX_BOOT_THREADS
+            && self.endpoints <= MAX_BOOT_ENDPOINTS
+            && self.untypeds.len() <= MAX_BOOT_UNTYPEDS as usize
+            && are_sized::<P>(self.untypeds.as_slice())
+    }
+
+    /// Whether a plan has the numbers and the regions that are asked for.
+    pub(crate) fn is_met_by(&self, plan: &BootPlan) -> bool
+        ensures { IsTrue result ↔ HasObjects self.now plan.now }
+    {
+        plan.threads() == self.threads
             && plan.endpoints() == self.endpoints
             && are_alike(plan.untypeds(), self.untypeds.as_slice())
     }

@@ -2,7 +2,11 @@
 #![tactic(auto)]
 
 mod asked;
+mod example;
+pub mod laws;
 mod making;
+mod names;
+mod planning;
 mod text;
 
 pub use asked::NewSetup;

@@ -1,73 +1,94 @@
 //! The engine that makes a set-up to start from.
-ghost use Rattle.std.specs.Prelude.{◌≡◌, true, [], option_copied, IfOk, IfSome};
+ghost use Rattle.std.specs.Prelude.{◌≡◌, ◌↔◌, [], option_copied, IfOk, IfSome, IsErr, IsTrue, MatchOption};
 ghost use Rattle.abstract_kernel.specs.Plan.{IsPlan};
+ghost use Rattle.setup_format.specs.Read.{read_view};
+ghost use Rattle.setup_format.specs.Setups.{read_of_bytes};
 ghost use Rattle.engine_new.specs.New.{IsMade, IsMadeOf, IsNew};
+ghost use Rattle.engine_new.specs.Private.{IsMetBy};
 
 use crate::asked::NewSetup;
-use crate::text::{sizes_text, whole_text};
-use cap_core::limits::MAX_MEMORY_BITS;
+use crate::example::has_example;
+use crate::names::are_names;
+use crate::planning::fitting_plan;
+use crate::text::whole_text;
+use cap_core::{Narrow, Profile, ProfileName, Wide};
 use engine_core::{Engine, RunFault, Verdict};
-use setup_format::{Setup, SetupFault, read_setup};
+use setup_format::{ReadSetup, SetupFault, read};
+use setup_values::KnownNames;
 use std::alloc::{AllocError, Global};
 
-/// The bits of the memory of a new set-up, where its objects have room in it.
-const USUAL_MEMORY_BITS: u32 = 16;
-
-/// A text as a set-up; none where it is refused.
-fn accepted(alloc: Global, text: &[u8]) -> Result<Option<Setup>, AllocError>
-    ensures plan { IfOk result (λ made. IfSome made (λ setup. IsPlan setup.profile setup.plan)) }
+/// Whether a set-up that was read has what is asked for, the names and the call.
+fn is_met_by<P: Profile>(
+    alloc: Global,
+    asked: &NewSetup,
+    made: &ReadSetup,
+) -> Result<bool, AllocError>
+    requires { IsPlan P.profile made.now.setup.plan }
+    ensures { IfOk result (λ is. IsTrue is ↔ IsMetBy P.profile asked.now (read_view made.now)) }
 {
-    match read_setup(alloc, text) {
-        Ok(setup) => Ok(Some(setup)),
+    let plan = made.setup.plan();
+    let names = made.names.as_slice();
+    let known = KnownNames::new(alloc, names)?;
+    let has_names = are_names::<P>(alloc, names, &known, plan)?;
+    Ok(has_names && asked.is_met_by(plan) && has_example::<P>(&known, &made.setup))
+}
+
+/// What a text is read as; none where it is refused.
+fn accepted(alloc: Global, text: &[u8]) -> Result<Option<ReadSetup>, AllocError>
+    ensures read { IfOk result (λ made. MatchOption made (IsErr (read_of_bytes text.now)) (λ read. read_of_bytes text.now ≡ Ok (read_view read))) }
+    ensures plan { IfOk result (λ made. IfSome made (λ read. IsPlan read.setup.profile read.setup.plan)) }
+{
+    match read(alloc, text) {
+        Ok(read) => Ok(Some(read)),
         Err(SetupFault::Memory) => Err(AllocError),
         Err(_) => Ok(None),
     }
 }
 
-/// The set-up without a call of the sizes that are asked for, in the least memory from `USUAL_MEMORY_BITS` on; none where no
-/// memory has room for them.
-fn layout(alloc: Global, asked: &NewSetup) -> Result<Option<Setup>, AllocError>
-    ensures plan { IfOk result (λ made. IfSome made (λ setup. IsPlan setup.profile setup.plan)) }
+/// Whether a text is read as a set-up of what is asked for.
+fn is_new<P: Profile>(alloc: Global, asked: &NewSetup, text: &[u8]) -> Result<bool, AllocError>
+    requires { P.profile ≡ asked.now.profile }
+    ensures { IfOk result (λ is. IsTrue is ↔ IsNew asked.now text.now) }
 {
-    for memory_bits in USUAL_MEMORY_BITS..MAX_MEMORY_BITS + 1 {
-        let text = sizes_text(alloc, asked, memory_bits)?;
-        let setup = accepted(alloc, text.as_bytes())?;
-        if setup.is_some() {
-            return Ok(setup);
-        }
+    let Some(made) = accepted(alloc, text)? else {
+        return Ok(false);
+    };
+    if made.setup.profile() != asked.profile {
+        return Ok(false);
     }
-    Ok(None)
+    is_met_by::<P>(alloc, asked, &made)
 }
 
-/// Whether a text is read as a set-up of the sizes that are asked for.
-fn is_new(alloc: Global, asked: &NewSetup, text: &[u8]) -> Result<bool, AllocError>
-    ensures { IfOk result (λ is. is ≡ true → IsNew asked.now text.now) }
+/// The text of a set-up of what is asked for, and the verdict; nothing where no plan fits, or where the text is refused.
+fn made_for<P: Profile>(alloc: Global, asked: &NewSetup) -> Result<(Vec<u8>, Verdict), AllocError>
+    requires { P.profile ≡ asked.now.profile }
+    ensures { IfOk result (λ made. IsMadeOf asked.now made.0.items made.1) }
 {
-    match read_setup(alloc, text) {
-        Ok(setup) => Ok(asked.is_met_by(&setup)),
-        Err(SetupFault::Memory) => Err(AllocError),
-        Err(_) => Ok(false),
+    let Some(plan) = fitting_plan::<P>(asked)? else {
+        return Ok((Vec::new(alloc), Verdict::Absent));
+    };
+    let text = whole_text::<P>(alloc, &plan)?.into_bytes();
+    if is_new::<P>(alloc, asked, text.as_slice())? {
+        Ok((text, Verdict::AllMet))
+    } else {
+        Ok((Vec::new(alloc), Verdict::Refused))
     }
 }
 
-/// The text of a set-up of the sizes that are asked for, and the verdict; nothing where none is found.
+/// The same, for the machine that is asked for.
 fn made_of(alloc: Global, asked: &NewSetup) -> Result<(Vec<u8>, Verdict), AllocError>
     ensures { IfOk result (λ made. IsMadeOf asked.now made.0.items made.1) }
 {
-    let Some(setup) = layout(alloc, asked)? else {
-        return Ok((Vec::new(alloc), Verdict::Absent));
-    };
-    let text = whole_text(alloc, asked, &setup)?.into_bytes();
-    if is_new(alloc, asked, text.as_slice())? {
-        Ok((text, Verdict::AllMet))
-    } else {
-        Ok((Vec::new(alloc), Verdict::Absent))
+    match asked.profile {
+        ProfileName::Wide => made_for::<Wide>(alloc, asked),
+        ProfileName::Narrow => made_for::<Narrow>(alloc, asked),
     }
 }
 
-/// A set-up of the sizes that are given, whatever the input is, with a name for each thread, each capability's slot and one call
-/// as an example. The verdict is `AllMet`, or `Absent` with nothing written: where no sizes are given, where no memory has room
-/// for such a set-up, or where a size is none that a set-up can have.
+/// A set-up of the sizes that are asked for, whatever the input is, with a name for each thread, each capability's slot and one
+/// call as an example. The verdict is `AllMet`, or `Absent` with nothing written: where no sizes are given, or where no plan of a
+/// boot fits them. It is `Refused`, with nothing written too, where the text of a plan that fits is not read as such a set-up; no
+/// clause says that there is no such plan.
 #[derive(Clone, Copy)]
 pub struct Maker<'a> {
     pub asked: Option<&'a NewSetup>,

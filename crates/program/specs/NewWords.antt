@@ -3,11 +3,13 @@ use Rattle.std.specs.Prelude.{◌≡◌, ℕ, List, [], ◌∷◌, ⊤, codes, t
 use Rattle.std.specs.Str.{bytes_eq}
 use Rattle.cap_core.specs.declared.profile.ProfileName.{ProfileName}
 use Rattle.cap_core.specs.declared.profile.ProfileName.TheVariants.{Wide, Narrow}
+use Rattle.abstract_kernel.specs.Plan.{Plan}
 use Rattle.command_line.specs.CommandLine.{Says}
 use Rattle.command_line.specs.declared.arguments.Options.{Options}
 use Rattle.engine_core.specs.declared.fault.Verdict.{Verdict}
 use Rattle.engine_core.specs.declared.fault.Verdict.TheVariants.{AllMet, NotMet, Refused, Absent}
-use Rattle.engine_new.specs.New.{IsNew}
+use Rattle.engine_new.specs.New.{Fits, IsNew, NoneFits}
+use Rattle.engine_new.specs.Text.{new_text}
 use Rattle.engine_new.specs.declared.asked.NewSetup.{NewSetup}
 use Rattle.program.specs.Texts.{before_mark, behind_mark}
 use Rattle.program.specs.Commas.{words_in}
@@ -35,9 +37,13 @@ pub record AsksFor (options : Options) (asked : NewSetup) : Type 0 where
   pub endpoints : asked.endpoints ≡ unwrap_or options.endpoints 1
   pub untypeds : AreRegions (words_in (option_map (λ s. s.now) options.untyped)) asked.untypeds.items
 
--- a set-up of the sizes that are asked for, or nothing
+-- whatever the options ask for, no plan fits it: they may ask for nothing, where a word says no number
+abbrev pub NothingFits : Options → Type 0
+NothingFits options = (asked : NewSetup) → AsksFor options asked → NoneFits asked
+
+-- a set-up of what is asked for; nothing, where no plan fits; and nothing, where a plan fits whose text is refused
 unfoldable pub IsNewOf : Options → List ℕ → Verdict → Type 0
 IsNewOf options text AllMet = (asked : NewSetup) × AsksFor options asked × IsNew asked text
 IsNewOf options text NotMet = ⊥
-IsNewOf options text Refused = ⊥
-IsNewOf options text Absent = text ≡ []
+IsNewOf options text Refused = (text ≡ []) × ((asked : NewSetup) × AsksFor options asked × ((plan : Plan) × Fits asked.profile asked plan × ¬ IsNew asked (new_text asked.profile plan)))
+IsNewOf options text Absent = (text ≡ []) × NothingFits options

@@ -1,7 +1,9 @@
 //! The sizes that the options of `new` ask for.
-ghost use Rattle.std.specs.Prelude.{◌≡◌, IfOk, IfSome, map, option_map, unwrap_or};
+ghost use Rattle.std.specs.Prelude.{◌≡◌, ◌≤◌, ◌^◌, ℕ, IfOk, MatchOption, map, option_map, unwrap_or};
 ghost use Rattle.program.specs.Commas.{words_in as words_in_definition};
-ghost use Rattle.program.specs.NewWords.{AreRegions, AsksFor, IsProfileNamed, IsRegion};
+ghost use Rattle.program.specs.NewWords.{AreRegions, AsksFor, IsProfileNamed, IsRegion, NothingFits};
+ghost use Rattle.program.specs.Private.{SayNoSizes};
+ghost use Rattle.cap_core.specs.declared.profile.ProfileName.{ProfileName as Profile};
 
 use crate::commas::words_in;
 use crate::marks::{around, number_said};
@@ -18,7 +20,7 @@ const USUAL_ENDPOINTS: u64 = 1;
 
 /// The profile of a name; the wide one, where none is given.
 fn profile_named(name: Option<&str>) -> Option<ProfileName>
-    ensures { IfSome result (IsProfileNamed (option_map (λ s. s.now) name.entry)) }
+    ensures { MatchOption result ((profile : Profile) → ¬ IsProfileNamed (option_map (λ s. s.now) name.entry) profile) (IsProfileNamed (option_map (λ s. s.now) name.entry)) }
 {
     match name {
         None => Some(ProfileName::Wide),
@@ -34,9 +36,10 @@ fn profile_named(name: Option<&str>) -> Option<ProfileName>
     }
 }
 
-/// The region whose base and bits a word says, with a colon between them.
+/// The region whose base and bits a word says, with a colon between them; none where it says none whose bits are a number of 32
+/// bits.
 fn region_in(word: &str) -> Option<(u64, u32)>
-    ensures { IfSome result (λ region. IsRegion word.now (region.0, region.1)) }
+    ensures { MatchOption result ((region : ℕ × ℕ) → IsRegion word.now region → 2 ^ 32 ≤ region.1) (λ region. IsRegion word.now (region.0, region.1)) }
 {
     let (before, behind) = around(word, ':');
     let base = number_said(before)?;
@@ -47,7 +50,7 @@ fn region_in(word: &str) -> Option<(u64, u32)>
 
 /// The regions that words say; none where a word says no region.
 fn regions_of(alloc: Global, words: &[&str]) -> Result<Option<Vec<(u64, u32)>>, AllocError>
-    ensures { IfOk result (λ found. IfSome found (λ v. AreRegions (map (λ w. w.now) words.now) v.items)) }
+    ensures { IfOk result (λ found. MatchOption found (SayNoSizes (map (λ w. w.now) words.now)) (λ v. AreRegions (map (λ w. w.now) words.now) v.items)) }
 {
     let mut regions = Vec::new(alloc);
     for word in words {
@@ -61,7 +64,7 @@ fn regions_of(alloc: Global, words: &[&str]) -> Result<Option<Vec<(u64, u32)>>, 
 
 /// The regions that a text says, with commas between them.
 fn regions_in(alloc: Global, text: Option<&str>) -> Result<Option<Vec<(u64, u32)>>, AllocError>
-    ensures { IfOk result (λ found. IfSome found (λ v. AreRegions (words_in_definition (option_map (λ s. s.now) text.entry)) v.items)) }
+    ensures { IfOk result (λ found. MatchOption found (SayNoSizes (words_in_definition (option_map (λ s. s.now) text.entry))) (λ v. AreRegions (words_in_definition (option_map (λ s. s.now) text.entry)) v.items)) }
 {
     let words = words_in(alloc, text)?;
     regions_of(alloc, words.as_slice())
@@ -69,14 +72,15 @@ fn regions_in(alloc: Global, text: Option<&str>) -> Result<Option<Vec<(u64, u32)
 
 /// The number that an option gives, or the usual one; none where it is no number of 32 bits.
 fn count_in(given: Option<u64>, usual: u64) -> Option<u32>
-    ensures { IfSome result (λ count. count ≡ unwrap_or given usual) }
+    ensures { MatchOption result (2 ^ 32 ≤ unwrap_or given usual) (λ count. count ≡ unwrap_or given usual) }
 {
     u32::try_from(given.unwrap_or(usual)).ok()
 }
 
-/// A set-up of these sizes, where the options give them all.
+/// A set-up of these sizes, where the options give them all; none where no plan fits what they give.
 fn with_regions(options: Options<'_>, untypeds: Vec<(u64, u32)>) -> Option<NewSetup>
-    ensures { IfSome result (λ asked. AreRegions (words_in_definition (option_map (λ s. s.now) options.entry.untyped)) untypeds.items → AsksFor options.entry asked) }
+    requires { AreRegions (words_in_definition (option_map (λ s. s.now) options.untyped)) untypeds.items }
+    ensures { MatchOption result (NothingFits options.entry) (AsksFor options.entry) }
 {
     let profile = profile_named(options.profile)?;
     let threads = count_in(options.threads, USUAL_THREADS)?;
@@ -89,13 +93,13 @@ fn with_regions(options: Options<'_>, untypeds: Vec<(u64, u32)>) -> Option<NewSe
     })
 }
 
-/// What the options ask for; none where an option says no profile, no region or no number of 32 bits.
+/// What the options ask for; none where an option says no profile, no region or no number of 32 bits, so that no plan fits.
 ///
 /// # Errors
 ///
 /// Memory was refused.
 pub(crate) fn asked_by(alloc: Global, options: Options<'_>) -> Result<Option<NewSetup>, AllocError>
-    ensures { IfOk result (λ found. IfSome found (AsksFor options.entry)) }
+    ensures { IfOk result (λ found. MatchOption found (NothingFits options.entry) (AsksFor options.entry)) }
 {
     match regions_in(alloc, options.untyped)? {
         None => Ok(None),

@@ -178,6 +178,10 @@ fn name_of(file: Option<&str>) -> &str {
     }
 }
 
+/// What is said of a set-up that was made and is not read as what was asked for.
+const REFUSED_TEXT: &str =
+    "the text that was made is not read as the set-up that is asked for, so it is not written";
+
 /// By which formats a job reads a set-up.
 fn formats_of(job: Job) -> Formats {
     match job {
@@ -186,8 +190,8 @@ fn formats_of(job: Job) -> Formats {
     }
 }
 
-/// Says why a set-up is refused, which of its expectations no reply can meet where it was checked, traced or explained,
-/// or what the options name and it does not have.
+/// Says why a set-up is refused, also one that was made, which of its expectations no reply can meet where it was checked,
+/// traced or explained, or what the options name and it does not have.
 fn note_on_verdict<R: Eprint + AllocGlobal>(
     rt: &R,
     line: &Line<'_>,
@@ -200,6 +204,7 @@ fn note_on_verdict<R: Eprint + AllocGlobal>(
                 note(rt, warnings.as_str());
             }
         }
+        (Job::New, Verdict::Refused) => note(rt, REFUSED_TEXT),
         (_, Verdict::Refused) => {
             let (formats, name) = (formats_of(line.job), name_of(line.file));
             if let Ok(words) = refusal_words(rt.alloc(), bytes, formats, name) {

@@ -16,4 +16,4 @@ same a b = (
 )
 
 pub returns : goal.returns
-returns c = λ is. (slice_eq-Decides same c.args.some.now c.args.others.now c.eq.result c.eq.ensures).0 is
+returns c = slice_eq-Decides same c.args.some.now c.args.others.now c.eq.result c.eq.ensures
