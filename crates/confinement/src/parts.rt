@@ -121,7 +121,7 @@ fn found_around<P: Profile, S: DerivationStore<P> + Drop, W: Waiters<P> + Drop>(
 /// have the numbers from 1 on by their first addresses, and no use is of an endpoint that its part owns, or says what
 /// another use says.
 ///
-/// They hold ever, by `are_parts_closed`. They are the least such parts: each lies in a part of every closed family that has
+/// They are confined ever (`ever`). They are the least such parts: each lies in a part of every closed family that has
 /// these threads' control blocks, with all of its memory and all that it may use (`least`). So there are no others, but for
 /// their numbers: `least_parts_are_the_same`.
 ///

@@ -57,11 +57,7 @@ impl<C: Command> OnSetup<C> {
     ghost use Rattle.engine.specs.Commands.{IsAnswer};
 
     /// The command's answer in the profile that the set-up names, by the linked forms.
-    fn answer_read(
-        &self,
-        alloc: Global,
-        read: ReadSetup,
-    ) -> Result<(Vec<u8>, Verdict), AllocError>
+    fn answer_read(&self, alloc: Global, read: ReadSetup) -> Result<(Vec<u8>, Verdict), AllocError>
         requires { IsPlan read.setup.profile read.setup.plan }
         ensures { IfOk result (λ made. C.answers self.now.command read.setup.profile (read_view read) made.0.items made.1) }
     {

@@ -2,8 +2,8 @@
 #![tactic(auto)]
 
 pub mod fault;
-pub mod limits;
 mod laws;
+pub mod limits;
 mod operations;
 mod reading;
 mod refusal;

@@ -224,6 +224,9 @@ names_read p table ns h =
 
 -- ---- bytes
 
+abbrev read_with : Members → Names → SetupView → ReadView
+read_with table names setup = record { table = table; names = names; setup = setup }
+
 pub input_read : (bytes : List ℕ) (read : ReadView) → read_of_bytes bytes ≡ Ok read → AreNames read.names × IsPlan read.setup.profile read.setup.plan
 unfolding read_of_bytes read_of
 input_read bytes read h =
@@ -234,9 +237,6 @@ input_read bytes read h =
     subst (λ (x : ReadView). AreNames x.names × IsPlan x.setup.profile x.setup.plan) same
     (All-from_recursion (λ (n : List ℕ × ℕ). is_name n.0 ≡ true) named.0 (names_read setup.0.profile table.0 named.0 named.1), plan_read newest_format table.0 setup.0 setup.1)
   where
-    abbrev read_with : Members → Names → SetupView → ReadView
-    read_with table names setup = record { table = table; names = names; setup = setup }
-
     ok_same : (x y : ReadView) → ◌≡◌ {A = Result ReadView Fault} (Ok x) (Ok y) → x ≡ y
     ok_same x y e = cc
 
