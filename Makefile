@@ -7,8 +7,8 @@
 # and completions; make dist-test tries what goes into it, on the program that is built, also where there is no toolchain;
 # make install: the program that make run built, and the same files, below PREFIX (/usr/local) and DESTDIR;
 # make test: the gate, and what it took;
-# make rows: the built program: each worked set-up, as it is, with others in one run, migrated and traced, why its calls are refused, and by
-# the schema for editors; each worked audit, layout and exploration; each revoke that an audit tells beside the call; explorations of random set-ups beside all orders one by one; what --help names beside the completions and the
+# make rows: each exercise beside its key; the built program: each worked set-up, as it is, with others in one run, migrated and traced,
+# why its calls are refused, and by the schema for editors; each worked audit, layout and exploration; each revoke that an audit tells beside the call; explorations of random set-ups beside all orders one by one; what --help names beside the completions and the
 # man page; what it says of wrong command lines, files and set-ups, an address used again a thousand times, each
 # request for memory refused in turn, by each subcommand and by calls of the libraries, inputs and outputs that fail,
 # texts that are broken, deep or long, three clients and four in whatever order they come, and what the documents
@@ -71,6 +71,7 @@ rows-python:
 	python3 build/completions_test.py
 	python3 build/completions.py --check $(program)
 	python3 rows/private_definitions.py crates docs/definitions.md
+	python3 rows/exercises.py $(setups)
 	python3 rows/run.py $(program) $(setups)
 	python3 rows/several_files.py $(program) $(setups)
 	python3 rows/migrate.py $(program) $(setups)

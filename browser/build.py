@@ -1,5 +1,5 @@
 #!/usr/bin/env python3
-"""build.py [--check]: writes site/sel4sim.html, the proved program as a page of one file.
+"""build.py [--check | --draft FILE]: writes site/sel4sim.html, the proved program as a page of one file.
 
 The page has in it the program's WebAssembly module (module.py), the page of a trace (page/viewer.html), the editor
 CodeMirror as Debian packs it, the worked set-ups, and the modules in source/, joined as the page of a trace is. It
@@ -7,6 +7,9 @@ tells the last commit of what it is made of, and the toolchain's line; where the
 so. The same commit gives the same bytes.
 
 With --check nothing is written, and the status is 1 where the file is not what would be written.
+
+With --draft the page is written to FILE with the module that site/sel4sim.html has in it. So a change of the page itself
+can be looked at before anything is proved or compiled.
 """
 import base64
 import gzip
@@ -31,21 +34,32 @@ SCRIPTS = ("lib/codemirror.js", "mode/toml/toml.js")
 # What the page is made of; a change elsewhere leaves it as it is.
 MADE_OF = ("crates", "crates.txt", "page/source", "page/join.py", "browser/source", "browser/c", "browser/build.py",
            "browser/module.py", "browser/retarget.py")
-FIRST_TOPIC, LAST_TOPICS = "examples", ("expectations", "refused")
+FIRST_TOPICS, LAST_TOPICS = ("exercises", "examples"), ("expectations", "refused")
+# The set-ups of other topics are tests, each of one reason: they come behind the others.
+TESTS = re.compile("why_")
+# So many exercises belong to each lecture, in the order of their names.
+LECTURES = (("capability spaces", 3), ("untyped memory", 2), ("derivation", 3), ("endpoints", 2), ("confinement", 2))
+# With these one begins, in this order.
+BEGIN_HERE = ("send_then_receive", "guarded_address_space", "revocation_of_badged_copies", "two_clients_by_badge",
+              "layout_of_three_components", "three_clients")
+# The answers of exercises are not in the page.
+ANSWERS_OF_EXERCISES = ("exercise_answers/", "examples/exercise_copies_and_badges")
 # Set-ups that are told of by another subcommand than check: their folder, and the tab that they are opened in.
 ANSWERS = TOP / "crates" / "worked_answers" / "data"
 FOR_TABS = (("explorations", "orders"), ("audits", "audit"), ("parts", "ever"), ("trees", "tree"))
 FIRST_CALLS = re.compile(r"^#.*--first (\d+)", re.M)
 
 
-def needs():
+def needs(is_draft):
     """Yields what this machine lacks."""
+    if not all((CODEMIRROR / it).is_file() for it in (*SCRIPTS, "lib/codemirror.css")):
+        yield "CodeMirror (apt-get install libjs-codemirror)"
+    if is_draft:
+        return
     if shutil.which("rt") is None:
         yield "the Rattle toolchain, with its command rt on the path"
     if shutil.which("wasm-opt") is None:
         yield "wasm-opt (apt-get install binaryen)"
-    if not all((CODEMIRROR / it).is_file() for it in (*SCRIPTS, "lib/codemirror.css")):
-        yield "CodeMirror (apt-get install libjs-codemirror)"
     if not (TOP / "crates" / "sel4sim" / "out" / "sel4sim").is_file():
         yield "the proved program (make run)"
 
@@ -92,19 +106,52 @@ def for_tabs():
             yield {"topic": f"for {tab}", "tab": tab, "setups": setups}
 
 
+def is_answer(path):
+    """Whether a set-up has the answers of an exercise."""
+    return f"{path.parent.name}/{path.stem}".startswith(ANSWERS_OF_EXERCISES)
+
+
+def by_lecture(setups):
+    """Returns the exercises, each with the lecture that it belongs to."""
+    groups = [lecture for lecture, count in LECTURES for _ in range(count)]
+    if len(groups) != len(setups):
+        sys.exit(f"build.py has lectures for {len(groups)} exercises, and there are {len(setups)}")
+    return [{**setup, "group": group} for setup, group in zip(setups, groups)]
+
+
+def first_ones_first(setups):
+    """Returns the examples: first those with which one begins."""
+    by_name = {setup["name"]: setup for setup in setups}
+    others = [setup for setup in setups if setup["name"] not in BEGIN_HERE]
+    return [*({**by_name[name], "group": "begin here"} for name in BEGIN_HERE), *({**it, "group": "more examples"} for it in others)]
+
+
 def topics():
-    """Returns the set-ups by topic: examples first, those of a tab behind them, and mistakes last."""
+    """Returns the set-ups by topic: exercises and examples first, those of a tab behind them, and tests and mistakes last."""
     found = {}
-    for path, text in readable(SETUPS.glob("*/*.toml")):
+    for path, text in readable(it for it in SETUPS.glob("*/*.toml") if not is_answer(it)):
         found.setdefault(path.parent.name, []).append({"name": path.stem, "text": text})
-    order = sorted(found, key=lambda it: (it != FIRST_TOPIC, it in LAST_TOPICS, it))
-    told = [{"topic": it, "setups": found[it]} for it in order]
-    return [*told[:1], *for_tabs(), *told[1:]]
+    found["exercises"], found["examples"] = by_lecture(found["exercises"]), first_ones_first(found["examples"])
+    others = sorted(found.keys() - set(FIRST_TOPICS), key=lambda it: (it in LAST_TOPICS, bool(TESTS.match(it)), it))
+    told = {it: {"topic": it, "setups": found[it]} for it in (*FIRST_TOPICS, *others)}
+    return [*(told[it] for it in FIRST_TOPICS), *for_tabs(), *(told[it] for it in others)]
 
 
-def data(module):
+def compiled():
+    """Returns the program's module, packed as the page has it, and the toolchain's line."""
+    import module
+    return base64.b64encode(gzip.compress(module.module(), 9, mtime=0)).decode(), output("rt", "version")
+
+
+def taken():
+    """Returns the same two as the page has them that was made last."""
+    made = SITE.read_text()
+    toolchain = re.search(r'<meta name="sel4sim-toolchain" content="([^"]*)">', made)[1]
+    return re.search(r'"module": "([^"]*)"', made)[1], toolchain
+
+
+def data(packed):
     """Returns what the page's script reads, as JSON that ends no element of a page."""
-    packed = base64.b64encode(gzip.compress(module, 9, mtime=0)).decode()
     told = {"module": packed, "worker": (SOURCE / "worker.mjs").read_text(), "viewer": join.viewer(), "topics": topics()}
     return json.dumps(told, ensure_ascii=False).replace("<", "\\u003c")
 
@@ -119,26 +166,29 @@ def policy(style, *scripts):
             "form-action 'none'; require-trusted-types-for 'script'; trusted-types sel4sim")
 
 
-def page():
+def page(packed, toolchain):
     """Returns the text of the page."""
-    import module
-    styles = [join.SOURCE / "colours.css", join.SOURCE / "wires.css", CODEMIRROR / "lib/codemirror.css", SOURCE / "style.css"]
+    styles = [join.SOURCE / "colours.css", join.SOURCE / "wires.css", CODEMIRROR / "lib/codemirror.css", SOURCE / "style.css", SOURCE / "exercise.css"]
     style = "\n" + "".join(path.read_text() for path in styles)
     codemirror = "\n" + "".join((CODEMIRROR / it).read_text() for it in SCRIPTS)
     style, codemirror, script = join.harmless(style, codemirror, join.joined(SOURCE / "page.mjs", apart=("worker.mjs",)))
     return join.filled((SOURCE / "page.html").read_text(), policy=policy(style, codemirror, script), style=style,
-                       commit=commit(), toolchain=output("rt", "version"), data=data(module.module()),
+                       commit=commit(), toolchain=toolchain, data=data(packed),
                        codemirror=codemirror, script=script)
 
 
 def main():
-    missing = list(needs())
+    is_draft = sys.argv[1:2] == ["--draft"]
+    missing = list(needs(is_draft))
     if missing:
         print("make browser needs " + ", ".join(missing), file=sys.stderr)
         return 2
+    if is_draft:
+        pathlib.Path(sys.argv[2]).write_text(page(*taken()))
+        return 0
     import module
     try:
-        text = page()
+        text = page(*compiled())
     except module.Failed as fault:
         print(f"make browser: {fault}", file=sys.stderr)
         return 1

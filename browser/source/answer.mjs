@@ -13,14 +13,14 @@ function expectationsOf(text) {
   return all === "0" ? "no expectations" : `${met} of ${all} expectations met`;
 }
 
-/** What is said of an answer whose output is a text: `{ status, isGood, ended }`; `missed` says what status 1 means, where it
+/** What is said of an answer whose output is a text: `{ status, isGood, ended, took }`; `missed` says what status 1 means, where it
     is not as for a report. */
 export function wordsOf({ status, trap, milliseconds, memory }, text, missed = MEANINGS[1]) {
+  const took = `${milliseconds.toFixed(0)} ms, ${(memory / (1 << 20)).toFixed(0)} MiB`;
   if (trap) {
     const ended = `${trap}. The program ran out of stack, or the browser out of memory. The set-up is still here.`;
-    return { status: "ended by the browser", isGood: false, ended };
+    return { status: "ended by the browser", isGood: false, ended, took };
   }
   const said = [status === 0 ? null : status === 1 ? missed : MEANINGS[status], expectationsOf(text)].filter(Boolean).join(", ");
-  const took = `${milliseconds.toFixed(0)} ms, ${(memory / (1 << 20)).toFixed(0)} MiB`;
-  return { status: `status ${status}`, isGood: status === 0, ended: `${said || MEANINGS[0]} · ${took}` };
+  return { status: `status ${status}`, isGood: status === 0, ended: said || MEANINGS[0], took };
 }

@@ -2,21 +2,48 @@
 import { element } from "../../page/source/element.mjs";
 
 const MARGIN = "margin";
+/** Lines that are brought into sight stand at least so many pixels from the edge. */
+const POINTED_FROM_EDGE = 60;
 
-/** An editor in an element; `changed` is told of each change that the reader makes. */
+/** An editor in an element; `changed` is told of each change that the reader makes, `moved` of each line that the reader puts
+    the cursor into, and `asked` of a line whose mark the reader asks for. */
 export class Editor {
-  constructor(parent, changed) {
+  constructor(parent, { changed, moved, asked }) {
     this.mirror = CodeMirror(parent, {
       mode: "toml", lineNumbers: true, gutters: [MARGIN, "CodeMirror-linenumbers"], inputStyle: "contenteditable",
       screenReaderLabel: "Set-up", lineWrapping: true, tabSize: 2,
       // Tab leaves the editor, as it leaves every other part of the page.
-      extraKeys: { Tab: false, "Shift-Tab": false, Esc: () => this.leave() },
+      extraKeys: { Tab: false, "Shift-Tab": false, Esc: () => this.leave(), F2: () => asked(this.mirror.getCursor().line) },
     });
     this.faulty = [];
+    this.pointed = [];
+    this.told = new Map();
+    // A screen reader is told that this is a field of many lines.
+    const field = this.mirror.getInputField();
+    field.setAttribute("role", "textbox");
+    field.setAttribute("aria-multiline", "true");
     this.mirror.on("changes", () => {
       this.clear();
       changed();
     });
+    this.mirror.on("cursorActivity", () => {
+      if (this.mirror.hasFocus()) moved(this.mirror.getCursor().line);
+    });
+  }
+
+  /** Colours some lines, those of one call, and brings them into sight. */
+  point(first, last) {
+    this.unpoint();
+    const lines = Array.from({ length: last + 1 - first }, (_, at) => first + at);
+    this.pointed = lines.map((line) => this.mirror.addLineClass(line, "background", "pointed"));
+    const range = { from: { line: first, ch: 0 }, to: { line: last, ch: 0 } };
+    if (!this.mirror.hasFocus()) this.mirror.scrollIntoView(range, POINTED_FROM_EDGE);
+  }
+
+  /** Takes the colour of those lines away. */
+  unpoint() {
+    this.pointed.forEach((line) => this.mirror.removeLineClass(line, "background", "pointed"));
+    this.pointed = [];
   }
 
   get text() {
@@ -35,6 +62,7 @@ export class Editor {
   /** Takes all marks away. */
   clear() {
     this.mirror.clearGutter(MARGIN);
+    this.told.clear();
     this.faulty.forEach((line) => this.mirror.removeLineClass(line, "background", "faulty"));
     this.faulty = [];
   }
@@ -47,6 +75,7 @@ export class Editor {
   /** Puts a sign into the margin of a line; the words are its title. */
   mark({ line, look, shown, words }) {
     if (line >= this.lines) return;
+    this.told.set(line, words);
     const made = element("span", { class: `mark-${look}`, title: words, role: "img", "aria-label": words }, shown);
     this.mirror.setGutterMarker(line, MARGIN, made);
   }

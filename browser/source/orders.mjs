@@ -3,6 +3,7 @@
 import { code, element } from "../../page/source/element.mjs";
 import { drawLine, drawRows } from "./report.mjs";
 
+const ONE_CLIENT = /^explore \d+ \w+ clients 1 /u;
 const CALL = /^(\d+) (client \d+: \d+ \w+)(?: \[(.*)\])?$/u;
 const ANSWER = /^ {2}(\d+\.\d+) (.*?)(?: (\[not met\]) by ([\d ]+))?$/u;
 const STUCK = /^(stuck\.\d+) by ([\d ]*)$/u;
@@ -50,6 +51,9 @@ function drawStuck([, name, order], { go, open }) {
     drawOrder(order, go), "; then no client can go on: ", drawOpener(name, open));
 }
 
+const drawOneClient = () => element("p", {}, "One client makes all calls, so there is one order. There are more where calls name "
+  + "other clients, as by client = 1; the example three clients has three.");
+
 /** Draws a text of `explore` into an element; `go` is told the number of a call that is chosen, and `open` the name of an
     order that is to be opened as a set-up. */
 export function drawOrders(into, text, told) {
@@ -61,5 +65,5 @@ export function drawOrders(into, text, told) {
     }
     return drawLine(line);
   });
-  drawRows(into, rows);
+  drawRows(into, ONE_CLIENT.test(text) ? [drawOneClient, ...rows] : rows);
 }

@@ -1,13 +1,17 @@
 // The page: a set-up in an editor, and what the program says of it in tabs. It brings the other modules together.
 import { Editor } from "./editor.mjs";
+import { Examples } from "./examples.mjs";
+import { Exercise } from "./exercise.mjs";
 import { Options } from "./options.mjs";
 import { Program, STOPPED } from "./program.mjs";
+import { Steps } from "./steps.mjs";
 import { TABS } from "./tabs.mjs";
+import { asExercise } from "./exercise_text.mjs";
 import { callsOf } from "./report.mjs";
 import { element } from "../../page/source/element.mjs";
 import { fragmentOf, readFragment } from "./share.mjs";
-import { keepState, keptState } from "./kept.mjs";
-import { lineOfFault, placesOf, wordsTold } from "./places.mjs";
+import { callAt, lastLineOf, lineOfFault, placesOf, wordsTold } from "./places.mjs";
+import { keepLeft, keepState, keptState } from "./kept.mjs";
 import { wordsOf } from "./answer.mjs";
 import { listenToFiles } from "../../page/source/files.mjs";
 import { reasonsByCall } from "./why.mjs";
@@ -15,6 +19,16 @@ import { reasonsByCall } from "./why.mjs";
 const byId = (id) => document.getElementById(id);
 const TITLE = "sel4sim";
 const FIRST_EXAMPLE = ["examples", "send_then_receive"];
+const FIRST_EXERCISE = ["exercises", "01_slots_and_words"];
+const [REPORT] = TABS;
+const STEPS = TABS.find(({ name }) => name === "steps");
+const WHY = TABS.find(({ name }) => name === "why");
+/** The exit statuses of a set-up and of a command line that are refused. */
+const REFUSED = [2, 4];
+/** Standard error tells of `why`. */
+const TELLS_WHY = /sel4sim why/u;
+/** The field of the name is at least and at most so wide, in letters. */
+const [NARROW, BROAD] = [12, 24];
 /** So long after the last key the set-up is run by itself, */
 const MILLISECONDS_STILL = 300;
 /** unless it is longer than this, or its last run took so long. */
@@ -49,22 +63,41 @@ function markOf({ number, reply, outcome }, reason = "") {
   return { look, shown, words: `call ${number}: ${reply}${outcome ? ` (${outcome})` : ""}${reason && `\n${reason}`}` };
 }
 
+/** The first fault that standard error tells. */
+const firstFault = ({ errors }) => wordsTold(decoded(errors))[0]?.words ?? "";
+
+/** A button that looks like a link. */
+function link(words, act) {
+  const made = element("button", { type: "button", class: "link" }, words);
+  made.addEventListener("click", act);
+  return made;
+}
+
 class Page {
   constructor(data) {
     this.data = data;
     this.markup = (text) => URLS.createHTML(text);
     this.program = new Program(data.module, data.worker, URLS);
-    this.editor = new Editor(byId("editor"), () => this.changed());
+    this.editor = new Editor(byId("editor"), { changed: () => this.changed(), moved: (line) => this.follow(line),
+      asked: (line) => this.hear(line) });
     this.options = new Options(byId("options"), () => this.given());
-    this.tab = TABS[0];
+    this.steps = new Steps({ viewer: this.markup(data.viewer), title: "The run, call by call",
+      listen: (frame) => { this.listenToFrame(frame); this.drawProjected(); }, shown: (number) => this.showCall(number) });
+    this.examples = new Examples(byId("examples"), data.topics, { open: (...place) => this.openExample(...place),
+      openLeft: (setup) => this.openAgain(setup) });
+    this.exercise = new Exercise(byId("exercise"), this);
+    this.tab = REPORT;
     this.timer = null;
     this.round = 0;
     this.took = 0;
     this.shown = null;
-    this.told = null;
+    this.opened = 0;
+    this.asOpened = "";
+    this.firstCall = 0;
+    this.shownCall = 0;
+    this.reasons = new Map();
     this.read = "";
     this.drawTabs();
-    this.drawExamples();
   }
 
   get name() {
@@ -75,16 +108,59 @@ class Page {
     return this.name.replace(/\.toml$/u, "");
   }
 
-  /** Takes a set-up in place of the one in the editor, and runs it; done once its answer is shown. */
-  open(text, name, options = {}) {
-    byId("name").value = name;
+  /** What is open, as it can be opened again. */
+  get setup() {
+    const { name, tab, isChanged, options: { values } } = this;
+    return { text: this.editor.text, name, tab: tab.name, options: values, isChanged };
+  }
+
+  /** Whether the set-up is not as it was opened. */
+  get isChanged() {
+    const { text } = this.editor;
+    return text.trim() !== "" && text !== this.asOpened;
+  }
+
+  /** Takes a set-up in place of the one in the editor, and runs it, or shows it as an exercise, where it is one and was not
+      changed; done once that is shown. Where the set-up before it was changed, there is a way back to it. */
+  async open(text, name, options = {}, isEdited = false) {
+    const left = this.isChanged ? this.setup : null;
+    byId("welcome").hidden = true;
+    this.setName(name);
     this.options.reset(options);
-    document.title = `${this.title} · ${TITLE}`;
     this.editor.text = text;
+    this.asOpened = this.editor.text;
+    this.opened += 1;
+    this.firstCall = 0;
+    // What runs for the set-up before is not told any more.
+    this.round += 1;
+    byId("stop").disabled = true;
+    this.tell("");
+    this.examples.show("");
     this.drawChosen();
-    this.say(text.includes("\uFFFD") ? `${name} is not UTF-8: what could not be read is shown as \uFFFD.` : "");
+    this.say(text.includes("\uFFFD") ? `${name} is not UTF-8: what could not be read is shown as \uFFFD. ` : "",
+      left && left.text !== this.asOpened ? this.wayBackTo(left) : "");
     this.keep();
-    return this.run();
+    this.exercise.close();
+    if (isEdited || !await this.exercise.open(text, name)) await this.run();
+  }
+
+  /** Opens a set-up once more, in the tab that it was left in. */
+  openAgain({ text, name, tab, options, isChanged }) {
+    return this.openIn(TABS.find((it) => it.name === tab) ?? this.tab, text, name, options, isChanged);
+  }
+
+  /** Keeps a set-up that was changed and is left, and offers the way back to it. */
+  wayBackTo(setup) {
+    keepLeft(setup);
+    this.examples.drawLeft();
+    return element("span", {}, `${this.name} is opened. `, link(`back to ${setup.name}, as you left it`, () => this.openAgain(setup)));
+  }
+
+  setName(name) {
+    byId("name").value = name;
+    byId("printed-name").textContent = name;
+    byId("name").size = Math.max(NARROW, Math.min(BROAD, name.length));
+    document.title = `${this.title} · ${TITLE}`;
   }
 
   say(...notice) {
@@ -92,13 +168,13 @@ class Page {
   }
 
   keep() {
-    const { name, read, tab, options } = this;
-    keepState({ text: this.editor.text, name, tab: tab.name, read, options: options.values });
+    keepState({ ...this.setup, read: this.read, hasLetters: this.hasLetters });
   }
 
   /** What is typed is run by itself, where that is quick. */
   changed() {
     this.keep();
+    if (this.isChanged) this.examples.show("");
     clearTimeout(this.timer);
     this.timer = null;
     const { length } = this.editor.text;
@@ -133,6 +209,7 @@ class Page {
   async run() {
     clearTimeout(this.timer);
     this.timer = null;
+    if (this.exercise.isOpen) return;
     this.round += 1;
     const { round, tab } = this;
     const text = this.editor.text;
@@ -140,8 +217,8 @@ class Page {
     const late = setTimeout(() => this.tell("running…"), MILLISECONDS_UNTOLD);
     byId("stop").disabled = false;
     const isLast = () => round === this.round;
-    const report = await this.answerTo(TABS[0], bytes);
-    const isEnough = report === STOPPED || tab.told || tab === TABS[0];
+    const report = await this.answerTo(REPORT, bytes);
+    const isEnough = report === STOPPED || tab.told || tab === REPORT;
     const answer = isEnough || !isLast() ? report : await this.answerTo(tab, bytes);
     const reasons = isLast() && answer !== STOPPED ? await this.reasonsOf(report, bytes) : new Map();
     clearTimeout(late);
@@ -149,6 +226,7 @@ class Page {
     byId("stop").disabled = true;
     this.tell(answer === STOPPED ? "stopped" : "");
     if (report === STOPPED) return;
+    this.reasons = reasons;
     this.mark(text, report, reasons);
     this.showReportAlso(tab, report);
     if (answer === STOPPED) return;
@@ -197,19 +275,36 @@ class Page {
     const words = tab.told ? { status: "not here", isGood: false, ended: "" } : wordsOf(answer, text, tab.missed);
     byId("status").textContent = words.status;
     byId("status").className = words.isGood ? "tag met" : "tag missed";
-    byId("ended").textContent = words.ended;
-    byId("errors").textContent = tab.told ? "" : decoded(answer.errors);
+    const isOld = this.fill(tab, answer, text);
+    byId("ended").textContent = isOld ? `${words.ended}; below stands the answer before it. ${firstFault(answer)}` : words.ended;
+    byId("ended").title = words.took ?? "";
+    this.drawErrors(tab.told ? "" : decoded(answer.errors));
+  }
+
+  /** Fills the panel of a tab with what the program wrote. Where that is a refusal, the last answer to the same set-up stays,
+      dimmed: whether it does. */
+  fill(tab, { status }, text) {
     const panel = byId(`panel-${tab.name}`);
-    const isWhole = answer.status === 0 || answer.status === 1;
+    const isOld = REFUSED.includes(status) && panel.dataset.of === String(this.opened);
+    panel.classList.toggle("old", isOld);
+    if (isOld) return true;
+    const isWhole = status === 0 || status === 1;
+    panel.dataset.of = isWhole ? this.opened : "";
     if (tab.told) panel.replaceChildren(element("p", {}, tab.told), element("pre", {}, this.commandOf(tab)));
     else if (isWhole) tab.show(this, panel, text);
     else panel.replaceChildren(element("pre", {}, text));
+    return false;
+  }
+
+  /** Shows standard error, with a way to the tab that it tells of. */
+  drawErrors(errors) {
+    const isOfWhy = TELLS_WHY.test(errors) && this.tab !== WHY;
+    byId("errors").replaceChildren(...[errors, isOfWhy ? link("why", () => this.choose(WHY)) : ""].filter(Boolean));
   }
 
   /** The report stands ready for a print whatever tab is shown. */
   showReportAlso(tab, report) {
-    if (tab === TABS[0] || report.trap) return;
-    TABS[0].show(this, byId(`panel-${TABS[0].name}`), decoded(report.output));
+    if (tab !== REPORT && !report.trap) this.fill(REPORT, report, decoded(report.output));
   }
 
   commandOf(tab) {
@@ -245,6 +340,7 @@ class Page {
 
   choose(tab) {
     this.tab = tab;
+    this.editor.unpoint();
     this.drawChosen();
     this.keep();
     this.run();
@@ -257,19 +353,13 @@ class Page {
     byId(`tab-${tab.name}`).focus();
   }
 
-  drawExamples() {
-    for (const { topic, setups } of this.data.topics) {
-      byId("examples").append(element("optgroup", { label: topic.replace(/_/gu, " ") },
-        setups.map(({ name }) => element("option", { value: `${topic}/${name}` }, name.replace(/_/gu, " ")))));
-    }
-  }
-
   /** Opens an example, in the tab that it is for. */
   openExample(topic, name) {
-    const { tab, setups = [] } = this.data.topics.find((it) => it.topic === topic) ?? {};
-    const found = setups.find((it) => it.name === name);
+    const found = this.examples.find(topic, name);
     if (!found) return;
-    this.openIn(TABS.find((it) => it.name === tab) ?? this.tab, found.text, `${name}.toml`, tab ? { [tab]: found.options } : {});
+    const { text, tab, options } = found;
+    this.openIn(TABS.find((it) => it.name === tab) ?? this.tab, text, `${name}.toml`, tab ? { [tab]: options } : {});
+    this.examples.show(`${topic}/${name}`);
   }
 
   /** Opens the set-up that makes the calls of an order which the tab tells by a name. A button leads back. */
@@ -283,16 +373,55 @@ class Page {
       this.say(decoded(answer.errors) || `The order ${order} is not told as a set-up.`);
       return;
     }
-    const back = element("button", { type: "button", class: "link" }, `back to ${name}`);
-    back.addEventListener("click", () => this.openIn(tab, text, name, values));
-    this.openIn(TABS[0], decoded(answer.output), `${title}.${order}.toml`);
-    this.say(`This set-up makes the calls of ${name} in the order ${order}.`, " ", back);
+    this.openIn(REPORT, decoded(answer.output), `${title}.${order}.toml`);
+    this.say(`This set-up makes the calls of ${name} in the order ${order}.`, " ",
+      link(`back to ${name}`, () => this.openIn(tab, text, name, values)));
   }
 
   /** Opens a set-up in a tab. */
-  openIn(tab, text, name, options = {}) {
+  openIn(tab, text, name, options = {}, isEdited = false) {
     this.tab = tab;
-    return this.open(text, name, options);
+    return this.open(text, name, options, isEdited);
+  }
+
+  /** Shows the set-up of an exercise as any other one, with a way back to the sheet. */
+  leaveExercise() {
+    const { text, name } = this.exercise;
+    this.exercise.close();
+    this.editor.refresh();
+    this.say("This is the set-up of the exercise, with its answers. ", link("back to the sheet", () => this.open(text, name)));
+    this.run();
+  }
+
+  /** Opens the next exercise. */
+  async openNext() {
+    const { text, name } = this.exercise.next;
+    await this.open(text, `${name}.toml`);
+    this.exercise.sheet.focus();
+  }
+
+  /** Marks the lines of the call that the steps show, and brings them into sight. */
+  showCall(number) {
+    this.shownCall = number;
+    const place = placesOf(this.editor.text, number).call[number - 1];
+    if (place && this.tab === STEPS) this.editor.point(place.line, lastLineOf(place));
+    else this.editor.unpoint();
+  }
+
+  /** Says what the call of a line was answered, or what is wrong there: what the sign in its margin tells. */
+  hear(line) {
+    const place = placesOf(this.editor.text).call[callAt(this.editor.text, line) - 1];
+    const words = this.editor.told.get(line) ?? this.editor.told.get(place?.line) ?? "No call is here.";
+    // The same words are said again only where they are new.
+    byId("heard").textContent = "";
+    setTimeout(() => { byId("heard").textContent = words; });
+  }
+
+  /** Has the steps show the call of a line. */
+  follow(line) {
+    if (this.tab !== STEPS) return;
+    const number = callAt(this.editor.text, line);
+    if (number > 0 && number !== this.shownCall) this.steps.go(number);
   }
 
   goToCall(number) {
@@ -309,14 +438,41 @@ class Page {
   }
 
   save() {
-    saveFile(this.editor.text, this.name);
+    this.saveText(this.editor.text, this.name);
+  }
+
+  saveText(text, name) {
+    saveFile(text, name);
+  }
+
+  /** What is shown of the set-up: the tab, its options, and of the steps the call; nothing of an exercise. */
+  get place() {
+    if (this.exercise.isOpen || byId("as-exercise").checked) return {};
+    const { tab, options: { values }, shownCall } = this;
+    return { tab: tab === REPORT ? "" : tab.name, options: values[tab.name], call: tab === STEPS ? shownCall : 0 };
+  }
+
+  /** What is shared: the set-up, or as an exercise the same with questions in place of what its calls expect. */
+  get sharedText() {
+    return byId("as-exercise").checked ? asExercise(this.editor.text) : this.editor.text;
   }
 
   async share() {
-    const address = `${location.href.split("#")[0]}${await fragmentOf(this.editor.text, this.name)}`;
-    byId("address").value = address;
+    const { text } = this.editor;
+    byId("as-exercise").checked = false;
+    byId("as-exercise").closest("p").hidden = this.exercise.isOpen || asExercise(text) === text;
+    await this.drawAddress();
     byId("shared").showModal();
     byId("address").select();
+  }
+
+  /** Shows an address of what is open. That of a page from a disk would hold on this machine alone, and tell its folders: of
+      it there is the part behind the page's own address. */
+  async drawAddress() {
+    const isFromDisk = location.protocol === "file:";
+    byId("from-disk").hidden = !isFromDisk;
+    const fragment = await fragmentOf(this.sharedText, this.name, this.place);
+    byId("address").value = `${isFromDisk ? "" : location.href.split("#")[0]}${fragment}`;
   }
 
   /** Opens the set-up of the page's address, if it has one that was not read before: whether it has. */
@@ -330,19 +486,69 @@ class Page {
     }
     if (setup === null) return false;
     this.read = fragment;
-    this.open(setup.text, setup.name);
+    const { text, name, tab, options, call } = setup;
+    this.openAgain({ text, name, tab, options: { [tab]: options } });
+    this.firstCall = call;
     return true;
   }
 
   /** Opens what the address has, or what was kept, or an example. */
   async begin() {
-    const { text, name, tab, read = "", options } = keptState();
-    this.read = read;
-    this.tab = TABS.find((it) => it.name === tab) ?? TABS[0];
+    const kept = keptState();
+    // A lecture's own page has this one in a frame, by the address ?embed: without its head and foot.
+    document.body.classList.toggle("embed", new URLSearchParams(location.search).has("embed"));
+    // A reload keeps what was made of a shared set-up. Who opens the address anew sees what the address has.
+    const [{ type } = {}] = performance.getEntriesByType("navigation");
+    this.read = type === "navigate" ? "" : kept.read ?? "";
+    this.tab = TABS.find(({ name }) => name === kept.tab) ?? REPORT;
+    byId("letters").checked = kept.hasLetters ?? true;
     this.drawChosen();
-    if (await this.openShared()) return;
-    if (typeof text === "string" && text !== "") this.open(text, name, options);
-    else this.openExample(...FIRST_EXAMPLE);
+    if (await this.openShared()) {
+      if (kept.isChanged && kept.text !== this.asOpened) this.say(this.wayBackTo(kept));
+    } else if (typeof kept.text === "string" && kept.text !== "") {
+      this.openAgain(kept);
+      if (kept.isChanged) this.asOpened = "";
+      this.keep();
+    } else {
+      this.openExample(...FIRST_EXAMPLE);
+      byId("welcome").hidden = false;
+    }
+  }
+
+  /** Shows the steps in the whole window, or the page again. */
+  project(isWhole) {
+    if (isWhole && this.tab !== STEPS) this.choose(STEPS);
+    document.body.classList.toggle("project", isWhole);
+    if (this.steps.isLoaded) this.drawProjected();
+    if (isWhole && this.steps.isLoaded) this.steps.focus();
+    this.editor.refresh();
+  }
+
+  /** The steps have the name of the set-up where nothing else tells it. */
+  drawProjected() {
+    this.steps.frame.contentDocument.body.toggleAttribute("data-projected", document.body.classList.contains("project"));
+  }
+
+  /** Puts the focus into the panel of the tab: on the calls of the steps, or on the first thing that can be pressed or scrolled. */
+  enterPanel(event) {
+    const panel = byId(`panel-${this.tab.name}`);
+    const first = panel.querySelector("button, input, summary, [tabindex='0']") ?? panel;
+    event.preventDefault();
+    if (this.tab === STEPS) this.steps.focus();
+    else first.focus();
+  }
+
+  /** The page's keys also hold in the frame of the steps; the frame's own keys of one letter hold where the page's do. */
+  listenToFrame({ contentWindow, contentDocument }) {
+    contentWindow.addEventListener("keydown", (event) => {
+      if (!this.hasLetters && event.key.length === 1 && event.key !== " ") event.stopImmediatePropagation();
+    }, true);
+    this.listenToKeys(contentDocument);
+  }
+
+  /** Whether keys of one letter hold, outside of fields. */
+  get hasLetters() {
+    return byId("letters").checked;
   }
 
   /** The keys, on this page and in the frame of the steps. */
@@ -352,7 +558,8 @@ class Page {
       const isTyping = target.closest("input, select, textarea, .CodeMirror") !== null;
       const action = event.ctrlKey || event.metaKey ? { Enter: () => this.run(), s: () => this.save() }[key]
         : this.actionOf(key, isTyping || where !== document && key === "?");
-      if (!action || event.altKey || document.querySelector("dialog[open]")) return;
+      // What the steps have done by a key of their own is not done once more.
+      if (!action || event.altKey || event.defaultPrevented || document.querySelector("dialog[open]")) return;
       event.preventDefault();
       action();
     });
@@ -361,12 +568,14 @@ class Page {
   actionOf(key, isTyping) {
     if (key === "F1") return () => byId("keys").showModal();
     if (key === "Escape" && this.program.isRunning) return () => this.stop();
-    if (isTyping) return null;
+    if (key === "Escape" && document.body.classList.contains("project")) return () => this.project(false);
+    if (isTyping || !this.hasLetters) return null;
+    if (key === "?") return () => byId("keys").showModal();
+    if (this.exercise.isOpen) return null;
     // The tenth tab has the key 0.
     const place = /^\d$/u.test(key) ? (Number(key) + 9) % 10 : TABS.length;
     if (place < TABS.length) return () => this.chooseAt(place);
-    return { "?": () => byId("keys").showModal(), e: () => this.edit(),
-      w: () => this.setWide(!document.body.classList.contains("wide")) }[key] ?? null;
+    return { e: () => this.edit(), p: () => this.project(true), w: () => this.setWide(!document.body.classList.contains("wide")) }[key] ?? null;
   }
 
   edit() {
@@ -378,24 +587,31 @@ class Page {
     const on = (id, act) => byId(id).addEventListener("click", act);
     on("run", () => this.run());
     on("stop", () => this.stop());
+    on("welcome-close", () => { byId("welcome").hidden = true; });
+    on("welcome-steps", () => this.choose(STEPS));
     on("save", () => this.save());
     on("share", () => this.share());
+    on("as-exercise", () => this.drawAddress());
+    on("save-shared", () => this.saveText(this.sharedText, this.name));
+    on("welcome-exercise", () => this.openExample(...FIRST_EXERCISE));
     on("wide", () => this.setWide(!document.body.classList.contains("wide")));
+    on("project", () => this.project(true));
+    on("letters", () => this.keep());
     on("show-keys", () => byId("keys").showModal());
     on("show-about", () => byId("about").showModal());
     on("more-about", () => byId("about").showModal());
     on("copy", () => navigator.clipboard?.writeText(byId("command-line").textContent));
     on("copy-address", () => navigator.clipboard?.writeText(byId("address").value));
     on("save-output", () => this.shown && saveFile(this.shown.answer.output, `${this.title}.${this.shown.tab.name}`));
-    byId("examples").addEventListener("change", ({ target }) => {
-      if (target.value) this.openExample(...target.value.split("/"));
-      target.value = "";
+    byId("name").addEventListener("change", () => {
+      this.setName(this.name);
+      this.choose(this.tab);
     });
-    byId("name").addEventListener("change", () => this.choose(this.tab));
-    byId("tabs").addEventListener("keydown", ({ key }) => {
-      const at = TABS.indexOf(this.tab);
+    byId("tabs").addEventListener("keydown", (event) => {
+      const [{ key }, at] = [event, TABS.indexOf(this.tab)];
       if (key === "ArrowRight") this.chooseAt(at + 1);
       if (key === "ArrowLeft") this.chooseAt(at - 1);
+      if (key === "ArrowDown" || key === "Enter") this.enterPanel(event);
     });
     window.addEventListener("hashchange", () => this.openShared());
     listenToFiles([byId("open")], (text, name) => this.open(text, name));

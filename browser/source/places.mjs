@@ -10,14 +10,14 @@ const LISTED = ["call", "untyped"];
 
 const bare = (word) => word.replace(/^(["'])(.*)\1$/, "$2");
 
-/** Where an entry begins, and where each of its keys stands; lines count from 0. */
-const entryAt = (line) => ({ line, keys: new Map() });
+/** Where an entry begins, where each of its keys stands, and each text that is the value of a key; lines count from 0. */
+const entryAt = (line) => ({ line, keys: new Map(), texts: new Map() });
 
 /** Reads a set-up token by token, and keeps where things stand. */
 class Reader {
   constructor() {
     this.found = { top: entryAt(0), names: entryAt(0), call: [], untyped: [] };
-    Object.assign(this, { table: this.found.top, inline: null, depth: 0, word: "", list: "" });
+    Object.assign(this, { table: this.found.top, inline: null, depth: 0, word: "", list: "", valued: null });
   }
 
   begin(list, line) {
@@ -46,33 +46,64 @@ class Reader {
   }
 
   key(line) {
+    this.valued = { entry: this.depth === 2 ? this.inline : this.depth === 0 ? this.table : null, key: this.word };
     if (this.depth === 2) this.inline?.keys.set(this.word, line);
     if (this.depth > 0) return;
     this.table.keys.set(this.word, line);
     this.list = this.table === this.found.top && LISTED.includes(this.word) ? this.word : "";
   }
 
-  take(token, line) {
+  /** Keeps where a text stands that is the value of a key: its first letter, the one behind its last, and its content. */
+  value(token, at) {
+    if (/^["']/u.test(token)) this.valued?.entry?.texts.set(this.valued.key, { start: at, end: at + token.length, text: bare(token) });
+    this.valued = null;
+  }
+
+  take(token, line, at) {
     const head = HEAD.exec(token);
     if (head) this.head(head[1].trim(), line);
     else if (token === "[" || token === "{") this.open(token, line);
     else if (token === "]" || token === "}") this.close();
     else if (token === "=") this.key(line);
-    else if (!token.startsWith("#")) this.word = bare(token);
+    else if (!token.startsWith("#")) {
+      this.value(token, at);
+      this.word = bare(token);
+    }
   }
 }
 
-/** Where the parts of a set-up stand: `{ top, names, call, untyped }`, each entry with its `line` and the lines of its
-    `keys`; of the calls as many as are asked for. */
+/** Where the parts of a set-up stand: `{ top, names, call, untyped }`, each entry with its `line`, the lines of its `keys` and
+    the places of their `texts`; of the calls as many as are asked for. */
 export function placesOf(text, calls = Infinity) {
   const reader = new Reader();
   let line = 0;
-  for (const [token] of text.matchAll(TOKEN)) {
+  for (const { 0: token, index } of text.matchAll(TOKEN)) {
     if (reader.found.call.length > calls) break;
-    if (token !== "\n") reader.take(token, line);
+    if (token !== "\n") reader.take(token, line, index);
     line += token.split("\n").length - 1;
   }
   return reader.found;
+}
+
+const NAMES = [/^\[names\]((?:\s*\n(?!\s*\[).*)*)/mu, /^names\s*=\s*\{([^}]*)\}/mu];
+const NAMED = /([\w-]+)\s*=\s*"?(0x[0-9a-f]+|\d+)"?/giu;
+
+/** How many bits a word has in the profile of a set-up. */
+export const wordBitsOf = (text) => (/^profile\s*=\s*["']narrow["']/mu.test(text) ? 32 : 64);
+
+/** The names of a set-up by their numbers, of each number that has just one. */
+export function namesOf(text) {
+  const table = NAMES.map((pattern) => pattern.exec(text.replace(/#.*$/gmu, ""))?.[1]).find(Boolean) ?? "";
+  const pairs = [...table.matchAll(NAMED)].map(([, name, value]) => [String(BigInt(value)), name]);
+  return new Map(pairs.filter(([value]) => pairs.filter(([other]) => other === value).length === 1));
+}
+
+/** The last line of an entry. */
+export const lastLineOf = ({ line, keys }) => Math.max(line, ...keys.values());
+
+/** The number of the call that a line belongs to, or 0 where it belongs to none. */
+export function callAt(text, line) {
+  return 1 + placesOf(text).call.findIndex((entry) => entry.line <= line && line <= lastLineOf(entry));
 }
 
 const FAULT = /^set-up refused \d+ at (?:(text)|top key (\S+)|(call|untyped) (\d+) (?:key )?(\S+)|layout (\S+))$/m;

@@ -1,5 +1,8 @@
 // A set-up in an address: packed by the browser's own CompressionStream, behind the sign # of the page's address, which a
-// browser sends to nobody.
+// browser sends to nobody. The address may also have the tab that is shown, its options, and a call.
+
+/** An option of the tab stands in the address as on a command line. */
+const OPTION = /^--/u;
 
 async function through(bytes, stream) {
   return new Uint8Array(await new Response(new Blob([bytes]).stream().pipeThrough(stream)).arrayBuffer());
@@ -10,16 +13,20 @@ const toBase64 = (bytes) => btoa(Array.from(bytes, (byte) => String.fromCharCode
 const fromBase64 = (text) => Uint8Array.from(atob(text.replace(/-/gu, "+").replace(/_/gu, "/")),
   (letter) => letter.charCodeAt(0));
 
-/** The part of an address that has a set-up and its name, from # on. */
-export async function fragmentOf(text, name) {
+/** The part of an address that has a set-up and its name, from # on; with the tab, its options and the call that are given. */
+export async function fragmentOf(text, name, { tab = "", options = {}, call = 0 } = {}) {
   const packed = await through(new TextEncoder().encode(text), new CompressionStream("deflate-raw"));
-  return `#name=${encodeURIComponent(name)}&setup=${toBase64(packed)}`;
+  const given = Object.entries(options).filter(([, value]) => value).map(([option, value]) => [`--${option}`, value]);
+  const words = [["name", name], ...(tab ? [["tab", tab]] : []), ...given, ...(call ? [["call", String(call)]] : [])];
+  return `#${words.map(([word, value]) => `${word}=${encodeURIComponent(value)}`).join("&")}&setup=${toBase64(packed)}`;
 }
 
-/** The set-up and its name in such a part, or null where it has none. */
+/** What such a part has: `{ text, name, tab, options, call }`, or null where it has no set-up. */
 export async function readFragment(fragment) {
   const words = new URLSearchParams(fragment.slice(1));
   if (!words.has("setup")) return null;
   const bytes = await through(fromBase64(words.get("setup")), new DecompressionStream("deflate-raw"));
-  return { text: new TextDecoder("utf-8", { fatal: true }).decode(bytes), name: words.get("name") ?? "" };
+  const given = [...words].filter(([word]) => OPTION.test(word)).map(([word, value]) => [word.replace(OPTION, ""), value]);
+  return { text: new TextDecoder("utf-8", { fatal: true }).decode(bytes), name: words.get("name") ?? "", tab: words.get("tab") ?? "",
+    options: Object.fromEntries(given), call: Number(words.get("call")) || 0 };
 }

@@ -7,6 +7,7 @@ import { drawNever, isNever } from "./never.mjs";
 import { drawOrders } from "./orders.mjs";
 import { drawReport } from "./report.mjs";
 import { drawWhy } from "./why.mjs";
+import { namesOf, wordBitsOf } from "./places.mjs";
 
 /** The text as it is. */
 function showText(page, panel, text) {
@@ -14,11 +15,11 @@ function showText(page, panel, text) {
 }
 
 function showReport(page, panel, text) {
-  drawReport(panel, text, (number) => page.goToCall(number));
+  drawReport(panel, text, (number) => page.goToCall(number), { reasons: page.reasons, names: namesOf(page.editor.text) });
 }
 
 function showReasons(page, panel, text) {
-  drawWhy(panel, text, (number) => page.goToCall(number));
+  drawWhy(panel, text, (number) => page.goToCall(number), wordBitsOf(page.editor.text));
 }
 
 function showAudit(page, panel, text) {
@@ -39,23 +40,11 @@ function showOrders(page, panel, text) {
   drawOrders(panel, text, { go: (number) => page.goToCall(number), open: (name) => page.openWitness(name) });
 }
 
-/** The page of a trace, in a frame of its own, which is told each trace anew and keeps its place. */
+/** The page of a trace, in a frame; another set-up is shown from its boot on, or from the call that its address names. */
 function showSteps(page, panel, text) {
-  const told = { trace: text, name: page.title };
-  const kept = panel.querySelector("iframe");
-  if (kept) {
-    page.told = told;
-    kept.contentWindow.postMessage(told, "*");
-    return;
-  }
-  const frame = element("iframe", { title: "The run, call by call" });
-  page.told = told;
-  frame.addEventListener("load", () => {
-    page.listenToKeys(frame.contentDocument);
-    frame.contentWindow.postMessage(page.told, "*");
-  });
-  frame.srcdoc = page.markup(page.data.viewer);
-  panel.replaceChildren(frame);
+  page.steps.show(text, page.title, page.firstCall);
+  page.firstCall = undefined;
+  if (page.steps.frame.parentElement !== panel) panel.replaceChildren(page.steps.frame);
 }
 
 /** A set-up that the program wrote, which can take the place of the one in the editor. */

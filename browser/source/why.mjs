@@ -1,5 +1,6 @@
 // Why calls were refused: each call with its reason below it.
-import { callOf, drawCall, drawLine, drawRows } from "./report.mjs";
+import { drawBits } from "./bits.mjs";
+import { callOf, drawCall, drawLine, drawReason, drawRows } from "./report.mjs";
 import { element } from "../../page/source/element.mjs";
 
 /** The calls of a text of `why` with their reasons, `{ call, reason }`, and behind them the lines that sum up. */
@@ -19,13 +20,13 @@ function reasonsOf(text) {
 export const reasonsByCall = (text) => new Map(reasonsOf(text).reasons
   .map(({ call, reason }) => [call.number, reason.join("\n")]));
 
-function drawReason({ call, reason }, go) {
-  return element("div", { class: "reasoned" }, drawCall(call, go),
-    element("ul", { class: "reason" }, reason.map((line) => element("li", {}, line))));
+function drawRefused({ call, reason }, go, wordBits) {
+  return element("div", { class: "reasoned" }, drawCall(call, go), drawReason(reason.join("\n")), drawBits(reason.join("\n"), wordBits));
 }
 
-/** Draws a text of `why` into an element; `go` is told the number of a call that is chosen. */
-export function drawWhy(into, text, go) {
+/** Draws a text of `why` into an element; `go` is told the number of a call that is chosen, and a word has `wordBits`. */
+export function drawWhy(into, text, go, wordBits) {
   const { reasons, rest } = reasonsOf(text);
-  drawRows(into, [...reasons.map((it) => () => drawReason(it, go)), ...rest.map((line) => () => drawLine(line))]);
+  if (reasons.length === 0) into.replaceChildren(element("p", {}, "No call was refused."));
+  else drawRows(into, [...reasons.map((it) => () => drawRefused(it, go, wordBits)), ...rest.map((line) => () => drawLine(line))]);
 }

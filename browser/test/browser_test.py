@@ -1,10 +1,11 @@
 #!/usr/bin/env python3
-"""browser_test.py PROGRAM FOLDER [--short] [--pictures FOLDER]: tries site/sel4sim.html in chromium, and shortly in firefox.
+"""browser_test.py PROGRAM FOLDER [--short] [--pictures FOLDER] [--page FILE]: tries site/sel4sim.html in chromium, and shortly in firefox.
 
 Each set-up in the folders of FOLDER is run by each subcommand in the page's own worker: standard output, standard error and
 status have to be those of PROGRAM, byte for byte; so are the worked audits, parts and orders with their options, and texts that are broken, deep and long (rows/hostile_texts.py). Then
 the page is used as a reader uses it. Nothing may leave it: no request may reach the proxy. With --pictures, pictures of the
-page at several widths are written there; with --short, the broken and long texts are left out.
+page at several widths are written there; with --short, the broken and long texts are left out. With --page
+another page is tried than site/sel4sim.html, as a draft of it (browser/build.py).
 """
 import base64
 import json
@@ -13,19 +14,24 @@ import pathlib
 import random
 import re
 import shutil
-import subprocess
 import sys
 import tempfile
 import time
 
 TOP = pathlib.Path(__file__).resolve().parent.parent.parent
-sys.path[:0] = [str(TOP / "page" / "test"), str(TOP / "rows"), str(TOP / "browser" / "test")]
+sys.path[:0] = [str(TOP / "page" / "test"), str(TOP / "rows"), str(TOP / "browser" / "test"), str(TOP / "browser")]
 
+import build  # noqa: E402
 import chromium  # noqa: E402
 import firefox  # noqa: E402
+import first_minute  # noqa: E402
+import hearing  # noqa: E402
 import hostile_texts  # noqa: E402
+import lectures  # noqa: E402
+import nothing_lost  # noqa: E402
+import sheets  # noqa: E402
+from tester import SITE, Tester, as_answer, native, option, pick, type_option  # noqa: E402
 
-SITE = TOP / "site" / "sel4sim.html"
 SUBCOMMANDS = (["check"], ["trace"], ["migrate"], ["why"], ["audit"], ["audit", "--ever"], ["audit", "--never", "2048,4096"], ["explore"],
                ["tree"])
 SEED = 7
@@ -33,19 +39,6 @@ TEXTS = 400
 MOST_SECONDS = 5
 MOST_MEMORY = 400 << 20
 CONTROLS = {"button", "tab", "combobox", "textbox", "tabpanel", "main"}
-
-# Runs the program on bytes: what it wrote, as base64, and how it ended.
-RUN = """(async () => {
-  const to64 = (bytes) => { let text = ""; for (let at = 0; at < bytes.length; at += 8192)
-    text += String.fromCharCode(...bytes.subarray(at, at + 8192)); return btoa(text); };
-  const bytes = BYTES;
-  const answers = [];
-  for (const words of WORDS) {
-    const { status, trap, output, errors, milliseconds, memory } = await sel4sim.run([...words, NAME], NAME, bytes);
-    answers.push({ status, trap, output: to64(output), errors: to64(errors), milliseconds, memory });
-  }
-  return answers;
-})()"""
 
 
 def needs():
@@ -55,82 +48,7 @@ def needs():
     if firefox.program() is None:
         yield "firefox (apt-get install firefox-esr)"
     if not SITE.exists():
-        yield "site/sel4sim.html (make browser)"
-
-
-def native(program, folder, words, name, text):
-    """What the native program answers, in a folder that has the set-up by its name."""
-    path = pathlib.Path(folder, name)
-    path.write_bytes(text)
-    ran = subprocess.run([program, *words, name], cwd=folder, stdin=subprocess.DEVNULL, capture_output=True, timeout=chromium.SECONDS)
-    path.unlink()
-    return ran.returncode, ran.stdout, ran.stderr
-
-
-def as_answer(given):
-    return given["trap"] if "trap" in given else given["status"], base64.b64decode(given["output"]), base64.b64decode(given["errors"])
-
-
-class Tester:
-    """A browser with the page, the native program, and the faults that are found."""
-
-    def __init__(self, browser, program, folder):
-        self.browser, self.program, self.folder = browser, program, folder
-        self.faults = []
-
-    def say(self, fault):
-        self.faults.append(fault)
-        print(fault, flush=True)
-
-    def open(self, fragment=""):
-        self.browser.open(SITE.as_uri() + fragment)
-        self.settle()
-
-    def settle(self, still=0.4):
-        """Waits until what was typed has been run; what is typed is run after it stands still for a while."""
-        until = time.time() + chromium.SECONDS
-        time.sleep(still)
-        while not self.browser.value("sel4sim.page.isAtRest"):
-            if time.time() > until:
-                self.say("a run does not end")
-                return
-            time.sleep(0.05)
-
-    def wanted(self, holds, what):
-        if not holds:
-            self.say(what)
-
-    def text(self, name):
-        return self.browser.value(f"document.getElementById({json.dumps(name)}).textContent")
-
-    def answers(self, words, name, bytes_):
-        return self.browser.value(RUN.replace("WORDS", json.dumps(words)).replace("NAME", json.dumps(name)).replace("BYTES", bytes_))
-
-    def run_bytes(self, words, name, text):
-        packed = base64.b64encode(text).decode()
-        return self.answers(words, name, f"Uint8Array.from(atob('{packed}'), (letter) => letter.charCodeAt(0))")
-
-    def run_file(self, words, name, path):
-        """The same for a long text, which the page reads from a file."""
-        return self.answers(words, name, f"new Uint8Array(await {picked(self, path)}.arrayBuffer())")
-
-    def choose(self, path, picker):
-        document = self.browser.call("DOM.getDocument")["root"]["nodeId"]
-        node = self.browser.call("DOM.querySelector", nodeId=document, selector=f"#{picker}")["nodeId"]
-        self.browser.call("DOM.setFileInputFiles", nodeId=node, files=[str(path)])
-
-    def compare(self, what, words, name, text, given):
-        wanted = native(self.program, self.folder, words, name, text)
-        got = as_answer(given)
-        for part, one, other in zip(("status", "standard output", "standard error"), got, wanted):
-            if one != other:
-                self.say(f"{what}, {' '.join(words)}: {part} is {one if part == 'status' else one[:300]}, natively "
-                         f"{other if part == 'status' else other[:300]}")
-
-    def type(self, text):
-        self.browser.value("document.querySelector('.CodeMirror').CodeMirror.focus()")
-        self.browser.call("Input.insertText", text=text)
-        self.settle()
+        yield f"{SITE} (make browser)"
 
 
 def same_answers(test, setups):
@@ -300,8 +218,7 @@ def typing(test, _):
     test.open()
     test.wanted("delivered 6144 from 2048" in test.text("panel-report"), "the first example does not run")
     test.wanted("status 0" in test.text("status"), f"the first example ends with {test.text('status')}")
-    browser.value("(() => { const list = document.getElementById('examples'); list.value = 'examples/two_clients_by_badge';"
-                  " list.dispatchEvent(new Event('change')); })()")
+    test.select("examples", "examples/two_clients_by_badge")
     test.settle()
     test.wanted("badge" in test.text("panel-report"), "an example of the menu does not run")
     browser.value("sel4sim.page.openExample('examples', 'send_then_receive')")
@@ -331,8 +248,15 @@ def typing(test, _):
     test.wanted(browser.value("sel4sim.page.editor.text") == kept, "a shared address does not give the set-up")
     browser.value("sel4sim.page.editor.text = 'format = 2\\n'")
     test.settle()
-    test.open("#" + address.split("#")[1])
+    browser.call("Page.reload")
+    browser.value(chromium.LOADED)
+    test.settle()
     test.wanted(browser.value("sel4sim.page.editor.text") == "format = 2\n", "a reload of a shared address drops what was typed")
+    test.open("#" + address.split("#")[1])
+    test.wanted(browser.value("sel4sim.page.editor.text") == kept, "a shared address that is opened again does not give the set-up")
+    browser.value("document.querySelector('#notice button').click()")
+    test.settle()
+    test.wanted(browser.value("sel4sim.page.editor.text") == "format = 2\n", "what an address took the place of does not come back")
 
 
 MARKS = """(() => {
@@ -350,10 +274,13 @@ def marks(test, setups):
         _, report, errors = (it if isinstance(it, int) else it.decode() for it in native(test.program, test.folder, ["check"], path.name, path.read_bytes()))
         if not test.browser.value(f"sel4sim.page.data.topics.some(({{ topic, setups }}) => topic === '{topic}'"
                                   f" && setups.some((it) => it.name === '{name}'))"):
-            test.wanted(name == "byte_that_is_no_utf8", f"the menu lacks {topic}/{name}")
+            test.wanted(name == "byte_that_is_no_utf8" or build.is_answer(path), f"the menu lacks {topic}/{name}")
             continue
         test.browser.value(f"sel4sim.page.openExample('{topic}', '{name}')")
         test.settle(0)
+        if test.browser.value("sel4sim.page.exercise.isOpen"):
+            test.browser.value("sel4sim.page.leaveExercise()")
+            test.settle(0)
         count, line = test.browser.value(MARKS)
         calls = len(re.findall(r"(?m)^\d+ \d+ \w+: ", report))
         fault = re.match(r"set-up refused \d+ at (?:.* key (\S+)|.*)", report)
@@ -367,6 +294,7 @@ def marks(test, setups):
 def files(test, stored):
     """A file is opened, and what is saved has the same bytes."""
     browser, folder = test.browser, pathlib.Path(test.folder)
+    test.click("#tab-report")
     (folder / "mine.toml").write_bytes(stored)
     test.choose(folder / "mine.toml", "open")
     test.settle()
@@ -416,24 +344,6 @@ def tabs(test, _):
 
 
 TRUSTED_LOADER = ("for ever", "two_clients")
-
-
-def pick(test, topic, name):
-    """Opens an example, whether there is one."""
-    there = test.browser.value(f"sel4sim.page.data.topics.some((it) => it.topic === {json.dumps(topic)}"
-                               f" && it.setups.some((one) => one.name === {json.dumps(name)}))")
-    test.wanted(there, f"the menu lacks {topic}/{name}")
-    if there:
-        test.browser.value(f"sel4sim.page.openExample({json.dumps(topic)}, {json.dumps(name)})")
-        test.settle()
-    return there
-
-
-def type_option(test, name, value):
-    """Types into the field of an option."""
-    test.browser.value(f"(() => {{ const field = document.getElementById('option-{name}'); field.value = {json.dumps(value)};"
-                       " field.dispatchEvent(new Event('input')); })()")
-    test.settle(0.6)
 
 
 def reasons(test, _):
@@ -634,6 +544,7 @@ def pictures(test, folder):
                 browser.value(f"sel4sim.page.openExample('{topic}', '{setup}')")
                 test.settle()
                 picture(browser, folder / f"{what}_{width}_{theme}.png")
+            sheets.pictured(test, lambda what: picture(browser, folder / f"exercise_{what}_{width}_{theme}.png"))
     for name in ("keys", "about"):
         browser.value(f"document.getElementById('{name}').showModal()")
         picture(browser, folder / f"{name}.png")
@@ -676,6 +587,25 @@ def in_firefox(program, folder, stored):
         browser.close()
 
 
+def exercises_in_firefox(program, folder):
+    """Each exercise, in a wide light window and in a dark one that is as narrow as firefox makes it."""
+    faults = []
+    for preferences, width in (("", 1280), (firefox.DARK, 390)):
+        browser = firefox.Firefox(preferences)
+        try:
+            test = Tester(browser, program, folder)
+            browser.resize(width, 844)
+            browser.open(SITE.as_uri())
+            test.settle()
+            sheets.in_firefox(test)
+            inner = browser.value("window.innerWidth")
+            print(f"firefox, {inner} pixels: each exercise " + ("with faults" if test.faults else "all right"), flush=True)
+            faults += test.faults
+        finally:
+            browser.close()
+    return faults
+
+
 def main():
     missing = list(needs())
     if missing:
@@ -689,19 +619,19 @@ def main():
     is_short = "--short" in sys.argv
     try:
         test.open()
-        if "--pictures" in sys.argv:
-            pictures(test, pathlib.Path(sys.argv[sys.argv.index("--pictures") + 1]))
+        if folder_of_pictures := option("--pictures"):
+            pictures(test, pathlib.Path(folder_of_pictures))
             test.open()
         same_answers(test, setups)
         marks(test, setups)
-        for check in (same_with_options, typing, files, tabs, new_tabs, reading, trapped, nothing_leaves):
+        for check in (same_with_options, typing, *first_minute.CHECKS, *nothing_lost.CHECKS, *sheets.CHECKS, *hearing.CHECKS, *lectures.CHECKS, files, tabs, new_tabs, reading, trapped, nothing_leaves):
             check(test, stored)
         if not is_short:
             hostile(test, setups, stored)
             nothing_leaves(test, stored)
     finally:
         browser.close()
-    faults = test.faults + longest(program, folder, stored) + in_firefox(program, folder, stored)
+    faults = test.faults + longest(program, folder, stored) + in_firefox(program, folder, stored) + exercises_in_firefox(program, folder)
     shutil.rmtree(folder)
     print(f"{len(faults)} faults")
     return 1 if faults else 0

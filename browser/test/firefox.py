@@ -18,6 +18,11 @@ user_pref("network.proxy.ssl_port", 1);
 user_pref("datareporting.policy.dataSubmissionEnabled", false);
 user_pref("browser.shell.checkDefaultBrowser", false);
 """
+# A page is told that its reader wants dark colours.
+DARK = 'user_pref("layout.css.prefers-color-scheme.content-override", 0);\n'
+# The letters that stand for keys in the protocol.
+KEYS = {"Tab": "\ue004", "Enter": "\ue007", "Escape": "\ue00c", "ArrowLeft": "\ue012", "ArrowUp": "\ue013",
+        "ArrowRight": "\ue014", "ArrowDown": "\ue015"}
 
 
 def program():
@@ -28,12 +33,12 @@ def program():
 class Firefox:
     """A browser with one page; every address but that of a file goes to a proxy that does not exist."""
 
-    def __init__(self):
+    def __init__(self, preferences=""):
         self.folder = tempfile.mkdtemp(prefix="browser_test_")
         with socket.create_server(("127.0.0.1", 0)) as free:
             port = free.getsockname()[1]
         with open(os.path.join(self.folder, "user.js"), "w", encoding="utf-8") as file:
-            file.write(PREFERENCES.format(port=port))
+            file.write(PREFERENCES.format(port=port) + preferences)
         words = [program(), "--headless", "--marionette", "--no-remote", "--profile", self.folder]
         self.process = subprocess.Popen(words, stdin=subprocess.DEVNULL, stdout=subprocess.DEVNULL,
                                         stderr=subprocess.DEVNULL, env={**os.environ, "HOME": self.folder})
@@ -80,6 +85,21 @@ class Firefox:
         script = f"const done = arguments[arguments.length - 1]; (async () => ({expression}))()" \
             ".then(done, (fault) => done({ fault: String(fault) }))"
         return self.call("WebDriver:ExecuteAsyncScript", script=script, args=[], sandbox=None).get("value")
+
+    def press(self, key):
+        """Presses a key, as a reader would."""
+        value = KEYS.get(key, key)
+        strokes = [{"type": stroke, "value": value} for stroke in ("keyDown", "keyUp")]
+        self.call("WebDriver:PerformActions", actions=[{"type": "key", "id": "keys", "actions": strokes}])
+
+    def insert(self, text):
+        """Types a text, as a reader would."""
+        for letter in text:
+            self.press(letter)
+
+    def resize(self, width, height):
+        """Gives the window a size; it stays at 500 pixels where less is asked for."""
+        self.call("WebDriver:SetWindowRect", width=width, height=height)
 
     def close(self):
         try:

@@ -17,11 +17,28 @@ export function listenToFiles(pickers, open) {
   });
 }
 
-/** Tells `open` the text, the name and the number of the call that a page tells which has this one in a frame. */
-export function listenToParent(open) {
+/** Tells `open` the text, the name and the number of the call that a page tells which has this one in a frame, and `show` a
+    number that it tells alone. */
+export function listenToParent(open, show) {
   if (window.parent === window) return;
   document.body.dataset.framed = "";
   window.addEventListener("message", ({ source, data }) => {
-    if (source === window.parent) open(data.trace, data.number, data.name);
+    if (source !== window.parent) return;
+    if (data.trace === undefined) show(data.number);
+    else open(data.trace, data.number, data.name);
   });
+}
+
+/** Saves a text as a file. */
+export function saveFile(text, name) {
+  const address = URL.createObjectURL(new Blob([text], { type: "image/svg+xml" }));
+  const link = document.createElement("a");
+  Object.assign(link, { href: address, download: name });
+  link.click();
+  setTimeout(() => URL.revokeObjectURL(address), 10_000);
+}
+
+/** Tells the page around this one, where there is one, the number of the call that is shown. */
+export function tellParent(number) {
+  if (window.parent !== window) window.parent.postMessage({ shown: number }, "*");
 }

@@ -23,8 +23,8 @@ function actionOf(event, page, { list, main, find, keys }) {
   if (key === " ") return inList || target === main ? () => page.player.toggle() : null;
   const actions = {
     n: () => page.showNext(isMissed), r: () => page.showNext(isRevoke), "/": () => find.focus(),
-    "?": () => keys.showModal(), f: () => page.toggleForest(), h: () => page.toggleHiding(),
-    Escape: page.isForestAlone ? () => page.toggleForest() : null,
+    "?": () => keys.showModal(), f: () => page.goRound(), h: () => page.toggleHiding(),
+    Escape: page.alone ? () => page.showAlone() : null,
   };
   return actions[key] ?? null;
 }

@@ -9,15 +9,19 @@ import { drawMemory } from "./memory.mjs";
 import { drawReachTable, drawWays } from "./reach_table.mjs";
 import { drawSpaces } from "./spaces.mjs";
 import { drawThreadsAndEndpoints } from "./threads.mjs";
-import { listenToFiles, listenToParent } from "./files.mjs";
+import { listenToFiles, listenToParent, saveFile, tellParent } from "./files.mjs";
 import { listenToKeys } from "./keys.mjs";
 import { readAudits } from "./audits.mjs";
+import { element } from "./element.mjs";
+import { pictureOf } from "./picture.mjs";
 import { readTrace } from "./trace.mjs";
 import { redraw } from "./redraw.mjs";
 import { wordsOfSteps } from "./words.mjs";
 
 const byId = (id) => document.getElementById(id);
 const TITLE = "sel4sim run";
+/** The parts that are shown alone, one after another. */
+const ALONE = ["forest", "spaces", "memory"];
 
 /** The trace without the steps that do not fit the state before them, and what is to be said of it. */
 function fitting(trace) {
@@ -117,15 +121,21 @@ class Page {
     this.show(this.number);
   }
 
-  /** Whether the forest is shown alone. */
-  get isForestAlone() {
-    return document.body.hasAttribute("data-forest");
+  /** The part that is shown alone in large type, or undefined. */
+  get alone() {
+    return document.body.dataset.alone;
   }
 
-  /** Shows the forest alone, or the whole page again. */
-  toggleForest() {
+  /** Shows the next part alone in large type: the forest, the capability spaces, the memory, and then the whole page again. */
+  goRound() {
+    this.showAlone(ALONE[ALONE.indexOf(this.alone) + 1]);
+  }
+
+  /** Shows a part alone, or the whole page where it is undefined. */
+  showAlone(part) {
     if (!this.view) return;
-    document.body.toggleAttribute("data-forest");
+    if (part) document.body.dataset.alone = part;
+    else delete document.body.dataset.alone;
     this.draw(this.number, this.view);
   }
 
@@ -141,20 +151,29 @@ class Page {
     this.put("said", drawSentence(view));
     this.put("changed", drawChanges(view));
     this.drawForest(view);
-    this.put("memory", drawMemory(view));
-    this.put("threads", drawThreadsAndEndpoints(view));
+    this.put("memory", [drawMemory(view), this.drawSaver("memory")]);
+    this.put("threads", [drawThreadsAndEndpoints(view), this.drawSaver("threads")]);
     this.put("reach", drawReachTable(view));
     this.put("channels", drawWays(view));
     this.drawSpaces();
     this.drawLines();
     this.drawPosition(number);
     this.calls.show(this.trace, number, this.isHiding ? number - Number(view.isAsked) : this.last);
+    tellParent(number);
   }
 
   /** The forest keeps its place from step to step, but for what is not in sight of that which changed. */
   drawForest(view) {
-    this.put("forest", drawForest(view));
+    this.put("forest", [drawForest(view), this.drawSaver("forest")]);
     showChange(document.querySelector("#forest .forest-scroll"));
+  }
+
+  /** A button that saves a part of the page as a picture. */
+  drawSaver(id) {
+    const words = `Save this picture: ${id}, as SVG`;
+    const saver = element("button", { type: "button", class: "saver", title: words, "aria-label": words }, "⤓");
+    saver.addEventListener("click", () => saveFile(pictureOf(byId(id)), `${byId("name").textContent}.call_${this.number}.${id}.svg`));
+    return saver;
   }
 
   /** Draws a part of the page anew, where it differs. */
@@ -163,11 +182,12 @@ class Page {
   }
 
   drawSpaces() {
-    this.put("spaces", drawSpaces(this.view, this.seer, (thread) => {
+    const spaces = drawSpaces(this.view, this.seer, (thread) => {
       this.seer = thread;
       this.drawSpaces();
       byId("seer").focus();
-    }));
+    });
+    this.put("spaces", [spaces, this.drawSaver("spaces")]);
   }
 
   /** The step as the trace has it, and the state as lines, where these are opened. */
@@ -238,7 +258,7 @@ function listenToControls(page) {
   byId("close-keys").addEventListener("click", () => byId("keys").close());
   listenToKeys(page, { list: byId("list"), main: byId("main"), find: byId("find"), keys: byId("keys") });
   listenToFiles([byId("open"), byId("open-first")], (text, name) => page.open(text, 0, name));
-  listenToParent((text, number, name) => page.open(text, number ?? page.number, name));
+  listenToParent((text, number, name) => page.open(text, number ?? page.number, name), (number) => page.show(number));
   listenToPointer();
 }
 

@@ -145,8 +145,8 @@ class Chromium:
         return answer["result"].get("value")
 
     def until(self, holds):
-        """Waits until an expression holds in the page, or for ten seconds."""
-        self.value(f"(async () => {{ const end = performance.now() + 10_000; while (!({holds}) && performance.now() < end)"
+        """Waits until an expression holds in the page, or for fifty seconds."""
+        self.value(f"(async () => {{ const end = performance.now() + 50_000; while (!({holds}) && performance.now() < end)"
                    " await new Promise((done) => setTimeout(done, 10)); })()")
 
     def open(self, url):
@@ -160,12 +160,16 @@ class Chromium:
     def press(self, key, *, shift=False):
         """Presses a key, as a reader would."""
         code = {"Enter": 13, "Home": 36, "End": 35, "PageUp": 33, "PageDown": 34, "ArrowLeft": 37, "ArrowUp": 38,
-                "ArrowRight": 39, "ArrowDown": 40, "Tab": 9, "Escape": 27}.get(key, ord(key[0].upper()))
+                "ArrowRight": 39, "ArrowDown": 40, "Tab": 9, "Escape": 27, "F2": 113}.get(key, ord(key[0].upper()))
         told = {"key": key, "windowsVirtualKeyCode": code, "modifiers": 8 if shift else 0}
         if len(key) == 1:
             told["text"] = key
         self.call("Input.dispatchKeyEvent", type="keyDown", **told)
         self.call("Input.dispatchKeyEvent", type="keyUp", **told)
+
+    def insert(self, text):
+        """Types a text, as a reader would."""
+        self.call("Input.insertText", text=text)
 
     def close(self):
         self.session = None

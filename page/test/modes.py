@@ -55,12 +55,13 @@ SHOWN_PARTS = """[...document.querySelectorAll('#run section, header, nav, #said
 
 
 def forest_alone(browser, _, folder):
-    """A key shows the forest alone in large type, below the call, and steps still; the same key and Escape lead back."""
+    """A key shows the forest alone in large type, below the call, and steps still; the same key leads on to the capability spaces,
+    the memory and back, and Escape back at once."""
     open_run(browser, folder)
     whole = browser.value(SHOWN_PARTS)
     size = "parseFloat(getComputedStyle(document.querySelector('#forest .node')).fontSize)"
     usual = browser.value(size)
-    for back in ("f", "Escape"):
+    for back in (["f", "f", "f"], ["Escape"]):
         browser.press("f")
         if browser.value(SHOWN_PARTS) != "forest said what":
             yield f"with the forest alone the page shows {browser.value(SHOWN_PARTS)}"
@@ -70,9 +71,12 @@ def forest_alone(browser, _, folder):
         if "call 1 " not in text(browser, "position"):
             yield f"with the forest alone a step leads to {text(browser, 'position')}"
         browser.press("Home")
-        browser.press(back)
-        if browser.value(SHOWN_PARTS) != whole or browser.value(size) != usual:
-            yield f"{back} leads back to {browser.value(SHOWN_PARTS)}, and not to {whole}"
+        for key, parts in zip(back, ("said spaces what", "memory said what", whole) if len(back) > 1 else (whole,)):
+            browser.press(key)
+            if browser.value(SHOWN_PARTS) != parts:
+                yield f"{key} leads to {browser.value(SHOWN_PARTS)}, and not to {parts}"
+        if browser.value(size) != usual:
+            yield f"the forest keeps letters of {browser.value(size)} pixels"
 
 
 def hidden_effects(browser, _, folder):

@@ -56,7 +56,7 @@ FURTHER_FAULTS = (
     ("the bar scrolls away on a phone", modes.phone, "style.css",
      "header { position: sticky;", "header { position: static;"),
     ("the forest is not alone", modes.forest_alone, "style.css",
-     "body[data-forest] main > :not(#what, :has(#forest)) { display: none; }", ""),
+     "body[data-alone] main > :not(#what) { display: none; }", ""),
     ("replies stand in the list though effects are hidden", modes.hidden_effects, "page.mjs",
      "this.isHiding ? number - Number(view.isAsked) : this.last", "this.last"),
 )

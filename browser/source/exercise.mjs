@@ -1,0 +1,275 @@
+// An exercise on the page: its sheet, and beside it the state that its questions begin in. What the program answers is shown
+// once every answer is given and marked, by the program itself: an answer is right where its expectation is met.
+import { ASKED, MARKED, SHOWN, Sheet } from "./sheet.mjs";
+import { STOPPED } from "./program.mjs";
+import { Steps } from "./steps.mjs";
+import { callsOf } from "./report.mjs";
+import { courseOf, drawCourse } from "./course.mjs";
+import { element } from "../../page/source/element.mjs";
+import { exerciseOf, withExpectations } from "./exercise_text.mjs";
+import { keepAt, keptAt } from "./kept.mjs";
+import { reasonsByCall } from "./why.mjs";
+import { wordBitsOf } from "./places.mjs";
+
+/** What is kept of all exercises, by the texts that ask. */
+const KEPT = "sel4sim.exercises";
+const NEW = { stage: ASKED, answers: {}, marked: {}, tries: 0, atFirst: [], right: 0, checked: {} };
+const NARROW = "(max-width: 800px)";
+/** What a retype makes where it makes threads or endpoints. */
+const KINDS_MADE = { threads: "1", endpoints: "2" };
+
+/** What came of an exercise that was opened before: "right", "begun" or "". */
+export function cameOf(text) {
+  const { stage, right, of } = keptAt(KEPT)[text] ?? {};
+  if (stage === SHOWN && right === of) return "right";
+  return stage === MARKED || stage === SHOWN ? "begun" : "";
+}
+
+/** A trace that ends before a call. */
+function traceBefore(trace, number) {
+  const lines = trace.split("\n");
+  const end = lines.findIndex((line) => line.startsWith(`${number} `));
+  const [head, ...rest] = lines.slice(0, end < 0 ? lines.length - 2 : end);
+  return `${[head.replace(/calls \d+$/u, `calls ${number - 1}`), ...rest, "expected 0 of 0"].join("\n")}\n`;
+}
+
+/** The threads and endpoints of a trace, with their names, to choose from; of a kind that later calls make there are none. */
+function objectsOf(trace, calls) {
+  const names = new Map([...trace.matchAll(/^name (\S+) (\d+)$/gmu)].map(([, name, value]) => [value, name]));
+  const found = (kind) => [...new Set([...trace.matchAll(new RegExp(`^  \\+ ${kind} (\\d+) `, "gmu"))].map(([, it]) => it))];
+  const isMade = (kind) => calls.some(({ pairs }) => pairs.get("op") === "retype" && pairs.get("kind") === kind);
+  return {
+    threads: isMade(KINDS_MADE.threads) ? undefined : found("thread").map((it) => [it, names.has(it) ? `${names.get(it)} (${it})` : it]),
+    endpoints: isMade(KINDS_MADE.endpoints) ? undefined : found("endpoint").map((it) => [it, it]),
+  };
+}
+
+export class Exercise {
+  constructor(parent, page) {
+    Object.assign(this, { page, told: null, text: "", name: "", course: [] });
+    const sheet = element("section", { class: "sheet", role: "main", "aria-label": "Exercise" });
+    this.heading = element("h2", {});
+    this.beside = element("section", { class: "beside", "aria-label": "The run" }, this.heading);
+    parent.append(sheet, this.beside);
+    this.sheet = new Sheet(sheet, {
+      mark: () => this.mark(), check: () => this.checkOne(), reveal: () => this.reveal(), save: () => this.save(),
+      restart: () => this.restart(), leave: () => page.leaveExercise(), next: () => page.openNext(),
+      turn: (inTurn) => this.keep({ inTurn }), answered: (card) => this.answered(card), step: (number) => this.showStep(number),
+    });
+  }
+
+  get isOpen() {
+    return this.told !== null;
+  }
+
+  /** Shows the exercise of a set-up, if it is one: whether it is. */
+  async open(text, name) {
+    const told = exerciseOf(text);
+    this.close();
+    if (!told) return false;
+    Object.assign(this, { told, text, name, course: courseOf(this.page.data.topics, text) });
+    document.body.classList.add("exercise");
+    // Until the new sheet is drawn, the one before it takes no answers.
+    this.sheet.parent.inert = true;
+    const trace = await this.ask("trace", text);
+    if (trace === null) return true;
+    this.state = { ...NEW, inTurn: told.inTurn, ...keptAt(KEPT)[text], of: told.calls.filter(({ asked }) => asked).length };
+    this.draw(trace);
+    if (this.state.stage !== ASKED) await this.drawMarks(this.state.marked);
+    else if (this.current && this.checked.length > 0) await this.showChecked();
+    return true;
+  }
+
+  close() {
+    this.told = null;
+    document.body.classList.remove("exercise");
+  }
+
+  /** What the program writes of a text, or null where another set-up is open by then; where it refuses the text, the set-up is
+      shown as any other one. */
+  async ask(subcommand, text) {
+    const { told, name, page } = this;
+    const answer = await page.program.run([subcommand, name], name, new TextEncoder().encode(text));
+    if (told !== this.told) return null;
+    if (answer !== STOPPED && (answer.status === 0 || answer.status === 1)) return new TextDecoder().decode(answer.output);
+    this.close();
+    page.run();
+    return null;
+  }
+
+  draw(trace) {
+    const first = this.told.calls.find(({ asked }) => asked).number;
+    const before = traceBefore(trace, first);
+    const objects = objectsOf(before, this.told.calls.slice(first - 1));
+    this.sheet.draw(this.told, this.page.title, { ...objects, wordBits: wordBitsOf(this.text) });
+    this.isDrawing = true;
+    for (const card of this.sheet.asking) card.answer = this.state.answers[card.number] ?? "";
+    this.isDrawing = false;
+    this.sheet.parent.inert = false;
+    this.heading.textContent = first > 1 ? `The state before call ${first}` : "The state after boot";
+    this.showTrace(before, first - 1);
+    this.keep({});
+    this.drawCourse();
+  }
+
+  drawCourse() {
+    const { text, page } = this;
+    drawCourse(this.sheet.course, this.course, { opened: text, came: cameOf, open: (...setup) => page.open(...setup) });
+  }
+
+  /** The set-up of the exercise behind this one in its course, or undefined. */
+  get next() {
+    return this.course[1 + this.course.findIndex(({ text }) => text === this.text)];
+  }
+
+  showTrace(trace, number) {
+    const { page } = this;
+    this.steps ??= new Steps({ viewer: page.markup(page.data.viewer), title: "The run, call by call",
+      listen: (frame) => page.listenToFrame(frame), shown: () => {} });
+    if (!this.steps.frame.isConnected) this.beside.append(this.steps.frame);
+    this.trace = trace;
+    this.steps.show(trace, page.title, number);
+  }
+
+  /** Shows what a call changed. */
+  showStep(number) {
+    this.steps.go(number);
+    if (matchMedia(NARROW).matches) this.heading.scrollIntoView();
+  }
+
+  /** Keeps what is new of the state, and shows how far one is. */
+  keep(news) {
+    Object.assign(this.state, news);
+    keepAt(KEPT, { ...keptAt(KEPT), [this.text]: this.state });
+    const { stage, of, atFirst, inTurn } = this.state;
+    const { checked, current } = this;
+    const right = current ? checked.filter((number) => this.state.checked[number]).length : this.state.right;
+    this.sheet.show({ stage, right, of, inTurn, atFirst: atFirst.length, current, checked: checked.length, isLast: !this.next });
+    if (news.stage) this.drawCourse();
+  }
+
+  /** An answer was changed: the mark of the one before it goes. */
+  answered(card) {
+    if (this.isDrawing) return;
+    if (this.state.stage === MARKED) card.unmark();
+    this.keep({ answers: Object.fromEntries(this.sheet.answers) });
+  }
+
+  /** The calls that were checked, where one is asked at a time. */
+  get checked() {
+    return Object.keys(this.state.checked).map(Number);
+  }
+
+  /** The call that is asked for now, where one is asked at a time, or 0. */
+  get current() {
+    const { stage, inTurn, checked } = this.state;
+    if (stage !== ASKED || !inTurn) return 0;
+    return this.sheet.asking.find(({ number }) => checked[number] === undefined)?.number ?? 0;
+  }
+
+  /** The set-up with the answers in it. */
+  get answeredText() {
+    return withExpectations(this.text, this.sheet.answers);
+  }
+
+  /** What the program answers to each call, by its number, or null. */
+  async replies() {
+    const report = await this.ask("check", this.answeredText);
+    return report && new Map(callsOf(report).map((it) => [it.number, it]));
+  }
+
+  /** Has the program mark the answers; one try more. */
+  async mark() {
+    const { tries, atFirst } = this.state;
+    const right = await this.drawMarks(Object.fromEntries(this.sheet.answers));
+    if (!right) return;
+    this.keep({ tries: tries + 1, atFirst: tries === 0 ? right : atFirst });
+    if (this.state.stage === SHOWN) this.sheet.status.focus();
+    else this.sheet.cards.get(this.sheet.wrong[0]).focus();
+  }
+
+  /** Marks the answers that are as these, and shows all of them where they are right or were asked for: the numbers of the right
+      ones, or null. */
+  async drawMarks(marked) {
+    const replies = await this.replies();
+    if (!replies) return null;
+    const cards = this.sheet.asking.filter(({ number, answer }) => answer && marked[number] === answer);
+    const isRight = ({ number }) => replies.get(number)?.outcome === "met";
+    for (const card of cards) card.mark(isRight(card));
+    const right = cards.filter(isRight).map(({ number }) => number);
+    const isShown = this.state.stage === SHOWN || right.length === this.state.of;
+    this.keep({ marked, right: right.length, stage: isShown ? SHOWN : MARKED });
+    if (isShown) await this.showAll(replies);
+    return right;
+  }
+
+  /** Shows all answers, though some are wrong. */
+  async reveal() {
+    this.keep({ stage: SHOWN });
+    await this.drawMarks(this.state.marked);
+    this.sheet.status.focus();
+  }
+
+  /** Shows below each call what it is answered and why, and beside them the whole run. */
+  async showAll(replies) {
+    const shown = await this.showCards(replies, Infinity);
+    if (!shown) return;
+    this.heading.textContent = "The run, call by call";
+    this.showTrace(shown, this.sheet.first);
+  }
+
+  /** Shows what the calls before one are answered: the trace, or null. */
+  async showCards(replies, end) {
+    const why = await this.ask("why", this.answeredText);
+    const trace = why === null ? null : await this.ask("trace", this.answeredText);
+    if (trace === null) return null;
+    const reasons = reasonsByCall(why);
+    for (const card of this.sheet.cards.values()) {
+      if (card.number < end) card.show(replies.get(card.number) ?? {}, reasons.get(card.number));
+    }
+    return trace;
+  }
+
+  /** Marks the one answer that is asked for, and goes on to the next. */
+  async checkOne() {
+    const { current } = this;
+    const replies = await this.replies();
+    if (!replies) return;
+    this.keep({ checked: { ...this.state.checked, [current]: replies.get(current)?.outcome === "met" } });
+    if (this.current) {
+      await this.showChecked(replies);
+      this.sheet.cards.get(this.current).focus();
+      return;
+    }
+    const right = this.checked.filter((number) => this.state.checked[number]);
+    this.keep({ stage: SHOWN, tries: 1, atFirst: right });
+    await this.drawMarks(Object.fromEntries(this.sheet.answers));
+    this.sheet.status.focus();
+  }
+
+  /** Shows what was answered up to the call that is asked for now, and the state before it. */
+  async showChecked(known = null) {
+    const { current } = this;
+    const replies = known ?? await this.replies();
+    const trace = replies && await this.showCards(replies, current);
+    if (!trace) return;
+    this.heading.textContent = `The state before call ${current}`;
+    this.showTrace(traceBefore(trace, current), current - 1);
+  }
+
+  restart() {
+    const { [this.text]: _, ...others } = keptAt(KEPT);
+    keepAt(KEPT, others);
+    this.open(this.text, this.name);
+  }
+
+  /** Saves the set-up with the answers in it, and how they came about: any program marks it again. */
+  save() {
+    const { right, of, atFirst, tries, stage, inTurn } = this.state;
+    const later = this.sheet.asking.map(({ number }) => number).filter((number) => !atFirst.includes(number));
+    const words = [`${right} of ${of} right`, `${atFirst.length} at the first try${later.length > 0 ? ` (not ${later.join(", ")})` : ""}`,
+      `tries ${tries}`, inTurn ? "one at a time" : "", stage === SHOWN && right < of ? "then shown" : ""];
+    const text = `${this.answeredText.trimEnd()}\n\n# answers: ${words.filter(Boolean).join(", ")}\n`;
+    this.page.saveText(text, `${this.name.replace(/\.toml$/u, "")}.answers.toml`);
+  }
+}

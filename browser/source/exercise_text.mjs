@@ -1,0 +1,85 @@
+// An exercise as a text: a set-up in which some calls expect "?". The words are its comments: those at the head are the task,
+// those right above a call say what it does, and a line that begins with #> says why it is answered so.
+import { lastLineOf, placesOf } from "./places.mjs";
+
+const TITLE = /^exercise:\s*(.*)$/u;
+/** A line at the head by which the calls are asked one at a time. */
+const IN_TURN = "in turn";
+const QUESTION = /^\?(?: (from|to|badge|label|words))?$/u;
+const PAIR = /(\w+)\s*=\s*("[^"]*"|'[^']*'|\[[^\]]*\]|[^\s,}]+)/gu;
+const BECAUSE = "#>";
+/** The parts of a delivered answer, in their order. */
+export const PARTS = ["endpoint", "from", "to", "badge", "label", "words"];
+
+const isComment = (line) => /^\s*#/u.test(line);
+const bareComment = (line) => line.replace(/^\s*#>?\s?/u, "").trimEnd();
+
+/** The comments right above a line. */
+function commentsAbove(lines, line) {
+  let first = line;
+  while (first > 0 && isComment(lines[first - 1])) first -= 1;
+  return lines.slice(first, line).map((it) => it.trim());
+}
+
+/** The words above a call: what it does, without a number in front, and why it is answered so. */
+function wordsAbove(lines, line) {
+  const comments = commentsAbove(lines, line);
+  const join = (some) => some.map(bareComment).join(" ").trim();
+  const isReason = (it) => it.startsWith(BECAUSE);
+  return { words: join(comments.filter((it) => !isReason(it))).replace(/^\d+\.\s+/u, ""), because: join(comments.filter(isReason)) };
+}
+
+/** What the comments at the head tell: the title, the paragraphs of the task, and whether the calls are asked in turn. */
+function headOf(lines) {
+  const end = lines.findIndex((it) => !isComment(it));
+  const head = lines.slice(0, end < 0 ? lines.length : end).map(bareComment);
+  const [, title = ""] = TITLE.exec(head[0] ?? "") ?? [];
+  const told = head.slice(title ? 1 : 0).filter((it) => it !== IN_TURN);
+  const task = told.join("\n").split(/\n\s*\n/u).map((it) => it.replace(/\n/gu, " ").trim()).filter(Boolean);
+  return { title, task, inTurn: head.includes(IN_TURN) };
+}
+
+/** A call's keys and values, in the order in which they are written; but for what is expected of it. */
+function pairsOf(lines, entry) {
+  const text = lines.slice(entry.line, lastLineOf(entry) + 1).filter((it) => !isComment(it)).join("\n");
+  const pairs = [...text.matchAll(PAIR)].map(([, key, value]) => [key, value.replace(/^["']|["']$/gu, "")]);
+  return new Map(pairs.filter(([key]) => key !== "expect"));
+}
+
+/** What an expectation asks for: null where it is no question, or the last part of a delivered answer that is asked for. */
+function askedBy(expectation) {
+  const found = QUESTION.exec(expectation);
+  return found ? { last: found[1] ?? null } : null;
+}
+
+/** The exercise in a set-up: `{ title, task, inTurn, calls }`, or null where no call asks. Each call has its `number`, `words`,
+    `because`, `pairs` and `asked`. */
+export function exerciseOf(text) {
+  const lines = text.split("\n");
+  const calls = placesOf(text).call.map((entry, at) => ({
+    number: at + 1, ...wordsAbove(lines, entry.line), pairs: pairsOf(lines, entry),
+    asked: askedBy(entry.texts.get("expect")?.text ?? ""),
+  }));
+  return calls.some(({ asked }) => asked) ? { ...headOf(lines), calls } : null;
+}
+
+/** The text with other expectations: `given` has them by the numbers of their calls. */
+export function withExpectations(text, given) {
+  const places = placesOf(text).call.map(({ texts }, at) => ({ ...texts.get("expect"), expectation: given.get(at + 1) }))
+    .filter(({ start, expectation }) => start !== undefined && expectation !== undefined);
+  return places.reverse().reduce((told, { start, end, expectation }) =>
+    `${told.slice(0, start)}${JSON.stringify(expectation)}${told.slice(end)}`, text);
+}
+
+/** How many parts of a delivery an expectation tells. */
+const partsTold = (expectation) => PARTS.slice(1)
+  .filter((part) => expectation.startsWith("delivered") && `${expectation} `.includes(` ${part} `)).length;
+
+/** The set-up with its expectations as questions. Each asks as far as the one that tells most, so that the questions do not
+    tell which calls deliver. */
+export function asExercise(text) {
+  const given = placesOf(text).call.map(({ texts }, at) => [at + 1, texts.get("expect")?.text]).filter(([, it]) => it !== undefined);
+  const most = Math.max(0, ...given.map(([, it]) => partsTold(it)));
+  const question = most > 0 ? `? ${PARTS[most]}` : "?";
+  return withExpectations(text, new Map(given.map(([number]) => [number, question])));
+}

@@ -1,0 +1,103 @@
+// The sheet of an exercise: its task, a card for each call, and below them how far one is and what there is to do.
+import { Card } from "./card.mjs";
+import { counted, element } from "../../page/source/element.mjs";
+import { withTerms } from "./terms.mjs";
+
+/** What an exercise is at: its answers are asked for, marked, or shown with their reasons. */
+export const ASKED = "asked";
+export const MARKED = "marked";
+export const SHOWN = "shown";
+const BUTTONS = [
+  ["mark", "mark my answers", "main"], ["check", "check this answer", "main"], ["reveal", "show the answers"], ["next", "next exercise"],
+  ["save", "save my answers"], ["restart", "begin anew"], ["leave", "the set-up itself"],
+];
+
+function drawButton(words, act, look) {
+  const made = element("button", { type: "button", class: look }, words);
+  made.addEventListener("click", act);
+  return made;
+}
+
+/** How far one is, in words. */
+function progressOf({ stage, right, of, atFirst, missing, wrong, current, checked }) {
+  if (current) return `${right} of ${checked} right; call ${current} is asked, ${of - checked} to go.`;
+  if (stage === SHOWN) return `${right} of ${of} right, ${atFirst} at the first try. Each answer and its reason stand below the call.`;
+  if (wrong.length > 0) return `${right} of ${of} right. Change what is marked ✗: ${wrong.join(", ")}.`;
+  return missing.length > 0 ? `${of - missing.length} of ${of} answered; open: ${missing.join(", ")}.` : `All ${of} answered.`;
+}
+
+export class Sheet {
+  /** `acts` has what the buttons do, by their names, `turn` which is told whether one call is asked at a time, and what a card
+      is told. */
+  constructor(parent, acts) {
+    Object.assign(this, { parent, acts, cards: new Map() });
+    this.course = element("nav", { class: "course", "aria-label": "Exercises" });
+    this.status = element("p", { role: "status", class: "progress", tabindex: "-1" });
+    this.bar = element("progress", { "aria-label": "Answers given" });
+    this.buttons = Object.fromEntries(BUTTONS.map(([name, words, look]) => [name, drawButton(words, acts[name], look)]));
+    this.turn = element("input", { type: "checkbox" });
+    this.turn.addEventListener("change", () => acts.turn(this.turn.checked));
+    const { mark, check, ...others } = this.buttons;
+    this.marking = element("div", { class: "marking" }, this.bar, this.status, element("div", { class: "buttons" }, mark, check,
+      element("label", { class: "tick" }, this.turn, "one at a time"), Object.values(others)));
+    // A print has the calls that are made already too.
+    window.addEventListener("beforeprint", () => this.before?.setAttribute("open", ""));
+  }
+
+  /** Draws an exercise; `objects` has the threads and endpoints that an answer is chosen from, and the bits of a word. */
+  draw({ title, task, calls }, name, objects) {
+    this.cards = new Map(calls.map((call) => [call.number, new Card(call, objects, this.acts)]));
+    this.first = calls.find(({ asked }) => asked).number;
+    const seen = new Set();
+    const list = (cards) => element("ol", { class: "cards" }, cards.map((card) => card.element));
+    const made = [...this.cards.values()].filter(({ number }) => number < this.first);
+    this.before = made.length === 0 ? null : element("details", { class: "before" },
+      element("summary", {}, `${counted(made.length, "call")} ${made.length === 1 ? "is" : "are"} made already`), list(made));
+    this.parent.replaceChildren(...[this.course,
+      element("h1", { tabindex: "-1" }, title || name, " ", element("small", {}, counted(this.asking.length, "question"))),
+      ...task.map((it) => element("p", { class: "task" }, withTerms(it, seen))), this.before,
+      list([...this.cards.values()].slice(made.length)), this.marking].filter(Boolean));
+  }
+
+  /** Puts the focus on the title, and the sheet at its beginning. */
+  focus() {
+    this.parent.scrollTop = 0;
+    this.parent.querySelector("h1").focus();
+  }
+
+  /** The cards that ask. */
+  get asking() {
+    return [...this.cards.values()].filter(({ prediction }) => prediction);
+  }
+
+  /** The answers that are given, by the numbers of their calls. */
+  get answers() {
+    return new Map(this.asking.map(({ number, answer }) => [number, answer]).filter(([, answer]) => answer));
+  }
+
+  /** The numbers of the calls without an answer, and of those whose answer is marked as wrong. */
+  get missing() {
+    return this.asking.filter(({ answer }) => !answer).map(({ number }) => number);
+  }
+
+  get wrong() {
+    return this.asking.filter(({ isWrong }) => isWrong).map(({ number }) => number);
+  }
+
+  /** Shows how far one is: the words, and what can be done. Where one call is asked at a time, those behind it are hidden. */
+  show(view) {
+    const { stage, right, of, current, checked, isLast } = view;
+    const { missing, wrong } = this;
+    this.status.textContent = progressOf({ ...view, missing, wrong });
+    Object.assign(this.bar, { max: of, value: stage === SHOWN ? right : of - missing.length });
+    this.turn.closest("label").hidden = stage !== ASKED || checked > 0;
+    this.turn.checked = view.inTurn;
+    for (const card of this.cards.values()) card.element.hidden = current !== 0 && card.number > current;
+    const hidden = { mark: stage === SHOWN || current !== 0, check: current === 0, reveal: stage !== MARKED,
+      next: stage !== SHOWN || isLast, save: stage === ASKED, restart: stage === ASKED && checked === 0, leave: false };
+    for (const [name, isHidden] of Object.entries(hidden)) this.buttons[name].hidden = isHidden;
+    this.buttons.mark.disabled = missing.length > 0 || wrong.length > 0;
+    this.buttons.mark.textContent = stage === MARKED ? "mark again" : "mark my answers";
+    this.buttons.check.disabled = missing.includes(current);
+  }
+}

@@ -1,0 +1,41 @@
+// The page of a trace in a frame of its own: it is told each trace anew and keeps its place, and tells the call that it shows.
+import { element } from "../../page/source/element.mjs";
+
+export class Steps {
+  /** `listen` is told the frame when its page is there, and `shown` the number of each call that it shows. */
+  constructor({ viewer, title, listen, shown }) {
+    this.frame = element("iframe", { title });
+    this.told = null;
+    this.isLoaded = false;
+    this.frame.addEventListener("load", () => {
+      this.isLoaded = true;
+      listen(this.frame);
+      this.tell(this.told);
+    });
+    this.frame.srcdoc = viewer;
+    window.addEventListener("message", ({ source, data }) => {
+      if (source === this.frame.contentWindow && Number.isInteger(data.shown)) shown(data.shown);
+    });
+  }
+
+  /** Shows a trace at a call, or at the call that was shown before where none is given. */
+  show(trace, name, number) {
+    this.told = { trace, name, number };
+    this.tell(this.told);
+  }
+
+  /** Shows another call of the same trace. */
+  go(number) {
+    this.tell({ number });
+  }
+
+  tell(told) {
+    if (this.isLoaded && told) this.frame.contentWindow.postMessage(told, "*");
+  }
+
+  /** Puts the focus on the list of calls, or where there is none in sight on the state. */
+  focus() {
+    const [list, main] = ["list", "main"].map((id) => this.frame.contentDocument.getElementById(id));
+    (list.offsetParent === null ? main : list).focus();
+  }
+}

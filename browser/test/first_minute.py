@@ -1,0 +1,65 @@
+"""The first minute on the page: what it is for, where to begin, and what is not given away."""
+import json
+
+import sheets
+from tester import pick
+
+GROUPS = "[...document.querySelectorAll('#examples optgroup')].map((it) => it.label)"
+
+
+def welcomed(test, _):
+    """The first visit has a line that leads to the exercises and the steps; it goes with what is opened, and comes no more."""
+    browser = test.browser
+    browser.value("localStorage.clear()")
+    test.open()
+    test.wanted(browser.value("document.getElementById('welcome').offsetParent !== null"), "nobody is welcomed")
+    test.click("#welcome-exercise")
+    test.until(f"{sheets.SHEET}?.offsetParent !== null", "the welcome leads to no exercise")
+    test.wanted(browser.value("document.querySelector('.course [aria-current]').textContent.startsWith('1 ')"), "the first exercise is not the first")
+    for word in ("capability", "CNode", "guard"):
+        told = browser.value(f"[...document.querySelectorAll('.task dfn')].find((it) => it.textContent === {json.dumps(word)})?.title ?? ''")
+        test.wanted(len(told) > 20, f"the word {word} is not explained")
+    pick(test, "examples", "send_then_receive")
+    test.open()
+    test.wanted(browser.value("document.getElementById('welcome').offsetParent === null"), "who was here before is welcomed")
+
+
+def ordered(test, _):
+    """The list begins with the exercises, then the examples to begin with; tests come last; no key is in the page."""
+    groups = test.browser.value(GROUPS)
+    wanted = ["exercises: capability spaces", "exercises: untyped memory", "exercises: derivation", "exercises: endpoints",
+              "exercises: confinement", "examples: begin here"]
+    shown = [it for it in groups if it != "what you changed"]
+    test.wanted(shown[:6] == wanted, f"the list begins with {shown[:6]}")
+    test.wanted(all(it.startswith("why ") for it in shown[-9:-2]), f"the list ends with {shown[-9:]}")
+    texts = test.browser.value("sel4sim.page.data.topics.flatMap(({ setups }) => setups.map(({ text }) => text))")
+    for name in sheets.names():
+        test.wanted(sheets.text_of("exercise_answers", name) not in texts, f"the key of {name} is in the page")
+
+
+def said_in_words(test, _):
+    """A report has the names of threads, a tab with nothing to tell says so, and a print has the name of the set-up."""
+    browser = test.browser
+    for name, lines in (("send_then_receive", ("12048 sender send: waiting", "thread 2048 sender ready", "slot 96 tcb 4096 receiver")),
+                        ("two_clients_by_badge", ("22048 server mint: done", "thread 6144 second ready"))):
+        pick(test, "examples", name)
+        test.click("#tab-report")
+        test.settle()
+        for line in lines:
+            test.wanted(line in test.text("panel-report"), f"the report of {name} lacks {line!r}: {test.text('panel-report')[:200]}")
+    pick(test, "examples", "send_then_receive")
+    test.click("#tab-why")
+    test.settle()
+    test.wanted("No call was refused." in test.text("panel-why"), f"where no call is refused, why says {test.text('panel-why')!r}")
+    test.click("#tab-orders")
+    test.settle()
+    test.wanted("there is one order" in test.text("panel-orders"), f"of one client, orders says {test.text('panel-orders')[:80]!r}")
+    test.click("#tab-report")
+    test.settle()
+    browser.call("Emulation.setEmulatedMedia", media="print")
+    shown = browser.value("document.getElementById('printed-name').offsetParent !== null && document.getElementById('printed-name').textContent")
+    test.wanted(shown == "send_then_receive.toml", f"the name on a print is {shown}")
+    browser.call("Emulation.setEmulatedMedia", media="")
+
+
+CHECKS = (welcomed, ordered, said_in_words)

@@ -1,0 +1,119 @@
+"""What a screen reader is told, by chromium's accessibility tree, and what the keys do for a reader who sees nothing."""
+import json
+
+from nothing_lost import steps_come
+from sheets import open_exercise
+from tester import pick
+
+EDITOR = "sel4sim.page.editor"
+
+
+def tree(test):
+    """The nodes of the accessibility tree that are not ignored."""
+    return [node for node in test.browser.call("Accessibility.getFullAXTree")["nodes"] if not node.get("ignored")]
+
+
+def value(node, part):
+    return node.get(part, {}).get("value", "")
+
+
+def live_texts(test):
+    """The texts of the regions that are spoken where they change."""
+    nodes = {node["nodeId"]: node for node in test.browser.call("Accessibility.getFullAXTree")["nodes"]}
+
+    def below(node):
+        yield value(node, "name") if value(node, "role") == "StaticText" else ""
+        for child in node.get("childIds", []):
+            if child in nodes:
+                yield from below(nodes[child])
+
+    return [" ".join(filter(None, below(node))) for node in nodes.values() if value(node, "role") in ("status", "alert")]
+
+
+def outcome_is_told(test, _):
+    """The editor is a field of many lines, and how a run ended is told, with the first fault where there is one."""
+    pick(test, "examples", "send_then_receive")
+    test.click("#tab-report")
+    test.settle()
+    field = next((node for node in tree(test) if value(node, "name") == "Set-up" and value(node, "role") == "textbox"), {})
+    lines = {it["name"]: it["value"].get("value") for it in field.get("properties", [])}
+    test.wanted(lines.get("multiline") is True, f"the editor is told as {field.get('role')}, {lines}")
+    test.wanted(any("1 of 1 expectations met" in it for it in live_texts(test)), f"how a run ended is not told: {live_texts(test)}")
+    kept = test.browser.value(f"{EDITOR}.text")
+    test.browser.value(f"{EDITOR}.text = {json.dumps(kept.replace('label', 'lable'))}")
+    test.settle()
+    test.wanted(any("did you mean" in it and "lable" in it for it in live_texts(test)), f"a fault is not told: {live_texts(test)}")
+    test.browser.value(f"{EDITOR}.text = {json.dumps(kept)}")
+    test.settle()
+
+
+def call_is_told(test, _):
+    """A key in the editor says what the call at the cursor was answered."""
+    pick(test, "examples", "send_then_receive")
+    for line, words in ((29, "call 2: delivered 6144 from 2048"), (19, "call 1: waiting"), (2, "No call is here.")):
+        test.browser.value(f"{EDITOR}.mirror.focus()")
+        test.browser.value(f"{EDITOR}.mirror.setCursor({line - 1}, 0)")
+        test.browser.press("F2")
+        test.until("document.getElementById('heard').textContent !== ''", "F2 says nothing")
+        test.wanted(any(it.startswith(words) for it in live_texts(test)), f"at line {line} F2 says {test.text('heard')}")
+        test.browser.value("document.getElementById('heard').textContent = ''")
+
+
+def panel_by_keys(test, _):
+    """From a tab a key leads into what it shows, of the steps to their list of calls."""
+    browser = test.browser
+    pick(test, "examples", "send_then_receive")
+    browser.value("document.getElementById('tab-report').focus()")
+    browser.press("2")
+    test.settle()
+    steps_come(test, "send_then_receive")
+    browser.press("ArrowDown")
+    inside = "document.querySelector('#panel-steps iframe').contentDocument"
+    test.wanted(browser.value(f"{inside}.activeElement.id") in ("list", "main"), "no key leads from the tab to the steps")
+    browser.press("ArrowRight")
+    test.until(f"{inside}.getElementById('range').value === '1'", "the arrow keys do not step")
+    browser.press("1")
+    test.settle()
+    browser.press("Enter")
+    test.wanted(browser.value("document.activeElement.closest('#panel-report') !== null"), "no key leads from the tab to the report")
+
+
+def letters_off(test, _):
+    """Keys of one letter can be turned off, on the page and in the steps, also over a reload."""
+    browser = test.browser
+    pick(test, "examples", "send_then_receive")
+    browser.value("document.getElementById('tab-report').focus()")
+    browser.press("2")
+    test.settle()
+    test.click("#letters")
+    test.open()
+    browser.value("document.getElementById('tab-steps').focus()")
+    browser.press("1")
+    test.wanted(browser.value("document.body.dataset.tab") == "steps", "a digit is a key, though it is turned off")
+    inside = "document.querySelector('#panel-steps iframe').contentDocument"
+    steps_come(test, "send_then_receive")
+    browser.value(f"{inside}.getElementById('main').focus()")
+    browser.press("f")
+    test.wanted(browser.value(f"!{inside}.body.hasAttribute('data-alone')"), "a letter is a key of the steps, though it is turned off")
+    test.click("#letters")
+    browser.press("f")
+    test.wanted(browser.value(f"{inside}.body.hasAttribute('data-alone')"), "a letter is no key of the steps any more")
+    browser.press("Escape")
+    test.click("#tab-report")
+    test.settle()
+
+
+def sheet_is_told(test, _):
+    """Each field of an exercise is told with its call, and how many are answered."""
+    test.browser.value("localStorage.clear()")
+    test.open()
+    open_exercise(test, "04_retype")
+    test.wanted([value(node, "name") for node in tree(test) if value(node, "role") == "main"] == ["Exercise"], "an exercise is not the main part of the page")
+    fields = [value(node, "name") for node in tree(test) if value(node, "role") == "combobox"]
+    test.wanted([f"Call {number}: what is it answered?" in fields for number in range(1, 12)] == [True] * 11, f"the fields are {fields}")
+    test.wanted(any(it.startswith("0 of 11 answered") for it in live_texts(test)), f"how many are answered is not told: {live_texts(test)}")
+    test.browser.value("sel4sim.page.leaveExercise()")
+    test.settle()
+
+
+CHECKS = (outcome_is_told, call_is_told, panel_by_keys, letters_off, sheet_is_told)

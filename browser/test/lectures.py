@@ -1,0 +1,122 @@
+"""What a lecture needs of the page: pictures to take away, the steps in the whole window, and the page in the frame of another."""
+import json
+import re
+import xml.etree.ElementTree as ElementTree
+
+from nothing_lost import FRAME, INSIDE, steps_come
+from tester import SITE, pick
+
+# What is saved is caught: the texts of the files.
+CATCH = f"""(() => {{
+  const inside = {FRAME}.contentWindow;
+  window.saved = [];
+  inside.URL.createObjectURL = (blob) => {{ blob.text().then((text) => window.saved.push(text)); return "blob:none"; }};
+  inside.HTMLAnchorElement.prototype.click = () => {{}};
+}})()"""
+# The words that are in sight in a part, but for the button that saves it and what a list offers.
+WORDS = f"""(() => {{
+  const part = {INSIDE}.getElementById(ID).cloneNode(true);
+  part.querySelectorAll(".saver, .unseen, option:not([selected])").forEach((it) => it.remove());
+  return [...part.querySelectorAll("*")].flatMap((it) => [...it.childNodes]).filter((it) => it.nodeType === Node.TEXT_NODE)
+    .flatMap((it) => it.data.trim().split(/\\s+/u)).filter(Boolean);
+}})()"""
+PARTS = ("forest", "threads", "memory", "spaces")
+
+
+def open_steps(test, topic, name, number):
+    pick(test, topic, name)
+    test.click("#tab-steps")
+    test.settle()
+    steps_come(test, name)
+    for _ in range(number):
+        test.browser.value(f"{INSIDE}.getElementById('on').click()")
+
+
+def pictures(test, _):
+    """Each part is saved as an SVG that has all its words, what was emptied struck out."""
+    browser = test.browser
+    for topic, name, number in (("examples", "revocation_of_badged_copies", 8), ("retype", "objects_in_an_untyped", 2), ("examples", "two_clients_by_badge", 4)):
+        open_steps(test, topic, name, number)
+        browser.value(CATCH)
+        for at, part in enumerate(PARTS):
+            browser.value(f"{INSIDE}.querySelector('#{part} .saver').click()")
+            test.until(f"window.saved.length === {at + 1}", f"{name}: no picture of the {part} is saved")
+            drawn = ElementTree.fromstring(browser.value(f"window.saved[{at}]"))
+            texts = [it for it in drawn if it.tag.endswith("text")]
+            told = " ".join(it.text for it in texts)
+            missing = [word for word in browser.value(WORDS.replace("ID", json.dumps(part))) if word not in told]
+            test.wanted(not missing, f"{name}: the picture of the {part} lacks {missing[:5]}")
+            struck = any(it.get("text-decoration") == "line-through" for it in texts)
+            test.wanted(struck == (name.startswith("revocation") and part in ("forest", "spaces")), f"{name}: in the picture of the {part}, struck out: {struck}")
+
+
+def projected(test, _):
+    """A key shows the steps alone in the whole window, with the set-up's name; Escape leads back."""
+    browser = test.browser
+    open_steps(test, "examples", "two_clients_by_badge", 1)
+    browser.value("document.activeElement.blur()")
+    browser.press("p")
+    size = browser.value(f"[{FRAME}.clientWidth, {FRAME}.clientHeight, innerWidth, innerHeight]")
+    test.wanted(size[:2] == size[2:], f"in the whole window the steps have {size[:2]} of {size[2:]}")
+    test.wanted(browser.value(f"{INSIDE}.getElementById('name').offsetParent !== null"), "the whole window does not tell the set-up")
+    browser.press("ArrowRight")
+    test.until(f"{INSIDE}.getElementById('range').value === '2'", "in the whole window the keys do not step")
+    for key, alone in (("f", "forest"), ("f", "spaces"), ("Escape", None)):
+        browser.press(key)
+        test.wanted(browser.value(f"{INSIDE}.body.dataset.alone ?? null") == alone, f"{key} leads to {browser.value(f'{INSIDE}.body.dataset.alone')}")
+    test.wanted(browser.value("document.body.classList.contains('project')"), "the first Escape leads out of the whole window")
+    browser.press("Escape")
+    test.wanted(browser.value("document.querySelector('header').offsetParent !== null"), "no Escape leads out of the whole window")
+
+
+def embedded(test, _):
+    """In the frame of a lecture's page it has neither head nor foot."""
+    test.browser.open(f"{SITE.as_uri()}?embed")
+    test.settle()
+    shown = test.browser.value("[...document.querySelectorAll('body > header, footer, #welcome')].some((it) => it.offsetParent !== null)")
+    test.wanted(not shown, "the page in a frame has a head or a foot")
+    test.wanted(test.browser.value("document.querySelector('#tabs').offsetParent !== null"), "the page in a frame has no tabs")
+    test.open()
+
+
+LOOKUPS = """[...document.querySelectorAll('#panel-why .reasoned')].map((it) => [it.querySelector('.reason').innerText,
+  [...it.querySelectorAll('.lookup .bits')].map((part) => [part.classList[1], part.firstChild.data])])"""
+LEFT = re.compile(r"the next (\d+) of the (\d+) bits left read (\d+)|bits left(?: over| behind the guard)?: (\d+)")
+WORD = re.compile(r"^\w+ (\d+)(?: @\S+)?(?: (?:src_)?depth (\d+))? is looked up from", re.M)
+
+
+def whole(bits):
+    """The bits of a part that tells long rows by their length."""
+    return re.sub(r"(\d)×(\d+)", lambda found: found[1] * int(found[2]), bits).replace(" ", "")
+
+
+def lookup_bits(test, _):
+    """Where a lookup fails in the middle of a word, its bits are drawn: all of them, and as many left as the program says."""
+    browser, drawn = test.browser, 0
+    named = "sel4sim.page.data.topics.filter(({ topic }) => /^why_|^narrow$|^examples$/u.test(topic)).flatMap(({ topic, setups }) => setups.map(({ name }) => [topic, name]))"
+    browser.value("document.getElementById('tab-why').click()")
+    for topic, name in browser.value(named):
+        browser.value(f"sel4sim.page.openExample({json.dumps(topic)}, {json.dumps(name)})")
+        test.settle(0)
+        if browser.value("sel4sim.page.exercise.isOpen"):
+            browser.value("sel4sim.page.leaveExercise()")
+            continue
+        is_narrow = browser.value("/profile = .narrow/u.test(sel4sim.page.editor.text)")
+        for reason, parts in browser.value(LOOKUPS):
+            word, left = WORD.search(reason), LEFT.search(reason)
+            test.wanted(bool(parts) == bool(word and left), f"{topic}/{name}: bits are drawn: {parts}, of {reason}")
+            if not parts:
+                continue
+            drawn += 1
+            told = {look: whole(bits) for look, bits in parts}
+            rest = told["refused-bits"] + told.get("unread", "")
+            every = told.get("passed", "") + rest
+            size = int(word[2]) if word[2] else 32 if is_narrow else 64
+            test.wanted(len(every) == size and int(every, 2) == int(word[1]) % (1 << size), f"{topic}/{name}: {every} are not the {size} bits of {word[1]}")
+            test.wanted(len(rest) == int(left[2] or left[4]), f"{topic}/{name}: {len(rest)} bits are left, and not {left[0]}")
+            read = left[1] is None or (len(told["refused-bits"]), int(told["refused-bits"], 2)) == (int(left[1]), int(left[3]))
+            test.wanted(read, f"{topic}/{name}: {told['refused-bits']} are read, and not {left[0]}")
+    test.wanted(drawn > 20, f"the bits of {drawn} lookups are drawn")
+
+
+CHECKS = (pictures, projected, embedded, lookup_bits)

@@ -1,0 +1,175 @@
+"""Nothing that a reader wrote or looked at is lost: by a fault, by another set-up, by an address, by a reload."""
+import json
+
+import chromium
+from tester import pick, type_option
+
+FRAME = "document.querySelector('#panel-steps iframe')"
+INSIDE = f"{FRAME}.contentDocument"
+SHOWN = f"Number({INSIDE}.getElementById('range').value)"
+POINTED = "[...document.querySelectorAll('.CodeMirror-linebackground.pointed')].length"
+EDITOR = "sel4sim.page.editor"
+LEFT = "[...document.querySelectorAll('#examples .left option')].map((it) => it.textContent.split(' · ')[0]).join(', ')"
+
+
+def steps_come(test, name):
+    """Waits until the steps show the boot of a set-up."""
+    inside = f"{FRAME}?.contentDocument"
+    test.until(f"{inside}?.getElementById('name')?.textContent === {json.dumps(name)}"
+               f" && {inside}.getElementById('position').textContent.startsWith('boot')", f"the steps of {name} do not come")
+
+
+def at_step(test, number):
+    """Opens an example at one of its steps."""
+    pick(test, "examples", "revocation_of_badged_copies")
+    test.click("#tab-steps")
+    test.settle()
+    test.browser.value("document.activeElement.blur()")
+    steps_come(test, "revocation_of_badged_copies")
+    test.wanted(test.browser.value(SHOWN) == 0, "an example does not begin with the boot")
+    for _ in range(number):
+        test.browser.value(f"{INSIDE}.getElementById('on').click()")
+    test.until(f"{POINTED} > 0", "a step marks no line of the set-up")
+
+
+def type_anew(test, text):
+    test.browser.value(f"{EDITOR}.text = {json.dumps(text)}")
+    test.settle()
+
+
+def reload(test):
+    test.browser.call("Page.reload")
+    test.browser.value(chromium.LOADED)
+    test.settle()
+
+
+def address_of(test):
+    """The address that the page shares."""
+    test.browser.value("document.getElementById('address').value = ''")
+    test.click("#share")
+    test.until("document.getElementById('address').value !== ''", "no address is shared")
+    test.click("#shared button:last-child")
+    return test.browser.value("document.getElementById('address').value")
+
+
+def fault_keeps_steps(test, _):
+    """A fault leaves the steps where they are, dimmed, and so does its mending; they cannot be scrolled out of sight."""
+    browser = test.browser
+    at_step(test, 8)
+    inside = f"{INSIDE}.documentElement"
+    test.wanted(browser.value(f"{inside}.scrollHeight <= {inside}.clientHeight"), "the steps can be scrolled out of sight")
+    lines = browser.value(POINTED)
+    test.wanted(lines == 6, f"{lines} lines are those of the step's call")
+    kept = browser.value(f"{EDITOR}.text")
+    type_anew(test, f"{kept}[[call")
+    test.wanted("status 2" in test.text("status") and browser.value(SHOWN) == 8, "a fault takes the steps away")
+    test.wanted(browser.value("document.querySelector('#panel-steps.old') !== null"), "the answer before a fault is not dimmed")
+    test.wanted("the set-up is refused" in test.text("ended") and "the answer before" in test.text("ended"), f"a fault is told as {test.text('ended')}")
+    type_anew(test, kept)
+    test.wanted(browser.value(SHOWN) == 8, f"behind a fault the steps are at call {browser.value(SHOWN)}")
+    test.wanted(browser.value("document.querySelector('.old') === null"), "an answer stays dimmed")
+
+
+STILL = f"""(() => {{
+  const inside = {INSIDE};
+  const [forest, said] = [inside.getElementById("forest"), inside.getElementById("said")];
+  const first = inside.querySelector("#forest .node:is(.filled, .emptied, .altered, .moved)");
+  return {{ top: Math.round(forest.getBoundingClientRect().top), isCut: said.scrollHeight > said.clientHeight + 1,
+    isHidden: first !== null && first.getBoundingClientRect().bottom > {FRAME}.clientHeight }};
+}})()"""
+
+
+def steps_stand_still(test, _):
+    """From step to step the forest keeps its place, a refusal's reasons are not cut, and what changed is in sight; also with the
+    forest alone in the whole window."""
+    browser = test.browser
+    for height, is_alone in ((800, False), (720, True)):
+        browser.call("Emulation.setDeviceMetricsOverride", width=1280, height=height, deviceScaleFactor=1, mobile=False)
+        browser.value(f"sel4sim.page.setWide({json.dumps(is_alone)})")
+        for name in ("guarded_address_space", "revocation_of_badged_copies"):
+            pick(test, "examples", name)
+            test.click("#tab-steps")
+            test.settle()
+            steps_come(test, name)
+            browser.value(f"{INSIDE}.body.toggleAttribute('data-alone', {json.dumps(is_alone)}) && ({INSIDE}.body.dataset.alone = 'forest')")
+            told = []
+            for _ in range(browser.value(f"Number({INSIDE}.getElementById('range').max)")):
+                browser.value(f"{INSIDE}.getElementById('on').click()")
+                told.append(browser.value(STILL))
+            tops = {it["top"] for it in told}
+            test.wanted(len(tops) == 1, f"{name}: the forest stands at {sorted(tops)}")
+            for number, it in enumerate(told, 1):
+                test.wanted(not it["isCut"] and not it["isHidden"], f"{name}, call {number} at {height}: {it}")
+    browser.value(f"{INSIDE}.body.toggleAttribute('data-alone', false)")
+    browser.value("sel4sim.page.setWide(false)")
+    browser.call("Emulation.clearDeviceMetricsOverride")
+
+
+def cursor_leads_steps(test, _):
+    """The steps go to the call that the cursor is put into."""
+    at_step(test, 2)
+    browser = test.browser
+    browser.value(f"{EDITOR}.mirror.focus()")
+    browser.value(f"{EDITOR}.mirror.setCursor([...Array({EDITOR}.lines).keys()].filter((line) => {EDITOR}.mirror.getLine(line) === '[[call]]')[4])")
+    test.until(f"{SHOWN} === 5", "the steps do not follow the cursor")
+    test.until(f"{POINTED} > 0", "the call of the cursor is not marked")
+
+
+def address_of_place(test, _):
+    """An address leads to the step, and to the tab with its options; that of a file tells no folder."""
+    at_step(test, 8)
+    browser = test.browser
+    address = address_of(test)
+    test.wanted(address.startswith("#") and "call=8" in address, f"of a file, and the eighth step, {address[:60]} is shared")
+    browser.value("localStorage.clear()")
+    test.open(address)
+    test.until(f"{FRAME}?.contentDocument.getElementById('range')?.value > 0", "an address leads to no step")
+    test.wanted(browser.value(SHOWN) == 8, "an address does not lead to its step")
+    pick(test, "for audit", "engineers_system")
+    type_option(test, "after", "14")
+    command, address = test.text("command-line"), address_of(test)
+    browser.value("localStorage.clear()")
+    test.open(address)
+    test.wanted(test.text("command-line") == command, f"an address leads to {test.text('command-line')}, and not to {command}")
+
+
+def way_back(test, _):
+    """A set-up that was changed comes back: by the notice, from the list of examples, and where an address took its place."""
+    browser = test.browser
+    browser.value("localStorage.clear()")
+    test.open()
+    pick(test, "examples", "two_clients_by_badge")
+    address = address_of(test)
+    type_anew(test, "# mine\n" + browser.value(f"{EDITOR}.text"))
+    test.select("examples", "examples/three_clients")
+    test.settle()
+    test.wanted(browser.value("document.getElementById('examples').value") == "examples/three_clients", "the list does not say which example is open")
+    test.click("#notice button")
+    test.settle()
+    test.wanted(browser.value(f"{EDITOR}.text.startsWith('# mine')"), "an example takes what was changed away")
+    type_anew(test, "# mine\nformat = 2\n")
+    test.open(address)
+    test.wanted(browser.value(f"!{EDITOR}.text.startsWith('# mine')"), "an address that is opened anew does not give its set-up")
+    reload(test)
+    test.wanted(browser.value(LEFT) == "two_clients_by_badge.toml, two_clients_by_badge.toml", f"left are {browser.value(LEFT)}")
+    test.select("examples", "what you changed/0")
+    test.settle()
+    test.wanted(browser.value(f"{EDITOR}.text") == "# mine\nformat = 2\n", "what an address took the place of does not come back")
+
+
+def reason_in_report(test, _):
+    """A refusal that was not expected has its reason in the report, and standard error leads to the tab why."""
+    pick(test, "mistakes", "send_without_write")
+    test.click("#tab-report")
+    test.settle()
+    test.wanted("needs the right Write" in test.text("panel-report"), "a refusal that was not expected has no reason in the report")
+    test.wanted("The state at the end" in test.text("panel-report"), "the state has no heading")
+    pick(test, "threads", "caller_suspends_itself")
+    test.click("#errors button")
+    test.settle()
+    test.wanted(test.browser.value("document.body.dataset.tab") == "why", "standard error does not lead to the reasons")
+    test.click("#tab-report")
+    test.settle()
+
+
+CHECKS = (fault_keeps_steps, steps_stand_still, cursor_leads_steps, address_of_place, way_back, reason_in_report)
