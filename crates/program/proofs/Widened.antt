@@ -8,7 +8,7 @@ use Rattle.engine_core.specs.declared.sink.Sink.{Ghosts as SinkGhosts}
 use Rattle.engine_core.specs.declared.source.Source.{Ghosts as SourceGhosts}
 use Rattle.program.specs.Ends.{IsWriting}
 
-if_ok : (r : Result Verdict RunFault) (P Q : Verdict → Type 0) → ((v : Verdict) → P v → Q v) → IfOk r P → IfOk r Q
+pub if_ok : {A E : Type 0} (r : Result A E) (P Q : A → Type 0) → ((v : A) → P v → Q v) → IfOk r P → IfOk r Q
 if_ok (Ok v) P Q f h = f v h
 if_ok (Err e) P Q f h = tt
 

@@ -1,4 +1,6 @@
 //! A writer that keeps the beginning of what it took.
+ghost use Rattle.std.specs.Prelude.{◌≡◌};
+
 use setup_format::limits::MAX_CALLS;
 use std::alloc::Global;
 use std::io::{self, Write};
@@ -43,7 +45,9 @@ impl<T> FrontWriter<T> {
     }
 
     /// Keeps what still has room of these bytes.
-    fn keep(&mut self, bytes: &[u8]) {
+    fn keep(&mut self, bytes: &[u8])
+        ensures { self.new.writer ≡ self.old.writer }
+    {
         let room = MOST_BYTES.saturating_sub(self.front.len());
         let kept = &bytes[..bytes.len().min(room)];
         if self.front.extend_from_slice(kept).is_err() {

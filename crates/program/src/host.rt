@@ -1,5 +1,6 @@
 //! The program over the process that it runs in: its words, its standard streams and its files.
 ghost use Rattle.std.specs.Prelude.{⊤};
+ghost use Rattle.std.specs.declared.io.Error.{Error};
 ghost use Rattle.clap.specs.Walk.{texts};
 ghost use Rattle.program.specs.Host.{IsStatusOf, IsUnread};
 
@@ -89,7 +90,7 @@ fn run_texts<R: Files + Input + Print + Eprint + AllocGlobal + Threads + Wait + 
     rt: &R,
     words: &[&str],
 ) -> u8
-    ensures { IsStatusOf IsUnread (λ name. IsUnread) (λ name fault. ⊤)
+    ensures { IsStatusOf {E = Error} IsUnread (λ name. IsUnread) (λ name fault. ⊤)
         ⟦<ReaderSource<KeptReader<R::Reader>> as Source>⟧ ⟦<ReaderSource<KeptReader<R::File>> as Source>⟧
         ⟦<WriterSink<FrontWriter<KeptWriter<Printer<'static, R>>>> as Sink>⟧ (texts words.now) result }
 {

@@ -1,5 +1,6 @@
 //! The job of a command line as an engine: what it makes of an input, by the options.
 ghost use Rattle.std.specs.Prelude.{◌≡◌, ◌≢◌, IfErr, IfOk, map};
+ghost use Rattle.command_line.specs.declared.arguments.Job.TheVariants.{Threads};
 ghost use Rattle.engine.specs.Commands.{IsAnswerTo, IsStateAnswer};
 ghost use Rattle.program.specs.Jobs.{IsAudit, IsAuditOfState, IsExplorationBy, by_of, form_of as form_of_options, question_of, without_of};
 ghost use Rattle.program.specs.NewWords.{IsNewOf};
@@ -214,7 +215,7 @@ fn make_new(
 pub(crate) struct Work<'a> {
     job: Job,
     options: Options<'a>,
-    ghost without_threads: { job ≢ Job.Threads },
+    ghost without_threads: { job ≢ Threads },
 }
 
 impl<'a> Work<'a> {
