@@ -65,6 +65,8 @@ note("link", os.path.basename(program))
 
 class Small(unittest.TestCase):
     def setUp(self):
+        # What runs in the background may have been started with interrupts ignored; what is started here is to hear them.
+        signal.signal(signal.SIGINT, signal.default_int_handler)
         # The path has a space.
         self.top = tempfile.mkdtemp(prefix="small repository ")
         self.addCleanup(shutil.rmtree, self.top)
