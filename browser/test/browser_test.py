@@ -30,7 +30,7 @@ import hostile_texts  # noqa: E402
 import lectures  # noqa: E402
 import nothing_lost  # noqa: E402
 import sheets  # noqa: E402
-from tester import SITE, Tester, as_answer, native, option, pick, type_option  # noqa: E402
+from tester import SITE, Tester, as_answer, native, option, pick, picked, type_option  # noqa: E402
 
 SUBCOMMANDS = (["check"], ["trace"], ["migrate"], ["why"], ["audit"], ["audit", "--ever"], ["audit", "--never", "2048,4096"], ["explore"],
                ["tree"])
@@ -152,14 +152,6 @@ def is_below(pid, ancestor):
         except OSError:
             return False
     return False
-
-
-def picked(test, path):
-    """Has the page read a file; an expression for it."""
-    test.browser.value("(() => { document.getElementById('long')?.remove(); const picker = document.createElement('input');"
-                       " picker.type = 'file'; picker.id = 'long'; document.body.append(picker); })()")
-    test.choose(path, "long")
-    return "document.getElementById('long').files[0]"
 
 
 OPEN = """(async () => {

@@ -144,6 +144,14 @@ def pick(test, topic, name):
     return there
 
 
+def picked(test, path):
+    """Has the page read a file; an expression for it."""
+    test.browser.value("(() => { document.getElementById('long')?.remove(); const picker = document.createElement('input');"
+                       " picker.type = 'file'; picker.id = 'long'; document.body.append(picker); })()")
+    test.choose(path, "long")
+    return "document.getElementById('long').files[0]"
+
+
 def type_option(test, name, value):
     """Types into the field of an option."""
     test.browser.value(f"(() => {{ const field = document.getElementById('option-{name}'); field.value = {json.dumps(value)};"
