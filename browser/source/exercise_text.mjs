@@ -5,6 +5,7 @@ import { lastLineOf, placesOf } from "./places.mjs";
 const TITLE = /^exercise:\s*(.*)$/u;
 /** A line at the head by which the calls are asked one at a time. */
 const IN_TURN = "in turn";
+const MAY_ASK = /["']\?/u;
 const QUESTION = /^\?(?: (from|to|badge|label|words))?$/u;
 const PAIR = /(\w+)\s*=\s*("[^"]*"|'[^']*'|\[[^\]]*\]|[^\s,}]+)/gu;
 const BECAUSE = "#>";
@@ -55,6 +56,8 @@ function askedBy(expectation) {
 /** The exercise in a set-up: `{ title, task, inTurn, calls }`, or null where no call asks. Each call has its `number`, `words`,
     `because`, `pairs` and `asked`. */
 export function exerciseOf(text) {
+  // Most set-ups ask nothing, and one of many calls is not read for that.
+  if (!MAY_ASK.test(text)) return null;
   const lines = text.split("\n");
   const calls = placesOf(text).call.map((entry, at) => ({
     number: at + 1, ...wordsAbove(lines, entry.line), pairs: pairsOf(lines, entry),
