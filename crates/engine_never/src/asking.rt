@@ -6,6 +6,7 @@ ghost use Rattle.setup_ever.specs.Threads as meant;
 ghost use Rattle.engine_never.specs.Never as spec;
 
 use cap_core::Profile;
+use confinement::PartsFault;
 use engine::StateCommand;
 use engine_core::Verdict;
 use ipc_core::{MakeWaiters, Waiters};
@@ -72,7 +73,7 @@ impl Question<'_> {
         }
         let without = trusted(alloc, names, self.without)?;
         let by = trusted(alloc, names, self.by)?;
-        let (text, answer) = never_gets::<P, S, W>(
+        match never_gets::<P, S, W>(
             alloc,
             names,
             without.as_slice(),
@@ -80,8 +81,11 @@ impl Question<'_> {
             to,
             by.as_slice(),
             kernel,
-        )?;
-        Ok((text, verdict_of(answer)))
+        ) {
+            Ok((text, answer)) => Ok((text, verdict_of(answer))),
+            Err(PartsFault::Memory) => Err(AllocError),
+            Err(PartsFault::Block) => unreachable!(),
+        }
     }
 
     /// The same, where each of the words for the two threads means one.

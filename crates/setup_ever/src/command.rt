@@ -2,6 +2,7 @@
 use crate::text::ever;
 use crate::threads::{are_meant, trusted};
 use cap_core::Profile;
+use confinement::PartsFault;
 use engine::StateCommand;
 use engine_core::Verdict;
 use ipc_core::MakeWaiters;
@@ -38,7 +39,10 @@ impl StateCommand for Ever<'_> {
             return Ok((Vec::new(alloc), Verdict::Absent));
         }
         let without = trusted(alloc, names, self.without)?;
-        let text = ever::<P, S, W>(alloc, names, setup, made, without.as_slice(), kernel)?;
-        Ok((text, Verdict::AllMet))
+        match ever::<P, S, W>(alloc, names, setup, made, without.as_slice(), kernel) {
+            Ok(text) => Ok((text, Verdict::AllMet)),
+            Err(PartsFault::Memory) => Err(AllocError),
+            Err(PartsFault::Block) => unreachable!(),
+        }
     }
 }

@@ -1,5 +1,5 @@
 //! The text of the parts of a kernel.
-ghost use Rattle.std.specs.Prelude.{◌≡◌, ◌++◌, ℕ, IfOk, OnOk, string_bytes};
+ghost use Rattle.std.specs.Prelude.{◌≡◌, ◌++◌, ℕ, IfErr, IfOk, OnOk, string_bytes};
 ghost use Rattle.std.specs.List.{flat_map};
 ghost use Rattle.abstract_kernel.specs.Memory.{IsInMemory};
 ghost use Rattle.setup_values.specs.Names.{names_view};
@@ -159,24 +159,21 @@ fn text_of_parts<P: Profile, S: DerivationStore<P> + Drop, W: Waiters<P> + Drop>
 ///
 /// # Errors
 ///
-/// Memory was refused.
+/// `Memory` where memory was refused; `Block` where the control block of a live thread would end past the last address. No kernel
+/// whose objects lie in its memory has such a thread (`fault`).
 pub fn parts_of_callers<P: Profile, S: DerivationStore<P> + Drop, W: Waiters<P> + Drop>(
     alloc: Global,
     without: &[u64],
     kernel: &Kernel<P, S, W>,
     rows: &StateRows,
-) -> Result<Parts, AllocError>
-    requires memory { (memory : ℕ) × IsInMemory P.profile memory kernel.now }
-    requires threads { rows.now.threads.keys ≡ state.threads P.profile kernel.now }
-    ensures { IfOk result (λ parts. AreRightParts P.profile kernel.now without.now parts.memory.items parts.uses.items) }
+) -> Result<Parts, PartsFault>
+    requires { rows.now.threads.keys ≡ state.threads P.profile kernel.now }
+    ensures right { IfOk result (λ parts. AreRightParts P.profile kernel.now without.now parts.memory.items parts.uses.items) }
+    ensures fault { IfErr result (λ fault. fault ≡ PartsFault.Block → (memory : ℕ) → IsInMemory P.profile memory kernel.now → ⊥) }
 {
     let threads = listed(alloc, &rows.threads)?;
     let callers = callers(alloc, threads.as_slice(), without)?;
-    match parts_around::<P, S, W>(alloc, kernel, callers.as_slice()) {
-        Ok(parts) => Ok(parts),
-        Err(PartsFault::Memory) => Err(AllocError),
-        Err(PartsFault::Block) => unreachable!(),
-    }
+    parts_around::<P, S, W>(alloc, kernel, callers.as_slice())
 }
 
 /// What the threads of a kernel can never get, but those that are trusted to make no more calls: the text of closed parts
@@ -184,7 +181,8 @@ pub fn parts_of_callers<P: Profile, S: DerivationStore<P> + Drop, W: Waiters<P> 
 ///
 /// # Errors
 ///
-/// Memory was refused.
+/// `Memory` where memory was refused; `Block` where the control block of a live thread would end past the last address. No kernel
+/// whose objects lie in its memory has such a thread (`fault`).
 pub fn ever<P: Profile, S: DerivationStore<P> + Drop, W: Waiters<P> + Drop>(
     alloc: Global,
     names: &[Name],
@@ -192,11 +190,12 @@ pub fn ever<P: Profile, S: DerivationStore<P> + Drop, W: Waiters<P> + Drop>(
     made: usize,
     without: &[u64],
     kernel: &Kernel<P, S, W>,
-) -> Result<Vec<u8>, AllocError>
-    requires { (memory : ℕ) × IsInMemory P.profile memory kernel.now }
-    ensures { IfOk result (λ text. IsTextOf P.profile (names_view names.now) setup.now made without.now kernel.now text.items) }
+) -> Result<Vec<u8>, PartsFault>
+    ensures text { IfOk result (λ text. IsTextOf P.profile (names_view names.now) setup.now made without.now kernel.now text.items) }
+    ensures fault { IfErr result (λ fault. fault ≡ PartsFault.Block → (memory : ℕ) → IsInMemory P.profile memory kernel.now → ⊥) }
 {
     let rows = state_rows::<P, S, W>(alloc, kernel)?;
     let parts = parts_of_callers::<P, S, W>(alloc, without, kernel, &rows)?;
-    text_of_parts::<P, S, W>(alloc, names, setup, made, without, kernel, &rows, &parts)
+    let text = text_of_parts::<P, S, W>(alloc, names, setup, made, without, kernel, &rows, &parts)?;
+    Ok(text)
 }

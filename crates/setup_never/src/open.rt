@@ -1,5 +1,5 @@
 //! The text of an answer: whether one thread's part is kept from another's, and what is open between them.
-ghost use Rattle.std.specs.Prelude.{◌≡◌, ◌++◌, ℕ, IfOk, OnOk, Some, string_bytes};
+ghost use Rattle.std.specs.Prelude.{◌≡◌, ◌++◌, ℕ, IfErr, IfOk, OnOk, Some, string_bytes};
 ghost use Rattle.std.specs.List.{flat_map};
 ghost use Rattle.abstract_kernel.specs.Memory.{IsInMemory};
 ghost use Rattle.abstract_kernel.specs.Waiting.{offer_at};
@@ -17,7 +17,7 @@ use crate::never::{
 };
 use crate::waits::{Wait, waits};
 use cap_core::Profile;
-use confinement::{PartMemory, PartUse, part_at};
+use confinement::{PartMemory, PartUse, PartsFault, part_at};
 use ipc_core::Waiters;
 use kernel_core::Kernel;
 use reach_core::{FullSlot, full_slots};
@@ -411,7 +411,8 @@ fn never_with_chains<P: Profile, S: DerivationStore<P> + Drop, W: Waiters<P> + D
 ///
 /// # Errors
 ///
-/// Memory was refused.
+/// `Memory` where memory was refused; `Block` where the control block of a live thread would end past the last address. No kernel
+/// whose objects lie in its memory has such a thread (`fault`).
 pub fn never_gets<P: Profile, S: DerivationStore<P> + Drop, W: Waiters<P> + Drop>(
     alloc: Global,
     names: &[Name],
@@ -420,9 +421,9 @@ pub fn never_gets<P: Profile, S: DerivationStore<P> + Drop, W: Waiters<P> + Drop
     to: u64,
     by: &[u64],
     kernel: &Kernel<P, S, W>,
-) -> Result<(Vec<u8>, Never), AllocError>
-    requires { (memory : ℕ) × IsInMemory P.profile memory kernel.now }
-    ensures { IfOk result (λ made. spec.IsNeverOf P.profile (names_view names.now) without.now kernel.now by.now from to made.0.items made.1) }
+) -> Result<(Vec<u8>, Never), PartsFault>
+    ensures told { IfOk result (λ made. spec.IsNeverOf P.profile (names_view names.now) without.now kernel.now by.now from to made.0.items made.1) }
+    ensures fault { IfErr result (λ fault. fault ≡ PartsFault.Block → (memory : ℕ) → IsInMemory P.profile memory kernel.now → ⊥) }
 {
     let rows = state_rows::<P, S, W>(alloc, kernel)?;
     let parts = parts_of_callers::<P, S, W>(alloc, without, kernel, &rows)?;
@@ -433,5 +434,6 @@ pub fn never_gets<P: Profile, S: DerivationStore<P> + Drop, W: Waiters<P> + Drop
         uses: parts.uses.as_slice(),
         waits: waits.as_slice(),
     };
-    never_with_chains::<P, S, W>(alloc, names, from, to, by, kernel, &layout)
+    let made = never_with_chains::<P, S, W>(alloc, names, from, to, by, kernel, &layout)?;
+    Ok(made)
 }

@@ -1,28 +1,49 @@
 -- The proof of `parts_of_callers`: the goals that a search leaves open.
-use Rattle.std.proofs.Common.{◌≡◌, ℕ, filter, not, ap, sym, subst, ◌∙◌, List, true}
+use Rattle.std.proofs.Common.{◌≡◌, ℕ, filter, not, ap, sym, subst, ◌∙◌, List, true, false, Result, Ok, Err}
+use Rattle.std.specs.Prelude.{IfOk, IfErr}
 use Rattle.std.specs.List.{list_all}
 use Rattle.std.proofs.lemmas.Bool.{false≢true}
-use Rattle.confinement.specs.Order.{is_addressed}
+use Rattle.cap_core.specs.declared.profile.ProfileName.{ProfileName}
+use Rattle.abstract_kernel.specs.Memory.{IsInMemory}
+use Rattle.abstract_kernel.specs.Shown.{Shown}
+use Rattle.confinement.specs.Ever.{AreConfinedEver}
+use Rattle.confinement.specs.Least.{AreLeast}
+use Rattle.confinement.specs.Order.{AreInOrder, AreInParts, is_addressed}
+use Rattle.confinement.specs.declared.listed.PartMemory.{PartMemory}
+use Rattle.confinement.specs.declared.listed.PartUse.{PartUse}
 use Rattle.setup_report.specs.State.{is_in}
+use Rattle.setup_ever.specs.Ever.{AreRightParts}
 use Rattle.setup_ever.specs.Threads.{callers}
 use Rattle.setup_ever.proofs.Right.{right_parts}
 use Rattle.setup_ever.proofs.Callers.{callers_addressed}
 use Rattle.setup_ever.proofs.text.parts_of_callers.Goals as goal
 
-pub returns-in-Ok : goal.returns-in-Ok
-returns-in-Ok g c =
-    right_parts g.P.Profile.profile c.args.kernel.now c.args.without.now c.as_slice-2.result.now c.in-Ok.parts.memory.items c.in-Ok.parts.uses.items
-    (c.as_slice-2.ensures.value ∙ c.in_ok-callers.ensures
-    ∙ ap (filter (λ (t : ℕ). not (is_in t c.args.without.now))) (c.as_slice.ensures.value ∙ c.in_ok-threads.ensures ∙ c.requires.threads))
-    c.in-Ok.ensures.ever c.in-Ok.ensures.order c.in-Ok.ensures.threads c.in-Ok.ensures.least
+-- where parts were found, they are right
+right_of : {X E : Type 0} (p : ProfileName) (v : Shown) (without ts : List ℕ) → ts ≡ callers p v without → (r : Result X E) (memory : X → List PartMemory)
+    (uses : X → List PartUse) → IfOk r (λ x. AreConfinedEver p (memory x) (uses x) v) → IfOk r (λ x. AreInOrder p (memory x) (uses x)) →
+    IfOk r (λ x. AreInParts p (memory x) ts) → IfOk r (λ x. AreLeast p ts (memory x) (uses x) v) → IfOk r (λ x. AreRightParts p v without (memory x) (uses x))
+right_of p v without ts same (Ok x) memory uses ever order threads least = right_parts p v without ts (memory x) (uses x) same ever order threads least
+right_of p v without ts same (Err e) memory uses ever order threads least = tt
 
-pub unreachable-requires : goal.unreachable-requires
-unreachable-requires g c =
-    let p = g.P.Profile.profile in
-    let same : c.as_slice-2.result.now ≡ callers p c.args.kernel.now c.args.without.now =
-    c.as_slice-2.ensures.value ∙ c.in_ok-callers.ensures
-    ∙ ap (filter (λ (t : ℕ). not (is_in t c.args.without.now))) (c.as_slice.ensures.value ∙ c.in_ok-threads.ensures ∙ c.requires.threads) in
-    false≢true
-    (sym (c.in-Err-Block.ensures.fault c.in-Err-Block.field-0-is)
-    ∙ subst (λ (ts : List ℕ). list_all (is_addressed p) ts ≡ true) (sym same)
-    (callers_addressed p c.requires.memory.0 c.args.kernel.now c.args.without.now c.requires.memory.1))
+-- the fault that a control block is the reason of comes of no kernel whose objects lie in its memory
+fault_of : {X E : Type 0} (Is : E → Type 0) (p : ProfileName) (v : Shown) (without ts : List ℕ) → ts ≡ callers p v without → (r : Result X E) →
+    IfErr r (λ e. Is e → list_all (is_addressed p) ts ≡ false) → IfErr r (λ e. Is e → (memory : ℕ) → IsInMemory p memory v → ⊥)
+fault_of Is p v without ts same (Ok x) h = tt
+fault_of Is p v without ts same (Err e) h =
+    λ is memory within. false≢true
+    (sym (h is) ∙ subst (λ (all : List ℕ). list_all (is_addressed p) all ≡ true) (sym same) (callers_addressed p memory v without within))
+
+pub returns-clause-right : goal.returns-clause-right
+returns-clause-right g c =
+    right_of g.P.Profile.profile c.args.kernel.now c.args.without.now c.as_slice-2.result.now
+    (c.as_slice-2.ensures.value ∙ c.in_ok-callers.ensures
+    ∙ ap (filter (λ (t : ℕ). not (is_in t c.args.without.now))) (c.as_slice.ensures.value ∙ c.in_ok-threads.ensures ∙ c.requires))
+    c.parts_around.result (λ parts. parts.memory.items) (λ parts. parts.uses.items)
+    c.parts_around.ensures.ever c.parts_around.ensures.order c.parts_around.ensures.threads c.parts_around.ensures.least
+
+pub returns-clause-fault : goal.returns-clause-fault
+returns-clause-fault g c =
+    fault_of _ g.P.Profile.profile c.args.kernel.now c.args.without.now c.as_slice-2.result.now
+    (c.as_slice-2.ensures.value ∙ c.in_ok-callers.ensures
+    ∙ ap (filter (λ (t : ℕ). not (is_in t c.args.without.now))) (c.as_slice.ensures.value ∙ c.in_ok-threads.ensures ∙ c.requires))
+    c.parts_around.result c.parts_around.ensures.fault
