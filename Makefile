@@ -27,9 +27,9 @@
 .PHONY: run dist dist-test install test try rows rows-needs rows-python browser browser-test page page-test needs bench wrong-bodies
 
 program = crates/sel4sim/out/sel4sim
-calls = crates/refused_memory/out/refused_memory
-setups = crates/worked_setups/data
-answers = crates/worked_answers/data
+calls = crates/test_memory/out/test_memory
+setups = crates/test_worked/data
+answers = crates/test_worked_answers/data
 plain = bench/check_plain/out/target/release/check_plain
 given = crates/sel4sim/stdin
 stored = $(setups)/examples/send_then_receive.toml
@@ -61,7 +61,7 @@ rows: rows-needs run
 	@$(MAKE) --no-print-directory rows-python
 	python3 rows/browser_page.py site/sel4sim.html
 	python3 rows/schema.py $(program) $(setups) crates/sel4sim/data $(answers) page/test/setups rows
-	python3 build/prove.py refused_memory
+	python3 build/prove.py test_memory
 	python3 rows/refuse_memory.py $(program) $(calls) $(stored) $(first_format)
 	python3 rows/fail_each_transfer.py $(program) $(stored)
 

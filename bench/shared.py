@@ -1,4 +1,4 @@
-"""Costs of kernels that clients share, of the proved program crates/shared_cycle and of the same in plain Rust: a call
+"""Costs of kernels that clients share, of the proved program crates/bench_shared and of the same in plain Rust: a call
 that a book takes, a client's call, and looks of clients that look all the time while another one calls."""
 
 import pathlib

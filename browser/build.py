@@ -27,7 +27,7 @@ sys.path[:0] = [str(TOP / "page"), str(TOP / "browser")]
 import join  # noqa: E402
 
 SOURCE = TOP / "browser" / "source"
-SETUPS = TOP / "crates" / "worked_setups" / "data"
+SETUPS = TOP / "crates" / "test_worked" / "data"
 SITE = TOP / "site" / "sel4sim.html"
 CODEMIRROR = pathlib.Path("/usr/share/javascript/codemirror")
 SCRIPTS = ("lib/codemirror.js", "mode/toml/toml.js")
@@ -45,7 +45,7 @@ BEGIN_HERE = ("send_then_receive", "guarded_address_space", "revocation_of_badge
 # The answers of exercises are not in the page.
 ANSWERS_OF_EXERCISES = ("exercise_answers/", "examples/exercise_copies_and_badges")
 # Set-ups that are told of by another subcommand than check: their folder, and the tab that they are opened in.
-ANSWERS = TOP / "crates" / "worked_answers" / "data"
+ANSWERS = TOP / "crates" / "test_worked_answers" / "data"
 FOR_TABS = (("explorations", "orders"), ("audits", "audit"), ("parts", "ever"), ("trees", "tree"))
 FIRST_CALLS = re.compile(r"^#.*--first (\d+)", re.M)
 

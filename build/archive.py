@@ -53,7 +53,7 @@ def contents():
     files["share/fish/vendor_completions.d/sel4sim.fish"] = "build/completions/sel4sim.fish"
     scripts = sorted(it for it in os.listdir(os.path.join(TOP, "page")) if it.endswith((".sh", ".html")))
     files.update((f"share/sel4sim/page/{it}", f"page/{it}") for it in scripts)
-    examples = "crates/worked_setups/data/examples"
+    examples = "crates/test_worked/data/examples"
     files.update((f"share/sel4sim/examples/{it}", f"{examples}/{it}") for it in below(examples))
     files.update((f"share/doc/sel4sim/docs/{it}", f"docs/{it}") for it in below("docs"))
     # Beside the pages, so that its link to docs/browser.md leads there.

@@ -2,7 +2,7 @@
 """refuse_memory.py PROGRAM CALLS SETUP..: lets each request for memory of a run fail in turn, counting up until a run
 meets none: by each of the program's subcommands with each set-up, from a file and from standard input, of several
 files, of set-ups that are refused, of the help and of a refused command line. Each set-up has one client, so that `threads` has one answer too. CALLS is the program
-of `crates/refused_memory`, which says how calls of the libraries end.
+of `crates/test_memory`, which says how calls of the libraries end.
 
 Each answer of the program has to be that of a run with ample memory, or exit status 3 with `sel4sim: out of memory`, or
 where a thread wanted it `sel4sim: thread not started`, and nothing written. For the words that follow a fault's line on

@@ -10,7 +10,7 @@ are fewer than N, and with as many as `limit` says where that is less. Without i
 
 It tells in how many orders the clients' calls came, and in how many runs each client was alone, which is where it made all
 of its calls with no other client's call between them. Both hang on what else the machine does, so neither is wanted to be a
-certain number: orders that a gate of the test makes are tests of `engine_threads_tests`.
+certain number: orders that a gate of the test makes are tests of `test_threads`.
 """
 import argparse
 import itertools
@@ -48,7 +48,7 @@ def first_calls(setup, first):
 
 
 def faults(program, setup, text, orders, first=None):
-    """What is wrong with one run. The clients whose calls came, in their order, are added to `orders`."""
+    """What is wrong with one run. The clients whose calls came, in their order, are added to `query_orders`."""
     calls = setup.get("call", [])
     own = [[call for call in calls if call.get("client", 0) == client] for client in range(setup.get("clients", 1))]
     option = [] if first is None else ["--first", str(first)]

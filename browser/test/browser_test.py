@@ -98,12 +98,12 @@ def same_with_options(test, _):
     """The worked audits, parts and orders, each with its options; and the reason of each call of some set-ups alone."""
     count = 0
     for kind in ("audits", "parts", "explorations"):
-        for path in sorted((TOP / "crates" / "worked_answers" / "data" / kind).glob("*.toml")):
+        for path in sorted((TOP / "crates" / "test_worked_answers" / "data" / kind).glob("*.toml")):
             words, text = list(words_asked(path)), path.read_bytes()
             for it, answer in zip(words, test.run_bytes(words, path.name, text)):
                 test.compare(f"{kind}/{path.stem}", it, path.name, text, answer)
                 count += 1
-    for path in sorted((TOP / "crates" / "worked_setups" / "data").glob("why_*/*.toml"))[::5]:
+    for path in sorted((TOP / "crates" / "test_worked" / "data").glob("why_*/*.toml"))[::5]:
         words, text = [["why", "--call", number] for number in ("0", "1", "2", "99", "x")], path.read_bytes()
         for it, answer in zip(words, test.run_bytes(words, path.name, text)):
             test.compare(path.stem, it, path.name, text, answer)

@@ -8,7 +8,7 @@ import tomllib
 from nothing_lost import EDITOR, reload
 from tester import TOP, native
 
-SETUPS = TOP / "crates" / "worked_setups" / "data"
+SETUPS = TOP / "crates" / "test_worked" / "data"
 CALL = re.compile(r"^(\d+) (\d+ \w+): (.*?)(?: \[met\])?$", re.M)
 PART = re.compile(r"(from|to|badge|label|words) (\d+)")
 SHEET = "document.querySelector('.sheet')"

@@ -1,4 +1,4 @@
-//! Calls and looks of a shared kernel in plain Rust, with the words of the proved program crates/shared_cycle, to be timed from
+//! Calls and looks of a shared kernel in plain Rust, with the words of the proved program crates/bench_shared, to be timed from
 //! outside.
 mod book;
 #[path = "../../kernel_cycle/src/plain_chain.rs"]

@@ -5,7 +5,7 @@ ghost use Rattle.std.specs.Prelude.{◌≡◌, ℕ, ◌+◌, ◌/◌, ◌%◌, �
 ghost use Rattle.cap_core.specs.declared.capability.Cap.TheVariants.{Null};
 ghost use Rattle.cap_core.specs.Numbers.{word_bits};
 ghost use Rattle.cap_core.specs.Objects.{IsLawful};
-ghost use Rattle.derivation.specs.Entries.{cap_at};
+ghost use Rattle.kernel_forest.specs.Entries.{cap_at};
 ghost use Rattle.slot_core.specs.Places.{address_of};
 ghost use Rattle.cspace_core.specs.Bits.{low_bits};
 ghost use Rattle.cspace_core.specs.Resolution.{resolution, found, choice_seen};

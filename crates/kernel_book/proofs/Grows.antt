@@ -8,13 +8,13 @@ use Rattle.std.specs.Cmp.Derive.{both_true}
 use Rattle.std.proofs.Math.Logic.{∥∥₁_map, ∥∥₁_map₂}
 use Rattle.cap_core.specs.declared.profile.ProfileName.{ProfileName}
 use Rattle.cap_core.specs.declared.limits.TheConstants.{MAX_CLIENTS}
-use Rattle.abstract_kernel.specs.declared.call.Call.{Call}
-use Rattle.abstract_kernel.specs.declared.call.Reply.{Reply}
-use Rattle.abstract_kernel.specs.State.{State, shown}
-use Rattle.abstract_kernel.specs.Shown.{Shown}
-use Rattle.abstract_kernel.specs.Step.{state_after, replies_of}
-use Rattle.abstract_kernel.specs.Reached.{IsReached, StepsTo}
-use Rattle.abstract_kernel.proofs.Reached.Runs.{state_after-nil, state_after-snoc, replies_of-nil, replies_of-snoc, reached_after}
+use Rattle.kernel_abstract.specs.declared.call.Call.{Call}
+use Rattle.kernel_abstract.specs.declared.call.Reply.{Reply}
+use Rattle.kernel_abstract.specs.State.{State, shown}
+use Rattle.kernel_abstract.specs.Shown.{Shown}
+use Rattle.kernel_abstract.specs.Step.{state_after, replies_of}
+use Rattle.kernel_abstract.specs.Reached.{IsReached, StepsTo}
+use Rattle.kernel_abstract.proofs.Reached.Runs.{state_after-nil, state_after-snoc, replies_of-nil, replies_of-snoc, reached_after}
 use Rattle.kernel_book.specs.declared.entry.Entry.{Entry}
 use Rattle.kernel_book.specs.Laws.{entry, calls_of, count_of, is_numbered, Lawful, StandsAfter, AreCounts}
 

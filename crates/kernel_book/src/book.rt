@@ -1,17 +1,17 @@
 //! A kernel, and the history of the calls that led to it.
 ghost use Rattle.std.specs.Prelude.{◌≡◌, ◌≢◌, ◌<◌, ◌≤◌, ◌↔◌, ◌++◌, ◌∷◌, [], Ok, Err, IsTrue, IfOk, OnErr, length, slice_get, slice_index, cond, ℕ, ◌==◌, vec_len, vec_capacity};
 ghost use Rattle.cap_core.specs.declared.limits.TheConstants.{MAX_CLIENTS};
-ghost use Rattle.abstract_kernel.specs.State.{State, shown};
-ghost use Rattle.abstract_kernel.specs.Step.{step};
-ghost use Rattle.abstract_kernel.specs.Reached.{IsReached};
+ghost use Rattle.kernel_abstract.specs.State.{State, shown};
+ghost use Rattle.kernel_abstract.specs.Step.{step};
+ghost use Rattle.kernel_abstract.specs.Reached.{IsReached};
 ghost use Rattle.kernel_book.specs.Laws.{Lawful, StandsAfter, AreCounts, entry, count_of};
 
 use crate::entry::Entry;
 use crate::naming::Naming;
-use abstract_kernel::{Call, Reply};
 use cap_core::Profile;
 use cap_core::limits::MAX_CLIENTS;
 use ipc_core::Waiters;
+use kernel_abstract::{Call, Reply};
 use kernel_core::Kernel;
 use slot_core::CapStore;
 use std::alloc::{AllocError, Global};

@@ -1,5 +1,5 @@
 //! One call of a history.
-use abstract_kernel::{Call, Reply};
+use kernel_abstract::{Call, Reply};
 
 /// A client's call, the client's number for it, from 0 on in order, and the reply.
 #[derive(Debug, Clone, Copy, PartialEq, Eq, Drop)]

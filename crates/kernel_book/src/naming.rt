@@ -9,8 +9,8 @@ use std::sync::ledger::Ledger;
 pub trait Naming: Ledger {
     ghost use Rattle.std.specs.Prelude.{ℕ};
     ghost use Rattle.cap_core.specs.declared.profile.ProfileName.{ProfileName};
-    ghost use Rattle.abstract_kernel.specs.Shown.{Shown};
-    ghost use Rattle.abstract_kernel.specs.State.{State};
+    ghost use Rattle.kernel_abstract.specs.Shown.{Shown};
+    ghost use Rattle.kernel_abstract.specs.State.{State};
 
     ghost profile: { ProfileName };
 
@@ -24,9 +24,9 @@ pub trait Naming: Ledger {
 impl Naming for Brand {
     ghost use Rattle.std.specs.Prelude.{[]};
     ghost use Rattle.cap_core.specs.declared.profile.ProfileName.TheVariants.{Wide};
-    ghost use Rattle.abstract_kernel.specs.Plan.{planned};
-    ghost use Rattle.abstract_kernel.specs.Boot.{boot};
-    ghost use Rattle.abstract_kernel.specs.State.{shown};
+    ghost use Rattle.kernel_abstract.specs.Plan.{planned};
+    ghost use Rattle.kernel_abstract.specs.Boot.{boot};
+    ghost use Rattle.kernel_abstract.specs.State.{shown};
 
     ghost profile = { Wide };
 

@@ -7,19 +7,19 @@ use Rattle.cap_core.specs.Limits.{min_memory_bits, max_memory_bits}
 use Rattle.cap_core.specs.declared.profile.ProfileName.{ProfileName}
 use Rattle.cap_core.specs.Numbers.{tcb_size}
 use Rattle.cap_core.specs.Objects.{IsLawful}
-use Rattle.derivation.specs.Forest.{Forest}
-use Rattle.derivation.specs.Entries.{Entry, slots, caps}
-use Rattle.derivation.specs.Disjoint.{IsDisjoint}
-use Rattle.clearing.specs.Housed.{IsHoused}
+use Rattle.kernel_forest.specs.Forest.{Forest}
+use Rattle.kernel_forest.specs.Entries.{Entry, slots, caps}
+use Rattle.kernel_forest.specs.Disjoint.{IsDisjoint}
+use Rattle.kernel_delete.specs.Housed.{IsHoused}
 use Rattle.ipc_core.specs.declared.waiter.Waiter.{Waiter}
 use Rattle.ipc_core.specs.declared.waiter.Role.{Role}
 use Rattle.ipc_core.specs.Waits.{Waits, thread_of}
-use Rattle.abstract_kernel.specs.declared.call.ThreadState.{ThreadState}
-use Rattle.abstract_kernel.specs.declared.call.ThreadState.TheVariants.{Ready, Inactive, Sending, Receiving}
+use Rattle.kernel_abstract.specs.declared.call.ThreadState.{ThreadState}
+use Rattle.kernel_abstract.specs.declared.call.ThreadState.TheVariants.{Ready, Inactive, Sending, Receiving}
 use Rattle.kernel_core.specs.declared.rows.ThreadRow.{ThreadRow}
-use Rattle.abstract_kernel.specs.Shown.{Shown, ThreadView, endpoints_of, threads_of, table}
-use Rattle.abstract_kernel.specs.Regions.{AreRegions}
-use Rattle.abstract_kernel.specs.Memory.{IsSlotAddress}
+use Rattle.kernel_abstract.specs.Shown.{Shown, ThreadView, endpoints_of, threads_of, table}
+use Rattle.kernel_abstract.specs.Regions.{AreRegions}
+use Rattle.kernel_abstract.specs.Memory.{IsSlotAddress}
 
 -- row k, from i on, is at the address size * k
 abbrev pub keyed : {X : Type 0} → ℕ → ℕ → List (Option X) → List (ℕ × X)

@@ -2,7 +2,7 @@
 ghost use Rattle.std.specs.Prelude.{◌≡◌, ◌≤◌, ◌<◌, ◌^◌, IfSome, IfNone, IsTrue, ◌↔◌};
 ghost use Rattle.slot_core.specs.Places.{address_of};
 ghost use Rattle.ipc_core.specs.Waits.{IsEndpointAddress, IsThreadAddress};
-ghost use Rattle.abstract_kernel.specs.Memory.{IsSlotAddress};
+ghost use Rattle.kernel_abstract.specs.Memory.{IsSlotAddress};
 
 use cap_core::Profile;
 use cap_core::limits::MAX_MEMORY_BITS;

@@ -1,20 +1,20 @@
 //! Boot: a kernel from a plan.
 ghost use Rattle.std.specs.Prelude.{◌≡◌, ◌+◌, ◌-◌, ◌/◌, ◌^◌, ◌<◌, IfOk};
-ghost use Rattle.clearing.specs.Housed.{IsHoused};
+ghost use Rattle.kernel_delete.specs.Housed.{IsHoused};
 ghost use Rattle.kernel_core.specs.Private.BootRows.{boot_rows};
-ghost use Rattle.abstract_kernel.specs.State.{shown};
-ghost use Rattle.abstract_kernel.specs.Memory.{IsInMemory};
+ghost use Rattle.kernel_abstract.specs.State.{shown};
+ghost use Rattle.kernel_abstract.specs.Memory.{IsInMemory};
 ghost use Rattle.cap_core.specs.Numbers.{tcb_bits, tcb_size};
-ghost use Rattle.abstract_kernel.specs.Plan.{IsPlan, first_tcb};
-ghost use Rattle.abstract_kernel.specs.Boot.{boot as booted};
+ghost use Rattle.kernel_abstract.specs.Plan.{IsPlan, first_tcb};
+ghost use Rattle.kernel_abstract.specs.Boot.{boot as booted};
 
 use crate::ending::Threads;
 use crate::kernel::Kernel;
 use crate::rows::ThreadRow;
-use boot_plan::{BootPlan, booted_store};
 use cap_core::Profile;
-use clearing::SlotChain;
 use ipc_core::MakeWaiters;
+use kernel_boot::{BootPlan, booted_store};
+use kernel_delete::SlotChain;
 use slot_core::MakeStore;
 use std::alloc::{AllocError, Global};
 use std::marker::PhantomData;

@@ -1,15 +1,15 @@
 //! Threads that wait no more: suspended, resumed, or with their sends cancelled.
 ghost use Rattle.std.specs.Prelude.{◌≡◌};
-ghost use Rattle.abstract_kernel.specs.declared.call.Reply.TheVariants.{Done};
-ghost use Rattle.abstract_kernel.specs.Private.Effects.{IsLiveEndpoint};
-ghost use Rattle.abstract_kernel.specs.Private.Endings.{after_suspend, after_resume, after_cancel_badge};
-ghost use Rattle.abstract_kernel.specs.Private.Invocations.{IsLiveThread};
+ghost use Rattle.kernel_abstract.specs.declared.call.Reply.TheVariants.{Done};
+ghost use Rattle.kernel_abstract.specs.Private.Effects.{IsLiveEndpoint};
+ghost use Rattle.kernel_abstract.specs.Private.Endings.{after_suspend, after_resume, after_cancel_badge};
+ghost use Rattle.kernel_abstract.specs.Private.Invocations.{IsLiveThread};
 
 use crate::kernel::Kernel;
-use abstract_kernel::call::Reply;
-use abstract_kernel::invocation::Service;
 use cap_core::{Badge, Profile};
 use ipc_core::Waiters;
+use kernel_abstract::call::Reply;
+use kernel_abstract::invocation::Service;
 use slot_core::CapStore;
 
 impl<P: Profile, S: CapStore<P>, W: Waiters<P>> Kernel<P, S, W> {

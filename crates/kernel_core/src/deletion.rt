@@ -1,21 +1,21 @@
 //! Capabilities that are deleted, and what ends with them.
 ghost use Rattle.std.specs.Prelude.{◌≡◌, ◌^◌, []};
-ghost use Rattle.clearing.specs.Clear.{clear as cleared, ended};
-ghost use Rattle.clearing.specs.Revoke.{revoke as revoked};
-ghost use Rattle.abstract_kernel.specs.declared.call.Reply.TheVariants.{Done};
-ghost use Rattle.abstract_kernel.specs.Threads.{with_space};
-ghost use Rattle.abstract_kernel.specs.Memory.{IsSlotAddress};
-ghost use Rattle.abstract_kernel.specs.Private.Stores.{IsKernelStore};
-ghost use Rattle.abstract_kernel.specs.Private.Endings.{after_ending};
-ghost use Rattle.abstract_kernel.specs.Private.Invocations.{IsNamedSlot, IsSpace};
+ghost use Rattle.kernel_delete.specs.Clear.{clear as cleared, ended};
+ghost use Rattle.kernel_delete.specs.Revoke.{revoke as revoked};
+ghost use Rattle.kernel_abstract.specs.declared.call.Reply.TheVariants.{Done};
+ghost use Rattle.kernel_abstract.specs.Threads.{with_space};
+ghost use Rattle.kernel_abstract.specs.Memory.{IsSlotAddress};
+ghost use Rattle.kernel_abstract.specs.Private.Stores.{IsKernelStore};
+ghost use Rattle.kernel_abstract.specs.Private.Endings.{after_ending};
+ghost use Rattle.kernel_abstract.specs.Private.Invocations.{IsNamedSlot, IsSpace};
 
 use crate::kernel::Kernel;
 use crate::placements::set_root;
-use abstract_kernel::call::Reply;
-use abstract_kernel::invocation::NewSpace;
 use cap_core::Profile;
-use clearing::{Finalise, SlotChain, clear, revoke};
 use ipc_core::Waiters;
+use kernel_abstract::call::Reply;
+use kernel_abstract::invocation::NewSpace;
+use kernel_delete::{Finalise, SlotChain, clear, revoke};
 use slot_core::{CapStore, Slot};
 
 impl<P: Profile, S: CapStore<P>, W: Waiters<P>> Kernel<P, S, W> {

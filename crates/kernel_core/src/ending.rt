@@ -13,8 +13,8 @@ ghost use Rattle.kernel_core.specs.Evidence.EndedLaws.{nothing_ended, ended_twic
 use crate::addresses::{is_endpoint_address, is_thread_address};
 use crate::rows::{ThreadRow, row_at, set_row};
 use cap_core::{Cap, Profile};
-use clearing::Finalise;
 use ipc_core::Waiters;
+use kernel_delete::Finalise;
 use std::marker::PhantomData;
 
 /// The threads that wait, and a row for each thread control block of the memory.

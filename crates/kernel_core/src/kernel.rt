@@ -1,38 +1,38 @@
 //! The kernel.
 ghost use Rattle.std.specs.Prelude.{◌≡◌, ◌==◌, ℕ, false, Some, None, IfOk, option_map, slice_get, All, vec_len, vec_capacity, length, drop, map, ◌≤◌, ◌<◌, ◌+◌, ◌++◌};
-ghost use Rattle.derivation.specs.Entries.{slots, caps, cap_at as cap_held, derivations_of};
+ghost use Rattle.kernel_forest.specs.Entries.{slots, caps, cap_at as cap_held, derivations_of};
 ghost use Rattle.std.specs.List.{IsDistinct};
 ghost use Rattle.cap_core.specs.Objects.{is_null};
 ghost use Rattle.cap_core.specs.declared.capability.Cap.{Cap};
 ghost use Rattle.slot_core.specs.Calls.{derivation_view};
-ghost use Rattle.clearing.specs.Housed.{IsHoused};
+ghost use Rattle.kernel_delete.specs.Housed.{IsHoused};
 ghost use Rattle.ipc_core.specs.Waits.{thread_of};
-ghost use Rattle.abstract_kernel.specs.Shown.{state_at, inbox_at, waiting_at, has_child};
-ghost use Rattle.abstract_kernel.specs.Decode.{decoded_call};
-ghost use Rattle.abstract_kernel.specs.Private.Effects.{send_effect, receive_effect, effect_of, performed_effect, rearranged, objects_shown, IsReady, IsLiveEndpoint};
-ghost use Rattle.abstract_kernel.specs.CNodes.{with_derived, with_moved};
-ghost use Rattle.abstract_kernel.specs.Waiting.{AreStatesAndLists, IsNextWaiting, offer_at};
-ghost use Rattle.abstract_kernel.specs.Memory.{IsInMemory, IsAligned};
-ghost use Rattle.abstract_kernel.specs.Regions.{AreObjectsApart, IsForest};
-ghost use Rattle.abstract_kernel.specs.Private.Invocations.{IsInvocation, IsRetype, IsDerivation, IsMove};
+ghost use Rattle.kernel_abstract.specs.Shown.{state_at, inbox_at, waiting_at, has_child};
+ghost use Rattle.kernel_abstract.specs.Decode.{decoded_call};
+ghost use Rattle.kernel_abstract.specs.Private.Effects.{send_effect, receive_effect, effect_of, performed_effect, rearranged, objects_shown, IsReady, IsLiveEndpoint};
+ghost use Rattle.kernel_abstract.specs.CNodes.{with_derived, with_moved};
+ghost use Rattle.kernel_abstract.specs.Waiting.{AreStatesAndLists, IsNextWaiting, offer_at};
+ghost use Rattle.kernel_abstract.specs.Memory.{IsInMemory, IsAligned};
+ghost use Rattle.kernel_abstract.specs.Regions.{AreObjectsApart, IsForest};
+ghost use Rattle.kernel_abstract.specs.Private.Invocations.{IsInvocation, IsRetype, IsDerivation, IsMove};
 ghost use Rattle.cap_core.specs.declared.refusal.Refusal.{Refusal};
-ghost use Rattle.abstract_kernel.specs.declared.call.Reply.TheVariants.{Done, Refused};
-ghost use Rattle.abstract_kernel.specs.State.{State, shown};
-ghost use Rattle.abstract_kernel.specs.Deliveries.{DeliversPairs};
-ghost use Rattle.abstract_kernel.specs.Step.{replies_of, state_after};
-ghost use Rattle.abstract_kernel.specs.Reached.{IsReached, StepsTo};
+ghost use Rattle.kernel_abstract.specs.declared.call.Reply.TheVariants.{Done, Refused};
+ghost use Rattle.kernel_abstract.specs.State.{State, shown};
+ghost use Rattle.kernel_abstract.specs.Deliveries.{DeliversPairs};
+ghost use Rattle.kernel_abstract.specs.Step.{replies_of, state_after};
+ghost use Rattle.kernel_abstract.specs.Reached.{IsReached, StepsTo};
 
 use crate::addresses::{is_endpoint_address, slot_within};
 use crate::ending::Threads;
 use crate::objects::{add_threads, make_objects};
 use crate::placements::{derive_in, move_in};
 use crate::rows::{ThreadRow, row_at, set_row};
-use abstract_kernel::call::{Call, Inbox, Reply, ThreadState};
-use abstract_kernel::invocation::{CapPlacement, Invocation, NewObjects, Service};
 use cap_core::{Cap, Kind, Message, Profile, Refusal};
-use clearing::SlotChain;
-use decode::decode_op;
 use ipc_core::{Offer, Received, Sent, Waiters};
+use kernel_abstract::call::{Call, Inbox, Reply, ThreadState};
+use kernel_abstract::invocation::{CapPlacement, Invocation, NewObjects, Service};
+use kernel_decode::decode_op;
+use kernel_delete::SlotChain;
 use slot_core::{CapStore, Derivation, DerivationStore, Slot};
 use std::alloc::{AllocError, Global};
 use std::marker::Model;
@@ -50,10 +50,10 @@ pub struct Kernel<P: Profile, S: CapStore<P>, W: Waiters<P>> {
 }
 
 impl<P: Profile, S: CapStore<P>, W: Waiters<P>> Model for Kernel<P, S, W> {
-    ghost use Rattle.abstract_kernel.specs.Shown.{Shown};
+    ghost use Rattle.kernel_abstract.specs.Shown.{Shown};
     ghost use Rattle.std.specs.Coded.{codes};
     ghost use Rattle.std.specs.FinMap.{code as coded_map};
-    ghost use Rattle.derivation.specs.Evidence.Spelled.{coded_forest};
+    ghost use Rattle.kernel_forest.specs.Evidence.Spelled.{coded_forest};
 
     ghost Value = { Shown };
 
@@ -114,7 +114,7 @@ impl<P: Profile, S: CapStore<P>, W: Waiters<P>> Kernel<P, S, W> {
     /// there are no pairs. Whatever the calls, the live objects are disjoint, or one is an untyped region around the other, and
     /// what is made in an untyped region ends within what is used of it; and each full slot is a slot of a live CNode, or the
     /// root slot of a live thread. It takes no memory.
-    #[tactic(auto, unfolding(abstract_kernel::specs::Step::replies_of, abstract_kernel::specs::Step::state_after))]
+    #[tactic(auto, unfolding(kernel_abstract::specs::Step::replies_of, kernel_abstract::specs::Step::state_after))]
     pub fn run(&mut self, calls: &[Call], replies: &mut Vec<Reply>)
         requires room { vec_len replies.old + length calls.now ≤ vec_capacity replies.old }
         ensures replies { (A : State) → IsReached P.profile A → self.old ≡ shown A → replies.new.items ≡ replies.old.items ++ replies_of P.profile A calls.now }

@@ -13,7 +13,7 @@ mod refusals;
 mod revoking;
 mod rows;
 
-pub use abstract_kernel::{Call, Inbox, Op, Reply, ThreadState, call, invocation};
-pub use boot_plan::{BootPlan, PlanDefect, plan};
 pub use kernel::Kernel;
-pub use reasons::{Held, Hint, Miss, Reason, Right, Word};
+pub use kernel_abstract::{Call, Inbox, Op, Reply, ThreadState, call, invocation};
+pub use kernel_boot::{BootPlan, PlanDefect, plan};
+pub use kernel_reasons::{Held, Hint, Miss, Reason, Right, Word};

@@ -4,15 +4,15 @@ ghost use Rattle.std.specs.List.{range_with_len};
 ghost use Rattle.std.specs.FinMap.{insert};
 ghost use Rattle.cap_core.specs.Numbers.{tcb_size};
 ghost use Rattle.mem_core.specs.Plans.{object_at};
-ghost use Rattle.abstract_kernel.specs.Retyping.{with_objects};
-ghost use Rattle.abstract_kernel.specs.Private.Invocations.{IsRetype};
+ghost use Rattle.kernel_abstract.specs.Retyping.{with_objects};
+ghost use Rattle.kernel_abstract.specs.Private.Invocations.{IsRetype};
 ghost use Rattle.kernel_core.specs.Rows.{rows_map};
 ghost use Rattle.kernel_core.specs.Private.NewRows.{new_row, with_rows};
-ghost use Rattle.abstract_kernel.specs.Private.Stores.{IsKernelStore};
+ghost use Rattle.kernel_abstract.specs.Private.Stores.{IsKernelStore};
 
 use crate::rows::ThreadRow;
-use abstract_kernel::invocation::NewObjects;
 use cap_core::{Cap, Profile, fresh};
+use kernel_abstract::invocation::NewObjects;
 use mem_core::Placed;
 use slot_core::{CapStore, Slot};
 

@@ -1,15 +1,15 @@
 //! Capabilities that are derived and moved.
 ghost use Rattle.std.specs.Prelude.{◌≡◌, true};
-ghost use Rattle.derivation.specs.Entries.{is_full};
+ghost use Rattle.kernel_forest.specs.Entries.{is_full};
 ghost use Rattle.cspace_core.specs.Resolution.{is_cnode};
-ghost use Rattle.abstract_kernel.specs.Memory.{IsSlotAddress};
+ghost use Rattle.kernel_abstract.specs.Memory.{IsSlotAddress};
 ghost use Rattle.kernel_core.specs.Private.Spaces.{space_placement, with_root};
-ghost use Rattle.abstract_kernel.specs.Private.Stores.{IsKernelStore};
-ghost use Rattle.abstract_kernel.specs.Private.Invocations.{IsDerivation, IsMove};
-ghost use Rattle.abstract_kernel.specs.CNodes.{with_derived, with_moved};
+ghost use Rattle.kernel_abstract.specs.Private.Stores.{IsKernelStore};
+ghost use Rattle.kernel_abstract.specs.Private.Invocations.{IsDerivation, IsMove};
+ghost use Rattle.kernel_abstract.specs.CNodes.{with_derived, with_moved};
 
-use abstract_kernel::invocation::{CapPlacement, NewSpace};
 use cap_core::{Cap, Profile};
+use kernel_abstract::invocation::{CapPlacement, NewSpace};
 use slot_core::{CapStore, Slot};
 
 /// Derives a capability from the one in a slot. An untyped region is used up where it is handed on.

@@ -1,23 +1,23 @@
 //! Why a kernel refuses a call.
 ghost use Rattle.std.specs.Prelude.{◌≡◌, ◌≤◌, ◌∷◌, [], IfOk, IfSome, option_map};
 ghost use Rattle.cap_core.specs.Numbers.{word_bits};
-ghost use Rattle.derivation.specs.Entries.{cap_at as cap_held};
+ghost use Rattle.kernel_forest.specs.Entries.{cap_at as cap_held};
 ghost use Rattle.cspace_core.specs.Bits.{low_bits};
-ghost use Rattle.abstract_kernel.specs.State.{State, shown};
-ghost use Rattle.abstract_kernel.specs.Step.{step};
-ghost use Rattle.reasons.specs.Reasons.{refusal_of};
-ghost use Rattle.reasons.specs.Facts.{told_by, AreThere};
-ghost use Rattle.reasons.specs.Calls.{explained_call, reason_of, refusal_in};
-ghost use Rattle.reasons.specs.Paths.{path as path_of};
-ghost use Rattle.reasons.specs.Hints.{word_hint as word_hint_of, index_hint as index_hint_of};
+ghost use Rattle.kernel_abstract.specs.State.{State, shown};
+ghost use Rattle.kernel_abstract.specs.Step.{step};
+ghost use Rattle.kernel_reasons.specs.Reasons.{refusal_of};
+ghost use Rattle.kernel_reasons.specs.Facts.{told_by, AreThere};
+ghost use Rattle.kernel_reasons.specs.Calls.{explained_call, reason_of, refusal_in};
+ghost use Rattle.kernel_reasons.specs.Paths.{path as path_of};
+ghost use Rattle.kernel_reasons.specs.Hints.{word_hint as word_hint_of, index_hint as index_hint_of};
 
 use crate::addresses::slot_within;
 use crate::kernel::Kernel;
-use abstract_kernel::call::{Call, ThreadState};
-use abstract_kernel::invocation::Invocation;
 use cap_core::{Cap, Profile};
 use ipc_core::Waiters;
-use reasons::{Held, Hint, Reason, index_hint, path, reason_in, reason_op, word_hint};
+use kernel_abstract::call::{Call, ThreadState};
+use kernel_abstract::invocation::Invocation;
+use kernel_reasons::{Held, Hint, Reason, index_hint, path, reason_in, reason_op, word_hint};
 use slot_core::CapStore;
 use std::alloc::{AllocError, Global};
 

@@ -1,11 +1,11 @@
 //! The revoke of a slot by itself.
 ghost use Rattle.std.specs.Prelude.{◌≡◌, true};
-ghost use Rattle.derivation.specs.Entries.{is_full};
-ghost use Rattle.clearing.specs.Revoke.{revoke as revoked};
-ghost use Rattle.abstract_kernel.specs.Reached.{IsReached};
-ghost use Rattle.abstract_kernel.specs.State.{State, shown};
-ghost use Rattle.abstract_kernel.specs.Step.{objects_ended};
-ghost use Rattle.abstract_kernel.specs.Private.Endings.{after_ending};
+ghost use Rattle.kernel_forest.specs.Entries.{is_full};
+ghost use Rattle.kernel_delete.specs.Revoke.{revoke as revoked};
+ghost use Rattle.kernel_abstract.specs.Reached.{IsReached};
+ghost use Rattle.kernel_abstract.specs.State.{State, shown};
+ghost use Rattle.kernel_abstract.specs.Step.{objects_ended};
+ghost use Rattle.kernel_abstract.specs.Private.Endings.{after_ending};
 
 use crate::deletion::revoke_at;
 use crate::kernel::Kernel;

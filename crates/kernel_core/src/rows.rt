@@ -4,9 +4,9 @@ ghost use Rattle.std.specs.FinMap as map;
 ghost use Rattle.cap_core.specs.Numbers.{tcb_size};
 ghost use Rattle.kernel_core.specs.Rows.{rows_map, state_with};
 
-use abstract_kernel::call::{Inbox, ThreadState};
 use cap_core::Profile;
 use ipc_core::Role;
+use kernel_abstract::call::{Inbox, ThreadState};
 
 /// What a kernel keeps of a thread beside how it waits: whether it is inactive where it does not wait, and the last
 /// message that was delivered to it.

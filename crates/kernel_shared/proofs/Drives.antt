@@ -3,7 +3,7 @@ use Rattle.std.proofs.Common.{◌≡◌, ◌≢◌, ◌⊎◌, ⊎_elim, ℕ, ze
 use Rattle.std.proofs.lemmas.List.{append-nil, take_more}
 use Rattle.std.proofs.lemmas.Option.{slice_get_within}
 use Rattle.kernel_shared.specs.Driving.{EachThree}
-use Rattle.abstract_kernel.specs.declared.call.Call.{Call}
+use Rattle.kernel_abstract.specs.declared.call.Call.{Call}
 use Rattle.kernel_shared.specs.declared.driving.Stop.{Stop}
 use Rattle.kernel_shared.specs.declared.end.End.{End}
 use Rattle.kernel_shared.specs.declared.end.End.TheVariants as E

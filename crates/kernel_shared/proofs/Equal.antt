@@ -11,11 +11,11 @@ use Rattle.cap_core.specs.declared.rights.Rights.{Rights}
 use Rattle.cap_core.specs.declared.capability.Badge.{Badge}
 use Rattle.cap_core.specs.declared.message.Message.{Message}
 use Rattle.cap_core.specs.declared.refusal.Refusal.{Refusal}
-use Rattle.abstract_kernel.specs.declared.call.Call.{Call}
-use Rattle.abstract_kernel.specs.declared.call.Op.{Op}
-use Rattle.abstract_kernel.specs.declared.call.Reply.{Reply}
-use Rattle.abstract_kernel.specs.contracts.call.Op as op
-use Rattle.abstract_kernel.specs.contracts.call.Reply as reply
+use Rattle.kernel_abstract.specs.declared.call.Call.{Call}
+use Rattle.kernel_abstract.specs.declared.call.Op.{Op}
+use Rattle.kernel_abstract.specs.declared.call.Reply.{Reply}
+use Rattle.kernel_abstract.specs.contracts.call.Op as op
+use Rattle.kernel_abstract.specs.contracts.call.Reply as reply
 use Rattle.cap_core.specs.contracts.rights.Rights as rights_type
 use Rattle.cap_core.specs.contracts.capability.Badge as badge_type
 use Rattle.cap_core.specs.contracts.message.Message as message_type
@@ -24,9 +24,9 @@ use Rattle.cap_core.specs.contracts.rights.RightsPartialEq.TheImpl as rights_eq
 use Rattle.cap_core.specs.contracts.capability.BadgePartialEq.TheImpl as badge_eq
 use Rattle.cap_core.specs.contracts.message.MessagePartialEq.TheImpl as message_eq
 use Rattle.cap_core.specs.contracts.refusal.RefusalPartialEq.TheImpl as refusal_eq
-use Rattle.abstract_kernel.specs.contracts.call.OpPartialEq.TheImpl as op_eq
-use Rattle.abstract_kernel.specs.contracts.call.CallPartialEq.TheImpl as call_eq
-use Rattle.abstract_kernel.specs.contracts.call.ReplyPartialEq.TheImpl as reply_eq
+use Rattle.kernel_abstract.specs.contracts.call.OpPartialEq.TheImpl as op_eq
+use Rattle.kernel_abstract.specs.contracts.call.CallPartialEq.TheImpl as call_eq
+use Rattle.kernel_abstract.specs.contracts.call.ReplyPartialEq.TheImpl as reply_eq
 use Rattle.kernel_book.specs.declared.entry.Entry.{Entry}
 use Rattle.kernel_book.specs.contracts.entry.EntryPartialEq.TheImpl as entry_eq
 

@@ -5,11 +5,11 @@ use Rattle.std.proofs.Math.Seq.{take-append_seam}
 use Rattle.std.proofs.Math.Logic.{∥∥₁_map}
 use Rattle.std.proofs.lemmas.Option.{slice_get_within, get_or_from_slice_get}
 use Rattle.cap_core.specs.declared.profile.ProfileName.{ProfileName}
-use Rattle.abstract_kernel.specs.declared.call.Call.{Call}
-use Rattle.abstract_kernel.specs.State.{State}
-use Rattle.abstract_kernel.specs.Shown.{Shown}
-use Rattle.abstract_kernel.specs.Step.{step, state_after, replies_of}
-use Rattle.abstract_kernel.proofs.Reached.Runs.{replies_of-nil, replies_of-cons, replies_of-append}
+use Rattle.kernel_abstract.specs.declared.call.Call.{Call}
+use Rattle.kernel_abstract.specs.State.{State}
+use Rattle.kernel_abstract.specs.Shown.{Shown}
+use Rattle.kernel_abstract.specs.Step.{step, state_after, replies_of}
+use Rattle.kernel_abstract.proofs.Reached.Runs.{replies_of-nil, replies_of-cons, replies_of-append}
 use Rattle.kernel_book.specs.declared.entry.Entry.{Entry}
 use Rattle.kernel_book.specs.Laws.{Lawful, calls_of, replies_in}
 use Rattle.kernel_shared.proofs.Numbered.{numbered_parts}

@@ -3,13 +3,13 @@ use Rattle.std.proofs.Common.{◌≡◌, ℕ, List, Option, ap, ◌∙◌}
 use Rattle.std.proofs.Props.{props}
 use mathlib.Core.Logic.{∥∥₁_elim}
 use Rattle.cap_core.specs.declared.profile.ProfileName.{ProfileName}
-use Rattle.abstract_kernel.specs.declared.call.ThreadState.{ThreadState}
-use Rattle.abstract_kernel.specs.declared.call.Inbox.{Inbox}
+use Rattle.kernel_abstract.specs.declared.call.ThreadState.{ThreadState}
+use Rattle.kernel_abstract.specs.declared.call.Inbox.{Inbox}
 use Rattle.cap_core.specs.declared.capability.Cap.{Cap}
-use Rattle.abstract_kernel.specs.State.{State, shown}
-use Rattle.abstract_kernel.specs.Shown.{Shown}
-use Rattle.abstract_kernel.specs.Step.{state_after}
-use Rattle.abstract_kernel.specs.Reached.{IsReached}
+use Rattle.kernel_abstract.specs.State.{State, shown}
+use Rattle.kernel_abstract.specs.Shown.{Shown}
+use Rattle.kernel_abstract.specs.Step.{state_after}
+use Rattle.kernel_abstract.specs.Reached.{IsReached}
 use Rattle.kernel_book.specs.declared.entry.Entry.{Entry}
 use Rattle.kernel_book.specs.Laws.{calls_of, StandsAfter}
 

@@ -4,12 +4,12 @@ use Rattle.std.proofs.Props.{props}
 use Rattle.std.proofs.lemmas.Bool.Decides.{nat_tests}
 use mathlib.Core.Logic.{∥∥₁_elim}
 use Rattle.cap_core.specs.declared.profile.ProfileName.{ProfileName}
-use Rattle.abstract_kernel.specs.declared.call.Reply.{Reply}
-use Rattle.abstract_kernel.specs.State.{State, shown}
-use Rattle.abstract_kernel.specs.Shown.{Shown}
-use Rattle.abstract_kernel.specs.Step.{step, state_after}
-use Rattle.abstract_kernel.specs.Reached.{IsReached}
-use Rattle.abstract_kernel.proofs.Reached.Runs.{reached_after}
+use Rattle.kernel_abstract.specs.declared.call.Reply.{Reply}
+use Rattle.kernel_abstract.specs.State.{State, shown}
+use Rattle.kernel_abstract.specs.Shown.{Shown}
+use Rattle.kernel_abstract.specs.Step.{step, state_after}
+use Rattle.kernel_abstract.specs.Reached.{IsReached}
+use Rattle.kernel_abstract.proofs.Reached.Runs.{reached_after}
 use Rattle.kernel_book.specs.declared.entry.Entry.{Entry}
 use Rattle.kernel_book.specs.declared.book.BookFault.{BookFault}
 use Rattle.kernel_book.specs.declared.book.BookFault.TheVariants.{Full, NameTaken}

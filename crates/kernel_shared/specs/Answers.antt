@@ -1,12 +1,12 @@
 -- The value of a query after a front.
 use Rattle.std.specs.Prelude.{◌≡◌, List, length, slice_get}
 use Rattle.cap_core.specs.declared.profile.ProfileName.{ProfileName}
-use Rattle.derivation.specs.Entries.{cap_at}
-use Rattle.abstract_kernel.specs.State.{State, shown}
-use Rattle.abstract_kernel.specs.Shown.{Shown, state_at, inbox_at}
-use Rattle.abstract_kernel.specs.Step.{state_after}
-use Rattle.abstract_kernel.specs.Waiting.{thread_waiting}
-use Rattle.abstract_kernel.specs.Reached.{IsReached}
+use Rattle.kernel_forest.specs.Entries.{cap_at}
+use Rattle.kernel_abstract.specs.State.{State, shown}
+use Rattle.kernel_abstract.specs.Shown.{Shown, state_at, inbox_at}
+use Rattle.kernel_abstract.specs.Step.{state_after}
+use Rattle.kernel_abstract.specs.Waiting.{thread_waiting}
+use Rattle.kernel_abstract.specs.Reached.{IsReached}
 use Rattle.kernel_book.specs.declared.entry.Entry.{Entry}
 use Rattle.kernel_book.specs.Laws.{calls_of}
 use Rattle.kernel_shared.specs.declared.query.Query.{Query}

@@ -1,6 +1,6 @@
 -- What a fault tells of the client.
 use Rattle.std.specs.Prelude.{◌≡◌, ℕ, ◌<◌, length, Some, None}
-use Rattle.abstract_kernel.specs.declared.call.Call.{Call}
+use Rattle.kernel_abstract.specs.declared.call.Call.{Call}
 use Rattle.kernel_book.specs.Laws.{count_of}
 use Rattle.kernel_shared.specs.declared.fault.SharedFault.{SharedFault}
 use Rattle.kernel_shared.specs.declared.fault.SharedFault.TheVariants.{Full, Stray, NameTaken, Memory, NoEntry}

@@ -1,8 +1,8 @@
 -- The history after a request.
 use Rattle.std.specs.Prelude.{ℕ, ◌==◌, cond, List, [], ◌∷◌, ◌++◌, length}
 use Rattle.cap_core.specs.declared.profile.ProfileName.{ProfileName}
-use Rattle.abstract_kernel.specs.State.{State}
-use Rattle.abstract_kernel.specs.Step.{step, state_after}
+use Rattle.kernel_abstract.specs.State.{State}
+use Rattle.kernel_abstract.specs.Step.{step, state_after}
 use Rattle.kernel_book.specs.declared.entry.Entry.{Entry}
 use Rattle.kernel_book.specs.Laws.{entry, calls_of, count_of}
 use Rattle.kernel_shared.specs.declared.request.Request.{Request}

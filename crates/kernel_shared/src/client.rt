@@ -6,7 +6,7 @@ ghost use Rattle.kernel_shared.specs.Answers.{IsAnswer};
 ghost use Rattle.kernel_shared.specs.ClientStates.{lost, made, client_state};
 ghost use Rattle.kernel_shared.specs.Faults.{Told};
 ghost use Rattle.left_right.specs.Sides.{view};
-ghost use Rattle.abstract_kernel.specs.declared.call.Call.{Call};
+ghost use Rattle.kernel_abstract.specs.declared.call.Call.{Call};
 
 use crate::fault::SharedFault;
 use crate::front::Front;
@@ -15,7 +15,7 @@ use crate::query::{Answer, Query};
 use crate::request::Request;
 use crate::rule::{Published, SeesBook, View};
 use crate::writer_state::{NotPublished, WriterState};
-use abstract_kernel::{Call, Reply};
+use kernel_abstract::{Call, Reply};
 use kernel_book::{Entry, Naming};
 use left_right::reader::Reader;
 use std::marker::Model;

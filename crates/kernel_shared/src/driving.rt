@@ -10,7 +10,7 @@ use crate::end::End;
 use crate::fault::SharedFault;
 use crate::history_copy::HistoryCopy;
 use crate::shared::Shared;
-use abstract_kernel::Call;
+use kernel_abstract::Call;
 use kernel_book::Naming;
 use std::alloc::Global;
 use std::marker::PhantomData;

@@ -1,6 +1,6 @@
 //! What a client asks of the history and of the kernel, and what it is answered.
-use abstract_kernel::{Inbox, ThreadState};
 use cap_core::Cap;
+use kernel_abstract::{Inbox, ThreadState};
 use kernel_book::Entry;
 
 /// What a look asks for.

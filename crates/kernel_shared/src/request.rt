@@ -1,5 +1,5 @@
 //! What the writer hands to both copies.
-use abstract_kernel::Call;
+use kernel_abstract::Call;
 
 /// A call of a client, under the client's number for it.
 #[derive(Clone, Copy)]

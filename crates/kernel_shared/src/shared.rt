@@ -11,7 +11,7 @@ use crate::client_count::ClientCount;
 use crate::fault::SharedFault;
 use crate::history_copy::HistoryCopy;
 use crate::writer_state::WriterState;
-use abstract_kernel::{Call, Reply};
+use kernel_abstract::{Call, Reply};
 use kernel_book::Naming;
 use std::sync::{Mutex, MutexGuard, Wait};
 

@@ -8,13 +8,13 @@ use denote.Ref.{Bor}
 use Rattle.cap_core.specs.declared.profile.ProfileName.{ProfileName}
 use Rattle.cap_core.specs.declared.profile.ProfileName.TheVariants.{Wide, Narrow}
 use Rattle.cap_core.specs.Numbers.{max_object_bits}
-use Rattle.abstract_kernel.specs.Plan.{IsPlan, IsUntypedSize}
+use Rattle.kernel_abstract.specs.Plan.{IsPlan, IsUntypedSize}
 use Rattle.command_line.specs.CommandLine.{Says}
 use Rattle.command_line.specs.declared.arguments.Options.{Options}
-use Rattle.engine_core.specs.declared.fault.Verdict.{Verdict}
-use Rattle.engine_core.specs.declared.fault.Verdict.TheVariants.{AllMet, NotMet, Refused, Absent}
-use Rattle.engine_new.specs.New.{IsMade, NoneFits}
-use Rattle.engine_new.specs.declared.asked.NewSetup.{NewSetup}
+use Rattle.command_core.specs.declared.fault.Verdict.{Verdict}
+use Rattle.command_core.specs.declared.fault.Verdict.TheVariants.{AllMet, NotMet, Refused, Absent}
+use Rattle.command_new.specs.New.{IsMade, NoneFits}
+use Rattle.command_new.specs.declared.asked.NewSetup.{NewSetup}
 use Rattle.program.specs.Texts.{before_mark, behind_mark}
 use Rattle.program.specs.Commas.{words_in}
 use Rattle.program.specs.NewWords.{AreRegions, AsksFor, IsNewOf, IsProfileNamed, IsRegion, NothingFits}

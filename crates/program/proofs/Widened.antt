@@ -1,11 +1,11 @@
 -- A run by a meaning is a run by each meaning that holds wherever this one does; and it writes a text of that meaning.
 use Rattle.std.proofs.Common.{List, ℕ, Result, Ok, Err}
 use Rattle.std.specs.Prelude.{IfOk}
-use Rattle.engine_core.specs.Runs.{IsRun}
-use Rattle.engine_core.specs.declared.fault.Verdict.{Verdict}
-use Rattle.engine_core.specs.declared.fault.RunFault.{RunFault}
-use Rattle.engine_core.specs.declared.sink.Sink.{Ghosts as SinkGhosts}
-use Rattle.engine_core.specs.declared.source.Source.{Ghosts as SourceGhosts}
+use Rattle.command_core.specs.Runs.{IsRun}
+use Rattle.command_core.specs.declared.fault.Verdict.{Verdict}
+use Rattle.command_core.specs.declared.fault.RunFault.{RunFault}
+use Rattle.command_core.specs.declared.sink.Sink.{Ghosts as SinkGhosts}
+use Rattle.command_core.specs.declared.source.Source.{Ghosts as SourceGhosts}
 use Rattle.program.specs.Ends.{IsWriting}
 
 pub if_ok : {A E : Type 0} (r : Result A E) (P Q : A → Type 0) → ((v : A) → P v → Q v) → IfOk r P → IfOk r Q

@@ -7,18 +7,18 @@ use Rattle.command_line.specs.CommandLine.{agrees, command, file_asked, job_aske
 use Rattle.command_line.specs.declared.arguments.Job.{Job}
 use Rattle.command_line.specs.declared.arguments.Job.TheVariants.{Check, New}
 use Rattle.command_line.specs.declared.arguments.Options.{Options}
-use Rattle.engine_core.specs.Devices.{Took, TookFront}
-use Rattle.engine_core.specs.Runs.{IsRun}
-use Rattle.engine_core.specs.declared.fault.Verdict.{Verdict}
-use Rattle.engine_core.specs.declared.fault.RunFault.{RunFault}
-use Rattle.engine_core.specs.declared.fault.RunFault.TheVariants.{Reading, Writing, Memory, Thread}
-use Rattle.engine_core.specs.declared.sink.Sink.{Ghosts as SinkGhosts}
-use Rattle.engine_core.specs.declared.source.Source.{Ghosts as SourceGhosts}
+use Rattle.command_core.specs.Devices.{Took, TookFront}
+use Rattle.command_core.specs.Runs.{IsRun}
+use Rattle.command_core.specs.declared.fault.Verdict.{Verdict}
+use Rattle.command_core.specs.declared.fault.RunFault.{RunFault}
+use Rattle.command_core.specs.declared.fault.RunFault.TheVariants.{Reading, Writing, Memory, Thread}
+use Rattle.command_core.specs.declared.sink.Sink.{Ghosts as SinkGhosts}
+use Rattle.command_core.specs.declared.source.Source.{Ghosts as SourceGhosts}
 use Rattle.program.specs.Jobs.{meaning}
 use Rattle.program.specs.NewWords.{IsNewOf}
-use Rattle.engine_files.specs.Files.{IsCheckOf, IsInput}
-use Rattle.engine_files.specs.declared.inputs.Used.{Used}
-use Rattle.engine_files.specs.declared.inputs.Used.TheVariants.{Standard, File, Unopened, Nothing}
+use Rattle.command_files.specs.Files.{IsCheckOf, IsInput}
+use Rattle.command_files.specs.declared.inputs.Used.{Used}
+use Rattle.command_files.specs.declared.inputs.Used.TheVariants.{Standard, File, Unopened, Nothing}
 use Rattle.program_messages.specs.declared.ended.Ended.{Ended}
 use Rattle.program_messages.specs.declared.ended.Ended.TheVariants.{Did, Checked, Helped, Refused, Conflict, NoMemory}
 

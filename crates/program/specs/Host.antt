@@ -1,9 +1,9 @@
 -- The exit status of the process.
 use Rattle.std.specs.Prelude.{◌≡◌, ℕ, List, false}
 use Rattle.clap.specs.Words.{Text}
-use Rattle.engine_core.specs.Devices.{Counted}
-use Rattle.engine_core.specs.declared.sink.Sink.{Ghosts as SinkGhosts}
-use Rattle.engine_core.specs.declared.source.Source.{Ghosts as SourceGhosts}
+use Rattle.command_core.specs.Devices.{Counted}
+use Rattle.command_core.specs.declared.sink.Sink.{Ghosts as SinkGhosts}
+use Rattle.command_core.specs.declared.source.Source.{Ghosts as SourceGhosts}
 use Rattle.program_messages.specs.Statuses.{end_status}
 use Rattle.program_messages.specs.declared.ended.Ended.{Ended}
 use Rattle.program.specs.Ends.{IsEnd}

@@ -3,20 +3,20 @@ use Rattle.std.specs.Prelude.{◌≡◌, ℕ, List, Option, Some, None, option_m
 use Rattle.command_line.specs.declared.arguments.Job.{Job}
 use Rattle.command_line.specs.declared.arguments.Job.TheVariants.{Check, Trace, Threads, Migrate, Why, Audit, Explore, Tree, New}
 use Rattle.command_line.specs.declared.arguments.Options.{Options}
-use Rattle.engine_core.specs.declared.fault.Verdict.{Verdict}
-use Rattle.engine.specs.Program.{program}
-use Rattle.engine.specs.Commands.{IsAnswerTo, IsStateAnswer}
-use Rattle.engine.specs.Migrations.{IsMigration}
-use Rattle.setup_audit.specs.Audits.{IsAudited}
-use Rattle.setup_ever.specs.Told.{IsEver}
-use Rattle.engine_never.specs.Never.{Asked, IsNever}
-use Rattle.engine_explore.specs.Explorations.{IsExploration}
-use Rattle.engine_threads.specs.SharedRuns.{IsSharedProgram}
-use Rattle.setup_trace.specs.Traces.{IsTrace}
-use Rattle.setup_tree.specs.Trees.{IsTree}
-use Rattle.setup_why.specs.Explained.{IsWhy}
-use Rattle.setup_tree.specs.declared.form.Form.{Form}
-use Rattle.setup_tree.specs.declared.form.Form.TheVariants.{Lines, Dot}
+use Rattle.command_core.specs.declared.fault.Verdict.{Verdict}
+use Rattle.command_check.specs.Program.{program}
+use Rattle.command_check.specs.Commands.{IsAnswerTo, IsStateAnswer}
+use Rattle.command_check.specs.Migrations.{IsMigration}
+use Rattle.command_audit.specs.Audits.{IsAudited}
+use Rattle.command_parts.specs.Told.{IsEver}
+use Rattle.command_never.specs.Never.{Asked, IsNever}
+use Rattle.command_explore.specs.Explorations.{IsExploration}
+use Rattle.command_threads.specs.SharedRuns.{IsSharedProgram}
+use Rattle.command_trace.specs.Traces.{IsTrace}
+use Rattle.command_tree.specs.Trees.{IsTree}
+use Rattle.command_why.specs.Explained.{IsWhy}
+use Rattle.command_tree.specs.declared.form.Form.{Form}
+use Rattle.command_tree.specs.declared.form.Form.TheVariants.{Lines, Dot}
 use Rattle.program.specs.Commas.{words_in}
 use Rattle.program.specs.NewWords.{IsNewOf}
 use Rattle.program.specs.Texts.{before_mark, behind_mark}

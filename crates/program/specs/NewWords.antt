@@ -3,14 +3,14 @@ use Rattle.std.specs.Prelude.{◌≡◌, ℕ, List, [], ◌∷◌, ⊤, codes, t
 use Rattle.std.specs.Str.{bytes_eq}
 use Rattle.cap_core.specs.declared.profile.ProfileName.{ProfileName}
 use Rattle.cap_core.specs.declared.profile.ProfileName.TheVariants.{Wide, Narrow}
-use Rattle.abstract_kernel.specs.Plan.{Plan}
+use Rattle.kernel_abstract.specs.Plan.{Plan}
 use Rattle.command_line.specs.CommandLine.{Says}
 use Rattle.command_line.specs.declared.arguments.Options.{Options}
-use Rattle.engine_core.specs.declared.fault.Verdict.{Verdict}
-use Rattle.engine_core.specs.declared.fault.Verdict.TheVariants.{AllMet, NotMet, Refused, Absent}
-use Rattle.engine_new.specs.New.{Fits, IsNew, NoneFits}
-use Rattle.engine_new.specs.Text.{new_text}
-use Rattle.engine_new.specs.declared.asked.NewSetup.{NewSetup}
+use Rattle.command_core.specs.declared.fault.Verdict.{Verdict}
+use Rattle.command_core.specs.declared.fault.Verdict.TheVariants.{AllMet, NotMet, Refused, Absent}
+use Rattle.command_new.specs.New.{Fits, IsNew, NoneFits}
+use Rattle.command_new.specs.Text.{new_text}
+use Rattle.command_new.specs.declared.asked.NewSetup.{NewSetup}
 use Rattle.program.specs.Texts.{before_mark, behind_mark}
 use Rattle.program.specs.Commas.{words_in}
 

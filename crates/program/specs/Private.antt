@@ -1,7 +1,7 @@
 -- What only private contracts cite, in proofs of the public ones: nobody has to believe it.
 use Rattle.std.specs.Prelude.{ℕ, List, All}
 use Rattle.cap_core.specs.declared.profile.ProfileName.{ProfileName}
-use Rattle.abstract_kernel.specs.Plan.{IsUntypedSize}
+use Rattle.kernel_abstract.specs.Plan.{IsUntypedSize}
 use Rattle.program.specs.NewWords.{AreRegions}
 
 -- whatever regions the words say, the bits of one lie within no profile

@@ -2,11 +2,11 @@
 use Rattle.std.specs.Prelude.{◌≡◌, ℕ, codes, true, false, List, Option, Some, unwrap_or}
 use Rattle.std.specs.Str.{bytes_eq}
 use Rattle.command_line.specs.CommandLine.{Says}
-use Rattle.engine_core.specs.declared.fault.Verdict.{Verdict}
-use Rattle.engine.specs.Commands.{IsAnswerTo}
-use Rattle.engine_explore.specs.Witnessed.{IsWitness}
-use Rattle.setup_explore.specs.declared.witness.Witness.{Witness}
-use Rattle.setup_explore.specs.declared.witness.Witness.TheVariants.{Answer, Stuck}
+use Rattle.command_core.specs.declared.fault.Verdict.{Verdict}
+use Rattle.command_check.specs.Commands.{IsAnswerTo}
+use Rattle.command_explore.specs.Witnessed.{IsWitness}
+use Rattle.command_explore_text.specs.declared.witness.Witness.{Witness}
+use Rattle.command_explore_text.specs.declared.witness.Witness.TheVariants.{Answer, Stuck}
 use Rattle.program.specs.Texts.{before_mark, behind_mark}
 
 -- the texts before and behind the first dot (46)

@@ -6,10 +6,10 @@ ghost use Rattle.program.specs.Host.{IsStatusOf, IsUnread};
 
 use crate::front::FrontWriter;
 use crate::lines::run_words;
+use command_check::CountedText;
+use command_core::{KeptReader, KeptWriter, ReaderSource, Sink, Source, WriterSink};
+use command_files::{Inputs, Listener, Used};
 use command_line::LineFault;
-use engine::CountedText;
-use engine_core::{KeptReader, KeptWriter, ReaderSource, Sink, Source, WriterSink};
-use engine_files::{Inputs, Listener, Used};
 use program_messages::{Output, complain, tell, tell_of_file};
 use std::env::{self, Env};
 use std::fs::{self, Files};

@@ -1,14 +1,14 @@
 //! The run of a job.
 ghost use Rattle.std.specs.Prelude.{◌≡◌, ◌≢◌, ℕ, List, false, IsOk};
-ghost use Rattle.engine_core.specs.Devices.{Gave};
-ghost use Rattle.engine_core.specs.Runs.{IsRun};
+ghost use Rattle.command_core.specs.Devices.{Gave};
+ghost use Rattle.command_core.specs.Runs.{IsRun};
 ghost use Rattle.setup_format.specs.Setups.{setup_of_bytes};
 ghost use Rattle.program.specs.Jobs.{IsShared, meaning};
 
 use crate::work::Work;
+use command_core::{RunFault, Sink, Source, Verdict, run_engine};
 use command_line::{Job, Options};
-use engine_core::{RunFault, Sink, Source, Verdict, run_engine};
-use engine_threads::threads_run_open;
+use command_threads::threads_run_open;
 use std::alloc::Global;
 use std::sync::Wait;
 use std::thread::Threads;

@@ -11,7 +11,7 @@ mod new_setup;
 mod witness;
 mod work;
 
-pub use engine_files::{Inputs, Listener, Used};
+pub use command_files::{Inputs, Listener, Used};
 pub use host::run;
 pub use jobs::run_job;
 pub use lines::run_words;

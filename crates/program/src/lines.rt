@@ -1,14 +1,14 @@
 //! A command line, from its words to its end.
 ghost use Rattle.std.specs.Prelude.{◌≡◌, false, Some, None, option_map};
 ghost use Rattle.clap.specs.Walk.{texts};
-ghost use Rattle.engine_files.specs.Files.{IsCheckOf, IsInput};
+ghost use Rattle.command_files.specs.Files.{IsCheckOf, IsInput};
 ghost use Rattle.program.specs.Ends.{IsDone, IsEnd, IsWriting, named_input};
 ghost use Rattle.program.specs.NewWords.{IsNewOf};
 
 use crate::jobs::{run_job, run_work};
+use command_core::{ReaderSource, RunFault, Sink, write_all};
+use command_files::{Inputs, Listener, Used, check_files};
 use command_line::{Job, Line, LineFault, line};
-use engine_core::{ReaderSource, RunFault, Sink, write_all};
-use engine_files::{Inputs, Listener, Used, check_files};
 use program_messages::{CheckedFiles, Done, Ended};
 use std::alloc::Global;
 use std::sync::Wait;

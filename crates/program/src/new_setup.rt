@@ -9,7 +9,7 @@ use crate::commas::words_in;
 use crate::marks::{around, number_said};
 use cap_core::ProfileName;
 use command_line::Options;
-use engine_new::NewSetup;
+use command_new::NewSetup;
 use std::alloc::{AllocError, Global};
 
 /// How many threads a new set-up has, where no number is given.

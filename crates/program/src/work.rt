@@ -1,28 +1,28 @@
 //! The job of a command line as an engine: what it makes of an input, by the options.
 ghost use Rattle.std.specs.Prelude.{◌≡◌, ◌≢◌, IfErr, IfOk, map};
 ghost use Rattle.command_line.specs.declared.arguments.Job.TheVariants.{Threads};
-ghost use Rattle.engine.specs.Commands.{IsAnswerTo, IsStateAnswer};
+ghost use Rattle.command_check.specs.Commands.{IsAnswerTo, IsStateAnswer};
 ghost use Rattle.program.specs.Jobs.{IsAudit, IsAuditOfState, IsExplorationBy, by_of, form_of as form_of_options, question_of, without_of};
 ghost use Rattle.program.specs.NewWords.{IsNewOf};
 ghost use Rattle.program.specs.WitnessWords.{IsNamedWitness};
-ghost use Rattle.setup_ever.specs.Told.{IsEver};
-ghost use Rattle.engine_never.specs.Never.{IsNever};
+ghost use Rattle.command_parts.specs.Told.{IsEver};
+ghost use Rattle.command_never.specs.Never.{IsNever};
 
 use crate::commas::words_in;
 use crate::marks::around;
 use crate::new_setup::asked_by;
 use crate::witness::witness_named;
+use command_audit::Audit;
+use command_check::{Checker, Command, Migrator, OnSetup, OnState, StateCommand};
+use command_core::{Engine, RunFault, Verdict};
+use command_explore::{Explore, ExploreOptions, WriteWitness};
 use command_line::{Job, Options};
-use engine::{Checker, Command, Migrator, OnSetup, OnState, StateCommand};
-use engine_core::{Engine, RunFault, Verdict};
-use engine_explore::{Explore, ExploreOptions, WriteWitness};
-use engine_never::Question;
-use engine_new::Maker;
-use setup_audit::Audit;
-use setup_ever::Ever;
-use setup_trace::Trace;
-use setup_tree::{Form, Tree};
-use setup_why::Why;
+use command_never::Question;
+use command_new::Maker;
+use command_parts::Ever;
+use command_trace::Trace;
+use command_tree::{Form, Tree};
+use command_why::Why;
 use std::alloc::Global;
 
 /// How many states are kept at the most, where no number is given.

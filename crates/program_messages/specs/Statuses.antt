@@ -1,11 +1,11 @@
 -- The program's exit status, and what it says first on standard error.
 use Rattle.std.specs.Prelude.{ℕ, List, codes, Option, Some, None, Result, Ok, Err}
-use Rattle.engine_core.specs.Statuses.{run_status, run_fault_text}
-use Rattle.engine_core.specs.declared.fault.Verdict.{Verdict}
-use Rattle.engine_core.specs.declared.fault.Verdict.TheVariants.{Absent}
-use Rattle.engine_core.specs.declared.fault.RunFault.{RunFault}
-use Rattle.engine_files.specs.Files.{files_status}
-use Rattle.engine_files.specs.declared.tally.Tally.{Tally}
+use Rattle.command_core.specs.Statuses.{run_status, run_fault_text}
+use Rattle.command_core.specs.declared.fault.Verdict.{Verdict}
+use Rattle.command_core.specs.declared.fault.Verdict.TheVariants.{Absent}
+use Rattle.command_core.specs.declared.fault.RunFault.{RunFault}
+use Rattle.command_files.specs.Files.{files_status}
+use Rattle.command_files.specs.declared.tally.Tally.{Tally}
 use Rattle.program_messages.specs.declared.ended.Ended.{Ended}
 use Rattle.program_messages.specs.declared.ended.Ended.TheVariants.{Did, Checked, Helped, Refused, Conflict, NoMemory}
 

@@ -1,9 +1,9 @@
 //! How the program ends: its exit status, and what it says of a fault.
 ghost use Rattle.std.specs.Prelude.{◌≡◌, option_map};
 
+use command_core::{RunFault, Verdict, status_of};
+use command_files::{Tally, Used, status_of_files};
 use command_line::Line;
-use engine_core::{RunFault, Verdict, status_of};
-use engine_files::{Tally, Used, status_of_files};
 
 /// What is said of a command line that is refused.
 const REFUSED: &str = "command line refused";

@@ -1,6 +1,6 @@
 -- The first fault of a set-up, and what a function returned beside what a set-up is read as.
 use Rattle.std.specs.Prelude.{◌≡◌, ℕ, List, Result, Ok, Err, string_bytes}
-use Rattle.abstract_kernel.specs.declared.plan.PlanDefect.{PlanDefect}
+use Rattle.kernel_abstract.specs.declared.plan.PlanDefect.{PlanDefect}
 use Rattle.setup_values.specs.declared.values.Wrong.{Wrong}
 use Rattle.setup_values.specs.Kinds.{wrong_code}
 use Rattle.setup_format.specs.declared.fault.Place.{Place}

@@ -4,8 +4,8 @@ use Rattle.cap_core.specs.declared.profile.ProfileName.{ProfileName}
 use Rattle.cap_core.specs.Limits.{max_message_words}
 use Rattle.cap_core.specs.declared.message.Message.{Message}
 use Rattle.cap_core.specs.Numbers.{label_bits}
-use Rattle.abstract_kernel.specs.declared.call.Op.{Op}
-use Rattle.abstract_kernel.specs.declared.call.Op.TheVariants.{Send, NbSend}
+use Rattle.kernel_abstract.specs.declared.call.Op.{Op}
+use Rattle.kernel_abstract.specs.declared.call.Op.TheVariants.{Send, NbSend}
 use Rattle.setup_format.specs.Views.{CallView}
 
 -- a label of the profile, no more words than a message has, and zeros past them

@@ -6,9 +6,9 @@ use Rattle.cap_core.specs.declared.message.Message.{Message}
 use Rattle.cap_core.specs.declared.rights.Rights.{Rights}
 use Rattle.cap_core.specs.Numbers.{word_bits}
 use Rattle.cap_core.specs.Rights.{all_rights}
-use Rattle.abstract_kernel.specs.declared.call.Op.{Op}
-use Rattle.abstract_kernel.specs.declared.call.Op.TheVariants as ops
-use Rattle.abstract_kernel.specs.declared.invocation.SlotArguments.{SlotArguments}
+use Rattle.kernel_abstract.specs.declared.call.Op.{Op}
+use Rattle.kernel_abstract.specs.declared.call.Op.TheVariants as ops
+use Rattle.kernel_abstract.specs.declared.invocation.SlotArguments.{SlotArguments}
 use Rattle.setup_format.specs.declared.fault.Place.{Place}
 use Rattle.setup_values.specs.declared.operations.OpName.{OpName}
 use Rattle.setup_values.specs.declared.operations.OpName.TheVariants.{Retype, CapCopy, CapMint, CapMove, CapMutate, CapDelete, CapRevoke, CancelBadged, Send, NbSend, Recv, NbRecv, SetSpace, Suspend, Resume}

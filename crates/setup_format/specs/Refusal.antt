@@ -2,8 +2,8 @@
 use Rattle.std.specs.Prelude.{codes, ℕ, ◌+◌, List, ◌++◌, length, Bool, ◌&&◌, ◌||◌, ◌==◌, if◌then◌else◌}
 use Rattle.std.specs.List.{list_all}
 use Rattle.std.specs.Fmt.{decimal}
-use Rattle.abstract_kernel.specs.declared.plan.PlanDefect.{PlanDefect}
-use Rattle.abstract_kernel.specs.declared.plan.PlanDefect.TheVariants.{Outside, Unaligned, UntypedOutside, Overlap, Slots}
+use Rattle.kernel_abstract.specs.declared.plan.PlanDefect.{PlanDefect}
+use Rattle.kernel_abstract.specs.declared.plan.PlanDefect.TheVariants.{Outside, Unaligned, UntypedOutside, Overlap, Slots}
 use Rattle.setup_format.specs.Limits.{max_shown_key_bytes}
 use Rattle.setup_format.specs.declared.fault.Place.{Place}
 use Rattle.setup_format.specs.declared.fault.Place.TheVariants as places

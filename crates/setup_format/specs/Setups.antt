@@ -7,8 +7,8 @@ use Rattle.cap_core.specs.declared.profile.ProfileName.{ProfileName}
 use Rattle.cap_core.specs.declared.profile.ProfileName.TheVariants.{Wide}
 use Rattle.cap_core.specs.Limits.{min_memory_bits, max_memory_bits, min_root_radix, max_root_radix, min_boot_threads, max_boot_threads, max_boot_endpoints, max_boot_untypeds, max_clients, max_history_limit}
 use Rattle.cap_core.specs.Numbers.{min_untyped_bits, max_object_bits}
-use Rattle.abstract_kernel.specs.declared.plan.PlanDefect.{PlanDefect}
-use Rattle.abstract_kernel.specs.Plan.{Plan, planned, first_defect}
+use Rattle.kernel_abstract.specs.declared.plan.PlanDefect.{PlanDefect}
+use Rattle.kernel_abstract.specs.Plan.{Plan, planned, first_defect}
 use Rattle.setup_format.specs.Limits.{first_format, newest_format, max_calls}
 use Rattle.setup_format.specs.declared.fault.Place.{Place}
 use Rattle.setup_format.specs.declared.fault.Place.TheVariants as places

@@ -3,8 +3,8 @@ use Rattle.std.specs.Prelude.{ℕ, ◌≤◌, ◌<◌, List, [], ◌∷◌, leng
 use Rattle.toml.specs.Data.{Members}
 use Rattle.cap_core.specs.declared.profile.ProfileName.{ProfileName}
 use Rattle.setup_values.specs.Names.{Names}
-use Rattle.abstract_kernel.specs.declared.call.Call.{Call}
-use Rattle.abstract_kernel.specs.Plan.{Plan}
+use Rattle.kernel_abstract.specs.declared.call.Call.{Call}
+use Rattle.kernel_abstract.specs.Plan.{Plan}
 use Rattle.cap_core.specs.Limits.{max_clients, max_history_limit}
 use Rattle.setup_format.specs.Limits.{max_calls}
 use Rattle.setup_format.specs.declared.setup.Caller.{Caller}

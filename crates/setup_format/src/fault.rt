@@ -2,7 +2,7 @@
 ghost use Rattle.std.specs.Prelude.{◌≡◌};
 ghost use Rattle.setup_format.specs.declared.fault.SetupFault.TheVariants.{Memory};
 
-use boot_plan::PlanDefect;
+use kernel_boot::PlanDefect;
 pub use setup_values::Wrong;
 use std::alloc::{AllocError, AllocFailed};
 

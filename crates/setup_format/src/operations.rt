@@ -7,9 +7,9 @@ ghost use Rattle.setup_format.specs.Operations as spec;
 
 use crate::fault::SetupFault;
 use crate::tables::Keys;
-use abstract_kernel::Op;
-use abstract_kernel::invocation::SlotArguments;
 use cap_core::{Message, Profile, Rights};
+use kernel_abstract::Op;
+use kernel_abstract::invocation::SlotArguments;
 use setup_values::kinds::{Label, RightsKind, Word, WordsKind};
 use setup_values::{OpName, Words};
 

@@ -1,7 +1,7 @@
 //! A whole set-up, from its text or from the table of it.
 ghost use Rattle.std.specs.Prelude.{◌≡◌, ◌≢◌, ◌≤◌, ◌<◌, map, length, All, IfOk, IfErr};
 ghost use Rattle.toml.specs.View.{table_view};
-ghost use Rattle.abstract_kernel.specs.Plan.{IsUntypedSize, IsWithinLimits, IsPlan};
+ghost use Rattle.kernel_abstract.specs.Plan.{IsUntypedSize, IsWithinLimits, IsPlan};
 ghost use Rattle.setup_values.specs.Names.{names_view};
 ghost use Rattle.setup_format.specs.Faults.{Gives};
 ghost use Rattle.setup_values.specs.Kinds.{each};
@@ -16,13 +16,13 @@ use crate::limits::{FIRST_FORMAT, MAX_CALLS, NEWEST_FORMAT};
 use crate::operations::operation_at;
 use crate::setup::{Caller, ReadSetup, Setup, SetupCalls, Sizes};
 use crate::tables::Keys;
-use abstract_kernel::Call;
-use boot_plan::BootPlan;
 use cap_core::limits::{
     MAX_BOOT_ENDPOINTS, MAX_BOOT_THREADS, MAX_BOOT_UNTYPEDS, MAX_CLIENTS, MAX_HISTORY_LIMIT,
     MAX_MEMORY_BITS, MAX_ROOT_RADIX, MIN_BOOT_THREADS, MIN_MEMORY_BITS, MIN_ROOT_RADIX,
 };
 use cap_core::{Narrow, Profile, ProfileName, Wide};
+use kernel_abstract::Call;
+use kernel_boot::BootPlan;
 use setup_values::kinds::{Number, OpKind, ProfileKind, Word};
 use setup_values::{KnownNames, Name};
 use std::alloc::Global;

@@ -6,7 +6,7 @@ ghost use Rattle.setup_format.specs.Refusal as line;
 
 use crate::fault::{Key, Place, SetupFault};
 use crate::limits::MAX_SHOWN_KEY_BYTES;
-use boot_plan::PlanDefect;
+use kernel_boot::PlanDefect;
 use std::fmt;
 use std::fmt::Write;
 

@@ -1,10 +1,10 @@
 //! What a set-up is.
 ghost use Rattle.std.specs.Prelude.{◌≡◌, ◌<◌, ◌≤◌, map, length, Some, option_map, option_copied, slice_get};
 
-use abstract_kernel::Call;
-use boot_plan::BootPlan;
 use cap_core::ProfileName;
 use cap_core::limits::{MAX_MEMORY_BITS, MIN_MEMORY_BITS};
+use kernel_abstract::Call;
+use kernel_boot::BootPlan;
 use setup_values::Name;
 pub use setup_values::{OpName, Words};
 use std::alloc::{AllocError, Global};

@@ -1,6 +1,6 @@
 //! Expectations that no reply can meet.
 ghost use Rattle.std.specs.Prelude.{◌<◌, length};
-ghost use Rattle.abstract_kernel.specs.Plan.{IsPlan};
+ghost use Rattle.kernel_abstract.specs.Plan.{IsPlan};
 
 use crate::message::question;
 use crate::near::nearest;

@@ -3,10 +3,10 @@
 ghost use Rattle.std.specs.Prelude.{◌<◌};
 
 use crate::document::{Document, read_at};
-use abstract_kernel::plan::Extent;
-use boot_plan::PlanDefect;
 use cap_core::limits::{MAX_BOOT_ENDPOINTS, MAX_BOOT_THREADS, MAX_MEMORY_BITS, MAX_ROOT_RADIX};
 use cap_core::{Narrow, Profile, ProfileName, Wide};
+use kernel_abstract::plan::Extent;
+use kernel_boot::PlanDefect;
 use setup_format::Place;
 use setup_values::kinds::{Number, Word};
 use std::alloc::AllocError;

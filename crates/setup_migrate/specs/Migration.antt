@@ -7,7 +7,7 @@ use Rattle.std.specs.Cmp.Lexicographic.{slice_cmp}
 use Rattle.std.specs.Result.{result_ok}
 use Rattle.toml.specs.Data.{Data, string, integer, array, table, Items, no_items, item, Members, no_members, member, same_key}
 use Rattle.cap_core.specs.declared.profile.ProfileName.{ProfileName}
-use Rattle.abstract_kernel.specs.Plan.{Plan, tcb_place}
+use Rattle.kernel_abstract.specs.Plan.{Plan, tcb_place}
 use Rattle.setup_values.specs.Names.{Names}
 use Rattle.cap_core.specs.Checks.{◌>>=◌}
 use Rattle.setup_values.specs.Kinds.{word}

@@ -1,11 +1,11 @@
 //! The threads of a set-up's calls, by their names.
 ghost use Rattle.std.specs.Prelude.{◌≡◌, codes, IfOk};
 ghost use Rattle.toml.specs.View.{view, items_view, table_view};
-ghost use Rattle.abstract_kernel.specs.Plan.{IsPlan};
+ghost use Rattle.kernel_abstract.specs.Plan.{IsPlan};
 ghost use Rattle.setup_migrate.specs.Migration as spec;
 
-use boot_plan::BootPlan;
 use cap_core::Profile;
+use kernel_boot::BootPlan;
 use setup_values::KnownNames;
 use setup_values::kinds::{Kind, Word};
 use std::alloc::{AllocError, Global};

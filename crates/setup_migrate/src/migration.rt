@@ -1,7 +1,7 @@
 //! A set-up of format 1 in format 2.
 ghost use Rattle.std.specs.Prelude.{◌≡◌, IfOk, IfErr};
 ghost use Rattle.toml.specs.View.{table_view};
-ghost use Rattle.abstract_kernel.specs.Plan.{IsPlan};
+ghost use Rattle.kernel_abstract.specs.Plan.{IsPlan};
 ghost use Rattle.setup_format.specs.Faults.{Fails, Gives};
 ghost use Rattle.setup_format.specs.Setups.{setup_of, setup_of_bytes, first_format_setup_of_bytes};
 ghost use Rattle.setup_migrate.specs.Migration as spec;
@@ -9,8 +9,8 @@ ghost use Rattle.setup_migrate.specs.Migration as spec;
 use crate::calls::name_threads;
 use crate::names::boot_names;
 use crate::tables::put;
-use boot_plan::BootPlan;
 use cap_core::{Narrow, Profile, ProfileName, Wide};
+use kernel_boot::BootPlan;
 use setup_format::limits::NEWEST_FORMAT;
 use setup_format::{SetupFault, read_document, read_first_format};
 use std::alloc::{AllocError, Global};

@@ -3,12 +3,12 @@ ghost use Rattle.std.specs.Prelude.{◌≡◌, ◌+◌, ◌*◌, ◌<◌, ◌^�
 ghost use Rattle.toml.specs.Data.{no_members};
 ghost use Rattle.toml.specs.View.{table_view};
 ghost use Rattle.cap_core.specs.Numbers.{tcb_size};
-ghost use Rattle.abstract_kernel.specs.Plan.{IsPlan};
+ghost use Rattle.kernel_abstract.specs.Plan.{IsPlan};
 ghost use Rattle.setup_migrate.specs.Migration as spec;
 
 use crate::tables::put;
-use boot_plan::BootPlan;
 use cap_core::Profile;
+use kernel_boot::BootPlan;
 use std::alloc::{AllocError, Global};
 use toml::{Table, Value};
 

@@ -1,5 +1,5 @@
 //! Set-ups, their migration and the reports of a run: what `setup_format` reads, `setup_migrate` makes of it and
-//! `setup_report` and `setup_shared_report` write, under one name.
+//! `setup_report` and `setup_threads` write, under one name.
 #![tactic(auto)]
 
 pub use setup_format::{
@@ -7,4 +7,4 @@ pub use setup_format::{
 };
 pub use setup_migrate::migrate;
 pub use setup_report::{ExpectationCount, counted_report, expectations, report};
-pub use setup_shared_report::shared_report;
+pub use setup_threads::shared_report;

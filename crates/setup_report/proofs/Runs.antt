@@ -1,12 +1,12 @@
 -- The state behind the first calls of a set-up, and the replies to them.
 use Rattle.std.proofs.Common.{◌≡◌, suc, List, [], ◌∷◌, length, refl, ap}
 use Rattle.cap_core.specs.declared.profile.ProfileName.{ProfileName}
-use Rattle.abstract_kernel.specs.declared.call.Call.{Call}
-use Rattle.abstract_kernel.specs.Boot.{boot}
-use Rattle.abstract_kernel.specs.Plan.{Plan, IsPlan}
-use Rattle.abstract_kernel.specs.Reached.{IsReached}
-use Rattle.abstract_kernel.specs.State.{State, shown}
-use Rattle.abstract_kernel.specs.Step.{step, replies_of, state_after}
+use Rattle.kernel_abstract.specs.declared.call.Call.{Call}
+use Rattle.kernel_abstract.specs.Boot.{boot}
+use Rattle.kernel_abstract.specs.Plan.{Plan, IsPlan}
+use Rattle.kernel_abstract.specs.Reached.{IsReached}
+use Rattle.kernel_abstract.specs.State.{State, shown}
+use Rattle.kernel_abstract.specs.Step.{step, replies_of, state_after}
 
 pub boot_reached : (p : ProfileName) (plan : Plan) → IsPlan p plan → IsReached p (boot p plan)
 unfolding state_after

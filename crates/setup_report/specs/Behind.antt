@@ -1,9 +1,9 @@
 -- A set-up behind its first calls.
 use Rattle.std.specs.Prelude.{ℕ, nat_le, cond, map, take, length, Option, Some, None}
 use Rattle.cap_core.specs.declared.profile.ProfileName.{ProfileName}
-use Rattle.abstract_kernel.specs.Boot.{boot}
-use Rattle.abstract_kernel.specs.State.{State}
-use Rattle.abstract_kernel.specs.Step.{state_after}
+use Rattle.kernel_abstract.specs.Boot.{boot}
+use Rattle.kernel_abstract.specs.State.{State}
+use Rattle.kernel_abstract.specs.Step.{state_after}
 use Rattle.setup_format.specs.Views.{SetupView, CallView}
 
 -- the state of the abstract kernel behind the first calls

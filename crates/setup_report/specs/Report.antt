@@ -7,11 +7,11 @@ use Rattle.cap_core.specs.declared.capability.Cap.{Cap}
 use Rattle.ipc_core.specs.declared.waiter.Waiter.{Waiter}
 use Rattle.ipc_core.specs.Waits.{thread_of}
 use Rattle.ipc_core.specs.Agreement.{is_sender}
-use Rattle.abstract_kernel.specs.declared.call.Call.{Call}
-use Rattle.abstract_kernel.specs.declared.call.Reply.{Reply}
-use Rattle.abstract_kernel.specs.declared.call.ThreadState.{ThreadState}
-use Rattle.abstract_kernel.specs.declared.call.Inbox.{Inbox}
-use Rattle.abstract_kernel.specs.Shown.{Shown, state_at, inbox_at, waiting_at, has_child}
+use Rattle.kernel_abstract.specs.declared.call.Call.{Call}
+use Rattle.kernel_abstract.specs.declared.call.Reply.{Reply}
+use Rattle.kernel_abstract.specs.declared.call.ThreadState.{ThreadState}
+use Rattle.kernel_abstract.specs.declared.call.Inbox.{Inbox}
+use Rattle.kernel_abstract.specs.Shown.{Shown, state_at, inbox_at, waiting_at, has_child}
 use Rattle.setup_format.specs.Views.{CallView}
 use Rattle.setup_report.specs.State.{Derived, slot_of, threads, endpoints, slot_rows, selfheld}
 use Rattle.setup_report.specs.Text.{cap_text, numbers_text, answered_text, reply_text, begins_as, expectation_text, state_text, inbox_text}

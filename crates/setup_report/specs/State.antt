@@ -8,8 +8,8 @@ use Rattle.cap_core.specs.declared.profile.ProfileName.{ProfileName}
 use Rattle.cap_core.specs.Numbers.{slot_bits}
 use Rattle.cap_core.specs.declared.capability.Cap.{Cap}
 use Rattle.cap_core.specs.declared.capability.Cap.TheVariants.{Null, Untyped, Endpoint, CNode, Tcb}
-use Rattle.derivation.specs.Entries.{Entry, derivations_of}
-use Rattle.abstract_kernel.specs.Shown.{Shown, tcb_base, endpoint_base}
+use Rattle.kernel_forest.specs.Entries.{Entry, derivations_of}
+use Rattle.kernel_abstract.specs.Shown.{Shown, tcb_base, endpoint_base}
 use Rattle.setup_report.specs.declared.naming.NamedObject.{NamedObject}
 
 -- ---- addresses

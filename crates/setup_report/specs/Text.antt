@@ -9,12 +9,12 @@ use Rattle.cap_core.specs.declared.capability.Cap.{Cap}
 use Rattle.cap_core.specs.declared.capability.Cap.TheVariants.{Null, Untyped, Endpoint, CNode, Tcb}
 use Rattle.cap_core.specs.declared.refusal.Refusal.{Refusal}
 use Rattle.cap_core.specs.Refusals.{refusal_code, refusal_kind}
-use Rattle.abstract_kernel.specs.declared.call.Call.{Call}
-use Rattle.abstract_kernel.specs.declared.call.Reply.{Reply}
-use Rattle.abstract_kernel.specs.declared.call.Reply.TheVariants.{Done, Delivered, Waiting, Dropped, Empty, Refused}
-use Rattle.abstract_kernel.specs.declared.call.ThreadState.{ThreadState}
-use Rattle.abstract_kernel.specs.declared.call.ThreadState.TheVariants.{Ready, Inactive, Sending, Receiving}
-use Rattle.abstract_kernel.specs.declared.call.Inbox.{Inbox}
+use Rattle.kernel_abstract.specs.declared.call.Call.{Call}
+use Rattle.kernel_abstract.specs.declared.call.Reply.{Reply}
+use Rattle.kernel_abstract.specs.declared.call.Reply.TheVariants.{Done, Delivered, Waiting, Dropped, Empty, Refused}
+use Rattle.kernel_abstract.specs.declared.call.ThreadState.{ThreadState}
+use Rattle.kernel_abstract.specs.declared.call.ThreadState.TheVariants.{Ready, Inactive, Sending, Receiving}
+use Rattle.kernel_abstract.specs.declared.call.Inbox.{Inbox}
 use Rattle.setup_values.specs.Operations.{op_text}
 use Rattle.setup_format.specs.Operations.{op_name}
 

@@ -1,8 +1,8 @@
 //! The kernel of a set-up behind its first calls.
 ghost use Rattle.std.specs.Prelude.{◌≡◌, ◌≤◌, IfOk, ℕ, length, map, take};
-ghost use Rattle.abstract_kernel.specs.Memory.{IsInMemory};
-ghost use Rattle.abstract_kernel.specs.Plan.{IsPlan};
-ghost use Rattle.abstract_kernel.specs.State.{shown};
+ghost use Rattle.kernel_abstract.specs.Memory.{IsInMemory};
+ghost use Rattle.kernel_abstract.specs.Plan.{IsPlan};
+ghost use Rattle.kernel_abstract.specs.State.{shown};
 ghost use Rattle.setup_report.specs.Behind as spec;
 
 use cap_core::Profile;

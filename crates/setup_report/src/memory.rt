@@ -1,7 +1,7 @@
 //! What a kernel shows of its memory, a line for each thing that is there.
 ghost use Rattle.std.specs.Prelude.{◌≡◌, ◌++◌, OnOk, IfOk, flat_map, string_bytes};
 ghost use Rattle.slot_core.specs.Calls.{derivation_view};
-ghost use Rattle.abstract_kernel.specs.Shown.{waiting_at};
+ghost use Rattle.kernel_abstract.specs.Shown.{waiting_at};
 ghost use Rattle.setup_report.specs.Report as spec;
 ghost use Rattle.setup_report.specs.Private.Roles.{is_sending};
 

@@ -3,9 +3,9 @@ use Rattle.std.specs.Prelude.{◌≡◌, ℕ, true, Bool, Option, None, option_m
 use Rattle.cap_core.specs.declared.profile.ProfileName.{ProfileName}
 use Rattle.cap_core.specs.declared.capability.Cap.{Cap}
 use Rattle.cap_core.specs.Objects.{is_untyped, badge_of}
-use Rattle.derivation.specs.Forest.{Forest}
-use Rattle.derivation.specs.Entries.{Entry, entry, cap_at, is_full, first_child}
-use Rattle.derivation.specs.Derivation.{derived, rooted, retyped, moved, freed, emptied}
+use Rattle.kernel_forest.specs.Forest.{Forest}
+use Rattle.kernel_forest.specs.Entries.{Entry, entry, cap_at, is_full, first_child}
+use Rattle.kernel_forest.specs.Derivation.{derived, rooted, retyped, moved, freed, emptied}
 use Rattle.slot_core.specs.declared.slot.Slot.{Slot}
 use Rattle.slot_core.specs.declared.derivations.Derivation.{Derivation}
 use Rattle.slot_core.specs.Places.{address_of}

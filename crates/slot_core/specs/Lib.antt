@@ -1,10 +1,10 @@
-pub use Rattle.derivation.specs.Forest
-pub use Rattle.derivation.specs.Evidence.Spelled
-pub use Rattle.derivation.specs.Entries
-pub use Rattle.derivation.specs.Derivation
-pub use Rattle.derivation.specs.Disjoint
-pub use Rattle.derivation.specs.Marked
-pub use Rattle.derivation.specs.MarkedEdits
+pub use Rattle.kernel_forest.specs.Forest
+pub use Rattle.kernel_forest.specs.Evidence.Spelled
+pub use Rattle.kernel_forest.specs.Entries
+pub use Rattle.kernel_forest.specs.Derivation
+pub use Rattle.kernel_forest.specs.Disjoint
+pub use Rattle.kernel_forest.specs.Marked
+pub use Rattle.kernel_forest.specs.MarkedEdits
 pub mod Places
 pub mod Rows
 pub mod Links

@@ -8,7 +8,7 @@ pub use Rattle.cap_core.specs.Links.{walk}
 use Rattle.cap_core.specs.Numbers.{slot_bits, slot_size}
 use Rattle.slot_core.specs.declared.slot.Slot.{Slot}
 use Rattle.slot_core.specs.declared.linked.table.Link.{Link}
-use Rattle.derivation.specs.Marked.{Marked, marked, IsMarkedList}
+use Rattle.kernel_forest.specs.Marked.{Marked, marked, IsMarkedList}
 
 abbrev pub empty_link : Link
 empty_link = record { cap = Null; previous = None; next = None; revocable = false; first_badged = false }

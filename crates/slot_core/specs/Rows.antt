@@ -7,9 +7,9 @@ use Rattle.cap_core.specs.Objects.{IsLawful, is_untyped, same_object}
 use Rattle.cap_core.specs.Numbers.{slot_size}
 use Rattle.slot_core.specs.declared.slot.Slot.{Slot}
 use Rattle.slot_core.specs.declared.rows.Row.{Row}
-use Rattle.derivation.specs.Forest.{Forest, renamed, build}
-use Rattle.derivation.specs.Entries.{Entry, entry}
-use Rattle.derivation.specs.Derivation.{is_new_original}
+use Rattle.kernel_forest.specs.Forest.{Forest, renamed, build}
+use Rattle.kernel_forest.specs.Entries.{Entry, entry}
+use Rattle.kernel_forest.specs.Derivation.{is_new_original}
 use Rattle.slot_core.specs.Places.{address_of}
 
 abbrev pub is_deeper : Row → Row → Bool

@@ -2,8 +2,8 @@
 use Rattle.std.specs.Prelude.{◌≡◌, ◌≢◌, ℕ, false, List, length, Option, Some, None}
 use Rattle.cap_core.specs.declared.capability.Cap.{Cap}
 use Rattle.cap_core.specs.declared.capability.Cap.TheVariants.{Null}
-use Rattle.derivation.specs.Derivation.{with_free}
-use Rattle.derivation.specs.Marked.{Marked, marked, at_place, with_cap, with_mark}
+use Rattle.kernel_forest.specs.Derivation.{with_free}
+use Rattle.kernel_forest.specs.Marked.{Marked, marked, at_place, with_cap, with_mark}
 use Rattle.slot_core.specs.declared.linked.table.Link.{Link}
 use Rattle.slot_core.specs.Links.{next_of, previous_of, row_of}
 

@@ -1,6 +1,6 @@
 //! All full slots of a store, each with the slot that it is derived from.
 ghost use Rattle.std.specs.Prelude.{◌≡◌, IfOk, map};
-ghost use Rattle.derivation.specs.Entries.{derivations_of};
+ghost use Rattle.kernel_forest.specs.Entries.{derivations_of};
 ghost use Rattle.slot_core.specs.Calls.{derivation_view};
 
 use crate::slot::Slot;

@@ -1,7 +1,7 @@
 //! What a derived capability is, and what an untyped one is with another free index.
 ghost use Rattle.std.specs.Prelude.{◌≡◌};
 ghost use Rattle.cap_core.specs.Objects.{badge_of as badge_in};
-ghost use Rattle.derivation.specs.Derivation.{is_new_original as is_original_from, with_free as freed_cap};
+ghost use Rattle.kernel_forest.specs.Derivation.{is_new_original as is_original_from, with_free as freed_cap};
 
 use cap_core::Cap;
 

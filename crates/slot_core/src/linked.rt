@@ -27,7 +27,7 @@ pub struct LinkedStore<P: Profile> {
 
 impl<P: Profile> Model for LinkedStore<P> {
     ghost use Rattle.std.specs.Prelude.{ℕ, List};
-    ghost use Rattle.derivation.specs.Marked.{Marked};
+    ghost use Rattle.kernel_forest.specs.Marked.{Marked};
 
     ghost Value = { List Marked × ℕ };
 
@@ -45,11 +45,11 @@ impl<P: Profile> CapStore<P> for LinkedStore<P> {
     ghost use Rattle.slot_core.specs.Calls.{held, is_filled, rooted_at, retyped_at, derived_at, moved_at, freed_at};
     ghost use Rattle.slot_core.specs.Calls.{emptied_at};
     ghost use Rattle.slot_core.specs.Calls.{KeepsBadge, IsChildless};
-    ghost use Rattle.derivation.specs.Derivation.{with_free, names_same, is_named};
-    ghost use Rattle.derivation.specs.Disjoint.{IsDisjoint};
-    ghost use Rattle.derivation.specs.Marked.{forest_of};
-    ghost use Rattle.derivation.specs.MarkedEdits.{appended, object_behind, derived_behind, moved_to};
-    ghost use Rattle.derivation.specs.MarkedEdits.{freed_at as freed_in, taken_out};
+    ghost use Rattle.kernel_forest.specs.Derivation.{with_free, names_same, is_named};
+    ghost use Rattle.kernel_forest.specs.Disjoint.{IsDisjoint};
+    ghost use Rattle.kernel_forest.specs.Marked.{forest_of};
+    ghost use Rattle.kernel_forest.specs.MarkedEdits.{appended, object_behind, derived_behind, moved_to};
+    ghost use Rattle.kernel_forest.specs.MarkedEdits.{freed_at as freed_in, taken_out};
 
     ghost forest = { λ s. forest_of P.profile s.0 };
 
@@ -187,7 +187,7 @@ impl<P: Profile> CapStore<P> for LinkedStore<P> {
 
 impl<P: Profile> MakeStore<P> for LinkedStore<P> {
     ghost use Rattle.std.specs.Prelude.{IfOk};
-    ghost use Rattle.derivation.specs.Marked.{forest_of};
+    ghost use Rattle.kernel_forest.specs.Marked.{forest_of};
 
     fn new(alloc: Global, memory_bits: u32) -> Result<LinkedStore<P>, AllocError> {
         Ok(LinkedStore {
@@ -230,10 +230,10 @@ impl<P: Profile> LinkedStore<P> {
     ghost use Rattle.std.specs.Prelude.{◌≡◌, ◌<◌, ◌^◌, None};
     ghost use Rattle.slot_core.specs.Places.{address_of};
     ghost use Rattle.slot_core.specs.Links.{place_in};
-    ghost use Rattle.derivation.specs.Marked.{row_in, previous_in, next_in, forest_of, StandsForEntries};
-    ghost use Rattle.derivation.specs.Marked.{HasRunsBelow, HasChildrenNext, HasLastsAlone, HasOthersBelow};
-    ghost use Rattle.derivation.specs.Forest.{Forest};
-    ghost use Rattle.derivation.specs.Entries.{Entry};
+    ghost use Rattle.kernel_forest.specs.Marked.{row_in, previous_in, next_in, forest_of, StandsForEntries};
+    ghost use Rattle.kernel_forest.specs.Marked.{HasRunsBelow, HasChildrenNext, HasLastsAlone, HasOthersBelow};
+    ghost use Rattle.kernel_forest.specs.Forest.{Forest};
+    ghost use Rattle.kernel_forest.specs.Entries.{Entry};
 
     /// A slot's row in the list; an empty slot's has no capability, no neighbours and no mark.
     pub fn link(&self, slot: Slot) -> Link

@@ -3,7 +3,7 @@ ghost use Rattle.std.specs.Prelude.{◌≡◌, ◌+◌, ◌^◌, ◌<◌};
 ghost use Rattle.slot_core.specs.Rows.{place_of as place_in, derived_row, names_elsewhere, raised, is_deeper, slot_of_row};
 ghost use Rattle.std.specs.List.{list_any};
 ghost use Rattle.std.specs.Prelude.{reverse, option_map};
-ghost use Rattle.derivation.proofs.Trees.Parented.{still_above, innermost};
+ghost use Rattle.kernel_forest.proofs.Trees.Parented.{still_above, innermost};
 
 use crate::derivations::{Derivation, DerivationStore};
 use crate::derived::{is_new_original, with_free};

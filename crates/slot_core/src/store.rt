@@ -6,10 +6,10 @@ ghost use Rattle.slot_core.specs.Places.{address_of};
 ghost use Rattle.slot_core.specs.Calls.{held, is_filled, newest_child, rooted_at, retyped_at, derived_at, moved_at};
 ghost use Rattle.slot_core.specs.Calls.{freed_at, emptied_at};
 ghost use Rattle.slot_core.specs.Calls.{KeepsBadge, IsChildless};
-ghost use Rattle.derivation.specs.Forest.{Forest, none};
-ghost use Rattle.derivation.specs.Entries.{Entry};
-ghost use Rattle.derivation.specs.Derivation.{with_free, names_same, is_named, is_last as is_last_of};
-ghost use Rattle.derivation.specs.Disjoint.{IsDisjoint};
+ghost use Rattle.kernel_forest.specs.Forest.{Forest, none};
+ghost use Rattle.kernel_forest.specs.Entries.{Entry};
+ghost use Rattle.kernel_forest.specs.Derivation.{with_free, names_same, is_named, is_last as is_last_of};
+ghost use Rattle.kernel_forest.specs.Disjoint.{IsDisjoint};
 
 use crate::slot::Slot;
 use cap_core::limits::{MAX_MEMORY_BITS, MIN_MEMORY_BITS};

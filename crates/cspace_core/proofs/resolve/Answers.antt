@@ -1,5 +1,5 @@
 use Rattle.std.proofs.Common.{rules, ◌≡◌, inl, inr, sym, ap, Err, true}
-use Rattle.derivation.specs.Entries.{cap_at}
+use Rattle.kernel_forest.specs.Entries.{cap_at}
 use Rattle.cspace_core.specs.Resolution.{is_cnode}
 use Rattle.cspace_core.specs.Resolves.{refused}
 use Rattle.cspace_core.proofs.Nodes.{no_cnode, lawful_in_words}

@@ -3,7 +3,7 @@ use Rattle.cap_core.specs.declared.capability.Cap.TheVariants.{Null}
 use Rattle.cap_core.specs.declared.refusal.LookupFault.{LookupFault}
 use Rattle.cap_core.specs.Numbers.{word_bits}
 use Rattle.cap_core.specs.Objects.{IsLawful}
-use Rattle.derivation.specs.Entries.{cap_at}
+use Rattle.kernel_forest.specs.Entries.{cap_at}
 use Rattle.cspace_core.specs.Bits.{low_bits}
 use Rattle.cspace_core.specs.Resolution.{Found, resolution_within, resolution}
 use Rattle.cspace_core.specs.Resolves.{Resolves}

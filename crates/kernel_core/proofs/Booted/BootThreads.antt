@@ -10,14 +10,14 @@ use Rattle.cap_core.specs.Numbers.{slot_bits, tcb_size}
 use Rattle.ipc_core.specs.Waits.{no_waits}
 use Rattle.kernel_core.specs.declared.rows.ThreadRow.{ThreadRow}
 use Rattle.mem_core.specs.Plans.{least_multiple}
-use Rattle.abstract_kernel.specs.Plan.{Plan, first_tcb, tcb_place}
-use Rattle.abstract_kernel.specs.Shown.{ThreadView, threads_of, endpoints_of, table}
-use Rattle.abstract_kernel.specs.State.{shown, thread_view}
+use Rattle.kernel_abstract.specs.Plan.{Plan, first_tcb, tcb_place}
+use Rattle.kernel_abstract.specs.Shown.{ThreadView, threads_of, endpoints_of, table}
+use Rattle.kernel_abstract.specs.State.{shown, thread_view}
 use Rattle.kernel_core.specs.Rows.{keyed, rows_map, view_of, threads_shown, kernel_shown}
 use Rattle.kernel_core.specs.Private.BootRows.{ready_row, boot_row, boot_rows}
-use Rattle.abstract_kernel.specs.Boot.{boot_tcbs, boot_forest, boot}
-use Rattle.abstract_kernel.proofs.Lists.Tables.{at, get_at}
-use Rattle.abstract_kernel.proofs.Boot.BootedThreads.{threads_at_boot}
+use Rattle.kernel_abstract.specs.Boot.{boot_tcbs, boot_forest, boot}
+use Rattle.kernel_abstract.proofs.Lists.Tables.{at, get_at}
+use Rattle.kernel_abstract.proofs.Boot.BootedThreads.{threads_at_boot}
 
 -- the rows
 

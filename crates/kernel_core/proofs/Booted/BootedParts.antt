@@ -6,20 +6,20 @@ use Rattle.cap_core.specs.declared.profile.ProfileName.{ProfileName}
 use Rattle.cap_core.specs.declared.profile.ProfileName.TheVariants.{Wide, Narrow}
 use Rattle.cap_core.specs.declared.limits.TheConstants.{MIN_MEMORY_BITS, MAX_MEMORY_BITS}
 use Rattle.cap_core.specs.Numbers.{tcb_size, tcb_bits, slot_size, slot_bits}
-use Rattle.derivation.specs.Forest.{Forest}
-use Rattle.derivation.specs.Entries.{Entry}
+use Rattle.kernel_forest.specs.Forest.{Forest}
+use Rattle.kernel_forest.specs.Entries.{Entry}
 use Rattle.ipc_core.specs.Waits.{Waits, no_waits}
 use Rattle.kernel_core.specs.declared.rows.ThreadRow.{ThreadRow}
-use Rattle.abstract_kernel.specs.Plan.{Plan, IsPlan, first_tcb}
+use Rattle.kernel_abstract.specs.Plan.{Plan, IsPlan, first_tcb}
 use Rattle.kernel_core.specs.Rows.{IsKernel, IsBetweenCalls}
 use Rattle.kernel_core.specs.Private.BootRows.{boot_row, boot_rows}
-use Rattle.abstract_kernel.specs.Boot.{boot_forest}
-use Rattle.abstract_kernel.proofs.Capabilities.PlacementSteps.{pow_fits}
-use Rattle.abstract_kernel.proofs.Boot.SoundPlans.{objects_within}
+use Rattle.kernel_abstract.specs.Boot.{boot_forest}
+use Rattle.kernel_abstract.proofs.Capabilities.PlacementSteps.{pow_fits}
+use Rattle.kernel_abstract.proofs.Boot.SoundPlans.{objects_within}
 use Rattle.kernel_core.proofs.Booted.BootThreads.{places, live_at_boot}
-use Rattle.abstract_kernel.proofs.Boot.BootedStore.{store_at_boot}
-use Rattle.abstract_kernel.proofs.Housed.Boot.{housed_at_boot}
-use Rattle.abstract_kernel.specs.Private.Stores.{IsKernelStore}
+use Rattle.kernel_abstract.proofs.Boot.BootedStore.{store_at_boot}
+use Rattle.kernel_abstract.proofs.Housed.Boot.{housed_at_boot}
+use Rattle.kernel_abstract.specs.Private.Stores.{IsKernelStore}
 
 -- the rows of the threads
 

@@ -5,14 +5,14 @@ use Rattle.cap_core.specs.declared.capability.Cap.{Cap}
 use Rattle.cap_core.specs.declared.capability.Cap.TheVariants.{Null, Untyped, Endpoint, CNode, Tcb}
 use Rattle.cap_core.specs.Numbers.{slot_size}
 use Rattle.cap_core.specs.Objects.{is_untyped, bits_of, badge_of}
-use Rattle.derivation.specs.Forest.{Forest}
-use Rattle.derivation.specs.Entries.{Entry, cap_at, is_full, first_child}
-use Rattle.derivation.specs.Derivation.{derived, moved, freed, names_same}
-use Rattle.abstract_kernel.specs.declared.invocation.CapPlacement.{CapPlacement}
-use Rattle.abstract_kernel.specs.Private.Stores.{IsKernelStore}
-use Rattle.abstract_kernel.specs.Private.Invocations.{IsPlacement, IsDerivation, IsMove}
-use Rattle.abstract_kernel.specs.CNodes.{with_derived, with_moved}
-use Rattle.abstract_kernel.proofs.Capabilities.PlacementSteps.{first_slot}
+use Rattle.kernel_forest.specs.Forest.{Forest}
+use Rattle.kernel_forest.specs.Entries.{Entry, cap_at, is_full, first_child}
+use Rattle.kernel_forest.specs.Derivation.{derived, moved, freed, names_same}
+use Rattle.kernel_abstract.specs.declared.invocation.CapPlacement.{CapPlacement}
+use Rattle.kernel_abstract.specs.Private.Stores.{IsKernelStore}
+use Rattle.kernel_abstract.specs.Private.Invocations.{IsPlacement, IsDerivation, IsMove}
+use Rattle.kernel_abstract.specs.CNodes.{with_derived, with_moved}
+use Rattle.kernel_abstract.proofs.Capabilities.PlacementSteps.{first_slot}
 
 no_untyped : (cap : Cap) → ((base bits free : ℕ) → cap ≡ Untyped base bits free → ⊥) → is_untyped cap ≡ false
 no_untyped Null h = refl

@@ -3,22 +3,22 @@ use Rattle.std.proofs.Common.{◌≡◌, ℕ, ◌==◌, List, Option, sym, subst
 use Rattle.std.specs.List.{list_any}
 use Rattle.cap_core.specs.declared.profile.ProfileName.{ProfileName}
 use Rattle.cap_core.specs.Numbers.{tcb_size}
-use Rattle.derivation.specs.Forest.{Forest}
-use Rattle.derivation.specs.Entries.{Entry}
+use Rattle.kernel_forest.specs.Forest.{Forest}
+use Rattle.kernel_forest.specs.Entries.{Entry}
 use Rattle.ipc_core.specs.Waits.{Waits}
-use Rattle.clearing.specs.Housed.{IsHoused}
+use Rattle.kernel_delete.specs.Housed.{IsHoused}
 use Rattle.kernel_core.specs.declared.rows.ThreadRow.{ThreadRow}
-use Rattle.abstract_kernel.specs.declared.invocation.CapPlacement.{CapPlacement}
-use Rattle.abstract_kernel.specs.Shown.{Shown, threads_of, endpoints_of, table, tcb_base, endpoint_base}
+use Rattle.kernel_abstract.specs.declared.invocation.CapPlacement.{CapPlacement}
+use Rattle.kernel_abstract.specs.Shown.{Shown, threads_of, endpoints_of, table, tcb_base, endpoint_base}
 use Rattle.kernel_core.specs.Rows.{IsKernel, kernel_shown, threads_shown}
-use Rattle.abstract_kernel.specs.Private.Stores.{IsKernelStore}
-use Rattle.abstract_kernel.specs.Private.Invocations.{IsDerivation, IsMove}
-use Rattle.abstract_kernel.specs.CNodes.{with_derived, with_moved}
-use Rattle.abstract_kernel.specs.Private.Effects.{rearranged}
+use Rattle.kernel_abstract.specs.Private.Stores.{IsKernelStore}
+use Rattle.kernel_abstract.specs.Private.Invocations.{IsDerivation, IsMove}
+use Rattle.kernel_abstract.specs.CNodes.{with_derived, with_moved}
+use Rattle.kernel_abstract.specs.Private.Effects.{rearranged}
 use Rattle.kernel_core.proofs.Messages.KernelParts.{waiting_is}
-use Rattle.abstract_kernel.proofs.Capabilities.LiveAfter.{tcb_is_base, endpoint_is_base, live-derived, live-moved}
-use Rattle.abstract_kernel.proofs.Capabilities.StoresKept.{store-derived, store-moved}
-use Rattle.abstract_kernel.proofs.Housed.Edits.{housed-with_derived, housed-with_moved}
+use Rattle.kernel_abstract.proofs.Capabilities.LiveAfter.{tcb_is_base, endpoint_is_base, live-derived, live-moved}
+use Rattle.kernel_abstract.proofs.Capabilities.StoresKept.{store-derived, store-moved}
+use Rattle.kernel_abstract.proofs.Housed.Edits.{housed-with_derived, housed-with_moved}
 
 module _ (p : ProfileName) (memory store waiters : ℕ) (f : Forest Entry) (rows : List (Option ThreadRow)) (w : Waits) (kernel : IsKernel p memory store waiters f rows w) where
   in_memory : IsKernelStore p memory f

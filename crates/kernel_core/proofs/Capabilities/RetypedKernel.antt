@@ -12,29 +12,29 @@ use Rattle.cap_core.specs.Kinds.{new_cap, size_of}
 use Rattle.cap_core.specs.declared.capability.Cap.{Cap}
 use Rattle.mem_core.specs.declared.objects.Placed.{Placed}
 use Rattle.mem_core.specs.Plans.{object_at}
-use Rattle.derivation.specs.Forest.{Forest}
-use Rattle.derivation.specs.Entries.{Entry, is_full}
+use Rattle.kernel_forest.specs.Forest.{Forest}
+use Rattle.kernel_forest.specs.Entries.{Entry, is_full}
 use Rattle.cspace_core.specs.Resolution.{slot_of}
 use Rattle.ipc_core.specs.declared.waiter.Role.{Role}
 use Rattle.ipc_core.specs.Waits.{Waits, thread_of}
 use Rattle.kernel_core.specs.declared.rows.ThreadRow.{ThreadRow}
-use Rattle.abstract_kernel.specs.declared.invocation.NewObjects.{NewObjects}
-use Rattle.abstract_kernel.specs.Shown.{Shown, ThreadView, endpoints_of, endpoint_base, tcb_base, table, waiting_at}
+use Rattle.kernel_abstract.specs.declared.invocation.NewObjects.{NewObjects}
+use Rattle.kernel_abstract.specs.Shown.{Shown, ThreadView, endpoints_of, endpoint_base, tcb_base, table, waiting_at}
 use Rattle.kernel_core.specs.Rows.{rows_map, view_of, threads_shown, kernel_shown, IsActive, IsKernel}
 use Rattle.kernel_core.specs.Private.NewRows.{new_row, with_rows}
-use Rattle.abstract_kernel.specs.Retyping.{with_objects, new_bases}
-use Rattle.abstract_kernel.specs.Private.Effects.{objects_shown, new_thread, with_threads}
-use Rattle.abstract_kernel.specs.Private.Invocations.{IsRetype}
-use Rattle.abstract_kernel.proofs.Housed.Edits.{housed-with_objects}
-use Rattle.abstract_kernel.proofs.Lists.Tables.{get_after, same_nat_map}
+use Rattle.kernel_abstract.specs.Retyping.{with_objects, new_bases}
+use Rattle.kernel_abstract.specs.Private.Effects.{objects_shown, new_thread, with_threads}
+use Rattle.kernel_abstract.specs.Private.Invocations.{IsRetype}
+use Rattle.kernel_abstract.proofs.Housed.Edits.{housed-with_objects}
+use Rattle.kernel_abstract.proofs.Lists.Tables.{get_after, same_nat_map}
 use Rattle.kernel_core.proofs.Threads.RowViews.{get_thread}
 use Rattle.kernel_core.proofs.Messages.KernelParts.{waiting_is}
-use Rattle.abstract_kernel.proofs.Lists.Searches.{table_agrees}
-use Rattle.abstract_kernel.proofs.Retype.LiveRetyped.{live-objects, untyped_full, tcb_base-freed, endpoint_base-freed}
-use Rattle.abstract_kernel.proofs.Retype.PutInOrder.{CanMake}
-use Rattle.abstract_kernel.proofs.Retype.RetypedForest.{lies, untyped_lawful, made, made_lawful, made_placed}
-use Rattle.abstract_kernel.proofs.Capabilities.PutObjects.{object_below, object_word}
-use Rattle.abstract_kernel.proofs.Retype.NewlyLive.{threads_were_not}
+use Rattle.kernel_abstract.proofs.Lists.Searches.{table_agrees}
+use Rattle.kernel_abstract.proofs.Retype.LiveRetyped.{live-objects, untyped_full, tcb_base-freed, endpoint_base-freed}
+use Rattle.kernel_abstract.proofs.Retype.PutInOrder.{CanMake}
+use Rattle.kernel_abstract.proofs.Retype.RetypedForest.{lies, untyped_lawful, made, made_lawful, made_placed}
+use Rattle.kernel_abstract.proofs.Capabilities.PutObjects.{object_below, object_word}
+use Rattle.kernel_abstract.proofs.Retype.NewlyLive.{threads_were_not}
 
 -- a map to which values were added one after another
 earlier_or : {X : Type 0} (b c : Bool) (x : X) (o : Option X) → cond c (Some x) (cond b (Some x) o) ≡ cond (b || c) (Some x) o

@@ -1,14 +1,14 @@
 -- What every kernel shows of its derivations.
 use Rattle.std.proofs.Common.{◌≡◌, ℕ, List, Option, All, subst}
 use Rattle.cap_core.specs.declared.profile.ProfileName.{ProfileName}
-use Rattle.derivation.specs.Forest.{Forest}
-use Rattle.derivation.specs.Entries.{Entry, slots}
+use Rattle.kernel_forest.specs.Forest.{Forest}
+use Rattle.kernel_forest.specs.Entries.{Entry, slots}
 use Rattle.ipc_core.specs.Waits.{Waits}
-use Rattle.abstract_kernel.specs.Shown.{Shown}
-use Rattle.abstract_kernel.specs.Memory.{IsSlotAddress, IsAligned}
+use Rattle.kernel_abstract.specs.Shown.{Shown}
+use Rattle.kernel_abstract.specs.Memory.{IsSlotAddress, IsAligned}
 use Rattle.kernel_core.specs.Rows.{IsKernel, kernel_shown}
 use Rattle.kernel_core.specs.declared.rows.ThreadRow.{ThreadRow}
-use Rattle.abstract_kernel.specs.Regions.{IsForest}
+use Rattle.kernel_abstract.specs.Regions.{IsForest}
 
 -- the slots of a kernel are aligned
 pub all_aligned : (p : ProfileName) (memory : ℕ) (f : Forest Entry) → All (IsSlotAddress p memory) (slots f) → All (IsAligned p) (slots f)

@@ -5,27 +5,27 @@ use Rattle.std.specs.FinMap.{get}
 use Rattle.cap_core.specs.declared.profile.ProfileName.{ProfileName}
 use Rattle.cap_core.specs.declared.refusal.Refusal.{Refusal}
 use Rattle.cap_core.specs.Objects.{IsLawful}
-use Rattle.derivation.specs.Forest.{Forest}
-use Rattle.derivation.specs.Entries.{Entry, caps}
-use Rattle.abstract_kernel.specs.declared.call.Reply.{Reply}
-use Rattle.abstract_kernel.specs.Memory.{IsInMemory}
-use Rattle.abstract_kernel.specs.Regions.{IsForest}
-use Rattle.abstract_kernel.specs.Private.Effects.{performed_effect}
-use Rattle.abstract_kernel.proofs.Capabilities.StaysInMemory.{invocation_within}
-use Rattle.abstract_kernel.specs.declared.call.Op.{Op}
-use Rattle.abstract_kernel.specs.declared.invocation.Invocation.{Invocation}
-use Rattle.abstract_kernel.specs.declared.invocation.Invocation.TheVariants.{Send, Receive, Retype, Derive, Move, Delete, Revoke, CancelBadged, SetSpace, Suspend, Resume}
+use Rattle.kernel_forest.specs.Forest.{Forest}
+use Rattle.kernel_forest.specs.Entries.{Entry, caps}
+use Rattle.kernel_abstract.specs.declared.call.Reply.{Reply}
+use Rattle.kernel_abstract.specs.Memory.{IsInMemory}
+use Rattle.kernel_abstract.specs.Regions.{IsForest}
+use Rattle.kernel_abstract.specs.Private.Effects.{performed_effect}
+use Rattle.kernel_abstract.proofs.Capabilities.StaysInMemory.{invocation_within}
+use Rattle.kernel_abstract.specs.declared.call.Op.{Op}
+use Rattle.kernel_abstract.specs.declared.invocation.Invocation.{Invocation}
+use Rattle.kernel_abstract.specs.declared.invocation.Invocation.TheVariants.{Send, Receive, Retype, Derive, Move, Delete, Revoke, CancelBadged, SetSpace, Suspend, Resume}
 use Rattle.kernel_core.specs.Rows.{kernel_shown}
 use Rattle.kernel_core.specs.declared.rows.ThreadRow.{ThreadRow}
 use Rattle.ipc_core.specs.Waits.{Waits}
-use Rattle.abstract_kernel.specs.Shown.{Shown, endpoints_of, table}
-use Rattle.abstract_kernel.specs.Decode.{service_word}
-use Rattle.abstract_kernel.specs.Lookups.{invoked_slot}
-use Rattle.abstract_kernel.specs.Decode.{decoded_op}
-use Rattle.abstract_kernel.specs.Private.Invocations.{IsInvocation}
-use Rattle.abstract_kernel.proofs.Checks.LiveEndpoints.{HasLiveEndpoint, found_live}
-use Rattle.abstract_kernel.proofs.Lists.Tables.{get_table}
-use Rattle.abstract_kernel.proofs.Checks.PassedInvocations.{IsEdit, invoked_edit}
+use Rattle.kernel_abstract.specs.Shown.{Shown, endpoints_of, table}
+use Rattle.kernel_abstract.specs.Decode.{service_word}
+use Rattle.kernel_abstract.specs.Lookups.{invoked_slot}
+use Rattle.kernel_abstract.specs.Decode.{decoded_op}
+use Rattle.kernel_abstract.specs.Private.Invocations.{IsInvocation}
+use Rattle.kernel_abstract.proofs.Checks.LiveEndpoints.{HasLiveEndpoint, found_live}
+use Rattle.kernel_abstract.proofs.Lists.Tables.{get_table}
+use Rattle.kernel_abstract.proofs.Checks.PassedInvocations.{IsEdit, invoked_edit}
 
 live_there : (f : Forest Entry) (w : Waits) (e : ℕ) → list_any (λ k. e == k) (endpoints_of f) ≡ true → IsSome (get (table (endpoints_of f) w.queue) e)
 live_there f w e live =

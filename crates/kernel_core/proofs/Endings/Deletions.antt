@@ -4,28 +4,28 @@ use Rattle.std.specs.List.{list_any, filter_map}
 use Rattle.cap_core.specs.declared.profile.ProfileName.{ProfileName}
 use Rattle.cap_core.specs.declared.capability.Cap.{Cap}
 use Rattle.cap_core.specs.Numbers.{tcb_size}
-use Rattle.derivation.specs.Forest.{Forest, preorder}
-use Rattle.derivation.specs.Entries.{Entry, slots, caps, is_at, is_full}
+use Rattle.kernel_forest.specs.Forest.{Forest, preorder}
+use Rattle.kernel_forest.specs.Entries.{Entry, slots, caps, is_at, is_full}
 use Rattle.ipc_core.specs.Waits.{Waits}
 use Rattle.ipc_core.specs.Agreement.{AreRolesAndQueues}
-use Rattle.clearing.specs.Clear.{clear, ended}
-use Rattle.clearing.specs.Revoke.{revoke}
-use Rattle.clearing.specs.Work.{IsClearable}
-use Rattle.clearing.proofs.Clearable.{clearable_from, each_mapped}
-use Rattle.clearing.proofs.Members.{any_of, each_in}
-use Rattle.clearing.proofs.Kept.{housed-clear, housed-revoke}
+use Rattle.kernel_delete.specs.Clear.{clear, ended}
+use Rattle.kernel_delete.specs.Revoke.{revoke}
+use Rattle.kernel_delete.specs.Work.{IsClearable}
+use Rattle.kernel_delete.proofs.Clearable.{clearable_from, each_mapped}
+use Rattle.kernel_delete.proofs.Members.{any_of, each_in}
+use Rattle.kernel_delete.proofs.Kept.{housed-clear, housed-revoke}
 use Rattle.std.proofs.lemmas.Bool.{eqb-true}
-use Rattle.abstract_kernel.specs.declared.invocation.NewSpace.{NewSpace}
-use Rattle.abstract_kernel.specs.Shown.{Shown, tcb_base, endpoint_base}
-use Rattle.abstract_kernel.specs.Memory.{IsSlotAddress}
-use Rattle.abstract_kernel.specs.Threads.{with_space}
-use Rattle.abstract_kernel.specs.Private.Endings.{after_ending}
-use Rattle.abstract_kernel.specs.Private.Invocations.{IsSpace, IsDerivation}
-use Rattle.abstract_kernel.specs.Private.Stores.{IsKernelStore}
-use Rattle.abstract_kernel.proofs.Housed.Edits.{housed-with_space}
-use Rattle.abstract_kernel.proofs.Capabilities.LiveAfter.{IsBase, tcb_is_base, endpoint_is_base, live-derived}
-use Rattle.abstract_kernel.proofs.Capabilities.StoresCleared.{store-clear, store-revoke, live-clear, live-revoke}
-use Rattle.abstract_kernel.proofs.Capabilities.SpacesSet.{space_derives, space_kept, space_put, store-space}
+use Rattle.kernel_abstract.specs.declared.invocation.NewSpace.{NewSpace}
+use Rattle.kernel_abstract.specs.Shown.{Shown, tcb_base, endpoint_base}
+use Rattle.kernel_abstract.specs.Memory.{IsSlotAddress}
+use Rattle.kernel_abstract.specs.Threads.{with_space}
+use Rattle.kernel_abstract.specs.Private.Endings.{after_ending}
+use Rattle.kernel_abstract.specs.Private.Invocations.{IsSpace, IsDerivation}
+use Rattle.kernel_abstract.specs.Private.Stores.{IsKernelStore}
+use Rattle.kernel_abstract.proofs.Housed.Edits.{housed-with_space}
+use Rattle.kernel_abstract.proofs.Capabilities.LiveAfter.{IsBase, tcb_is_base, endpoint_is_base, live-derived}
+use Rattle.kernel_abstract.proofs.Capabilities.StoresCleared.{store-clear, store-revoke, live-clear, live-revoke}
+use Rattle.kernel_abstract.proofs.Capabilities.SpacesSet.{space_derives, space_kept, space_put, store-space}
 use Rattle.kernel_core.specs.declared.rows.ThreadRow.{ThreadRow}
 use Rattle.kernel_core.specs.Rows.{kernel_shown, IsKernel, IsBetweenCalls}
 use Rattle.kernel_core.specs.Private.Ended.{HaveEnded}

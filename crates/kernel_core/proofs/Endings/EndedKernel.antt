@@ -12,24 +12,24 @@ use Rattle.cap_core.specs.declared.rights.Rights.{Rights}
 use Rattle.cap_core.specs.Numbers.{tcb_size}
 use Rattle.cap_core.specs.Rights.{all_rights}
 use Rattle.cap_core.specs.Objects.{same_object}
-use Rattle.derivation.specs.Forest.{Forest, preorder}
-use Rattle.derivation.specs.Entries.{Entry, caps}
-use Rattle.derivation.specs.Derivation.{is_named}
+use Rattle.kernel_forest.specs.Forest.{Forest, preorder}
+use Rattle.kernel_forest.specs.Entries.{Entry, caps}
+use Rattle.kernel_forest.specs.Derivation.{is_named}
 use Rattle.ipc_core.specs.declared.waiter.Waiter.{Waiter}
 use Rattle.ipc_core.specs.declared.waiter.Role.{Role}
 use Rattle.ipc_core.specs.declared.waiter.Role.TheVariants as R
 use Rattle.ipc_core.specs.Waits.{Waits, thread_of, endpoint_of}
 use Rattle.ipc_core.specs.Cancelled.{is_thread, others}
 use Rattle.ipc_core.specs.Agreement.{AreRolesAndQueues}
-use Rattle.clearing.specs.Clear.{ended}
-use Rattle.clearing.specs.Housed.{IsHoused}
-use Rattle.clearing.proofs.Members.{both_true, either_true}
-use Rattle.abstract_kernel.specs.declared.call.ThreadState.TheVariants.{Ready, Sending, Receiving}
-use Rattle.abstract_kernel.specs.Shown.{threads_of, endpoints_of, tcb_base, endpoint_base, table, waiting_at}
-use Rattle.abstract_kernel.specs.Private.Endings.{after_ending, state_among, view_among, waiting_among}
-use Rattle.abstract_kernel.specs.Private.Stores.{IsKernelStore}
-use Rattle.abstract_kernel.proofs.Lists.Tables.{get_table, same_nat_map}
-use Rattle.abstract_kernel.proofs.Lists.Rising.{filter_same, all_weaker, and_false}
+use Rattle.kernel_delete.specs.Clear.{ended}
+use Rattle.kernel_delete.specs.Housed.{IsHoused}
+use Rattle.kernel_delete.proofs.Members.{both_true, either_true}
+use Rattle.kernel_abstract.specs.declared.call.ThreadState.TheVariants.{Ready, Sending, Receiving}
+use Rattle.kernel_abstract.specs.Shown.{threads_of, endpoints_of, tcb_base, endpoint_base, table, waiting_at}
+use Rattle.kernel_abstract.specs.Private.Endings.{after_ending, state_among, view_among, waiting_among}
+use Rattle.kernel_abstract.specs.Private.Stores.{IsKernelStore}
+use Rattle.kernel_abstract.proofs.Lists.Tables.{get_table, same_nat_map}
+use Rattle.kernel_abstract.proofs.Lists.Rising.{filter_same, all_weaker, and_false}
 use Rattle.kernel_core.specs.declared.rows.ThreadRow.{ThreadRow}
 use Rattle.kernel_core.specs.Rows.{rows_map, threads_shown, kernel_shown, IsActive, IsKernel, view_of, state_with}
 use Rattle.kernel_core.specs.Private.Ended.{AreLeft, HaveEnded, StandsIn, ends_endpoint, ends_thread, role_left}

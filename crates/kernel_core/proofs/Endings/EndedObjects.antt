@@ -20,7 +20,7 @@ use Rattle.ipc_core.specs.declared.waiter.Role.{Role}
 use Rattle.ipc_core.specs.Waits.{Waits, IsEndpointAddress, IsThreadAddress, thread_of, role_at, endpoint_of}
 use Rattle.ipc_core.specs.Cancelled.{is_thread, others, after_cancel_thread, after_cancel_endpoint}
 use Rattle.ipc_core.specs.Agreement.{AreRolesAndQueues}
-use Rattle.clearing.proofs.Members.{same_truth, either_true}
+use Rattle.kernel_delete.proofs.Members.{same_truth, either_true}
 use Rattle.kernel_core.specs.declared.rows.ThreadRow.{ThreadRow}
 use Rattle.kernel_core.specs.Rows.{rows_map}
 use Rattle.kernel_core.specs.Private.Ended.{AreLeft, HaveEnded, is_endpoint_at, is_thread_at, ends_endpoint, ends_thread, role_left}

@@ -9,19 +9,19 @@ use Rattle.std.specs.FinMap.{FinMap, get, insert}
 use Rattle.cap_core.specs.declared.profile.ProfileName.{ProfileName}
 use Rattle.cap_core.specs.declared.capability.Badge.{Badge}
 use Rattle.cap_core.specs.Numbers.{tcb_size}
-use Rattle.derivation.specs.Forest.{Forest}
-use Rattle.derivation.specs.Entries.{Entry, caps}
+use Rattle.kernel_forest.specs.Forest.{Forest}
+use Rattle.kernel_forest.specs.Entries.{Entry, caps}
 use Rattle.ipc_core.specs.declared.waiter.Waiter.{Waiter}
 use Rattle.ipc_core.specs.declared.waiter.Role.{Role}
 use Rattle.ipc_core.specs.Waits.{Waits, IsEndpointAddress, thread_of}
 use Rattle.ipc_core.specs.Cancelled.{is_thread, is_sender_with, those, others, after_cancel_thread, after_cancel_badge as after_badge}
-use Rattle.abstract_kernel.specs.declared.call.Inbox.{Inbox}
-use Rattle.abstract_kernel.specs.declared.call.ThreadState.TheVariants.{Ready, Inactive}
-use Rattle.abstract_kernel.specs.Shown.{Shown, threads_of, endpoints_of, table, waiting_at, inbox_at}
-use Rattle.abstract_kernel.specs.Private.Effects.{IsLiveEndpoint}
-use Rattle.abstract_kernel.specs.Private.Endings.{after_stop, after_release, after_cancel_badge, readied}
-use Rattle.abstract_kernel.specs.Private.Invocations.{IsLiveThread}
-use Rattle.abstract_kernel.proofs.Lists.Tables.{get_after, get_table, table_changed, same_nat_map}
+use Rattle.kernel_abstract.specs.declared.call.Inbox.{Inbox}
+use Rattle.kernel_abstract.specs.declared.call.ThreadState.TheVariants.{Ready, Inactive}
+use Rattle.kernel_abstract.specs.Shown.{Shown, threads_of, endpoints_of, table, waiting_at, inbox_at}
+use Rattle.kernel_abstract.specs.Private.Effects.{IsLiveEndpoint}
+use Rattle.kernel_abstract.specs.Private.Endings.{after_stop, after_release, after_cancel_badge, readied}
+use Rattle.kernel_abstract.specs.Private.Invocations.{IsLiveThread}
+use Rattle.kernel_abstract.proofs.Lists.Tables.{get_after, get_table, table_changed, same_nat_map}
 use Rattle.kernel_core.specs.declared.rows.ThreadRow.{ThreadRow}
 use Rattle.kernel_core.specs.Rows.{rows_map, threads_shown, kernel_shown, IsActive, IsKernel, IsBetweenCalls, view_of}
 use Rattle.kernel_core.specs.Private.NewRows.{stopped_row, with_stopped}

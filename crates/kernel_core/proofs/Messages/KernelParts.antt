@@ -10,18 +10,18 @@ use Rattle.cap_core.specs.declared.profile.ProfileName.{ProfileName}
 use Rattle.cap_core.specs.declared.capability.Badge.{Badge}
 use Rattle.cap_core.specs.declared.message.Message.{Message}
 use Rattle.cap_core.specs.Numbers.{tcb_size}
-use Rattle.derivation.specs.Forest.{Forest}
-use Rattle.derivation.specs.Entries.{Entry, caps}
+use Rattle.kernel_forest.specs.Forest.{Forest}
+use Rattle.kernel_forest.specs.Entries.{Entry, caps}
 use Rattle.ipc_core.specs.declared.waiter.Waiter.{Waiter}
 use Rattle.ipc_core.specs.declared.waiter.Waiter.TheVariants.{Sender, Receiver}
 use Rattle.ipc_core.specs.declared.waiter.Role.{Role}
 use Rattle.ipc_core.specs.declared.waiter.Offer.{Offer}
 use Rattle.ipc_core.specs.Waits.{Waits, IsEndpointAddress, thread_of, first_receiver, first_sender, served, queued}
 use Rattle.kernel_core.specs.declared.rows.ThreadRow.{ThreadRow}
-use Rattle.abstract_kernel.specs.Shown.{endpoints_of, waiting_at}
+use Rattle.kernel_abstract.specs.Shown.{endpoints_of, waiting_at}
 use Rattle.kernel_core.specs.Rows.{rows_map, kernel_shown, IsActive, IsKernel}
 use Rattle.kernel_core.proofs.Threads.Addresses.{live_address}
-use Rattle.abstract_kernel.proofs.Lists.Tables.{get_after, get_table}
+use Rattle.kernel_abstract.proofs.Lists.Tables.{get_after, get_table}
 
 -- a row that is not inactive stays so where one such row is written
 active_row : (o : Option ThreadRow) (b : Bool) (row : ThreadRow) → row.inactive ≡ false → IsSomeAnd o (λ (r : ThreadRow). r.inactive ≡ false) → IsSomeAnd (cond b (Some row) o) (λ (r : ThreadRow). r.inactive ≡ false)

@@ -6,20 +6,20 @@ use Rattle.cap_core.specs.declared.profile.ProfileName.{ProfileName}
 use Rattle.cap_core.specs.declared.capability.Badge.{Badge}
 use Rattle.cap_core.specs.declared.message.Message.{Message}
 use Rattle.cap_core.specs.Numbers.{tcb_size}
-use Rattle.derivation.specs.Forest.{Forest}
-use Rattle.derivation.specs.Entries.{Entry, caps}
+use Rattle.kernel_forest.specs.Forest.{Forest}
+use Rattle.kernel_forest.specs.Entries.{Entry, caps}
 use Rattle.ipc_core.specs.declared.waiter.Waiter.TheVariants.{Sender, Receiver}
 use Rattle.ipc_core.specs.declared.waiter.Role.TheVariants as R
 use Rattle.ipc_core.specs.declared.waiter.Sent.TheVariants as S
 use Rattle.ipc_core.specs.declared.waiter.Received.TheVariants as D
 use Rattle.ipc_core.specs.declared.waiter.Offer.{Offer}
 use Rattle.ipc_core.specs.Waits.{Waits, IsEndpointAddress, IsThreadAddress, first_receiver, first_sender, sent, after_send, waits_sent_to, received, after_receive, waits_received_from}
-use Rattle.abstract_kernel.specs.declared.call.Reply.TheVariants.{Delivered, Waiting, Dropped, Empty}
-use Rattle.abstract_kernel.specs.declared.invocation.Service.{Service}
-use Rattle.abstract_kernel.specs.declared.call.ThreadState.TheVariants.{Sending, Receiving}
+use Rattle.kernel_abstract.specs.declared.call.Reply.TheVariants.{Delivered, Waiting, Dropped, Empty}
+use Rattle.kernel_abstract.specs.declared.invocation.Service.{Service}
+use Rattle.kernel_abstract.specs.declared.call.ThreadState.TheVariants.{Sending, Receiving}
 use Rattle.kernel_core.specs.declared.rows.ThreadRow.{ThreadRow}
-use Rattle.abstract_kernel.specs.Shown.{Shown, endpoints_of, waiting_at}
-use Rattle.abstract_kernel.specs.Private.Effects.{Effect, send_effect, send_to_first, receive_effect, receive_from_first, IsLiveEndpoint, IsReady}
+use Rattle.kernel_abstract.specs.Shown.{Shown, endpoints_of, waiting_at}
+use Rattle.kernel_abstract.specs.Private.Effects.{Effect, send_effect, send_to_first, receive_effect, receive_from_first, IsLiveEndpoint, IsReady}
 use Rattle.kernel_core.specs.Rows.{rows_map, kernel_shown, IsActive, IsKernel}
 use Rattle.kernel_core.proofs.Threads.Addresses.{live_address, row_address}
 use Rattle.kernel_core.proofs.Messages.KernelParts.{served_kernel, queued_kernel, receiver_active, sender_active}

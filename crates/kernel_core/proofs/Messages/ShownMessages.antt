@@ -8,23 +8,23 @@ use Rattle.cap_core.specs.declared.profile.ProfileName.{ProfileName}
 use Rattle.cap_core.specs.declared.capability.Badge.{Badge}
 use Rattle.cap_core.specs.declared.message.Message.{Message}
 use Rattle.cap_core.specs.Numbers.{tcb_size}
-use Rattle.derivation.specs.Forest.{Forest}
-use Rattle.derivation.specs.Entries.{Entry}
+use Rattle.kernel_forest.specs.Forest.{Forest}
+use Rattle.kernel_forest.specs.Entries.{Entry}
 use Rattle.ipc_core.specs.declared.waiter.Waiter.{Waiter}
 use Rattle.ipc_core.specs.declared.waiter.Role.{Role}
 use Rattle.ipc_core.specs.declared.waiter.Sent.TheVariants as S
 use Rattle.ipc_core.specs.declared.waiter.Received.TheVariants as D
 use Rattle.ipc_core.specs.declared.waiter.Offer.{Offer}
 use Rattle.ipc_core.specs.Waits.{Waits, first_receiver, first_sender, served, queued, sent_to, received_from}
-use Rattle.abstract_kernel.specs.declared.call.Inbox.{Inbox}
-use Rattle.abstract_kernel.specs.declared.invocation.Service.{Service}
-use Rattle.abstract_kernel.specs.declared.call.ThreadState.{ThreadState}
-use Rattle.abstract_kernel.specs.declared.call.ThreadState.TheVariants.{Ready}
+use Rattle.kernel_abstract.specs.declared.call.Inbox.{Inbox}
+use Rattle.kernel_abstract.specs.declared.invocation.Service.{Service}
+use Rattle.kernel_abstract.specs.declared.call.ThreadState.{ThreadState}
+use Rattle.kernel_abstract.specs.declared.call.ThreadState.TheVariants.{Ready}
 use Rattle.kernel_core.specs.declared.rows.ThreadRow.{ThreadRow}
-use Rattle.abstract_kernel.specs.Shown.{Shown, ThreadView, endpoints_of, waiting_at, inbox_at, state_at, table}
-use Rattle.abstract_kernel.specs.Private.Effects.{changed, with_message, send_effect, send_to_first, receive_effect, receive_from_first, IsLiveEndpoint, IsReady}
+use Rattle.kernel_abstract.specs.Shown.{Shown, ThreadView, endpoints_of, waiting_at, inbox_at, state_at, table}
+use Rattle.kernel_abstract.specs.Private.Effects.{changed, with_message, send_effect, send_to_first, receive_effect, receive_from_first, IsLiveEndpoint, IsReady}
 use Rattle.kernel_core.specs.Rows.{rows_map, threads_shown, kernel_shown, IsActive, IsKernel, view_of, state_with}
-use Rattle.abstract_kernel.proofs.Lists.Tables.{get_after, get_table, table_changed}
+use Rattle.kernel_abstract.proofs.Lists.Tables.{get_after, get_table, table_changed}
 use Rattle.kernel_core.proofs.Threads.RowViews.{threads_changed, IsReadyRow, ready_thread, inbox_shown_is, state_shown_is}
 use Rattle.kernel_core.proofs.Messages.KernelParts.{waiting_is}
 

@@ -7,8 +7,8 @@ use Rattle.std.specs.FinMap.{get}
 use Rattle.cap_core.specs.declared.profile.ProfileName.{ProfileName}
 use Rattle.cap_core.specs.Distinct.{IsApart}
 use Rattle.cap_core.specs.Numbers.{tcb_size}
-use Rattle.derivation.specs.Forest.{Forest}
-use Rattle.derivation.specs.Entries.{Entry}
+use Rattle.kernel_forest.specs.Forest.{Forest}
+use Rattle.kernel_forest.specs.Entries.{Entry}
 use Rattle.ipc_core.specs.declared.waiter.Waiter.{Waiter}
 use Rattle.ipc_core.specs.declared.waiter.Waiter.TheVariants.{Sender, Receiver}
 use Rattle.ipc_core.specs.declared.waiter.Role.{Role}
@@ -17,10 +17,10 @@ use Rattle.ipc_core.specs.Waits.{Waits, thread_of, role_at, endpoint_of, IsNextB
 use Rattle.ipc_core.specs.Cancelled.{is_thread}
 use Rattle.ipc_core.specs.Offers.{offer_in, offer_as, offer_of}
 use Rattle.ipc_core.specs.Agreement.{DoTheSame, AreRolesAndQueues}
-use Rattle.abstract_kernel.specs.declared.call.ThreadState.TheVariants.{Ready, Inactive, Sending, Receiving}
-use Rattle.abstract_kernel.specs.Shown.{Shown, state_at, waiting_at}
-use Rattle.abstract_kernel.specs.Waiting.{state_in, thread_waiting, offer_where, offer_at, AreStatesAndLists, IsNextWaiting}
-use Rattle.abstract_kernel.proofs.Lists.Places.{place_of, at_place}
+use Rattle.kernel_abstract.specs.declared.call.ThreadState.TheVariants.{Ready, Inactive, Sending, Receiving}
+use Rattle.kernel_abstract.specs.Shown.{Shown, state_at, waiting_at}
+use Rattle.kernel_abstract.specs.Waiting.{state_in, thread_waiting, offer_where, offer_at, AreStatesAndLists, IsNextWaiting}
+use Rattle.kernel_abstract.proofs.Lists.Places.{place_of, at_place}
 use Rattle.kernel_core.specs.declared.rows.ThreadRow.{ThreadRow}
 use Rattle.kernel_core.specs.Rows.{rows_map, kernel_shown, IsActive, IsKernel, state_with}
 use Rattle.kernel_core.proofs.Messages.KernelParts.{waiting_is}

@@ -10,11 +10,11 @@ use Rattle.cap_core.specs.declared.capability.Cap.{Cap}
 use Rattle.cap_core.specs.declared.capability.Cap.TheVariants.{Null, Untyped, Endpoint, CNode, Tcb}
 use Rattle.cap_core.specs.Numbers.{tcb_size, endpoint_bits}
 use Rattle.cap_core.specs.Objects.{IsLawful}
-use Rattle.derivation.specs.Forest.{Forest, none, tree, preorder, join, tops, below_those}
-use Rattle.derivation.specs.Entries.{Entry, cap_at, cap_in, slots, is_at, first_child, first_slot}
+use Rattle.kernel_forest.specs.Forest.{Forest, none, tree, preorder, join, tops, below_those}
+use Rattle.kernel_forest.specs.Entries.{Entry, cap_at, cap_in, slots, is_at, first_child, first_slot}
 use Rattle.ipc_core.specs.Waits.{IsThreadAddress, IsEndpointAddress}
 use Rattle.kernel_core.specs.declared.rows.ThreadRow.{ThreadRow}
-use Rattle.abstract_kernel.specs.Shown.{endpoint_base}
+use Rattle.kernel_abstract.specs.Shown.{endpoint_base}
 use Rattle.kernel_core.specs.Rows.{rows_map}
 use Rattle.kernel_core.proofs.Threads.KeyedRows.{row_is_there}
 use Rattle.cap_core.proofs.Sizes.{tcb_size-pos}

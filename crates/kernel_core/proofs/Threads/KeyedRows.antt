@@ -8,7 +8,7 @@ use Rattle.std.proofs.Math.Nat.{mul-lt-mul_of_pos_left, mul-mod_right, div-add-m
 use Rattle.std.proofs.Math.ListN.{set}
 use Rattle.std.specs.FinMap.{get, insert}
 use Rattle.kernel_core.specs.Rows.{keyed, rows_map}
-use Rattle.abstract_kernel.proofs.Lists.Tables.{get_after, same_nat_map, at, get_at}
+use Rattle.kernel_abstract.proofs.Lists.Tables.{get_after, same_nat_map, at, get_at}
 
 -- where no row can be
 pub at_absent : {X : Type 0} (size i q : ℕ) (rows : List (Option X)) → ((k : ℕ) → i ≤ k → q ≢ size * k) → at q (keyed size i rows) ≡ None

@@ -5,11 +5,11 @@ use Rattle.std.specs.FinMap.{get, insert}
 use Rattle.ipc_core.specs.declared.waiter.Role.{Role}
 use Rattle.ipc_core.specs.declared.waiter.Role.TheVariants as R
 use Rattle.ipc_core.specs.Waits.{Waits}
-use Rattle.abstract_kernel.specs.declared.call.ThreadState.TheVariants.{Ready, Inactive}
+use Rattle.kernel_abstract.specs.declared.call.ThreadState.TheVariants.{Ready, Inactive}
 use Rattle.kernel_core.specs.declared.rows.ThreadRow.{ThreadRow}
-use Rattle.abstract_kernel.specs.Shown.{ThreadView}
+use Rattle.kernel_abstract.specs.Shown.{ThreadView}
 use Rattle.kernel_core.specs.Rows.{keyed, rows_map, view_of, state_with, threads_shown}
-use Rattle.abstract_kernel.proofs.Lists.Tables.{at, get_at, get_after, same_nat_map}
+use Rattle.kernel_abstract.proofs.Lists.Tables.{at, get_at, get_after, same_nat_map}
 
 -- values that depend on their keys
 at_viewed : {X Y : Type 0} (h : ℕ → X → Y) (es : List (ℕ × X)) (q : ℕ) → at q (map (λ (e : ℕ × X). (e.0, h e.0 e.1)) es) ≡ option_map (h q) (at q es)

@@ -7,7 +7,7 @@ use Rattle.ipc_core.specs.declared.waiter.Waiter.{Waiter}
 use Rattle.ipc_core.specs.declared.waiter.Role.{Role}
 use Rattle.ipc_core.specs.Waits.{Waits, thread_of, endpoint_of}
 use Rattle.ipc_core.specs.Cancelled.{others}
-use Rattle.clearing.specs.Calls.{either}
+use Rattle.kernel_delete.specs.Calls.{either}
 use Rattle.kernel_core.specs.declared.rows.ThreadRow.{ThreadRow}
 use Rattle.kernel_core.specs.Private.Ended.{HaveEnded, StandsIn, ends_endpoint, ends_thread, role_left}
 

@@ -1,10 +1,10 @@
 -- These serve the proofs of private functions, no public contract cites them: the root of a thread's capability space.
 use Rattle.std.specs.Prelude.{cond, ◌&&◌}
-use Rattle.derivation.specs.Forest.{Forest}
-use Rattle.derivation.specs.Entries.{Entry, is_full}
-use Rattle.derivation.specs.Derivation.{derived}
-use Rattle.abstract_kernel.specs.declared.invocation.NewSpace.{NewSpace}
-use Rattle.abstract_kernel.specs.declared.invocation.CapPlacement.{CapPlacement}
+use Rattle.kernel_forest.specs.Forest.{Forest}
+use Rattle.kernel_forest.specs.Entries.{Entry, is_full}
+use Rattle.kernel_forest.specs.Derivation.{derived}
+use Rattle.kernel_abstract.specs.declared.invocation.NewSpace.{NewSpace}
+use Rattle.kernel_abstract.specs.declared.invocation.CapPlacement.{CapPlacement}
 
 -- the capability that is derived into a thread's root slot
 abbrev pub space_placement : NewSpace → CapPlacement

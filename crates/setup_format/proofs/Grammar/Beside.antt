@@ -1,6 +1,6 @@
 -- Calls, each beside its caller.
 use Rattle.std.proofs.Common.{◌≡◌, ℕ, zero, suc, ◌<◌, List, [], ◌∷◌, ◌++◌, length, map, slice_get, get_or, Some, option_map, string_bytes, refl, ap, arith}
-use Rattle.abstract_kernel.specs.declared.call.Call.{Call}
+use Rattle.kernel_abstract.specs.declared.call.Call.{Call}
 use Rattle.setup_format.specs.declared.setup.Caller.{Caller}
 use Rattle.setup_format.specs.Views.{CallView, call_views}
 

@@ -10,8 +10,8 @@ use Rattle.cap_core.specs.declared.profile.ProfileName.TheVariants.{Wide}
 use Rattle.cap_core.specs.declared.limits.TheConstants.{MAX_MESSAGE_WORDS}
 use Rattle.cap_core.specs.Numbers.{word_bits, label_bits, min_untyped_bits, max_object_bits}
 use Rattle.cap_core.specs.Rights.{all_rights}
-use Rattle.abstract_kernel.specs.declared.plan.PlanDefect.{PlanDefect}
-use Rattle.abstract_kernel.specs.Plan.{Plan, first_defect}
+use Rattle.kernel_abstract.specs.declared.plan.PlanDefect.{PlanDefect}
+use Rattle.kernel_abstract.specs.Plan.{Plan, first_defect}
 use Rattle.setup_values.specs.declared.values.Wrong.{Wrong}
 use Rattle.setup_values.specs.declared.values.Wrong.TheVariants.{OtherValue}
 use Rattle.setup_format.specs.declared.fault.Place.{Place}

@@ -1,5 +1,5 @@
 -- The sizes of a boot that the number kinds accept.
-use Rattle.abstract_kernel.specs.Plan.{AreSizes}
+use Rattle.kernel_abstract.specs.Plan.{AreSizes}
 use Rattle.setup_format.specs.declared.setup.Sizes.{Sizes}
 
 abbrev pub IsSizes : Sizes → Type 0

@@ -8,7 +8,7 @@ use Rattle.setup_format.specs.Limits.{first_format, newest_format}
 use Rattle.setup_format.specs.declared.fault.Place.TheVariants as places
 use Rattle.std.specs.Prelude.{codes}
 use Rattle.toml.specs.Data.{Members}
-use Rattle.abstract_kernel.specs.Plan.{IsPlan}
+use Rattle.kernel_abstract.specs.Plan.{IsPlan}
 use Rattle.setup_format.specs.Setups.{document_of, first_format_setup_of, first_format_setup_of_bytes, setup_of, setup_of_bytes, setup_up_to}
 use Rattle.setup_format.specs.Views.{SetupView}
 use Rattle.setup_migrate.specs.Migration.{migrated, migrated_bytes}

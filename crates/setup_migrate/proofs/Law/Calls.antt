@@ -8,7 +8,7 @@ use Rattle.std.specs.List.{filter}
 use Rattle.toml.specs.Data.{Data, array, table, Items, no_items, item, Members, get_member, as_table}
 use Rattle.cap_core.specs.declared.profile.ProfileName.{ProfileName}
 use Rattle.cap_core.specs.Numbers.{word_bits}
-use Rattle.abstract_kernel.specs.Plan.{Plan}
+use Rattle.kernel_abstract.specs.Plan.{Plan}
 use Rattle.setup_values.specs.declared.values.Wrong.{Wrong}
 use Rattle.setup_values.specs.declared.values.Wrong.TheVariants.{OtherValue}
 use Rattle.setup_values.specs.Names.{Names, word_named}

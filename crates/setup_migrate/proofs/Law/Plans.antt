@@ -11,9 +11,9 @@ use Rattle.cap_core.specs.declared.profile.ProfileName.{ProfileName}
 use Rattle.cap_core.specs.declared.profile.ProfileName.TheVariants.{Wide, Narrow}
 use Rattle.cap_core.specs.declared.limits.TheConstants.{MAX_MEMORY_BITS}
 use Rattle.cap_core.specs.Numbers.{word_bits, tcb_bits}
-use Rattle.abstract_kernel.specs.Plan.{Plan, IsPlan, tcb_place, boot_end}
-use Rattle.abstract_kernel.proofs.Boot.Places.{tcb_fits}
-use Rattle.abstract_kernel.proofs.Boot.SoundPlans.{objects_within}
+use Rattle.kernel_abstract.specs.Plan.{Plan, IsPlan, tcb_place, boot_end}
+use Rattle.kernel_abstract.proofs.Boot.Places.{tcb_fits}
+use Rattle.kernel_abstract.proofs.Boot.SoundPlans.{objects_within}
 use Rattle.setup_values.specs.Names.{word_named}
 use Rattle.setup_migrate.specs.Migration.{with_words, boot_names, thread_at}
 use Rattle.setup_migrate.proofs.Law.Names.{AreNamed, AllNamed, all_named-append, all_named-numbered, with_words-append, named-with_words, names_read, word_in, word_named_read, get_numbered}

@@ -11,7 +11,7 @@ use Rattle.toml.specs.Data.{Data, integer, table, Members, no_members, member, g
 use Rattle.cap_core.specs.declared.profile.ProfileName.{ProfileName}
 use Rattle.cap_core.specs.declared.profile.ProfileName.TheVariants.{Wide}
 use Rattle.cap_core.specs.declared.limits.TheConstants.{MAX_BOOT_UNTYPEDS, MAX_CLIENTS, MAX_HISTORY_LIMIT}
-use Rattle.abstract_kernel.specs.Plan.{Plan, IsPlan}
+use Rattle.kernel_abstract.specs.Plan.{Plan, IsPlan}
 use Rattle.setup_values.specs.declared.values.Wrong.{Wrong}
 use Rattle.setup_values.specs.declared.values.Wrong.TheVariants.{OtherValue}
 use Rattle.setup_values.specs.Names.{Names}

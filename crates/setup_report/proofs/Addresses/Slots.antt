@@ -9,9 +9,9 @@ use Rattle.std.proofs.lemmas.List.{length-map, map-append}
 use Rattle.std.proofs.lemmas.List.Sorted.{All-permutation, IsPermutation-map, list_any-IsPermutation}
 use Rattle.std.proofs.lemmas.Map.Keys.{IsDistinct-IsPermutation, IsStrictlyIncreasing-from_distinct, sorted_from_strictly_increasing}
 use Rattle.cap_core.specs.declared.profile.ProfileName.{ProfileName}
-use Rattle.derivation.specs.Forest.{Forest, preorder, parented}
-use Rattle.derivation.specs.Forest.Forest.{none, tree}
-use Rattle.derivation.specs.Entries.{Entry, slots, slot_of as entry_slot, derivations_of}
+use Rattle.kernel_forest.specs.Forest.{Forest, preorder, parented}
+use Rattle.kernel_forest.specs.Forest.Forest.{none, tree}
+use Rattle.kernel_forest.specs.Entries.{Entry, slots, slot_of as entry_slot, derivations_of}
 use Rattle.slot_core.specs.declared.derivations.Derivation.{Derivation}
 use Rattle.slot_core.specs.Calls.{derivation_view}
 use Rattle.setup_report.specs.State.{Derived, slot_of, found, by_address, rising}

@@ -4,8 +4,8 @@ use Rattle.std.proofs.Math.Seq.{drop-cons}
 use Rattle.std.proofs.Math.Logic.{⊎_elim}
 use Rattle.std.proofs.lemmas.List.{drop_all, length-map}
 use Rattle.std.proofs.lemmas.Option.{slice_get_within, slice_get_cases, get_or_from_slice_get, slice_get-map, slice_get-get_or}
-use Rattle.abstract_kernel.specs.declared.call.Call.{Call}
-use Rattle.abstract_kernel.specs.declared.call.Reply.{Reply}
+use Rattle.kernel_abstract.specs.declared.call.Call.{Call}
+use Rattle.kernel_abstract.specs.declared.call.Reply.{Reply}
 use Rattle.setup_format.specs.Views.{CallView}
 use Rattle.setup_report.specs.Text.{reply_text}
 use Rattle.setup_report.specs.Report.{terminated, call_text, call_lines, is_met, one_met, one_expected, met_count, expectation_count}

@@ -9,8 +9,8 @@ use Rattle.ipc_core.specs.declared.waiter.Waiter.{Waiter}
 use Rattle.ipc_core.specs.declared.waiter.Waiter.TheVariants.{Sender, Receiver}
 use Rattle.ipc_core.specs.Waits.{thread_of}
 use Rattle.ipc_core.specs.Agreement.{is_sender}
-use Rattle.abstract_kernel.specs.Shown.{Shown, state_at}
-use Rattle.abstract_kernel.specs.Waiting.{state_in}
+use Rattle.kernel_abstract.specs.Shown.{Shown, state_at}
+use Rattle.kernel_abstract.specs.Waiting.{state_in}
 use Rattle.setup_report.specs.Report.{first_sends}
 use Rattle.setup_report.specs.Private.Roles.{is_sending}
 

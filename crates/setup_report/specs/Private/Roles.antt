@@ -1,7 +1,7 @@
 -- Whether a thread is shown to send.
 use Rattle.std.specs.Prelude.{Bool, true, false, Option, Some, None}
-use Rattle.abstract_kernel.specs.declared.call.ThreadState.{ThreadState}
-use Rattle.abstract_kernel.specs.declared.call.ThreadState.TheVariants.{Ready, Inactive, Sending, Receiving}
+use Rattle.kernel_abstract.specs.declared.call.ThreadState.{ThreadState}
+use Rattle.kernel_abstract.specs.declared.call.ThreadState.TheVariants.{Ready, Inactive, Sending, Receiving}
 
 abbrev pub is_sending : Option ThreadState → Bool
 is_sending None = false

@@ -4,7 +4,7 @@ use Rattle.std.specs.List.{AllByRecursion as Each, IsDistinct, list_any}
 use Rattle.std.proofs.lemmas.Bool.Decides.{nat_tests}
 use Rattle.std.proofs.lemmas.Map.Steps.{length-le_from_distinct_below}
 use Rattle.slot_core.specs.Links.{head_or, last_or, AreLinked, Lacks, IsApart, walk}
-use Rattle.derivation.proofs.Trees.Forests.{each-left_part, each-right_part}
+use Rattle.kernel_forest.proofs.Trees.Forests.{each-left_part, each-right_part}
 
 -- of each, from two facts of each
 pub each-both : (P Q R : ℕ → Type 0) → ((i : ℕ) → P i → Q i → R i) → (l : List ℕ) → Each P l → Each Q l → Each R l

@@ -7,19 +7,19 @@ use Rattle.cap_core.specs.declared.capability.Cap.TheVariants.{Null}
 use Rattle.cap_core.specs.Numbers.{slot_size}
 use Rattle.cap_core.specs.Objects.{is_untyped, badge_of, contains, IsLawful}
 use Rattle.slot_core.specs.declared.linked.table.Link.{Link}
-use Rattle.derivation.specs.Entries.{is_full, cap_at, first_child}
-use Rattle.derivation.specs.Derivation.{derived, rooted, retyped, moved, freed, emptied, with_free, is_new_original, names_same, is_named}
-use Rattle.derivation.specs.Disjoint.{IsDisjoint}
-use Rattle.derivation.specs.Marked.{Marked, marked, with_cap, forest_of}
-use Rattle.derivation.specs.MarkedEdits.{appended, object_behind, derived_behind, moved_to, freed_at, taken_out}
-use Rattle.derivation.proofs.Marked.ListEdits.{changed_at-at}
+use Rattle.kernel_forest.specs.Entries.{is_full, cap_at, first_child}
+use Rattle.kernel_forest.specs.Derivation.{derived, rooted, retyped, moved, freed, emptied, with_free, is_new_original, names_same, is_named}
+use Rattle.kernel_forest.specs.Disjoint.{IsDisjoint}
+use Rattle.kernel_forest.specs.Marked.{Marked, marked, with_cap, forest_of}
+use Rattle.kernel_forest.specs.MarkedEdits.{appended, object_behind, derived_behind, moved_to, freed_at, taken_out}
+use Rattle.kernel_forest.proofs.Marked.ListEdits.{changed_at-at}
 use Rattle.slot_core.specs.TableEdits.{PutsBehind, Appends, TakesOut, Replaces, Frees}
 use Rattle.slot_core.specs.Links.{next_of, previous_of, row_of, Lacks, IsLinked, rows_of, memory_of, IsLinkedStore}
 use Rattle.slot_core.proofs.LinkedStores.Chains.{linked-same}
 use Rattle.slot_core.proofs.LinkedStores.Linkings.{map-same, map-parts}
-use Rattle.derivation.proofs.Marked.MarkedLines.{absent_at}
-use Rattle.derivation.proofs.Marked.MarkedSteps.{cap_nowhere}
-use Rattle.derivation.proofs.Marked.MarkedEdits.{freed_list}
+use Rattle.kernel_forest.proofs.Marked.MarkedLines.{absent_at}
+use Rattle.kernel_forest.proofs.Marked.MarkedSteps.{cap_nowhere}
+use Rattle.kernel_forest.proofs.Marked.MarkedEdits.{freed_list}
 use Rattle.slot_core.proofs.LinkedStores.LinkedSteps.{Becomes, Splits, splits, cap_split, next_within, previous_within, finished, rooted_store, retyped_store, derived_store, moved_store, emptied_store, through}
 
 -- a slot that the value shows as full

@@ -3,16 +3,16 @@ use Rattle.std.proofs.Common.{◌≡◌, ℕ, ◌*◌, List, ◌∷◌, ◌++◌
 use Rattle.cap_core.specs.declared.profile.ProfileName.{ProfileName}
 use Rattle.cap_core.specs.Numbers.{slot_size}
 use Rattle.slot_core.specs.declared.linked.table.Link.{Link}
-use Rattle.derivation.specs.Forest.{descendants}
-use Rattle.derivation.specs.Entries.{is_at, first_child}
-use Rattle.derivation.specs.Derivation.{is_last}
-use Rattle.derivation.specs.Marked.{Marked, forest_of, IsGathered, IsNamedFirst, HasOthersBelow, HasRunsBelow, HasChildrenNext, HasLastsAlone}
+use Rattle.kernel_forest.specs.Forest.{descendants}
+use Rattle.kernel_forest.specs.Entries.{is_at, first_child}
+use Rattle.kernel_forest.specs.Derivation.{is_last}
+use Rattle.kernel_forest.specs.Marked.{Marked, forest_of, IsGathered, IsNamedFirst, HasOthersBelow, HasRunsBelow, HasChildrenNext, HasLastsAlone}
 use Rattle.slot_core.specs.Links.{order_of, rows_of, IsLinkedStore}
-use Rattle.derivation.proofs.Marked.MarkedSteps.{StandsIn}
-use Rattle.derivation.proofs.Marked.MarkedEdits.{AreApart, stands_in}
-use Rattle.derivation.proofs.Marked.MarkedLaw.{run_below}
-use Rattle.derivation.proofs.Marked.MarkedReads.{child_told, last_told}
-use Rattle.derivation.proofs.Marked.OneObject.{below_open}
+use Rattle.kernel_forest.proofs.Marked.MarkedSteps.{StandsIn}
+use Rattle.kernel_forest.proofs.Marked.MarkedEdits.{AreApart, stands_in}
+use Rattle.kernel_forest.proofs.Marked.MarkedLaw.{run_below}
+use Rattle.kernel_forest.proofs.Marked.MarkedReads.{child_told, last_told}
+use Rattle.kernel_forest.proofs.Marked.OneObject.{below_open}
 use Rattle.slot_core.proofs.LinkedStores.LinkedSteps.{apart_rows}
 
 stands_there : (p : ProfileName) (links : List Link) (first last : Option ℕ) (value : List Marked) → rows_of links first ≡ value → IsLinkedStore p links first last

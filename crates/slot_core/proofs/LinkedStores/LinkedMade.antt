@@ -5,9 +5,9 @@ use Rattle.std.proofs.lemmas.Nat.{pow-add, pow_below}
 use Rattle.cap_core.specs.declared.profile.ProfileName.{ProfileName}
 use Rattle.cap_core.specs.Numbers.{slot_bits, slot_size}
 use Rattle.slot_core.specs.declared.linked.table.Link.{Link}
-use Rattle.derivation.specs.Marked.{marked, IsMarkedList}
+use Rattle.kernel_forest.specs.Marked.{marked, IsMarkedList}
 use Rattle.slot_core.specs.Links.{place_in, link_at, empty_link, next_of, row_of, walk, order_of, IsLinked, exponent, memory_of, IsLinkedStore}
-use Rattle.derivation.proofs.Disjoint.Disjointness.{disjoint-none}
+use Rattle.kernel_forest.proofs.Disjoint.Disjointness.{disjoint-none}
 
 above_exponent : (k : ℕ) → k < 2 ^ k
 above_exponent zero = omega arith

@@ -7,14 +7,14 @@ use Rattle.cap_core.specs.declared.capability.Cap.TheVariants.{Null}
 use Rattle.cap_core.specs.Numbers.{slot_size}
 use Rattle.cap_core.specs.Objects.{is_untyped, same_object, IsLawful}
 use Rattle.slot_core.specs.declared.linked.table.Link.{Link}
-use Rattle.derivation.specs.Entries.{is_full, cap_at, first_child}
-use Rattle.derivation.specs.Derivation.{is_last}
-use Rattle.derivation.proofs.Marked.MarkedReads.{last_told}
-use Rattle.derivation.specs.Marked.{is_named_before, is_named_behind, Marked, is_parent, forest_of, stands_at}
+use Rattle.kernel_forest.specs.Entries.{is_full, cap_at, first_child}
+use Rattle.kernel_forest.specs.Derivation.{is_last}
+use Rattle.kernel_forest.proofs.Marked.MarkedReads.{last_told}
+use Rattle.kernel_forest.specs.Marked.{is_named_before, is_named_behind, Marked, is_parent, forest_of, stands_at}
 use Rattle.slot_core.specs.Links.{next_of, previous_of, row_of, head_or, last_or, Lacks, IsFree, order_of, rows_of, memory_of, IsLinkedStore}
-use Rattle.derivation.proofs.Trees.Built.{Absent, next_passing}
-use Rattle.derivation.proofs.Marked.MarkedKept.{each-back}
-use Rattle.derivation.proofs.Marked.MarkedSteps.{cap_nowhere, child_standing, child_nowhere}
+use Rattle.kernel_forest.proofs.Trees.Built.{Absent, next_passing}
+use Rattle.kernel_forest.proofs.Marked.MarkedKept.{each-back}
+use Rattle.kernel_forest.proofs.Marked.MarkedSteps.{cap_nowhere, child_standing, child_nowhere}
 use Rattle.slot_core.proofs.LinkedStores.LinkedSteps.{size_positive, Splits, splits, cap_split, empty_lacks, absent_rows}
 
 -- a slot is full, and stands in the list, or empty, with an empty row

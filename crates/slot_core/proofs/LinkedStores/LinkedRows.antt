@@ -4,10 +4,10 @@ use Rattle.std.proofs.lemmas.Bool.Decides.{nat_tests}
 use Rattle.cap_core.specs.declared.profile.ProfileName.{ProfileName}
 use Rattle.cap_core.specs.declared.capability.Cap.TheVariants.{Null}
 use Rattle.slot_core.specs.declared.linked.table.Link.{Link}
-use Rattle.derivation.specs.Marked.{Marked, marked, row_in, first_place, previous_in, next_in}
+use Rattle.kernel_forest.specs.Marked.{Marked, marked, row_in, first_place, previous_in, next_in}
 use Rattle.slot_core.specs.Links.{next_of, previous_of, row_of, head_or, last_or, Lacks, IsFree, order_of, rows_of, IsLinkedStore}
-use Rattle.derivation.specs.Entries.{is_full}
-use Rattle.derivation.specs.Marked.{forest_of}
+use Rattle.kernel_forest.specs.Entries.{is_full}
+use Rattle.kernel_forest.specs.Marked.{forest_of}
 use Rattle.cap_core.specs.Numbers.{slot_size}
 use Rattle.slot_core.proofs.LinkedStores.LinkedSteps.{Splits, splits, empty_lacks}
 

@@ -9,22 +9,22 @@ use Rattle.cap_core.specs.declared.capability.Cap.{Cap}
 use Rattle.cap_core.specs.Numbers.{slot_bits, slot_size}
 use Rattle.cap_core.specs.Objects.{is_untyped, badge_of, contains, IsLawful}
 use Rattle.slot_core.specs.declared.linked.table.Link.{Link}
-use Rattle.derivation.specs.Forest.{Forest}
-use Rattle.derivation.specs.Entries.{Entry, is_at, is_full, cap_at, first_child}
-use Rattle.derivation.specs.Derivation.{derived, rooted, retyped, moved, emptied, is_new_original, names_same, is_named}
-use Rattle.derivation.specs.Disjoint.{IsDisjoint}
-use Rattle.derivation.specs.Marked.{Marked, marked, at_place, with_cap, entry_of, forest_of, stands_at, IsMarkedList}
+use Rattle.kernel_forest.specs.Forest.{Forest}
+use Rattle.kernel_forest.specs.Entries.{Entry, is_at, is_full, cap_at, first_child}
+use Rattle.kernel_forest.specs.Derivation.{derived, rooted, retyped, moved, emptied, is_new_original, names_same, is_named}
+use Rattle.kernel_forest.specs.Disjoint.{IsDisjoint}
+use Rattle.kernel_forest.specs.Marked.{Marked, marked, at_place, with_cap, entry_of, forest_of, stands_at, IsMarkedList}
 use Rattle.slot_core.specs.TableEdits.{PutsBehind, Appends, TakesOut, Replaces}
 use Rattle.slot_core.specs.Links.{next_of, previous_of, row_of, head_or, last_or, Lacks, IsApart, IsLinked, order_of, rows_of, exponent, memory_of, IsLinkedStore}
-use Rattle.derivation.proofs.Trees.Built.{Absent}
+use Rattle.kernel_forest.proofs.Trees.Built.{Absent}
 use Rattle.slot_core.proofs.LinkedStores.Chains.{each-at}
 use Rattle.slot_core.proofs.LinkedStores.Linkings.{walked, map-parts, StandsBetween, between, inserted, appended}
 use Rattle.slot_core.proofs.LinkedStores.Unlinkings.{removed, replaced}
-use Rattle.derivation.specs.MarkedEdits.{appended as list_appended, object_behind, derived_behind, moved_to, handed_on, taken_out}
-use Rattle.derivation.proofs.Marked.ListEdits.{put_behind-at, derived_behind-at, changed_at-at, taken_out-at}
-use Rattle.derivation.proofs.Marked.MarkedLines.{entries_of, absent_at}
-use Rattle.derivation.proofs.Marked.MarkedSteps.{StandsIn, cap_standing, derived_list}
-use Rattle.derivation.proofs.Marked.MarkedEdits.{AreApart, stands_in, rooted_list, retyped_list, moved_list, removed_list}
+use Rattle.kernel_forest.specs.MarkedEdits.{appended as list_appended, object_behind, derived_behind, moved_to, handed_on, taken_out}
+use Rattle.kernel_forest.proofs.Marked.ListEdits.{put_behind-at, derived_behind-at, changed_at-at, taken_out-at}
+use Rattle.kernel_forest.proofs.Marked.MarkedLines.{entries_of, absent_at}
+use Rattle.kernel_forest.proofs.Marked.MarkedSteps.{StandsIn, cap_standing, derived_list}
+use Rattle.kernel_forest.proofs.Marked.MarkedEdits.{AreApart, stands_in, rooted_list, retyped_list, moved_list, removed_list}
 
 -- places and addresses
 

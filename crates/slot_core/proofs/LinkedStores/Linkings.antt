@@ -2,10 +2,10 @@
 use Rattle.std.proofs.Common.{◌≡◌, ◌≢◌, ℕ, ◌<◌, List, [], ◌∷◌, ◌++◌, map, length, Option, Some, None, refl, sym, ◌∙◌, ap, subst}
 use Rattle.std.specs.List.{AllByRecursion as Each}
 use Rattle.slot_core.specs.declared.linked.table.Link.{Link}
-use Rattle.derivation.specs.Marked.{Marked}
+use Rattle.kernel_forest.specs.Marked.{Marked}
 use Rattle.slot_core.specs.TableEdits.{PutsBehind, Appends}
 use Rattle.slot_core.specs.Links.{next_of, previous_of, row_of, head_or, last_or, AreLinked, Lacks, IsApart, IsFree, IsLinked, order_of}
-use Rattle.derivation.proofs.Trees.Forests.{each-left_part, each-right_part}
+use Rattle.kernel_forest.proofs.Trees.Forests.{each-left_part, each-right_part}
 use Rattle.slot_core.proofs.LinkedStores.Chains.{each-both, each-one, head-append, last-append, linked-front_part, linked-back_part, linked-append, not_head, not_last, linked-same, linked-front, linked-back, walk_is, few, apart-front_part, apart-back_part, apart-lacks, apart-before, lacks-front}
 
 -- the list is what is walked

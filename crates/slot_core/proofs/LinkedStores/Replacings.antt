@@ -2,7 +2,7 @@
 use Rattle.std.proofs.Common.{◌≡◌, ◌≢◌, ℕ, ◌<◌, false, List, length, Option, None, Some, IfSome, sym, ◌∙◌, ap, subst}
 use Rattle.cap_core.specs.declared.capability.Cap.{Cap}
 use Rattle.cap_core.specs.declared.capability.Cap.TheVariants.{Null}
-use Rattle.derivation.specs.Marked.{Marked, marked}
+use Rattle.kernel_forest.specs.Marked.{Marked, marked}
 use Rattle.slot_core.specs.declared.linked.table.Link.{Link}
 use Rattle.slot_core.specs.Links.{next_of, previous_of, link_at, row_of, place_in}
 use Rattle.slot_core.specs.TableEdits.{Replaces}

@@ -4,11 +4,11 @@ use Rattle.std.specs.List.{AllByRecursion as Each}
 use Rattle.std.proofs.lemmas.Bool.{eqb-true}
 use Rattle.cap_core.specs.declared.capability.Cap.{Cap}
 use Rattle.slot_core.specs.declared.linked.table.Link.{Link}
-use Rattle.derivation.specs.Marked.{Marked, at_place, with_cap, with_mark}
-use Rattle.derivation.specs.MarkedEdits.{handed_on}
+use Rattle.kernel_forest.specs.Marked.{Marked, at_place, with_cap, with_mark}
+use Rattle.kernel_forest.specs.MarkedEdits.{handed_on}
 use Rattle.slot_core.specs.TableEdits.{TakesOut, Replaces}
 use Rattle.slot_core.specs.Links.{next_of, previous_of, row_of, head_or, last_or, Lacks, IsApart, IsFree, IsLinked}
-use Rattle.derivation.proofs.Trees.Forests.{each-left_part, each-right_part}
+use Rattle.kernel_forest.proofs.Trees.Forests.{each-left_part, each-right_part}
 use Rattle.slot_core.proofs.LinkedStores.Chains.{each-both, each-one, head-append, last-append, linked-append, not_head, not_last, linked-front, linked-back, each-insert, each-without, apart-insert, apart-without, lacks-with}
 use Rattle.slot_core.proofs.LinkedStores.Linkings.{map-same, map-parts, last_is, StandsBetween, between}
 

@@ -4,9 +4,9 @@ use Rattle.std.specs.Prelude.{option_map, slice_get}
 use Rattle.std.proofs.lemmas.List.{map-append, append_assoc, append-nil, reverse-append}
 use Rattle.cap_core.specs.declared.profile.ProfileName.{ProfileName}
 use Rattle.cap_core.specs.Numbers.{slot_size}
-use Rattle.derivation.specs.Entries.{Entry, entry, derivations_of}
-use Rattle.derivation.specs.Marked.{Marked, is_parent, entry_of, forest_of}
-use Rattle.derivation.proofs.Trees.Parented.{still_above, innermost, innermost-map, last_first, walked, walked-derivations, entry_pair, still_above-alike}
+use Rattle.kernel_forest.specs.Entries.{Entry, entry, derivations_of}
+use Rattle.kernel_forest.specs.Marked.{Marked, is_parent, entry_of, forest_of}
+use Rattle.kernel_forest.proofs.Trees.Parented.{still_above, innermost, innermost-map, last_first, walked, walked-derivations, entry_pair, still_above-alike}
 use Rattle.slot_core.specs.declared.slot.Slot.{Slot}
 use Rattle.slot_core.specs.declared.linked.table.Link.{Link}
 use Rattle.slot_core.specs.declared.derivations.Derivation.{Derivation}

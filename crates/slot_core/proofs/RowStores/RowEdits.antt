@@ -8,14 +8,14 @@ use Rattle.cap_core.specs.declared.capability.Cap.TheVariants.{Null, Untyped, En
 use Rattle.cap_core.specs.Objects.{is_untyped, IsLawful}
 use Rattle.slot_core.specs.declared.slot.Slot.{Slot}
 use Rattle.slot_core.specs.declared.rows.Row.{Row}
-use Rattle.derivation.specs.Forest.{Forest, none, tree, renamed, build}
-use Rattle.derivation.specs.Entries.{Entry, entry, is_at, is_full, cap_at, cap_in}
-use Rattle.derivation.specs.Derivation.{moved, freed, with_free, names_same}
+use Rattle.kernel_forest.specs.Forest.{Forest, none, tree, renamed, build}
+use Rattle.kernel_forest.specs.Entries.{Entry, entry, is_at, is_full, cap_at, cap_in}
+use Rattle.kernel_forest.specs.Derivation.{moved, freed, with_free, names_same}
 use Rattle.slot_core.specs.Places.{address_of}
 use Rattle.slot_core.specs.Rows.{is_deeper, entry_of, forest_of, place_of, derived_depth, IsStepwise, AreApart, IsRowStore}
-use Rattle.derivation.proofs.Trees.Forests.{each-right_part}
-use Rattle.derivation.proofs.Trees.Built.{Absent}
-use Rattle.derivation.proofs.Trees.BuiltRenamed.{AgreeUnder, build-renamed}
+use Rattle.kernel_forest.proofs.Trees.Forests.{each-right_part}
+use Rattle.kernel_forest.proofs.Trees.Built.{Absent}
+use Rattle.kernel_forest.proofs.Trees.BuiltRenamed.{AgreeUnder, build-renamed}
 use Rattle.slot_core.proofs.RowStores.RowLists.{row_is, Stands, standing_once, standing_cap}
 use Rattle.slot_core.proofs.RowStores.RowSteps.{empty_others}
 

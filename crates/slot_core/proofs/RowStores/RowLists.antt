@@ -11,12 +11,12 @@ use Rattle.cap_core.specs.Numbers.{slot_bits, slot_size}
 use Rattle.cap_core.specs.Objects.{is_untyped, same_object}
 use Rattle.slot_core.specs.declared.slot.Slot.{Slot}
 use Rattle.slot_core.specs.declared.rows.Row.{Row}
-use Rattle.derivation.specs.Forest.{preorder, tops, below_those, below, after, root, renamed, front_trees, build}
-use Rattle.derivation.specs.Entries.{Entry, entry, is_at, is_full, cap_at, cap_in, is_original, original_in, first_child, first_slot}
-use Rattle.derivation.specs.Derivation.{derived, rooted, retyped, is_new_original, is_last}
+use Rattle.kernel_forest.specs.Forest.{preorder, tops, below_those, below, after, root, renamed, front_trees, build}
+use Rattle.kernel_forest.specs.Entries.{Entry, entry, is_at, is_full, cap_at, cap_in, is_original, original_in, first_child, first_slot}
+use Rattle.kernel_forest.specs.Derivation.{derived, rooted, retyped, is_new_original, is_last}
 use Rattle.slot_core.specs.Places.{address_of}
 use Rattle.slot_core.specs.Rows.{is_deeper, entry_of, forest_of, place_of, derived_depth, derived_row, names_elsewhere, IsStepwise, AreApart}
-use Rattle.derivation.proofs.Trees.Built.{Absent, StopsAtOnce, preorder-build, preorder-renamed, renamed-below, renamed-after, renamed-root, renamed-below_those, tops-renamed, build-below, build-after, build-root, build-below_those, tops-taken, next_passing, first_of, below_those_none}
+use Rattle.kernel_forest.proofs.Trees.Built.{Absent, StopsAtOnce, preorder-build, preorder-renamed, renamed-below, renamed-after, renamed-root, renamed-below_those, tops-renamed, build-below, build-after, build-root, build-below_those, tops-taken, next_passing, first_of, below_those_none}
 
 -- slots are one where their addresses are
 

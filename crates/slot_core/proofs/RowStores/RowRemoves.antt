@@ -8,16 +8,16 @@ use Rattle.cap_core.specs.declared.profile.ProfileName.{ProfileName}
 use Rattle.cap_core.specs.Objects.{is_untyped, IsLawful}
 use Rattle.slot_core.specs.declared.slot.Slot.{Slot}
 use Rattle.slot_core.specs.declared.rows.Row.{Row}
-use Rattle.derivation.specs.Forest.{Forest, none, tree, out, renamed, build}
-use Rattle.derivation.specs.Entries.{is_at}
-use Rattle.derivation.specs.Derivation.{emptied}
+use Rattle.kernel_forest.specs.Forest.{Forest, none, tree, out, renamed, build}
+use Rattle.kernel_forest.specs.Entries.{is_at}
+use Rattle.kernel_forest.specs.Derivation.{emptied}
 use Rattle.slot_core.specs.Places.{address_of}
 use Rattle.slot_core.specs.Rows.{is_deeper, entry_of, forest_of, place_of, derived_depth, raised, IsStepwise, AreApart, IsRowStore}
-use Rattle.derivation.proofs.Trees.Built.{Absent, StopsAtOnce}
-use Rattle.derivation.proofs.Trees.Nested.{IsTransitive}
-use Rattle.derivation.proofs.Trees.BuiltRenamed.{AgreeUnder, build-renamed}
-use Rattle.derivation.proofs.Trees.BuiltOut.{renamed-out}
-use Rattle.derivation.proofs.Trees.BuiltRuns.{AgreeRun, AgreeRuns, HandedRuns, build-out_runs}
+use Rattle.kernel_forest.proofs.Trees.Built.{Absent, StopsAtOnce}
+use Rattle.kernel_forest.proofs.Trees.Nested.{IsTransitive}
+use Rattle.kernel_forest.proofs.Trees.BuiltRenamed.{AgreeUnder, build-renamed}
+use Rattle.kernel_forest.proofs.Trees.BuiltOut.{renamed-out}
+use Rattle.kernel_forest.proofs.Trees.BuiltRuns.{AgreeRun, AgreeRuns, HandedRuns, build-out_runs}
 use Rattle.slot_core.proofs.RowStores.RowLists.{row_is, Stands, standing_once, standing_stepwise}
 
 -- a row with the depth that it will have

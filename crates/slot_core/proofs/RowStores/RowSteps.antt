@@ -13,11 +13,11 @@ use Rattle.cap_core.specs.Numbers.{slot_bits, slot_size}
 use Rattle.cap_core.specs.Objects.{IsLawful, is_untyped}
 use Rattle.slot_core.specs.declared.slot.Slot.{Slot}
 use Rattle.slot_core.specs.declared.rows.Row.{Row}
-use Rattle.derivation.specs.Entries.{first_child, is_full}
+use Rattle.kernel_forest.specs.Entries.{first_child, is_full}
 use Rattle.slot_core.specs.Places.{address_of}
 use Rattle.slot_core.specs.Rows.{is_deeper, forest_of, place_of, derived_depth, IsStepwise, AreApart, IsRowStore}
-use Rattle.derivation.proofs.Trees.Forests.{each-append, each-right_part}
-use Rattle.derivation.proofs.Trees.Built.{Absent, next_passing}
+use Rattle.kernel_forest.proofs.Trees.Forests.{each-append, each-right_part}
+use Rattle.kernel_forest.proofs.Trees.Built.{Absent, next_passing}
 use Rattle.slot_core.proofs.RowStores.RowLists.{row_is, same_address, full_row, Stands, stands, any_below, none_below, standing_row, standing_below, standing_child, insert_behind, depth_most}
 
 -- the row at the place that was found is the slot's

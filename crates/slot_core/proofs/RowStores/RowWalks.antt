@@ -3,8 +3,8 @@ use Rattle.std.proofs.Common.{◌≡◌, ℕ, List, [], ◌∷◌, ◌++◌, map
 use Rattle.std.specs.Prelude.{option_map}
 use Rattle.std.proofs.lemmas.List.{map-append, append_assoc, append-nil, reverse-append}
 use Rattle.cap_core.specs.declared.profile.ProfileName.{ProfileName}
-use Rattle.derivation.specs.Entries.{Entry, entry, derivations_of}
-use Rattle.derivation.proofs.Trees.Parented.{still_above, innermost, walked, walked-derivations, entry_pair}
+use Rattle.kernel_forest.specs.Entries.{Entry, entry, derivations_of}
+use Rattle.kernel_forest.proofs.Trees.Parented.{still_above, innermost, walked, walked-derivations, entry_pair}
 use Rattle.slot_core.specs.declared.rows.Row.{Row}
 use Rattle.slot_core.specs.declared.derivations.Derivation.{Derivation}
 use Rattle.slot_core.specs.Places.{address_of}

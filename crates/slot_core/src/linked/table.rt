@@ -2,8 +2,8 @@
 ghost use Rattle.std.specs.Prelude.{◌≡◌, ◌≢◌, ℕ, ◌<◌, length, IfSome, Option, Some, None, true, false};
 ghost use Rattle.cap_core.specs.declared.capability.Cap.TheVariants.{Null};
 ghost use Rattle.cap_core.specs.Objects.{same_object as is_same_object};
-ghost use Rattle.derivation.specs.Marked.{marked, with_mark, is_parent as is_parent_in};
-ghost use Rattle.derivation.specs.Marked.{badge_fits as badge_fits_in};
+ghost use Rattle.kernel_forest.specs.Marked.{marked, with_mark, is_parent as is_parent_in};
+ghost use Rattle.kernel_forest.specs.Marked.{badge_fits as badge_fits_in};
 ghost use Rattle.slot_core.specs.TableEdits.{PutsBehind, Appends, TakesOut, Replaces, Frees};
 ghost use Rattle.slot_core.specs.Links.{unplaced, next_of, previous_of, link_at, row_of, place_in};
 

@@ -1,7 +1,7 @@
 //! Who is derived from whom, by one walk along the list of a linked store.
 ghost use Rattle.std.specs.Prelude.{◌≡◌};
-ghost use Rattle.derivation.specs.Marked.{is_parent as is_parent_in};
-ghost use Rattle.derivation.proofs.Trees.Parented.{still_above};
+ghost use Rattle.kernel_forest.specs.Marked.{is_parent as is_parent_in};
+ghost use Rattle.kernel_forest.proofs.Trees.Parented.{still_above};
 ghost use Rattle.slot_core.specs.Links.{unplaced};
 ghost use Rattle.slot_core.specs.Walks.{stack_of};
 

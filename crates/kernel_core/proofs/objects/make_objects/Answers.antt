@@ -3,13 +3,13 @@ use Rattle.std.proofs.Common.{ℕ, ◌≡◌, ◌<◌, ◌+◌, ◌*◌, ◌^◌
 use Rattle.cap_core.specs.declared.capability.Cap.{Cap}
 use Rattle.cap_core.specs.Numbers.{slot_size}
 use Rattle.cap_core.specs.Objects.{IsLawful}
-use Rattle.derivation.specs.Forest.{Forest}
-use Rattle.derivation.specs.Entries.{Entry, cap_at}
-use Rattle.derivation.specs.Derivation.{freed, with_free}
-use Rattle.abstract_kernel.specs.Retyping.{with_new}
-use Rattle.abstract_kernel.proofs.Retype.PutInOrder.{CanMake}
-use Rattle.abstract_kernel.proofs.Retype.RetypedForest.{freed_lawful, can_make}
-use Rattle.abstract_kernel.proofs.Capabilities.PutObjects.{untyped_placed, untyped_end, first_aligned, slot_within_word, object_word, first_slot_at, puts_from, puts_start, put_new_next}
+use Rattle.kernel_forest.specs.Forest.{Forest}
+use Rattle.kernel_forest.specs.Entries.{Entry, cap_at}
+use Rattle.kernel_forest.specs.Derivation.{freed, with_free}
+use Rattle.kernel_abstract.specs.Retyping.{with_new}
+use Rattle.kernel_abstract.proofs.Retype.PutInOrder.{CanMake}
+use Rattle.kernel_abstract.proofs.Retype.RetypedForest.{freed_lawful, can_make}
+use Rattle.kernel_abstract.proofs.Capabilities.PutObjects.{untyped_placed, untyped_end, first_aligned, slot_within_word, object_word, first_slot_at, puts_from, puts_start, put_new_next}
 use Rattle.kernel_core.proofs.objects.make_objects.Goals as goal
 
 pub of_node-untyped-requires-clause-aligned : goal.of_node-untyped-requires-clause-aligned

@@ -1,9 +1,9 @@
 -- The proof of `make_objects`: what holds at each turn of its loop.
 use Rattle.std.proofs.Common.{◌≡◌, ◌*◌}
 use Rattle.cap_core.specs.Numbers.{slot_size}
-use Rattle.abstract_kernel.specs.Retyping.{with_new, with_objects}
-use Rattle.abstract_kernel.proofs.Retype.PutInOrder.{CanMake}
-use Rattle.abstract_kernel.proofs.Capabilities.PutObjects.{puts_from}
+use Rattle.kernel_abstract.specs.Retyping.{with_new, with_objects}
+use Rattle.kernel_abstract.proofs.Retype.PutInOrder.{CanMake}
+use Rattle.kernel_abstract.proofs.Capabilities.PutObjects.{puts_from}
 use Rattle.kernel_core.proofs.objects.make_objects.Given as goal
 
 -- the capabilities from object i on are still to be put, which gives what the retype gives

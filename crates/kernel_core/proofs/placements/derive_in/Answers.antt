@@ -1,7 +1,7 @@
 -- The proof of `derive_in`: what a store is asked is answered by lemmas, since a search for it is long.
 use Rattle.std.proofs.Common.{◌*◌, ◌∙◌}
 use Rattle.cap_core.specs.Numbers.{slot_size}
-use Rattle.abstract_kernel.proofs.Capabilities.PlacementSteps.{source_aligned, source_end, slot_aligned, slot_end, derive_disjoint, few_bits, free_untyped, free_lawful, used_up}
+use Rattle.kernel_abstract.proofs.Capabilities.PlacementSteps.{source_aligned, source_end, slot_aligned, slot_end, derive_disjoint, few_bits, free_untyped, free_lawful, used_up}
 use Rattle.kernel_core.proofs.Capabilities.PlacedSlots.{source_full, slot_within, slot_empty, same_object, kept_badge, no_child, put}
 use Rattle.kernel_core.proofs.placements.derive_in.Goals as goal
 

@@ -1,8 +1,8 @@
 -- The proof of `is_filled`: the goals that a search leaves open.
 use Rattle.std.proofs.Common.{◌*◌, sym, ap, ◌∙◌}
 use Rattle.cap_core.specs.Numbers.{slot_size}
-use Rattle.derivation.specs.Entries.{cap_at}
-use Rattle.abstract_kernel.proofs.Capabilities.PlacementSteps.{first_slot, empty_slot, full_slot}
+use Rattle.kernel_forest.specs.Entries.{cap_at}
+use Rattle.kernel_abstract.proofs.Capabilities.PlacementSteps.{first_slot, empty_slot, full_slot}
 use Rattle.kernel_core.proofs.placements.is_filled.Goals as goal
 
 pub returns-in-Null : goal.returns-in-Null

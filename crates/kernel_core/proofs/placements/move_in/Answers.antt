@@ -1,7 +1,7 @@
 -- The proof of `move_in`: what a store is asked is answered by lemmas, since a search for it is long.
 use Rattle.std.proofs.Common.{◌*◌}
 use Rattle.cap_core.specs.Numbers.{slot_size}
-use Rattle.abstract_kernel.proofs.Capabilities.PlacementSteps.{source_aligned, source_end, slot_aligned, slot_end, move_disjoint}
+use Rattle.kernel_abstract.proofs.Capabilities.PlacementSteps.{source_aligned, source_end, slot_aligned, slot_end, move_disjoint}
 use Rattle.kernel_core.proofs.Capabilities.PlacedSlots.{source_full, slot_within, slot_empty, same_object, same_badge, put_elsewhere}
 use Rattle.kernel_core.proofs.placements.move_in.Goals as goal
 

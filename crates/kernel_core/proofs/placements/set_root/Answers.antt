@@ -1,8 +1,8 @@
 -- The proof of `set_root`: the goals that a search leaves open.
 use Rattle.std.proofs.Common.{cond, ◌&&◌, sym, ◌∙◌}
-use Rattle.derivation.specs.Derivation.{derived}
+use Rattle.kernel_forest.specs.Derivation.{derived}
 use Rattle.kernel_core.specs.Private.Spaces.{space_placement}
-use Rattle.abstract_kernel.proofs.Capabilities.PlacementSteps.{node_derived}
+use Rattle.kernel_abstract.proofs.Capabilities.PlacementSteps.{node_derived}
 use Rattle.kernel_core.proofs.placements.set_root.Goals as goal
 
 pub returns-then-is_filled-2-clause-forest : goal.returns-then-is_filled-2-clause-forest

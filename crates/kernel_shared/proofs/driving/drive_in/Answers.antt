@@ -1,5 +1,5 @@
 use Rattle.std.proofs.Common.{rules, ◌≡◌, Vec, Global, subst}
-use Rattle.abstract_kernel.specs.declared.call.Call.{Call}
+use Rattle.kernel_abstract.specs.declared.call.Call.{Call}
 use Rattle.kernel_shared.specs.ClientStates.{ClientState}
 use Rattle.kernel_shared.specs.Driving.{IsThreadResult}
 use Rattle.kernel_shared.specs.declared.driving.Owed.{Owed}

@@ -5,7 +5,7 @@ use Rattle.std.proofs.lemmas.Option.{get_or_from_slice_get}
 use Rattle.std.proofs.lemmas.Iterator.Consumers.{YieldsList-end}
 use Rattle.std.proofs.lemmas.Iterator.Adapters.{YieldsList-from_vec}
 use Rattle.std.specs.declared.thread.PromisedHandle.{PromisedHandle}
-use Rattle.abstract_kernel.specs.declared.call.Call.{Call}
+use Rattle.kernel_abstract.specs.declared.call.Call.{Call}
 use Rattle.kernel_shared.specs.ClientStates.{ClientState}
 use Rattle.kernel_shared.specs.declared.driving.Owed.{Owed}
 use Rattle.kernel_shared.specs.declared.driving.ThreadResult.{ThreadResult}

@@ -5,7 +5,7 @@ use Rattle.clap.specs.Walk.{texts}
 use Rattle.clap.specs.Words.{Text, matches_of, subcommand_of}
 use Rattle.command_line.specs.CommandLine.{command, reads_once, several_asked}
 use Rattle.command_line.proofs.CommandLines.{several_are_checked}
-use Rattle.engine_files.specs.Files.{IsCheckOf, IsInput}
+use Rattle.command_files.specs.Files.{IsCheckOf, IsInput}
 use Rattle.program.proofs.lines.run_words.Goals as goal
 
 no_items : (names : List (Bor Text)) → texts names ≡ [] → length names ≡ 0

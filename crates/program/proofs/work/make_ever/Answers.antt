@@ -1,8 +1,8 @@
 -- The words that are trusted are those of the option.
 use Rattle.std.proofs.Common.{map, ap, subst, ◌∙◌, List, ℕ}
 use Rattle.std.specs.Prelude.{IfOk}
-use Rattle.engine.specs.Commands.{IsAnswerTo, IsStateAnswer}
-use Rattle.setup_ever.specs.Told.{IsEver}
+use Rattle.command_check.specs.Commands.{IsAnswerTo, IsStateAnswer}
+use Rattle.command_parts.specs.Told.{IsEver}
 use Rattle.program.proofs.work.make_ever.Goals as goal
 
 pub returns-in-Ok-clause-made : goal.returns-in-Ok-clause-made

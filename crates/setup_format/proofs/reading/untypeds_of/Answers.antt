@@ -3,7 +3,7 @@ use Rattle.std.proofs.lemmas.Result.{err_from_is_err_and}
 use Rattle.std.proofs.lemmas.List.{drop_all}
 use Rattle.std.proofs.lemmas.List.Elements.{All-push}
 use Rattle.toml.specs.View.{table_view}
-use Rattle.abstract_kernel.specs.Plan.{IsUntypedSize}
+use Rattle.kernel_abstract.specs.Plan.{IsUntypedSize}
 use Rattle.setup_values.specs.Kinds.{each}
 use Rattle.setup_format.specs.Faults.{Fails}
 use Rattle.setup_format.specs.Setups.{untyped_at}

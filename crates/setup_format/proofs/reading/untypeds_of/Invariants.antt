@@ -1,6 +1,6 @@
 use Rattle.std.proofs.Common.{◌≡◌, ◌+◌, All, map, length, drop}
 use Rattle.toml.specs.View.{table_view}
-use Rattle.abstract_kernel.specs.Plan.{IsUntypedSize}
+use Rattle.kernel_abstract.specs.Plan.{IsUntypedSize}
 use Rattle.setup_values.specs.Kinds.{each}
 use Rattle.setup_format.specs.Setups.{untyped_at}
 use Rattle.setup_values.proofs.Loops.{with_front}

@@ -1,7 +1,7 @@
 use Rattle.std.proofs.Common.{ℕ, ◌+◌, ◌*◌, codes, length, sym, ap, ◌∙◌, arith}
 use Rattle.toml.specs.Data.{no_members}
 use Rattle.toml.specs.View.{members_view, table_view}
-use Rattle.abstract_kernel.specs.Plan.{first_tcb, tcb_place}
+use Rattle.kernel_abstract.specs.Plan.{first_tcb, tcb_place}
 use Rattle.setup_migrate.specs.Migration.{with_words, numbered}
 use Rattle.setup_migrate.proofs.Law.Names.{with_words-append, added}
 use Rattle.setup_migrate.proofs.names.boot_names.Goals as goal

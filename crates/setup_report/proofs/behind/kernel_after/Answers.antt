@@ -1,7 +1,7 @@
 use Rattle.std.proofs.Common.{ap, ◌∙◌}
-use Rattle.abstract_kernel.specs.Boot.{boot}
-use Rattle.abstract_kernel.specs.State.{shown}
-use Rattle.abstract_kernel.specs.Step.{state_after}
+use Rattle.kernel_abstract.specs.Boot.{boot}
+use Rattle.kernel_abstract.specs.State.{shown}
+use Rattle.kernel_abstract.specs.Step.{state_after}
 use Rattle.setup_report.proofs.Runs.{boot_reached}
 use Rattle.setup_report.proofs.behind.kernel_after.Goals as goal
 

@@ -1,6 +1,6 @@
 use Rattle.std.proofs.Common.{◌≡◌, Some, slice_get, get_or, option_copied}
 use Rattle.std.proofs.lemmas.Option.{slice_get-get_or}
-use Rattle.abstract_kernel.specs.declared.call.Reply.TheVariants.{Done}
+use Rattle.kernel_abstract.specs.declared.call.Reply.TheVariants.{Done}
 use Rattle.setup_report.specs.Text.{reply_text}
 use Rattle.setup_report.proofs.Sequences.Calls.{met_more, expectation_more, one_met-le, one_expected-le, count_more, count_within}
 use Rattle.setup_report.proofs.calls.expectations.Goals as goal

@@ -1,5 +1,5 @@
 use Rattle.std.proofs.Common.{sym, ap, ◌∙◌}
-use Rattle.abstract_kernel.specs.Shown.{waiting_at}
+use Rattle.kernel_abstract.specs.Shown.{waiting_at}
 use Rattle.setup_report.specs.Private.Roles.{is_sending}
 use Rattle.setup_report.proofs.Sequences.Fronts.{sends_first, nobody_sends}
 use Rattle.setup_report.proofs.memory.first_sends.Goals as goal

@@ -1,7 +1,7 @@
 use Rattle.std.proofs.Common.{◌≡◌, ◌+◌, ◌++◌, ◌∷◌, [], length, None, Some, sym, ap, refl, ◌∙◌, arith, rules}
 use Rattle.std.proofs.lemmas.List.{length-append}
-use Rattle.abstract_kernel.specs.Shown.{waiting_at}
-use Rattle.abstract_kernel.specs.Waiting.{thread_waiting}
+use Rattle.kernel_abstract.specs.Shown.{waiting_at}
+use Rattle.kernel_abstract.specs.Waiting.{thread_waiting}
 use Rattle.setup_report.proofs.Sequences.Fronts.{front_more, front_all}
 use Rattle.setup_report.proofs.memory.waiting_threads.Goals as goal
 

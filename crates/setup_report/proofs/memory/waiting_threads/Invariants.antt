@@ -1,5 +1,5 @@
 use Rattle.std.proofs.Common.{◌≡◌, ◌++◌, ◌-◌, length, drop}
-use Rattle.abstract_kernel.specs.Waiting.{thread_waiting}
+use Rattle.kernel_abstract.specs.Waiting.{thread_waiting}
 use Rattle.setup_report.specs.Report.{threads_at}
 use Rattle.setup_report.proofs.memory.waiting_threads.Given as goal
 

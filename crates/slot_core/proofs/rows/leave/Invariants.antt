@@ -1,5 +1,5 @@
 use Rattle.std.proofs.Common.{◌≡◌, reverse}
-use Rattle.derivation.proofs.Trees.Parented.{still_above}
+use Rattle.kernel_forest.proofs.Trees.Parented.{still_above}
 use Rattle.slot_core.specs.Rows.{is_deeper}
 use Rattle.slot_core.proofs.rows.leave.Given as goal
 

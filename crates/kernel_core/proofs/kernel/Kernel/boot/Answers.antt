@@ -2,8 +2,8 @@
 use Rattle.std.proofs.Common.{ℕ, ap, ◌^◌, ◌-◌, ◌≤◌, sym, subst, ◌∙◌}
 use Rattle.cap_core.specs.declared.limits.TheConstants.{MIN_MEMORY_BITS, MAX_MEMORY_BITS}
 use Rattle.cap_core.specs.Numbers.{tcb_bits}
-use Rattle.abstract_kernel.proofs.Boot.BootedStore.{store_at_boot}
-use Rattle.abstract_kernel.proofs.Housed.Boot.{housed_at_boot}
+use Rattle.kernel_abstract.proofs.Boot.BootedStore.{store_at_boot}
+use Rattle.kernel_abstract.proofs.Housed.Boot.{housed_at_boot}
 use Rattle.kernel_core.proofs.Booted.BootThreads.{shows_boot}
 use Rattle.kernel_core.proofs.Booted.BootedParts.{is_kernel, threads_fit, rows_at_boot, empty_links, links_made}
 use Rattle.kernel_core.proofs.kernel.Kernel.boot.Goals as goal

@@ -1,8 +1,8 @@
 -- The proof of `cap_at`: the goals that a search leaves open.
 use Rattle.std.proofs.Common.{sym, ap, subst, ◌∙◌, All}
-use Rattle.derivation.specs.Entries.{cap_at, slots}
-use Rattle.abstract_kernel.specs.Shown.{Shown}
-use Rattle.abstract_kernel.specs.Memory.{IsSlotAddress, IsAligned}
+use Rattle.kernel_forest.specs.Entries.{cap_at, slots}
+use Rattle.kernel_abstract.specs.Shown.{Shown}
+use Rattle.kernel_abstract.specs.Memory.{IsSlotAddress, IsAligned}
 use Rattle.kernel_core.proofs.Threads.Addresses.{no_cap}
 use Rattle.kernel_core.proofs.Capabilities.ShownForest.{all_aligned}
 use Rattle.kernel_core.proofs.kernel.Kernel.cap_at.Goals as goal

@@ -1,8 +1,8 @@
 -- The proof of `clear_below`: the goals that a search leaves open.
 use Rattle.std.proofs.Common.{ℕ, sym, ap, subst, ◌∙◌}
-use Rattle.derivation.specs.Entries.{is_full}
-use Rattle.abstract_kernel.specs.Shown.{Shown}
-use Rattle.abstract_kernel.specs.Memory.{IsSlotAddress}
+use Rattle.kernel_forest.specs.Entries.{is_full}
+use Rattle.kernel_abstract.specs.Shown.{Shown}
+use Rattle.kernel_abstract.specs.Memory.{IsSlotAddress}
 use Rattle.kernel_core.proofs.Endings.Deletions.{full_placed, revoked_kernel, revoked_shown}
 use Rattle.kernel_core.proofs.kernel.Kernel.clear_below.Goals as goal
 

@@ -1,11 +1,11 @@
 -- The proof of `decode_call`: the goals that a search leaves open.
 use Rattle.std.proofs.Common.{◌≡◌, Some, sym, subst, ◌∙◌, rules}
-use Rattle.abstract_kernel.specs.declared.call.ThreadState.TheVariants.{Ready}
+use Rattle.kernel_abstract.specs.declared.call.ThreadState.TheVariants.{Ready}
 use Rattle.ipc_core.specs.Waits.{IsThreadAddress}
 use Rattle.kernel_core.proofs.Threads.Addresses.{row_address}
 use Rattle.kernel_core.proofs.Messages.ShownMessages.{stated_row}
-use Rattle.abstract_kernel.specs.Regions.{IsForest}
-use Rattle.abstract_kernel.proofs.Checks.FoundSlots.{whatever}
+use Rattle.kernel_abstract.specs.Regions.{IsForest}
+use Rattle.kernel_abstract.proofs.Checks.FoundSlots.{whatever}
 use Rattle.kernel_core.proofs.Capabilities.ShownInvocations.{invocation_passed}
 use Rattle.kernel_core.proofs.Capabilities.ShownForest.{kernel_forest}
 use Rattle.kernel_core.proofs.kernel.Kernel.decode_call.Goals as goal

@@ -1,7 +1,7 @@
 -- The proof of `delete`: what its call asks is answered, and the goals that a search leaves open.
 use Rattle.std.proofs.Common.{ℕ, ◌^◌, [], sym, subst, refl, ap, ◌∙◌}
-use Rattle.abstract_kernel.specs.Shown.{Shown}
-use Rattle.abstract_kernel.specs.Private.Invocations.{IsNamedSlot}
+use Rattle.kernel_abstract.specs.Shown.{Shown}
+use Rattle.kernel_abstract.specs.Private.Invocations.{IsNamedSlot}
 use Rattle.kernel_core.proofs.Capabilities.RearrangedKernel.{kernel_store}
 use Rattle.kernel_core.proofs.Endings.Deletions.{deleted_kernel, deleted_shown}
 use Rattle.kernel_core.proofs.kernel.Kernel.delete.Goals as goal

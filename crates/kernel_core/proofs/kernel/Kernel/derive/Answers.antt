@@ -1,7 +1,7 @@
 -- The proof of `derive`: what its call asks is answered, and the goals that a search leaves open.
 use Rattle.std.proofs.Common.{sym, subst, refl}
-use Rattle.abstract_kernel.specs.Shown.{Shown}
-use Rattle.abstract_kernel.specs.Private.Invocations.{IsDerivation}
+use Rattle.kernel_abstract.specs.Shown.{Shown}
+use Rattle.kernel_abstract.specs.Private.Invocations.{IsDerivation}
 use Rattle.kernel_core.proofs.Capabilities.RearrangedKernel.{kernel_store, derived_kernel, derived_shown}
 use Rattle.kernel_core.proofs.kernel.Kernel.derive.Goals as goal
 

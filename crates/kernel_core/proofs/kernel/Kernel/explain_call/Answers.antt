@@ -1,6 +1,6 @@
 -- The proof of `explain_call`: the goals that a search leaves open.
 use Rattle.std.proofs.Common.{◌≡◌, Some, sym, subst, ◌∙◌, rules}
-use Rattle.abstract_kernel.specs.declared.call.ThreadState.TheVariants.{Ready}
+use Rattle.kernel_abstract.specs.declared.call.ThreadState.TheVariants.{Ready}
 use Rattle.ipc_core.specs.Waits.{IsThreadAddress}
 use Rattle.kernel_core.proofs.Threads.Addresses.{row_address}
 use Rattle.kernel_core.proofs.Messages.ShownMessages.{stated_row}

@@ -1,7 +1,7 @@
 -- The proof of `has_children`: the goals that a search leaves open.
 use Rattle.std.proofs.Common.{sym, ap, ◌∙◌, is_some}
-use Rattle.abstract_kernel.specs.Shown.{Shown, has_child}
-use Rattle.abstract_kernel.specs.Memory.{IsSlotAddress}
+use Rattle.kernel_abstract.specs.Shown.{Shown, has_child}
+use Rattle.kernel_abstract.specs.Memory.{IsSlotAddress}
 use Rattle.kernel_core.proofs.Threads.Addresses.{no_child}
 use Rattle.kernel_core.proofs.kernel.Kernel.has_children.Goals as goal
 

@@ -1,8 +1,8 @@
 -- The proof of `keeps_objects`: the goals that a search leaves open.
 use Rattle.std.proofs.Common.{subst}
-use Rattle.clearing.specs.Housed.{IsHoused}
-use Rattle.abstract_kernel.specs.Shown.{Shown}
-use Rattle.abstract_kernel.specs.Regions.{AreObjectsApart}
+use Rattle.kernel_delete.specs.Housed.{IsHoused}
+use Rattle.kernel_abstract.specs.Shown.{Shown}
+use Rattle.kernel_abstract.specs.Regions.{AreObjectsApart}
 use Rattle.kernel_core.proofs.kernel.Kernel.keeps_objects.Goals as goal
 
 pub returns : goal.returns

@@ -1,13 +1,13 @@
 -- The proof of `lookup_path`: the goals that a search leaves open.
 use Rattle.std.proofs.Common.{◌≡◌, sym, ap, subst, ◌∙◌, List, IfOk}
 use Rattle.cap_core.specs.declared.capability.Cap.TheVariants.{Null}
-use Rattle.derivation.specs.Entries.{cap_at}
+use Rattle.kernel_forest.specs.Entries.{cap_at}
 use Rattle.cspace_core.specs.Bits.{low_bits}
-use Rattle.abstract_kernel.specs.Shown.{Shown}
-use Rattle.abstract_kernel.specs.Memory.{IsSlotAddress}
+use Rattle.kernel_abstract.specs.Shown.{Shown}
+use Rattle.kernel_abstract.specs.Memory.{IsSlotAddress}
 use Rattle.kernel_core.proofs.Threads.Addresses.{no_cap}
-use Rattle.reasons.specs.declared.reason.Held.{Held}
-use Rattle.reasons.proofs.Nowhere.{path_nowhere}
+use Rattle.kernel_reasons.specs.declared.reason.Held.{Held}
+use Rattle.kernel_reasons.proofs.Nowhere.{path_nowhere}
 use Rattle.kernel_core.proofs.kernel.Kernel.lookup_path.Goals as goal
 
 pub returns-in-None : goal.returns-in-None

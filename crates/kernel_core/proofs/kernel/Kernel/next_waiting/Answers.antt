@@ -3,7 +3,7 @@ use Rattle.std.proofs.Common.{List, Option, IsSome, ap, sym, subst, refl, ◌∙
 use Rattle.std.specs.FinMap.{get}
 use Rattle.cap_core.specs.Numbers.{tcb_size}
 use Rattle.kernel_core.specs.declared.rows.ThreadRow.{ThreadRow}
-use Rattle.abstract_kernel.specs.Waiting.{IsNextWaiting}
+use Rattle.kernel_abstract.specs.Waiting.{IsNextWaiting}
 use Rattle.kernel_core.specs.Rows.{rows_map}
 use Rattle.ipc_core.specs.Waits.{IsThreadAddress}
 use Rattle.kernel_core.proofs.Threads.Addresses.{row_address}

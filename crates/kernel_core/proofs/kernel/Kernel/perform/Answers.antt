@@ -1,8 +1,8 @@
 -- The proof of `perform`: the goals that a search leaves open.
 use Rattle.std.proofs.Common.{Result, sym, ap, ◌∙◌}
 use Rattle.cap_core.specs.declared.refusal.Refusal.{Refusal}
-use Rattle.abstract_kernel.specs.declared.invocation.Invocation.{Invocation}
-use Rattle.abstract_kernel.specs.Private.Effects.{decoded_effect}
+use Rattle.kernel_abstract.specs.declared.invocation.Invocation.{Invocation}
+use Rattle.kernel_abstract.specs.Private.Effects.{decoded_effect}
 use Rattle.kernel_core.proofs.kernel.Kernel.perform.Goals as goal
 
 pub returns-in-Ok : goal.returns-in-Ok

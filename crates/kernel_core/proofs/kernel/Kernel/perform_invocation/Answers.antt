@@ -1,7 +1,7 @@
 -- Each kind of invocation is performed by its own method, whose clauses are those of its case.
 use Rattle.std.proofs.Common.{subst}
-use Rattle.abstract_kernel.specs.declared.invocation.Invocation.{Invocation}
-use Rattle.abstract_kernel.specs.Private.Invocations.{IsInvocation}
+use Rattle.kernel_abstract.specs.declared.invocation.Invocation.{Invocation}
+use Rattle.kernel_abstract.specs.Private.Invocations.{IsInvocation}
 use Rattle.kernel_core.proofs.Capabilities.ShownInvocations.{performed_as}
 use Rattle.kernel_core.proofs.kernel.Kernel.perform_invocation.Goals as goal
 

@@ -1,11 +1,11 @@
 -- The proof of `reason`: the goals that a search leaves open.
 use Rattle.std.proofs.Common.{sym, ap, subst, ◌∙◌}
 use Rattle.std.specs.Prelude.{Option, IfSome, option_map}
-use Rattle.reasons.specs.declared.reason.Reason.{Reason}
-use Rattle.reasons.specs.Reasons.{refusal_of}
-use Rattle.reasons.specs.Facts.{told_by, AreThere}
-use Rattle.reasons.specs.Calls.{explained_call, reason_of, reason_in}
-use Rattle.reasons.proofs.Calls.{call_truly, told_in, reason_is}
+use Rattle.kernel_reasons.specs.declared.reason.Reason.{Reason}
+use Rattle.kernel_reasons.specs.Reasons.{refusal_of}
+use Rattle.kernel_reasons.specs.Facts.{told_by, AreThere}
+use Rattle.kernel_reasons.specs.Calls.{explained_call, reason_of, reason_in}
+use Rattle.kernel_reasons.proofs.Calls.{call_truly, told_in, reason_is}
 use Rattle.kernel_core.proofs.kernel.Kernel.reason.Goals as goal
 
 pub returns-clause-refusal : goal.returns-clause-refusal

@@ -1,7 +1,7 @@
 -- The proof of `relocate`: what its call asks is answered, and the goals that a search leaves open.
 use Rattle.std.proofs.Common.{sym, subst, refl}
-use Rattle.abstract_kernel.specs.Shown.{Shown}
-use Rattle.abstract_kernel.specs.Private.Invocations.{IsMove}
+use Rattle.kernel_abstract.specs.Shown.{Shown}
+use Rattle.kernel_abstract.specs.Private.Invocations.{IsMove}
 use Rattle.kernel_core.proofs.Capabilities.RearrangedKernel.{kernel_store, moved_kernel, moved_shown}
 use Rattle.kernel_core.proofs.kernel.Kernel.relocate.Goals as goal
 

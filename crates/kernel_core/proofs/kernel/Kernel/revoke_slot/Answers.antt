@@ -1,12 +1,12 @@
 -- The proof of `revoke_slot`: the goal that a search leaves open.
 use Rattle.std.proofs.Common.{ap, sym, ◌∙◌}
-use Rattle.clearing.specs.Revoke.{revoke}
-use Rattle.abstract_kernel.specs.Shown.{Shown, tcb_base, endpoint_base}
-use Rattle.abstract_kernel.specs.State.{shown}
-use Rattle.abstract_kernel.specs.Private.Endings.{after_ending}
-use Rattle.abstract_kernel.proofs.Capabilities.StoresCleared.{live-revoke}
-use Rattle.abstract_kernel.proofs.Cancelling.Ended.{ending_shown}
-use Rattle.abstract_kernel.proofs.Reached.Simulation.{reached_inv}
+use Rattle.kernel_delete.specs.Revoke.{revoke}
+use Rattle.kernel_abstract.specs.Shown.{Shown, tcb_base, endpoint_base}
+use Rattle.kernel_abstract.specs.State.{shown}
+use Rattle.kernel_abstract.specs.Private.Endings.{after_ending}
+use Rattle.kernel_abstract.proofs.Capabilities.StoresCleared.{live-revoke}
+use Rattle.kernel_abstract.proofs.Cancelling.Ended.{ending_shown}
+use Rattle.kernel_abstract.proofs.Reached.Simulation.{reached_inv}
 use Rattle.kernel_core.proofs.kernel.Kernel.revoke_slot.Goals as goal
 
 pub returns : goal.returns

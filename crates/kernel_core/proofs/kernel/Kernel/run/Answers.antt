@@ -1,10 +1,10 @@
 -- The proof of `run`: the goals that a search leaves open.
 use Rattle.std.proofs.Common.{◌≡◌, ◌++◌, List, ap, ◌∙◌, take, arith}
 use Rattle.std.proofs.lemmas.List.{take_all}
-use Rattle.abstract_kernel.specs.declared.call.Call.{Call}
-use Rattle.abstract_kernel.specs.Step.{state_after, replies_of}
-use Rattle.abstract_kernel.proofs.Reached.Runs.{reached_after, run_more}
-use Rattle.abstract_kernel.proofs.Messages.CompletedPairs.{replies_grow}
+use Rattle.kernel_abstract.specs.declared.call.Call.{Call}
+use Rattle.kernel_abstract.specs.Step.{state_after, replies_of}
+use Rattle.kernel_abstract.proofs.Reached.Runs.{reached_after, run_more}
+use Rattle.kernel_abstract.proofs.Messages.CompletedPairs.{replies_grow}
 use Rattle.kernel_core.proofs.kernel.Kernel.run.Goals as goal
 
 pub loop-call-preserved : goal.loop-call-preserved

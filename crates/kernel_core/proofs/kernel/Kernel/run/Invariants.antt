@@ -1,9 +1,9 @@
 -- The proof of `run`: what holds at each turn of its loop.
 use Rattle.std.proofs.Common.{◌≡◌, ℕ, ◌+◌, ◌≤◌, ◌-◌, ◌++◌, length, take, vec_len, vec_capacity}
-use Rattle.abstract_kernel.specs.State.{State, shown}
-use Rattle.abstract_kernel.specs.Step.{replies_of, state_after}
-use Rattle.abstract_kernel.specs.Reached.{IsReached}
-use Rattle.abstract_kernel.specs.Memory.{IsInMemory}
+use Rattle.kernel_abstract.specs.State.{State, shown}
+use Rattle.kernel_abstract.specs.Step.{replies_of, state_after}
+use Rattle.kernel_abstract.specs.Reached.{IsReached}
+use Rattle.kernel_abstract.specs.Memory.{IsInMemory}
 use Rattle.kernel_core.proofs.kernel.Kernel.run.Given as goal
 
 abbrev pub invariant-loop-call : goal.invariant-loop-call

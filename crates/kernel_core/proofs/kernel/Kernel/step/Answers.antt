@@ -1,7 +1,7 @@
 -- The proof of `step`: the goals that a search leaves open.
 use Rattle.std.proofs.Common.{sym, ◌∙◌}
-use Rattle.abstract_kernel.proofs.Checks.Refusals.{refused_keeps}
-use Rattle.abstract_kernel.proofs.Reached.Simulation.{stands}
+use Rattle.kernel_abstract.proofs.Checks.Refusals.{refused_keeps}
+use Rattle.kernel_abstract.proofs.Reached.Simulation.{stands}
 use Rattle.kernel_core.proofs.kernel.Kernel.step.Goals as goal
 
 pub returns : goal.returns

@@ -2,7 +2,7 @@
 use Rattle.std.proofs.Common.{List, ap, sym, ◌∙◌, option_map, slice_get}
 use Rattle.ipc_core.specs.declared.waiter.Waiter.{Waiter}
 use Rattle.ipc_core.specs.Waits.{thread_of}
-use Rattle.abstract_kernel.specs.Shown.{Shown, waiting_at}
+use Rattle.kernel_abstract.specs.Shown.{Shown, waiting_at}
 use Rattle.std.proofs.lemmas.Bool.{false≢true}
 use Rattle.kernel_core.proofs.Messages.KernelParts.{waiting_is, nobody_there}
 use Rattle.kernel_core.proofs.Messages.ShownWaiting.{states_agree}

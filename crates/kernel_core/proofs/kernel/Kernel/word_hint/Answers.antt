@@ -1,11 +1,11 @@
 -- The proof of `word_hint`: the goals that a search leaves open.
 use Rattle.std.proofs.Common.{◌≡◌, sym, ap, ◌∙◌}
 use Rattle.cap_core.specs.declared.capability.Cap.TheVariants.{Null}
-use Rattle.derivation.specs.Entries.{cap_at}
-use Rattle.abstract_kernel.specs.Shown.{Shown}
-use Rattle.abstract_kernel.specs.Memory.{IsSlotAddress}
+use Rattle.kernel_forest.specs.Entries.{cap_at}
+use Rattle.kernel_abstract.specs.Shown.{Shown}
+use Rattle.kernel_abstract.specs.Memory.{IsSlotAddress}
 use Rattle.kernel_core.proofs.Threads.Addresses.{no_cap}
-use Rattle.reasons.proofs.Nowhere.{word_hint_nowhere}
+use Rattle.kernel_reasons.proofs.Nowhere.{word_hint_nowhere}
 use Rattle.kernel_core.proofs.kernel.Kernel.word_hint.Goals as goal
 
 pub returns-in-None : goal.returns-in-None

@@ -1,13 +1,13 @@
 use Rattle.std.proofs.Common.{rules, ◌≡◌, List, sym, subst}
 use Rattle.cap_core.specs.declared.profile.ProfileName.{ProfileName}
-use Rattle.derivation.specs.Entries.{cap_at}
-use Rattle.abstract_kernel.specs.Shown.{Shown, state_at, inbox_at}
+use Rattle.kernel_forest.specs.Entries.{cap_at}
+use Rattle.kernel_abstract.specs.Shown.{Shown, state_at, inbox_at}
 use Rattle.kernel_book.specs.declared.entry.Entry.{Entry}
 use Rattle.kernel_shared.specs.declared.query.Query.{Query}
 use Rattle.kernel_shared.specs.declared.query.Query.TheVariants as q
 use Rattle.kernel_shared.specs.declared.query.Answer.TheVariants as a
 use Rattle.kernel_shared.specs.Answers.{IsAnswer}
-use Rattle.abstract_kernel.specs.Waiting.{thread_waiting}
+use Rattle.kernel_abstract.specs.Waiting.{thread_waiting}
 use Rattle.kernel_shared.proofs.Shows.{read_is, state_set, inbox_set, cap_set, thread_set}
 use Rattle.kernel_shared.proofs.book_copy.BookCopyHistoryCopy.answer.Goals as goal
 

@@ -1,7 +1,7 @@
 use Rattle.std.proofs.Common.{ℕ, List, None, ◌∙◌, ap}
 use Rattle.slot_core.specs.declared.linked.table.Link.{Link}
 use Rattle.slot_core.specs.Links.{place_in, link_at}
-use Rattle.derivation.specs.Marked.{Marked, row_in, previous_in, next_in}
+use Rattle.kernel_forest.specs.Marked.{Marked, row_in, previous_in, next_in}
 use Rattle.slot_core.proofs.LinkedStores.LinkedRows.{link_read}
 use Rattle.slot_core.proofs.linked.LinkedStore.link.Goals as goal
 

@@ -1,7 +1,7 @@
 use Rattle.std.proofs.Common.{ℕ, List, ap}
-use Rattle.derivation.specs.Marked.{Marked}
+use Rattle.kernel_forest.specs.Marked.{Marked}
 use Rattle.slot_core.specs.Links.{place_in}
-use Rattle.derivation.proofs.Marked.MarkedLaw.{stands_for, no_other}
+use Rattle.kernel_forest.proofs.Marked.MarkedLaw.{stands_for, no_other}
 use Rattle.slot_core.proofs.LinkedStores.LinkedLaw.{run_in_store, child_in_store, last_in_store, below_in_store}
 use Rattle.slot_core.proofs.linked.LinkedStore.stands_for_its_forest.Goals as goal
 

@@ -1,6 +1,6 @@
 use Rattle.std.proofs.Common.{◌∙◌, ap}
 use Rattle.std.proofs.lemmas.List.{with_items_is}
-use Rattle.derivation.specs.Derivation.{is_new_original}
+use Rattle.kernel_forest.specs.Derivation.{is_new_original}
 use Rattle.slot_core.specs.Links.{link_at}
 use Rattle.slot_core.specs.Links.{place_in}
 use Rattle.slot_core.proofs.LinkedStores.LinkedCalls.{found, in_next, in_table, derived_call}

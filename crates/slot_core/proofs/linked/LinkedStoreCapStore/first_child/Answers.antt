@@ -1,9 +1,9 @@
 use Rattle.std.proofs.Common.{ℕ, Bool, true, false, List, sym, ◌∙◌, ap}
 use Rattle.std.specs.Prelude.{option_map}
 use Rattle.slot_core.specs.declared.linked.table.Link.{Link}
-use Rattle.derivation.specs.Entries.{first_child}
+use Rattle.kernel_forest.specs.Entries.{first_child}
 use Rattle.slot_core.specs.Places.{address_of}
-use Rattle.derivation.specs.Marked.{Marked, marked, is_parent, forest_of}
+use Rattle.kernel_forest.specs.Marked.{Marked, marked, is_parent, forest_of}
 use Rattle.slot_core.specs.Links.{place_in, link_at}
 use Rattle.slot_core.proofs.LinkedStores.LinkedReads.{child_none, child_next}
 use Rattle.slot_core.proofs.linked.LinkedStoreCapStore.first_child.Goals as goal

@@ -3,9 +3,9 @@ use Rattle.cap_core.specs.declared.capability.Cap.{Cap}
 use Rattle.cap_core.specs.declared.capability.Cap.TheVariants.{Null}
 use Rattle.cap_core.specs.Objects.{IsLawful}
 use Rattle.slot_core.specs.declared.linked.table.Link.{Link}
-use Rattle.derivation.specs.Entries.{cap_at}
+use Rattle.kernel_forest.specs.Entries.{cap_at}
 use Rattle.slot_core.specs.Places.{address_of}
-use Rattle.derivation.specs.Marked.{Marked, forest_of}
+use Rattle.kernel_forest.specs.Marked.{Marked, forest_of}
 use Rattle.slot_core.specs.Links.{place_in, link_at}
 use Rattle.slot_core.proofs.LinkedStores.LinkedReads.{cap_read, lawful_read, past_read}
 use Rattle.slot_core.proofs.linked.LinkedStoreCapStore.get.Goals as goal

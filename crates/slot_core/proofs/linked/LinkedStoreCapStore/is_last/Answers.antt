@@ -1,9 +1,9 @@
 use Rattle.std.proofs.Common.{ℕ, false, not, ◌||◌, List, ◌≡◌, sym, ◌∙◌, ap}
 use Rattle.cap_core.specs.Objects.{is_untyped, same_object}
 use Rattle.slot_core.specs.declared.linked.table.Link.{Link}
-use Rattle.derivation.specs.Derivation.{is_last}
+use Rattle.kernel_forest.specs.Derivation.{is_last}
 use Rattle.slot_core.specs.Places.{address_of}
-use Rattle.derivation.specs.Marked.{Marked, forest_of}
+use Rattle.kernel_forest.specs.Marked.{Marked, forest_of}
 use Rattle.slot_core.specs.Links.{place_in, link_at}
 use Rattle.slot_core.proofs.RowStores.RowLists.{not_untyped}
 use Rattle.slot_core.proofs.LinkedStores.LinkedReads.{last_read, last_untyped, last_before}

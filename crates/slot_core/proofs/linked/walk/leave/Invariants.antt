@@ -1,6 +1,6 @@
 use Rattle.std.proofs.Common.{◌≡◌}
-use Rattle.derivation.specs.Marked.{is_parent as is_parent_in}
-use Rattle.derivation.proofs.Trees.Parented.{still_above}
+use Rattle.kernel_forest.specs.Marked.{is_parent as is_parent_in}
+use Rattle.kernel_forest.proofs.Trees.Parented.{still_above}
 use Rattle.slot_core.specs.Links.{unplaced}
 use Rattle.slot_core.specs.Walks.{stack_of}
 use Rattle.slot_core.proofs.linked.walk.leave.Given as goal

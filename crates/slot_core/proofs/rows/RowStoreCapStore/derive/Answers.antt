@@ -2,7 +2,7 @@ use Rattle.std.proofs.Common.{◌≡◌, ℕ, ◌+◌, false, true, List, length
 use Rattle.std.specs.Prelude.{vec_capacity}
 use Rattle.std.specs.List.{insert}
 use Rattle.slot_core.specs.declared.rows.Row.{Row}
-use Rattle.derivation.specs.Derivation.{derived}
+use Rattle.kernel_forest.specs.Derivation.{derived}
 use Rattle.slot_core.specs.Places.{address_of}
 use Rattle.slot_core.specs.Rows.{forest_of, place_of, derived_row, IsRowStore}
 use Rattle.slot_core.proofs.RowStores.RowLists.{rows_derived}

@@ -2,8 +2,8 @@ use Rattle.std.proofs.Common.{ℕ, List, sym, ◌∙◌, ap}
 use Rattle.std.specs.Prelude.{not}
 use Rattle.std.specs.List.{list_any}
 use Rattle.slot_core.specs.declared.rows.Row.{Row}
-use Rattle.derivation.specs.Entries.{cap_at}
-use Rattle.derivation.specs.Derivation.{is_last}
+use Rattle.kernel_forest.specs.Entries.{cap_at}
+use Rattle.kernel_forest.specs.Derivation.{is_last}
 use Rattle.slot_core.specs.Places.{address_of}
 use Rattle.slot_core.specs.Rows.{forest_of, names_elsewhere}
 use Rattle.slot_core.proofs.RowStores.RowLists.{not_untyped, rows_last}

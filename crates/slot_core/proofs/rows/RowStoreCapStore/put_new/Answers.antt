@@ -3,9 +3,9 @@ use Rattle.std.specs.Prelude.{vec_capacity}
 use Rattle.std.specs.List.{insert}
 use Rattle.cap_core.specs.Objects.{is_untyped}
 use Rattle.slot_core.specs.declared.rows.Row.{Row}
-use Rattle.derivation.specs.Forest.{preorder}
-use Rattle.derivation.specs.Entries.{is_full}
-use Rattle.derivation.specs.Derivation.{retyped}
+use Rattle.kernel_forest.specs.Forest.{preorder}
+use Rattle.kernel_forest.specs.Entries.{is_full}
+use Rattle.kernel_forest.specs.Derivation.{retyped}
 use Rattle.slot_core.specs.Places.{address_of}
 use Rattle.slot_core.specs.Rows.{forest_of, place_of, derived_depth, IsRowStore}
 use Rattle.slot_core.proofs.RowStores.RowLists.{rows_new, standing_cap}

@@ -1,7 +1,7 @@
 use Rattle.std.proofs.Common.{◌≡◌, ℕ, false, true, List, refl, sym, ◌∙◌, ap, subst, arith}
 use Rattle.std.specs.Prelude.{vec_capacity}
 use Rattle.slot_core.specs.declared.rows.Row.{Row}
-use Rattle.derivation.specs.Derivation.{rooted}
+use Rattle.kernel_forest.specs.Derivation.{rooted}
 use Rattle.slot_core.specs.Places.{address_of}
 use Rattle.slot_core.specs.Rows.{forest_of, IsRowStore}
 use Rattle.slot_core.proofs.RowStores.RowLists.{rows_root}

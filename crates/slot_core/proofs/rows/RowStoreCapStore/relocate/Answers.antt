@@ -1,7 +1,7 @@
 use Rattle.std.proofs.Common.{◌≡◌, ℕ, false, true, List, length, set, sym, ◌∙◌, ap, subst, arith}
 use Rattle.slot_core.specs.declared.rows.Row.{Row}
-use Rattle.derivation.specs.Entries.{cap_at}
-use Rattle.derivation.specs.Derivation.{moved, names_same}
+use Rattle.kernel_forest.specs.Entries.{cap_at}
+use Rattle.kernel_forest.specs.Derivation.{moved, names_same}
 use Rattle.slot_core.specs.Places.{address_of}
 use Rattle.slot_core.specs.Rows.{forest_of, place_of, IsRowStore}
 use Rattle.slot_core.proofs.RowStores.RowSteps.{source_row, source_below}

@@ -2,9 +2,9 @@ use Rattle.std.proofs.Common.{◌≡◌, ℕ, true, List, length, set, sym, ◌�
 use Rattle.std.specs.Prelude.{vec_capacity}
 use Rattle.cap_core.specs.Objects.{IsLawful}
 use Rattle.slot_core.specs.declared.rows.Row.{Row}
-use Rattle.derivation.specs.Forest.{preorder}
-use Rattle.derivation.specs.Entries.{is_full, cap_at}
-use Rattle.derivation.specs.Derivation.{freed, with_free}
+use Rattle.kernel_forest.specs.Forest.{preorder}
+use Rattle.kernel_forest.specs.Entries.{is_full, cap_at}
+use Rattle.kernel_forest.specs.Derivation.{freed, with_free}
 use Rattle.slot_core.specs.Places.{address_of}
 use Rattle.slot_core.specs.Rows.{forest_of, place_of, IsRowStore}
 use Rattle.slot_core.proofs.RowStores.RowSteps.{source_row, source_below}

@@ -1,6 +1,6 @@
 use Rattle.std.proofs.Common.{ℕ, ◌≤◌, List, length, sym, ◌∙◌, ap, arith}
 use Rattle.std.proofs.Math.ListN.{drop_of_length-le}
-use Rattle.derivation.specs.Entries.{derivations_of}
+use Rattle.kernel_forest.specs.Entries.{derivations_of}
 use Rattle.slot_core.specs.declared.rows.Row.{Row}
 use Rattle.slot_core.specs.Rows.{forest_of}
 use Rattle.slot_core.proofs.RowStores.RowWalks.{found_on, found_all, all_found}

@@ -1,13 +1,13 @@
 use Rattle.std.proofs.Common.{◌≡◌, ℕ, suc, ◌+◌, ◌-◌, List, [], ◌∷◌, ◌++◌, length, Some, None, sym, ◌∙◌, ap, arith, rules}
 use Rattle.std.specs.Prelude.{slice_get}
-use Rattle.derivation.specs.Marked.{is_parent}
-use Rattle.derivation.proofs.Trees.Parented.{still_above}
+use Rattle.kernel_forest.specs.Marked.{is_parent}
+use Rattle.kernel_forest.proofs.Trees.Parented.{still_above}
 use Rattle.slot_core.specs.Walks.{stack_of}
-use Rattle.derivation.specs.Marked.{Marked, forest_of}
+use Rattle.kernel_forest.specs.Marked.{Marked, forest_of}
 use Rattle.slot_core.specs.declared.slot.Slot.{Slot}
 use Rattle.slot_core.specs.declared.derivations.Derivation.{Derivation}
 use Rattle.slot_core.specs.declared.linked.table.Link.{Link}
-use Rattle.derivation.specs.Entries.{derivations_of}
+use Rattle.kernel_forest.specs.Entries.{derivations_of}
 use Rattle.slot_core.specs.Links.{link_at, place_in, unplaced}
 use Rattle.slot_core.proofs.LinkedStores.Walked.{found_on, found_all, goes_on, ended, all_found}
 use Rattle.slot_core.proofs.linked.walk.LinkedStoreDerivationStore.derivations.Goals as goal

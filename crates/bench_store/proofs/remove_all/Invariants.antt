@@ -1,0 +1,13 @@
+use Rattle.std.proofs.Common.{◌≡◌, ◌≤◌}
+use Rattle.bench_store.specs.Cycle.{memory_bits, family}
+use Rattle.bench_store.proofs.remove_all.Given as goal
+
+abbrev pub invariant-loop-left : goal.invariant-loop-left
+invariant-loop-left g l = record {
+  memory : g.S.CapStore.memory_bits l.store ≡ memory_bits;
+  forest : g.S.CapStore.forest l.store ≡ family l.left;
+  few : l.left ≤ 64;
+}
+
+abbrev pub decreases-loop-left : goal.decreases-loop-left
+decreases-loop-left g l = l.left

@@ -1,8 +1,0 @@
--- The proof of `overlaps_earlier`: what holds at each turn of its loop.
-use Rattle.std.proofs.Common.{◌≡◌, false}
-use Rattle.abstract_kernel.specs.Plan.{overlaps_earlier}
-use Rattle.boot_plan.proofs.plan.BootPlan.overlaps_earlier.Given as goal
-
--- no region before the one at i overlaps
-abbrev pub invariant-loop-i : goal.invariant-loop-i
-invariant-loop-i g l = overlaps_earlier l.self l.i l.region ≡ false

@@ -1,7 +1,0 @@
-use Rattle.clearing.proofs.Rounds.{cleared_least, least_cleared}
-use Rattle.clearing.proofs.Selfheld.{stays_in_itself}
-use Rattle.clearing.proofs.Orders.{order_clear}
-use Rattle.clearing.proofs.laws.clear_takes_the_least_set.Goals as goal
-
-pub returns : goal.returns
-returns c = record { least = cleared_least; only = least_cleared; order = order_clear; selfheld = stays_in_itself }

@@ -1,0 +1,128 @@
+//! Who can send to whom.
+ghost use Rattle.std.specs.Prelude.{◌≡◌, ◌++◌, IfOk, OnOk, flat_map, string_bytes};
+ghost use Rattle.kernel_forest.specs.Forest.{Forest};
+ghost use Rattle.kernel_forest.specs.Entries.{Entry};
+ghost use Rattle.query_reach.specs.FullSlots.{AreFullSlots, AreRising};
+ghost use Rattle.query_reach.specs.ByEndpoint.{AreByEndpoint};
+ghost use Rattle.setup_values.specs.Names.{names_view};
+ghost use Rattle.command_audit.specs.Channels as spec;
+
+use crate::text::SenderText;
+use crate::threads::ThreadSlots;
+use query_reach::{
+    Channel, EndpointWord, FullSlot, by_endpoint, channels, endpoint_words,
+    receivers_without_sender, words_at,
+};
+use setup_values::{Name, thread_name};
+use std::alloc::{AllocError, Global};
+use std::collections::BTreeSet;
+use std::fmt::Write;
+
+/// The words of threads that lead to endpoints' capabilities, each thread's together. `filled` has all full slots, as
+/// `full_slots` of `query_reach` gives them.
+///
+/// # Errors
+///
+/// Memory was refused.
+pub fn channel_words(
+    alloc: Global,
+    filled: &[FullSlot],
+    list: &[ThreadSlots],
+) -> Result<Vec<EndpointWord>, AllocError>
+    requires { AreRising filled.now }
+    ensures { IfOk result (λ words. (f : Forest Entry) → AreFullSlots f filled.now → words.items ≡ flat_map (spec.words_of f) list.now) }
+{
+    let mut words = Vec::new(alloc);
+    for slots in list {
+        let own = endpoint_words(alloc, filled, slots.thread, slots.reached.as_slice())?;
+        words.extend_from_slice(own.as_slice())?;
+    }
+    Ok(words)
+}
+
+fn add_channel(out: &mut String, names: &[Name], channel: &Channel) -> Result<(), AllocError>
+    ensures { OnOk result (string_bytes out.new ≡ string_bytes out.old ++ spec.channel_line (names_view names.now) channel.now) }
+{
+    let sender = SenderText {
+        thread: thread_name(names, channel.sender.thread),
+        word: channel.sender,
+    };
+    match channel.receiver {
+        None => writeln!(out, "channel {sender} -> none"),
+        Some(receiver) => {
+            let word = receiver.word;
+            let thread = thread_name(names, receiver.thread);
+            writeln!(out, "channel {sender} -> {thread} {word}")
+        }
+    }
+}
+
+/// Adds a line for each channel.
+fn add_senders(out: &mut String, names: &[Name], list: &[Channel]) -> Result<(), AllocError>
+    ensures { OnOk result (string_bytes out.new ≡ string_bytes out.old ++ flat_map (spec.channel_line (names_view names.now)) list.now) }
+{
+    for channel in list {
+        add_channel(out, names, channel)?;
+    }
+    Ok(())
+}
+
+fn add_receiver(out: &mut String, names: &[Name], receiver: &EndpointWord) -> Result<(), AllocError>
+    ensures { OnOk result (string_bytes out.new ≡ string_bytes out.old ++ spec.receiver_line (names_view names.now) receiver.now) }
+{
+    let endpoint = receiver.endpoint;
+    let word = receiver.word;
+    let thread = thread_name(names, receiver.thread);
+    writeln!(out, "channel none -> {endpoint} -> {thread} {word}")
+}
+
+/// Adds a line for each of some receivers to which no other thread can send.
+fn add_receivers(out: &mut String, names: &[Name], list: &[EndpointWord]) -> Result<(), AllocError>
+    ensures { OnOk result (string_bytes out.new ≡ string_bytes out.old ++ flat_map (spec.receiver_line (names_view names.now)) list.now) }
+{
+    for receiver in list {
+        add_receiver(out, names, receiver)?;
+    }
+    Ok(())
+}
+
+/// Adds those of each of some endpoints. `words` are those of all threads, by rising endpoint.
+fn add_unserved(
+    alloc: Global,
+    out: &mut String,
+    names: &[Name],
+    words: &[EndpointWord],
+    endpoints: &BTreeSet<u64>,
+) -> Result<(), AllocError>
+    requires { AreByEndpoint words.now }
+    ensures { OnOk result (string_bytes out.new ≡ string_bytes out.old
+        ++ flat_map (spec.unserved_lines (names_view names.now) words.now) endpoints.now.keys) }
+{
+    for endpoint in endpoints {
+        let own = words_at(words, *endpoint);
+        let receivers = receivers_without_sender(alloc, own, *endpoint)?;
+        add_receivers(out, names, receivers.as_slice())?;
+    }
+    Ok(())
+}
+
+/// Adds who can send to whom, and behind that who can receive where no other thread can send.
+///
+/// # Errors
+///
+/// Memory was refused.
+pub fn add_channels(
+    alloc: Global,
+    out: &mut String,
+    names: &[Name],
+    words: &[EndpointWord],
+    endpoints: &BTreeSet<u64>,
+) -> Result<(), AllocError>
+    ensures { OnOk result (string_bytes out.new ≡ string_bytes out.old
+        ++ spec.channel_lines (names_view names.now) words.now endpoints.now.keys) }
+{
+    let list = channels(alloc, words)?;
+    add_senders(out, names, list.as_slice())?;
+    let words = by_endpoint(alloc, words)?;
+    add_unserved(alloc, out, names, words.as_slice(), endpoints)
+}

@@ -1,0 +1,88 @@
+//! The audit of a state, and that of one slot.
+ghost use Rattle.std.specs.Prelude.{◌≡◌, IfOk, ℕ, true};
+ghost use Rattle.kernel_forest.specs.Entries.{is_full};
+ghost use Rattle.kernel_abstract.specs.Memory.{IsInMemory};
+ghost use Rattle.kernel_abstract.specs.Reached.{IsReached};
+ghost use Rattle.kernel_abstract.specs.State.{State, shown};
+ghost use Rattle.setup_values.specs.Names.{names_view};
+ghost use Rattle.command_audit.specs.Audit as spec;
+
+use crate::channels::{add_channels, channel_words};
+use crate::head::add_head;
+use crate::revokes::{add_revoke, add_revokes, revoked};
+use crate::threads::{add_threads, thread_slots};
+use cap_core::Profile;
+use command_trace_lines::{add_changes_between, add_names};
+use ipc_core::MakeWaiters;
+use kernel_core::Kernel;
+use query_slots::kernel_slots;
+use setup_format::Setup;
+use setup_report::state_rows;
+use setup_values::Name;
+use slot_core::{DerivationStore, MakeStore};
+use std::alloc::{AllocError, Global};
+
+/// The audit of a kernel's state behind so many calls of a set-up: the names by which it was spelt, what each live thread can
+/// name, who can send to whom, and what a revoke of each full slot with children would do.
+///
+/// # Errors
+///
+/// Memory was refused.
+pub fn whole_audit<P: Profile, S: MakeStore<P> + DerivationStore<P>, W: MakeWaiters<P>>(
+    alloc: Global,
+    names: &[Name],
+    setup: &Setup,
+    made: usize,
+    kernel: &Kernel<P, S, W>,
+) -> Result<Vec<u8>, AllocError>
+    requires { (memory : ℕ) × IsInMemory P.profile memory kernel.now }
+    ensures { IfOk result (λ text. (A : State) → IsReached P.profile A → kernel.now ≡ shown A
+        → spec.IsWholeAudit P.profile (names_view names.now) setup.now made A text.items) }
+{
+    let rows = state_rows::<P, S, W>(alloc, kernel)?;
+    let filled = kernel_slots::<P, S, W>(alloc, kernel)?;
+    let list = thread_slots::<P>(alloc, filled.as_slice(), &rows.threads)?;
+    let words = channel_words(alloc, filled.as_slice(), list.as_slice())?;
+    let mut out = String::new(alloc);
+    add_head(&mut out, setup, made, None)?;
+    add_names(&mut out, names)?;
+    add_threads::<P, S, W>(&mut out, names, list.as_slice(), kernel)?;
+    add_channels(alloc, &mut out, names, words.as_slice(), &rows.endpoints)?;
+    add_revokes::<P, S, W>(alloc, &mut out, names, rows.slots.as_slice(), kernel)?;
+    Ok(out.into_bytes())
+}
+
+/// What a revoke of one full slot, by its address, would do to a kernel's state behind so many calls of a set-up, with all
+/// that it would change.
+///
+/// # Errors
+///
+/// Memory was refused.
+pub fn audit_of_slot<P: Profile, S: MakeStore<P> + DerivationStore<P>, W: MakeWaiters<P>>(
+    alloc: Global,
+    names: &[Name],
+    setup: &Setup,
+    made: usize,
+    slot: u64,
+    kernel: &Kernel<P, S, W>,
+) -> Result<Vec<u8>, AllocError>
+    requires { is_full slot kernel.now.derivations ≡ true }
+    ensures { IfOk result (λ text. (A : State) → IsReached P.profile A → kernel.now ≡ shown A
+        → text.items ≡ spec.slot_audit P.profile (names_view names.now) setup.now made slot A) }
+{
+    let rows = state_rows::<P, S, W>(alloc, kernel)?;
+    let new = revoked::<P, S, W>(alloc, kernel, slot)?;
+    let mut out = String::new(alloc);
+    add_head(&mut out, setup, made, Some(slot))?;
+    add_revoke::<P, S, W>(
+        alloc,
+        &mut out,
+        names,
+        rows.slots.as_slice(),
+        slot,
+        kernel,
+        &new,
+    )?;
+    add_changes_between::<P, S, W>(alloc, &mut out, kernel, &new)?;
+    Ok(out.into_bytes())
+}

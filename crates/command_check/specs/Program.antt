@@ -1,0 +1,69 @@
+-- What the program writes for the bytes that it reads, and its verdict.
+use Rattle.std.specs.Prelude.{◌≡◌, ℕ, ◌==◌, cond, List, map, Option, Some, None, Result, Ok, Err}
+use Rattle.cap_core.specs.declared.profile.ProfileName.{ProfileName}
+use Rattle.kernel_abstract.specs.declared.call.Call.{Call}
+use Rattle.kernel_abstract.specs.declared.call.Reply.{Reply}
+use Rattle.kernel_abstract.specs.Boot.{boot}
+use Rattle.kernel_abstract.specs.State.{State, shown}
+use Rattle.kernel_abstract.specs.Step.{replies_of, state_after}
+use Rattle.setup_format.specs.Views.{SetupView, CallView}
+use Rattle.setup_format.specs.Faults.{Fault}
+use Rattle.setup_format.specs.Setups.{setup_of_bytes}
+use Rattle.setup_format.specs.Refusal.{refusal_line}
+use Rattle.setup_report.specs.Report.{report_of, met_count, expectation_count}
+use Rattle.setup_report.specs.declared.calls.ExpectationCount.{ExpectationCount}
+use Rattle.command_check.specs.declared.run.CountedText.{CountedText}
+use Rattle.command_core.specs.declared.fault.Verdict.{Verdict}
+use Rattle.command_core.specs.declared.fault.Verdict.TheVariants.{AllMet, NotMet, Refused}
+
+-- the calls of a set-up, in order
+abbrev pub calls_of : SetupView → List Call
+calls_of setup = map (λ (c : CallView). c.call) setup.calls
+
+-- what the abstract kernel answers to the calls of a set-up, from its boot on
+unfoldable pub replies_to : ProfileName → SetupView → List Reply
+replies_to p setup = replies_of p (boot p setup.plan) (calls_of setup)
+
+-- the state of the abstract kernel after the calls of a set-up
+unfoldable pub end_of : ProfileName → SetupView → State
+end_of p setup = state_after p (boot p setup.plan) (calls_of setup)
+
+-- all expectations are met, or one is not
+abbrev pub verdict_on : ℕ → ℕ → Verdict
+verdict_on met expected = cond (met == expected) AllMet NotMet
+
+abbrev pub verdict_of : List CallView → List Reply → Verdict
+verdict_of calls replies = verdict_on (met_count calls replies) (expectation_count calls replies)
+
+-- the report of a set-up's run, and its verdict
+unfoldable pub outcome_of : ProfileName → SetupView → List ℕ × Verdict
+outcome_of p setup =
+    (report_of p setup.calls (replies_to p setup) (shown (end_of p setup)), verdict_of setup.calls (replies_to p setup))
+
+abbrev pub outcome_in : Result SetupView Fault → List ℕ × Verdict
+outcome_in (Ok setup) = outcome_of setup.profile setup
+outcome_in (Err fault) = (refusal_line fault, Refused)
+
+-- what is told of a run: the report, and how many of the expectations are met
+abbrev pub HasCounts : ProfileName → SetupView → Option ExpectationCount → Type 0
+HasCounts p setup None = ⊥
+HasCounts p setup (Some count) =
+    (count.met ≡ met_count setup.calls (replies_to p setup)) × (count.expected ≡ expectation_count setup.calls (replies_to p setup))
+
+abbrev pub IsTextIn : ProfileName → SetupView → CountedText → Type 0
+IsTextIn p setup made =
+    (made.text.items ≡ report_of p setup.calls (replies_to p setup) (shown (end_of p setup))) × HasCounts p setup made.count
+
+-- what is told of a set-up: that of its run in the profile that it names, or the line by which it is refused, with no count
+abbrev pub IsTextOfSetup : Result SetupView Fault → CountedText → Type 0
+IsTextOfSetup (Ok setup) made = IsTextIn setup.profile setup made
+IsTextOfSetup (Err fault) made = (made.text.items ≡ refusal_line fault) × (made.count ≡ None)
+
+-- the verdict by the count, where there is one
+abbrev pub verdict_in : Option ExpectationCount → Verdict
+verdict_in None = Refused
+verdict_in (Some count) = verdict_on count.met count.expected
+
+-- the report of the set-up that the bytes are, in the profile that it names, or the line by which it is refused
+unfoldable pub program : List ℕ → List ℕ × Verdict
+program bytes = outcome_in (setup_of_bytes bytes)

@@ -1,0 +1,19 @@
+//! The run of a set-up from the bytes that come in to the bytes that go out, and its migration. Of `command_core`, on which
+//! both stand, the names are here too.
+#![tactic(auto)]
+
+mod checking;
+mod command;
+mod migrating;
+mod run;
+mod state;
+
+pub use checking::{Checker, check, checked_text};
+pub use command::{Command, OnSetup, answered};
+pub use command_core::{
+    DeviceFault, Engine, INPUT_LIMIT, ReaderSource, RunFault, Sink, Source, Verdict, WriterSink,
+    read_below, run_engine, status_of, write_all,
+};
+pub use migrating::{Migrator, table_text};
+pub use run::{CountedText, counted_text_of, refusal, text_of, verdict_on};
+pub use state::{OnState, StateCommand};

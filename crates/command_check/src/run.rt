@@ -1,0 +1,151 @@
+//! The run of a set-up: from the bytes of an input to the text that is written for it.
+ghost use Rattle.std.specs.Prelude.{◌≡◌, IfOk, codes, ◌++◌};
+ghost use Rattle.kernel_abstract.specs.Boot.{boot as boot_state};
+ghost use Rattle.kernel_abstract.specs.Plan.{IsPlan};
+ghost use Rattle.kernel_abstract.specs.State.{shown};
+ghost use Rattle.setup_format.specs.Refusal.{setup_fault_text};
+ghost use Rattle.setup_format.specs.Setups.{setup_of_bytes};
+ghost use Rattle.command_check.specs.Program.{IsTextIn, IsTextOfSetup, program, replies_to, end_of, verdict_in, verdict_on as verdict_of_counts};
+
+use cap_core::{Narrow, Profile, ProfileName, Wide};
+use command_core::Verdict;
+use ipc_core::MakeWaiters;
+use kernel_core::{BootPlan, Kernel, Reply};
+use setup_format::{Setup, SetupFault, read_setup};
+use setup_report::{ExpectationCount, counted_report};
+use slot_core::{DerivationStore, MakeStore};
+use std::alloc::{AllocError, Global};
+
+/// The text that is written for an input, and the count of its expectations.
+#[derive(Drop)]
+pub struct CountedText {
+    /// The report, or the line by which the set-up is refused.
+    pub text: Vec<u8>,
+    /// How many calls have an expectation, and how many of these are met; nothing where the set-up is refused.
+    pub count: Option<ExpectationCount>,
+}
+
+impl CountedText {
+    /// Whether all expectations are met, one is not, or the set-up is refused.
+    pub fn verdict(&self) -> Verdict
+        ensures { result ≡ verdict_in self.now.count }
+    {
+        match self.count {
+            Some(count) => verdict_on(count),
+            None => Verdict::Refused,
+        }
+    }
+}
+
+/// Boots a kernel. Out of line, as are the other parts of a run, so that a profile tells them apart.
+#[inline(never)]
+fn boot<P: Profile, S: MakeStore<P>, W: MakeWaiters<P>>(
+    alloc: Global,
+    plan: &BootPlan,
+) -> Result<Kernel<P, S, W>, AllocError>
+    requires { IsPlan P.profile plan.now }
+    ensures { IfOk result (λ kernel. kernel ≡ shown (boot_state P.profile plan.now)) }
+{
+    Kernel::boot(alloc, plan)
+}
+
+/// Boots a kernel from the set-up's plan and makes its calls: the kernel then, and the replies.
+#[inline(never)]
+#[tactic(auto, unfolding(crate::specs::Program::replies_to, crate::specs::Program::end_of))]
+fn run_calls<P: Profile, S: MakeStore<P>, W: MakeWaiters<P>>(
+    alloc: Global,
+    setup: &Setup,
+) -> Result<(Kernel<P, S, W>, Vec<Reply>), AllocError>
+    requires { IsPlan P.profile setup.now.plan }
+    ensures kernel { IfOk result (λ r. r.0 ≡ shown (end_of P.profile setup.now)) }
+    ensures replies { IfOk result (λ r. r.1.items ≡ replies_to P.profile setup.now) }
+{
+    let mut kernel = boot::<P, S, W>(alloc, setup.plan())?;
+    let calls = setup.calls();
+    let mut replies = Vec::with_capacity(alloc, calls.len())?;
+    kernel.run(calls, &mut replies);
+    Ok((kernel, replies))
+}
+
+/// Runs the set-up in a profile, and reports on it.
+#[inline(never)]
+#[tactic(auto, using(crate::proofs::Runs::length_replies_to))]
+fn run_setup<P: Profile, S: MakeStore<P> + DerivationStore<P>, W: MakeWaiters<P>>(
+    alloc: Global,
+    setup: &Setup,
+) -> Result<CountedText, AllocError>
+    requires { IsPlan P.profile setup.now.plan }
+    ensures { IfOk result (IsTextIn P.profile setup.now) }
+{
+    let (kernel, replies) = run_calls::<P, S, W>(alloc, setup)?;
+    let (text, count) = counted_report(alloc, setup, replies.as_slice(), &kernel)?;
+    Ok(CountedText {
+        text,
+        count: Some(count),
+    })
+}
+
+/// Whether all expectations are met.
+pub fn verdict_on(count: ExpectationCount) -> Verdict
+    ensures { result ≡ verdict_of_counts count.met count.expected }
+{
+    if count.met == count.expected {
+        Verdict::AllMet
+    } else {
+        Verdict::NotMet
+    }
+}
+
+/// The line by which a set-up is refused.
+pub fn refusal(alloc: Global, fault: &SetupFault) -> Result<Vec<u8>, AllocError>
+    ensures { IfOk result (λ text. text.items ≡ setup_fault_text fault.now ++ codes "\n") }
+{
+    let text = format!(in alloc; "{fault}\n")?;
+    Ok(text.into_bytes())
+}
+
+/// The text that the program writes for the bytes of its input, and the count of the expectations. The kernel has the words
+/// of the set-up's profile: `S` and `W` are the stores of a wide kernel, `T` and `V` those of a narrow one. The text is the
+/// same whatever stores it is made of.
+///
+/// # Errors
+///
+/// Memory was refused.
+pub fn counted_text_of<
+    S: MakeStore<Wide> + DerivationStore<Wide>,
+    W: MakeWaiters<Wide>,
+    T: MakeStore<Narrow> + DerivationStore<Narrow>,
+    V: MakeWaiters<Narrow>,
+>(alloc: Global, bytes: &[u8]) -> Result<CountedText, AllocError>
+    ensures { IfOk result (IsTextOfSetup (setup_of_bytes bytes.now)) }
+{
+    match read_setup(alloc, bytes) {
+        Ok(setup) => match setup.profile() {
+            ProfileName::Wide => run_setup::<Wide, S, W>(alloc, &setup),
+            ProfileName::Narrow => run_setup::<Narrow, T, V>(alloc, &setup),
+        },
+        Err(SetupFault::Memory) => Err(AllocError),
+        Err(fault) => Ok(CountedText {
+            text: refusal(alloc, &fault)?,
+            count: None,
+        }),
+    }
+}
+
+/// The text that the program writes for the bytes of its input, and the verdict, as `counted_text_of` gives them.
+///
+/// # Errors
+///
+/// Memory was refused.
+pub fn text_of<
+    S: MakeStore<Wide> + DerivationStore<Wide>,
+    W: MakeWaiters<Wide>,
+    T: MakeStore<Narrow> + DerivationStore<Narrow>,
+    V: MakeWaiters<Narrow>,
+>(alloc: Global, bytes: &[u8]) -> Result<(Vec<u8>, Verdict), AllocError>
+    ensures { IfOk result (λ made. (made.0.items, made.1) ≡ program bytes.now) }
+{
+    let made = counted_text_of::<S, W, T, V>(alloc, bytes)?;
+    let verdict = made.verdict();
+    Ok((made.text, verdict))
+}

@@ -1,0 +1,19 @@
+-- The program's exit status after a run, and what it says of a fault.
+use Rattle.std.specs.Prelude.{ℕ, List, codes, Result, Ok, Err}
+use Rattle.command_core.specs.declared.fault.Verdict.{Verdict}
+use Rattle.command_core.specs.declared.fault.Verdict.TheVariants.{AllMet, NotMet, Refused, Absent}
+use Rattle.command_core.specs.declared.fault.RunFault.{RunFault}
+use Rattle.command_core.specs.declared.fault.RunFault.TheVariants.{Reading, Writing, Memory, Thread}
+
+abbrev pub run_status : Result Verdict RunFault → ℕ
+run_status (Ok AllMet) = 0
+run_status (Ok NotMet) = 1
+run_status (Ok Refused) = 2
+run_status (Ok Absent) = 4
+run_status (Err fault) = 3
+
+abbrev pub run_fault_text : RunFault → List ℕ
+run_fault_text Reading = codes "reading failed"
+run_fault_text Writing = codes "writing failed"
+run_fault_text Memory = codes "out of memory"
+run_fault_text Thread = codes "thread not started"

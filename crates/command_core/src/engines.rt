@@ -1,0 +1,48 @@
+//! Engines: what the program can make of an input, and its run over a source and a sink.
+ghost use Rattle.std.specs.Prelude.{◌≡◌, ◌≢◌, ℕ, List, false, IfOk, IfErr};
+ghost use Rattle.command_core.specs.Runs.{IsRun};
+ghost use Rattle.command_core.specs.declared.fault.Verdict.{Verdict};
+
+use crate::fault::{RunFault, Verdict};
+use crate::limits::INPUT_LIMIT;
+use crate::sink::Sink;
+use crate::source::Source;
+use crate::streams::{read_below, write_all};
+use std::alloc::Global;
+
+/// What makes a text and a verdict of an input.
+pub trait Engine {
+    /// The text and the verdict are right for the input.
+    ghost means: { Self → List ℕ → List ℕ → Verdict → Type 0 };
+
+    /// The text that is to be written for the input, and the verdict.
+    ///
+    /// # Errors
+    /// `Memory`.
+    fn make(&self, alloc: Global, input: &[u8]) -> Result<(Vec<u8>, Verdict), RunFault>
+        ensures made { IfOk result (λ made. means self.now input.now made.0.items made.1) }
+        ensures memory { IfErr result (λ fault. fault ≡ RunFault.Memory) };
+}
+
+/// Reads the source to its end, and writes to the sink the text that the engine makes of it.
+///
+/// # Errors
+/// `Reading` where a read failed in this call, or where `INPUT_LIMIT` bytes came without an end; nothing is written
+/// then. `Writing` where a write failed or took no byte; a front of the text was written then. `Memory`; nothing is
+/// written then.
+pub fn run_engine<S: Source, K: Sink, E: Engine>(
+    alloc: Global,
+    engine: &E,
+    source: &mut S,
+    sink: &mut K,
+) -> Result<Verdict, RunFault>
+    requires source { S.failed source.old ≡ false }
+    requires sink { K.failed sink.old ≡ false }
+    ensures run { IsRun (E.means engine.now) S.Source K.Sink source.old source.new sink.old sink.new result }
+    ensures never_thread { result ≢ Err RunFault.Thread }
+{
+    let input = read_below(alloc, source, INPUT_LIMIT)?;
+    let (text, verdict) = engine.make(alloc, input.as_slice())?;
+    write_all(sink, text.as_slice())?;
+    Ok(verdict)
+}

@@ -1,0 +1,62 @@
+//! How a run of the program ends.
+ghost use Rattle.std.specs.Prelude.{◌≡◌};
+ghost use Rattle.command_core.specs.Statuses.{run_status};
+
+use thiserror::Error;
+
+/// What a run found.
+#[derive(Clone, Copy, Drop)]
+pub enum Verdict {
+    /// The set-up was run, and each expectation is met.
+    AllMet,
+    /// The set-up was run, and an expectation is not met.
+    NotMet,
+    /// The set-up is refused, and nothing was run.
+    Refused,
+    /// The command line names a call, a slot or an order that the set-up does not have.
+    Absent,
+}
+
+/// Why a run came to no verdict. It is shown as its `text`.
+#[derive(Clone, Copy, Debug, Drop, Error)]
+#[error("{}", self.text())]
+pub enum RunFault {
+    /// A read failed, or the input has too many bytes.
+    Reading,
+    /// A write failed, or took no byte.
+    Writing,
+    /// Memory ran out.
+    Memory,
+    /// A thread could not be started, or a client that shares a kernel came to no end of its calls.
+    Thread,
+}
+
+impl RunFault {
+    ghost use Rattle.command_core.specs.Statuses.{run_fault_text};
+
+    /// What the program says of the fault.
+    pub fn text(self) -> &'static str
+        ensures { result.now ≡ run_fault_text self }
+    {
+        match self {
+            RunFault::Reading => "reading failed",
+            RunFault::Writing => "writing failed",
+            RunFault::Memory => "out of memory",
+            RunFault::Thread => "thread not started",
+        }
+    }
+}
+
+/// The program's exit status: 0 where all expectations are met, 1 where one is not, 2 where the set-up is refused, 4
+/// where it does not have what the command line names, 3 after a fault.
+pub fn status_of(answer: &Result<Verdict, RunFault>) -> u8
+    ensures { result ≡ run_status answer.now }
+{
+    match answer {
+        Ok(Verdict::AllMet) => 0,
+        Ok(Verdict::NotMet) => 1,
+        Ok(Verdict::Refused) => 2,
+        Ok(Verdict::Absent) => 4,
+        Err(_) => 3,
+    }
+}

@@ -1,0 +1,67 @@
+//! The exploration of a set-up, as the answer of a command.
+ghost use Rattle.std.specs.Prelude.{◌≡◌, IfOk};
+ghost use Rattle.kernel_abstract.specs.Plan.{IsPlan};
+ghost use Rattle.command_explore.specs.Explorations.{explored_in, verdict_of};
+
+use cap_core::Profile;
+use command_check::Command;
+use command_core::Verdict;
+use command_explore_text::explored_report;
+use ipc_core::{MakeWaiters, RowWaiters};
+use setup_format::{ReadSetup, Setup};
+use slot_core::{DerivationStore, MakeStore, RowStore};
+use std::alloc::{AllocError, Global};
+
+/// How many calls of a set-up are made before its clients begin, and how many states are explored at most.
+#[derive(Clone, Copy, Drop)]
+pub struct ExploreOptions {
+    pub first: usize,
+    pub states: u64,
+}
+
+/// The verdict on an exploration, by whether all is well.
+fn verdict_on(is_well: bool) -> Verdict
+    ensures { result ≡ verdict_of is_well }
+{
+    if is_well {
+        Verdict::AllMet
+    } else {
+        Verdict::NotMet
+    }
+}
+
+/// Explores the set-up in a profile, and reports on it.
+#[tactic(auto, unfolding(crate::specs::Explorations::explored_in))]
+fn explore_setup<P: Profile, S: MakeStore<P> + DerivationStore<P>, W: MakeWaiters<P>>(
+    alloc: Global,
+    options: ExploreOptions,
+    setup: &Setup,
+) -> Result<(Vec<u8>, Verdict), AllocError>
+    requires { IsPlan P.profile setup.now.plan }
+    ensures { IfOk result (λ made. (made.0.items, made.1) ≡ explored_in P.profile options.first options.states setup.now) }
+{
+    let told = explored_report::<P, S, W>(alloc, setup, options.first, options.states)?;
+    Ok((told.text, verdict_on(told.is_well)))
+}
+
+/// The report on every order of the calls that the clients of a set-up make. It is made by the plain forms: a copy of these has
+/// the full slots and the threads that wait alone to write. The verdict is `AllMet` where all orders were explored, each
+/// expectation is met in each of them, and none ends stuck.
+#[derive(Clone, Copy, Drop)]
+pub struct Explore {
+    pub options: ExploreOptions,
+}
+
+impl Command for Explore {
+    ghost use Rattle.command_explore.specs.Explorations.{IsExploration};
+
+    ghost answers = { λ explore. IsExploration explore.options.first explore.options.states };
+
+    fn answer<P: Profile, S: MakeStore<P> + DerivationStore<P>, W: MakeWaiters<P>>(
+        &self,
+        alloc: Global,
+        read: ReadSetup,
+    ) -> Result<(Vec<u8>, Verdict), AllocError> {
+        explore_setup::<P, RowStore<P>, RowWaiters<P>>(alloc, self.options, &read.setup)
+    }
+}

@@ -1,0 +1,57 @@
+//! A set-up that makes the calls of one order, as the answer of a command.
+ghost use Rattle.std.specs.Prelude.{IfOk, option_map};
+ghost use Rattle.toml.specs.View.{table_view};
+ghost use Rattle.command_explore.specs.Witnessed.{IsTextOfTable};
+
+use crate::exploring::ExploreOptions;
+use cap_core::Profile;
+use command_check::{Command, table_text};
+use command_core::Verdict;
+use command_explore_text::{Witness, make_witness};
+use ipc_core::{MakeWaiters, RowWaiters};
+use setup_format::ReadSetup;
+use slot_core::{DerivationStore, MakeStore, RowStore};
+use std::alloc::{AllocError, Global};
+use toml::Table;
+
+/// The text that is written for a table, where there is one, and the verdict.
+fn witness_text(alloc: Global, made: Option<Table>) -> Result<(Vec<u8>, Verdict), AllocError>
+    ensures { IfOk result (λ written. IsTextOfTable (option_map table_view made) written.0.items written.1) }
+{
+    match made {
+        Some(table) => Ok((table_text(alloc, &table)?, Verdict::AllMet)),
+        None => Ok((Vec::new(alloc), Verdict::Absent)),
+    }
+}
+
+/// A set-up in the newest format with the calls of the first order that tells what the witness is of. It is made by the plain
+/// forms, as `Explore` does. The verdict is `AllMet`, or `Absent` with nothing written where no order is told for the witness.
+#[derive(Clone, Copy, Drop)]
+pub struct WriteWitness {
+    pub options: ExploreOptions,
+    pub witness: Witness,
+}
+
+impl Command for WriteWitness {
+    ghost use Rattle.command_explore.specs.Witnessed.{IsWitness};
+
+    ghost answers = { λ write. IsWitness write.options.first write.options.states write.witness };
+
+    fn answer<P: Profile, S: MakeStore<P> + DerivationStore<P>, W: MakeWaiters<P>>(
+        &self,
+        alloc: Global,
+        read: ReadSetup,
+    ) -> Result<(Vec<u8>, Verdict), AllocError> {
+        let ExploreOptions { first, states } = self.options;
+        let ReadSetup { table, setup, .. } = read;
+        let made = make_witness::<P, RowStore<P>, RowWaiters<P>>(
+            alloc,
+            &setup,
+            first,
+            states,
+            self.witness,
+            table,
+        )?;
+        witness_text(alloc, made)
+    }
+}

@@ -1,0 +1,8 @@
+use Rattle.std.proofs.Common.{◌≡◌, map}
+use Rattle.query_orders.specs.Orders.{below}
+use Rattle.query_explore.specs.Nodes.{own_calls}
+use Rattle.command_explore_text.specs.Clients.{client_calls}
+use Rattle.command_explore_text.proofs.clients.calls_of_clients.Given as goal
+
+abbrev pub invariant-loop-client : goal.invariant-loop-client
+invariant-loop-client l = own_calls l.lists.items ≡ map (client_calls l.setup.calls) (below l.client)

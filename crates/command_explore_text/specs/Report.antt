@@ -1,0 +1,73 @@
+-- The report on every order of the calls that the clients of a set-up make.
+use Rattle.std.specs.Prelude.{codes, ℕ, ◌+◌, ◌==◌, ◌&&◌, Bool, cond, List, [], ◌++◌, length}
+use Rattle.std.specs.Fmt.{decimal}
+use Rattle.cap_core.specs.declared.profile.ProfileName.{ProfileName}
+use Rattle.kernel_abstract.specs.Boot.{boot}
+use Rattle.setup_values.specs.Told.{profile_text}
+use Rattle.setup_format.specs.Views.{SetupView}
+use Rattle.setup_report.specs.Report.{terminated}
+use Rattle.kernel_kinds.specs.Kinds.{firsts}
+use Rattle.query_orders.specs.contracts.answer.AnswerPartialEq.TheImpl as answer_eq
+use Rattle.query_orders.specs.World.{start}
+use Rattle.query_orders.specs.Orders.{is_end, is_stuck}
+use Rattle.query_orders.specs.Answers.{same_answer, first_answers, answers_before}
+use Rattle.query_orders.specs.Ends.{stuck_before, orders_before}
+use Rattle.query_explore.specs.Nodes.{layer}
+use Rattle.query_explore.specs.Counts.{saturated, states_before, ends_before}
+use Rattle.query_explore.specs.Found.{same_left}
+use Rattle.query_explore.specs.Explorations.{depth}
+use Rattle.command_explore_text.specs.Clients.{own_calls, first_clients}
+use Rattle.command_explore_text.specs.Numbers.{numbers_of}
+use Rattle.command_explore_text.specs.Text.{met_count, expectation_count, call_blocks, stuck_blocks, count_text}
+use Rattle.command_explore_text.specs.Views.{ExploredView}
+
+-- the version of the report's form, and how large the set-up is
+abbrev pub head_line : SetupView → List ℕ
+head_line setup =
+    terminated (codes "explore 1 " ++ (profile_text setup.profile ++ (codes " clients " ++ (decimal setup.clients ++ (codes " calls " ++ decimal (length setup.calls))))))
+
+abbrev pub count_lines : ℕ → ℕ → ℕ → ℕ → List ℕ
+count_lines states ends orders stuck =
+    codes "states " ++ (count_text states ++ (codes " ends " ++ (count_text ends ++ (codes "\norders " ++ (count_text orders ++ (codes " stuck " ++ (count_text stuck ++ codes "\n")))))))
+
+-- where the limit on states was reached: all of them are found, and the orders that are explored have fewer calls than so many
+abbrev pub limit_line : ℕ → ℕ → List ℕ
+limit_line limit calls = terminated (codes "states " ++ (decimal limit ++ (codes " limit calls " ++ decimal calls)))
+
+abbrev pub end_lines : ℕ → ℕ → ℕ → ℕ → ExploredView → List ℕ
+end_lines first limit met expected e =
+    cond e.whole (count_lines e.states e.ends e.orders e.stuck_orders) (limit_line limit (first + e.calls))
+    ++ terminated (codes "expected " ++ (decimal met ++ (codes " of " ++ decimal expected)))
+
+-- the report on an exploration, and whether all is well: all orders are explored, each expectation is met in each of them, and
+-- none ends stuck
+unfoldable pub report_on : SetupView → ℕ → ℕ → ExploredView → List ℕ × Bool
+report_on setup first limit e =
+    let numbers = numbers_of setup in
+    let met = met_count numbers 1 e.whole e.answers setup.calls in
+    let expected = expectation_count setup.calls in (
+      head_line setup ++ (call_blocks numbers 1 e.whole e.answers setup.calls ++ (stuck_blocks numbers 1 e.stuck ++ end_lines first limit met expected e)),
+      e.whole && (met == expected) && (length e.stuck == 0),
+    )
+
+-- what the orders tell that begin with the first calls of a set-up, from its boot on, as far as the limit on states lets it go
+unfoldable pub exploration : ProfileName → SetupView → ℕ → ℕ → ExploredView
+exploration p setup first limit =
+    let own = own_calls setup in
+    let begin = first_clients setup first in
+    let w = start own (boot p setup.plan) in
+    let n = depth p own w begin limit (length setup.calls + 1) in
+    record {
+      whole = length (layer p own w begin n) == 0;
+      calls = n;
+      answers = answers_before answer_eq.ghosts.eq (firsts (same_answer answer_eq.ghosts.eq) (first_answers p own w [] begin)) p own w begin n;
+      stuck = stuck_before same_left p own w begin n;
+      states = saturated (states_before p own w begin n);
+      ends = saturated (ends_before p own w begin n);
+      orders = saturated (orders_before (is_end own) p own w begin n);
+      stuck_orders = saturated (orders_before (is_stuck own) p own w begin n);
+    }
+
+-- the report on them
+unfoldable pub explored_report : ProfileName → SetupView → ℕ → ℕ → List ℕ × Bool
+explored_report p setup first limit = report_on setup (length (first_clients setup first)) limit (exploration p setup first limit)

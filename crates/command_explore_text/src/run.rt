@@ -1,0 +1,160 @@
+//! The exploration of a set-up, and its report.
+ghost use Rattle.std.specs.Prelude.{◌≡◌, ◌++◌, ◌==◌, ◌&&◌, IfOk, OnOk, length, string_bytes};
+ghost use Rattle.kernel_abstract.specs.Plan.{IsPlan};
+ghost use Rattle.query_explore.specs.Found.{stuck_of};
+ghost use Rattle.command_explore_text.specs.Report as spec;
+ghost use Rattle.command_explore_text.specs.Views.{explored_view};
+
+use crate::calls::add_calls;
+use crate::clients::{calls_of_clients, first_clients};
+use crate::ends::add_stuck;
+use crate::marks::CountText;
+use crate::numbers::numbers_of_clients;
+use cap_core::Profile;
+use ipc_core::MakeWaiters;
+use kernel_core::Kernel;
+use query_explore::{Explored, FoundStuck, explore};
+use setup_format::Setup;
+use setup_report::ExpectationCount;
+use setup_values::profile_text;
+use slot_core::{DerivationStore, MakeStore};
+use std::alloc::{AllocError, Global};
+use std::fmt::Write;
+
+/// The report on an exploration, and whether all is well: all orders are explored, each expectation is met in each of them,
+/// and none ends stuck.
+#[derive(Drop)]
+pub struct ExploredText {
+    pub text: Vec<u8>,
+    pub is_well: bool,
+}
+
+/// Adds the first line: the version of the report's form, and how large the set-up is.
+fn add_head(out: &mut String, setup: &Setup) -> Result<(), AllocError>
+    ensures { OnOk result (string_bytes out.new ≡ string_bytes out.old ++ spec.head_line setup.now) }
+{
+    let profile = profile_text(setup.profile());
+    let clients = setup.clients();
+    let calls = setup.calls().len();
+    writeln!(out, "explore 1 {profile} clients {clients} calls {calls}")
+}
+
+/// Adds how many states and orders there are, where all orders are explored.
+fn add_counts(out: &mut String, explored: &Explored) -> Result<(), AllocError>
+    ensures { OnOk result (string_bytes out.new ≡ string_bytes out.old
+        ++ spec.count_lines explored.now.states explored.now.found.ends explored.now.found.orders explored.now.found.stuck_orders) }
+{
+    let states = CountText(explored.states);
+    let ends = CountText(explored.found.ends);
+    let orders = CountText(explored.found.orders);
+    let stuck = CountText(explored.found.stuck_orders);
+    writeln!(
+        out,
+        "states {states} ends {ends}\norders {orders} stuck {stuck}"
+    )
+}
+
+/// Adds the last lines: how many states and orders there are, or the limit that was reached, and how many expectations are
+/// met in every order.
+fn add_end(
+    out: &mut String,
+    explored: &Explored,
+    first: usize,
+    limit: u64,
+    count: ExpectationCount,
+) -> Result<(), AllocError>
+    ensures { OnOk result (string_bytes out.new ≡ string_bytes out.old
+        ++ spec.end_lines first limit count.met count.expected (explored_view explored.now)) }
+{
+    if explored.layer.nodes().is_empty() {
+        add_counts(out, explored)?;
+    } else {
+        let calls = first as u128 + explored.calls as u128;
+        writeln!(out, "states {limit} limit calls {calls}")?;
+    }
+    let met = count.met;
+    let expected = count.expected;
+    writeln!(out, "expected {met} of {expected}")
+}
+
+/// Whether all is well: all orders are explored, each expectation is met, and there is no way to end stuck.
+fn is_well(is_whole: bool, count: ExpectationCount, stuck: &[FoundStuck]) -> bool
+    ensures { result ≡ (is_whole && (count.met == count.expected) && (length (stuck_of stuck.now) == 0)) }
+{
+    is_whole && count.met == count.expected && stuck.is_empty()
+}
+
+/// The report on an exploration of a set-up whose orders begin with `first` calls.
+#[tactic(auto, unfolding(crate::specs::Report::report_on))]
+fn explored_text(
+    alloc: Global,
+    setup: &Setup,
+    explored: &Explored,
+    first: usize,
+    limit: u64,
+) -> Result<ExploredText, AllocError>
+    ensures { IfOk result (λ r. (r.text.items, r.is_well) ≡ spec.report_on setup.now first limit (explored_view explored.now)) }
+{
+    let lists = numbers_of_clients(alloc, setup)?;
+    let numbers = lists.as_slice();
+    let answers = explored.found.answers.answers();
+    let stuck = explored.found.stuck.as_slice();
+    let is_whole = explored.layer.nodes().is_empty();
+    let mut out = String::new(alloc);
+    add_head(&mut out, setup)?;
+    let count = add_calls(alloc, &mut out, setup, numbers, is_whole, answers)?;
+    add_stuck(alloc, &mut out, numbers, stuck)?;
+    add_end(&mut out, explored, first, limit, count)?;
+    Ok(ExploredText {
+        text: out.into_bytes(),
+        is_well: is_well(is_whole, count, stuck),
+    })
+}
+
+/// Explores every order of the calls that the clients of a set-up make, from its boot on, behind the first calls of the set-up.
+pub fn explore_setup<P: Profile, S: MakeStore<P> + DerivationStore<P>, W: MakeWaiters<P>>(
+    alloc: Global,
+    setup: &Setup,
+    first: usize,
+    limit: u64,
+) -> Result<Explored, AllocError>
+    requires { IsPlan P.profile setup.now.plan }
+    ensures { IfOk result (λ e. explored_view e ≡ spec.exploration P.profile setup.now first limit) }
+{
+    let kernel = Kernel::<P, S, W>::boot(alloc, setup.plan())?;
+    let calls = calls_of_clients(alloc, setup)?;
+    let begin = first_clients(alloc, setup, first)?;
+    let count = setup.calls().len() + 1;
+    let explored = explore(
+        alloc,
+        calls.as_slice(),
+        &kernel,
+        begin.as_slice(),
+        limit,
+        count,
+    )?;
+    Ok(explored)
+}
+
+/// Explores every order of the calls that the clients of a set-up make, from its boot on, and reports on it. The first calls
+/// of the set-up, as many as `first` says, are made before the clients begin. Where the states are more than the limit, the
+/// report is on the orders of as many calls as it allows.
+///
+/// # Errors
+///
+/// Memory was refused.
+#[tactic(auto, unfolding(crate::specs::Report::explored_report))]
+pub fn explored_report<P: Profile, S: MakeStore<P> + DerivationStore<P>, W: MakeWaiters<P>>(
+    alloc: Global,
+    setup: &Setup,
+    first: usize,
+    limit: u64,
+) -> Result<ExploredText, AllocError>
+    requires { IsPlan P.profile setup.now.plan }
+    ensures { IfOk result (λ r. (r.text.items, r.is_well) ≡ spec.explored_report P.profile setup.now first limit) }
+{
+    let begin = first_clients(alloc, setup, first)?;
+    let explored = explore_setup::<P, S, W>(alloc, setup, first, limit)?;
+    let told = explored_text(alloc, setup, &explored, begin.len(), limit)?;
+    Ok(told)
+}

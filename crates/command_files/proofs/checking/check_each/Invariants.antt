@@ -1,0 +1,10 @@
+-- The lines and the tally are those of the files so far.
+use Rattle.std.proofs.Common.{map, take}
+use Rattle.command_files.specs.Files.{IsInput}
+use Rattle.command_files.proofs.Sequences.{SoFar}
+use Rattle.command_files.proofs.checking.check_each.Given as goal
+
+abbrev pub invariant-loop-name : goal.invariant-loop-name
+invariant-loop-name g l =
+    SoFar (IsInput (g.I.Inputs.is_standard l.inputs) (g.I.Inputs.is_file l.inputs) (g.I.Inputs.is_fault l.inputs) g.I.Standard.Source g.I.File.Source)
+    (map (λ s. s.now) (take l.name-index l.names)) l.name-index l.out.items l.tally

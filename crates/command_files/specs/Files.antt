@@ -1,0 +1,136 @@
+-- What the check of several files writes, and its exit status.
+use Rattle.std.specs.Prelude.{◌≡◌, ◌⊎◌, ◌+◌, ◌<◌, ◌==◌, ⊤, ℕ, max, nat_lt, codes, true, List, [], ◌∷◌, ◌++◌, length, count_by, Option, Some, None, Result, Ok, Err, IfOk, IfErr, MatchBool, if◌then◌else◌}
+use Rattle.std.specs.Fmt.{decimal}
+use Rattle.std.specs.Str.{bytes_eq}
+use Rattle.setup_format.specs.Faults.{Fault}
+use Rattle.setup_format.specs.Refusal.{refusal_line}
+use Rattle.setup_format.specs.Setups.{setup_of_bytes}
+use Rattle.setup_format.specs.Views.{SetupView}
+use Rattle.setup_report.specs.Report.{expectation_line, terminated}
+use Rattle.command_check.specs.Program.{program, replies_to}
+use Rattle.command_core.specs.Devices.{Gave, GaveAsMany, Took, TookFront}
+use Rattle.command_core.specs.Statuses.{run_status}
+use Rattle.command_core.specs.declared.fault.Verdict.{Verdict}
+use Rattle.command_core.specs.declared.fault.RunFault.{RunFault}
+use Rattle.command_core.specs.declared.fault.RunFault.TheVariants.{Reading, Writing, Memory}
+use Rattle.command_core.specs.Limits.{input_limit}
+use Rattle.command_core.specs.declared.sink.Sink.{Ghosts as SinkGhosts}
+use Rattle.command_core.specs.declared.source.Source.{Ghosts as SourceGhosts}
+use Rattle.command_files.specs.declared.tally.Tally.{Tally}
+
+-- ---- the contents of a file: its bytes, or none where it cannot be read
+
+-- the source gave these bytes to its end; or a read failed, or it gave as many bytes as no set-up has
+abbrev pub HasContents : {S : Type 0} → SourceGhosts S → S → S → Option (List ℕ) → Type 0
+HasContents from old new (Some bytes) = Gave from.left from.given old new bytes × (from.given new < from.given old + input_limit)
+HasContents from old new None = (from.failed new ≡ true) ⊎ GaveAsMany from.left from.given old new input_limit
+
+-- the contents of standard input
+abbrev pub IsStandard : {S : Type 0} → (S → Type 0) → SourceGhosts S → Option (List ℕ) → Type 0
+IsStandard is_standard from contents = (unread read : _) × is_standard unread × HasContents from unread read contents
+
+-- the contents of the file of that name; it has none where it cannot be opened
+abbrev pub IsFile : {F E : Type 0} → (List ℕ → F → Type 0) → (List ℕ → E → Type 0) → SourceGhosts F → List ℕ → Option (List ℕ) → Type 0
+IsFile is_file is_fault from name contents =
+    ((unread read : _) × is_file name unread × HasContents from unread read contents)
+    ⊎ ((fault : _) × is_fault name fault × (contents ≡ None))
+
+-- the contents of what the name stands for: standard input, for a hyphen, or the file of that name
+abbrev pub IsInput : {S F E : Type 0} → (S → Type 0) → (List ℕ → F → Type 0) → (List ℕ → E → Type 0)
+    → SourceGhosts S → SourceGhosts F → List ℕ → Option (List ℕ) → Type 0
+IsInput is_standard is_file is_fault from_standard from_file name contents =
+    MatchBool (bytes_eq name (codes "-")) (IsStandard is_standard from_standard contents) (IsFile is_file is_fault from_file name contents)
+
+-- each name has its contents, in order
+abbrev pub Each : (List ℕ → Option (List ℕ) → Type 0) → List (List ℕ) → List (Option (List ℕ)) → Type 0
+Each Is [] [] = ⊤
+Each Is [] (contents ∷ rest) = ⊥
+Each Is (name ∷ names) [] = ⊥
+Each Is (name ∷ names) (contents ∷ rest) = Is name contents × Each Is names rest
+
+-- ---- a line for each file
+
+-- the last line of the report that `check` writes, or the line by which it refuses the set-up
+abbrev pub setup_line : Result SetupView Fault → List ℕ
+setup_line (Ok setup) = expectation_line setup.calls (replies_to setup.profile setup)
+setup_line (Err fault) = refusal_line fault
+
+abbrev pub contents_line : Option (List ℕ) → List ℕ
+contents_line None = codes "cannot be read\n"
+contents_line (Some bytes) = setup_line (setup_of_bytes bytes)
+
+-- the file's name, a colon, and that line
+abbrev pub file_line : List ℕ → Option (List ℕ) → List ℕ
+file_line name contents = name ++ (codes ": " ++ contents_line contents)
+
+abbrev pub file_lines : List (List ℕ) → List (Option (List ℕ)) → List ℕ
+file_lines [] files = []
+file_lines (name ∷ names) [] = []
+file_lines (name ∷ names) (contents ∷ files) = file_line name contents ++ file_lines names files
+
+-- ---- the summary
+
+-- what `check` answers to a file alone, and its exit status
+abbrev pub answer_alone : Option (List ℕ) → Result Verdict RunFault
+answer_alone None = Err Reading
+answer_alone (Some bytes) = Ok (program bytes).1
+
+abbrev pub status_alone : Option (List ℕ) → ℕ
+status_alone contents = run_status (answer_alone contents)
+
+-- how many of the files have that exit status
+abbrev pub count_with : ℕ → List (Option (List ℕ)) → ℕ
+count_with status files = count_by (λ contents. status_alone contents == status) files
+
+abbrev pub tally_of : List (Option (List ℕ)) → Tally
+tally_of files = record {
+  met = count_with 0 files;
+  unmet = count_with 1 files;
+  refused = count_with 2 files;
+  unread = count_with 3 files;
+}
+
+abbrev pub tally_line : ℕ → Tally → List ℕ
+tally_line files tally =
+    terminated (codes "files " ++ (decimal files ++ (codes " met " ++ (decimal tally.met ++ (codes " unmet " ++ (decimal tally.unmet
+    ++ (codes " refused " ++ (decimal tally.refused ++ (codes " unread " ++ decimal tally.unread)))))))))
+
+-- what is written: the line of each file, and the summary
+abbrev pub files_text : List (List ℕ) → List (Option (List ℕ)) → List ℕ
+files_text names files = file_lines names files ++ tally_line (length names) (tally_of files)
+
+-- ---- the exit status
+
+abbrev pub tally_status : Tally → ℕ
+tally_status tally =
+    if nat_lt 0 tally.unread then 3 else if nat_lt 0 tally.refused then 2 else if nat_lt 0 tally.unmet then 1 else 0
+
+-- the exit status after a run over several files
+abbrev pub files_status : Result Tally RunFault → ℕ
+files_status (Ok tally) = tally_status tally
+files_status (Err fault) = 3
+
+-- the greatest of some numbers
+abbrev pub greatest : List ℕ → ℕ
+greatest [] = 0
+greatest (n ∷ rest) = max n (greatest rest)
+
+-- ---- a run over several files
+
+-- what is answered, and what the sink took, where `Is` says which contents a name has
+pub record IsCheckOf {K : Type 0} (Is : List ℕ → Option (List ℕ) → Type 0) (to : SinkGhosts K) (names : List (List ℕ))
+    (sink_old sink_new : K) (result : Result Tally RunFault) : Type 0 where
+  -- Ok: the sink took just the text for the contents of the files, and the tally is theirs
+  pub ok : IfOk result (λ tally. (files : List (Option (List ℕ)))
+      × Each Is names files
+      × Took to.taken to.written sink_old sink_new (files_text names files)
+      × (tally ≡ tally_of files))
+  -- Writing: a write failed; the sink took a beginning of the text
+  pub writing : result ≡ Err Writing → to.failed sink_new ≡ true
+  pub writing_front : result ≡ Err Writing → (files : List (Option (List ℕ)))
+      × Each Is names files
+      × TookFront to.taken to.written sink_old sink_new (files_text names files)
+  pub sink_marked : to.failed sink_new ≡ true → result ≡ Err Writing
+  -- Memory: nothing was written; no other fault ends the run
+  pub memory_keeps : result ≡ Err Memory → sink_new ≡ sink_old
+  pub faults : IfErr result (λ fault. (fault ≡ Writing) ⊎ (fault ≡ Memory))

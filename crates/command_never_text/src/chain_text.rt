@@ -1,0 +1,237 @@
+//! The text of chains: through which slots a thread comes to what is open.
+ghost use Rattle.std.specs.Prelude.{◌≡◌, ◌++◌, IfOk, OnOk, find, string_bytes};
+ghost use Rattle.std.specs.List.{flat_map};
+ghost use Rattle.kernel_forest.specs.Forest.{Forest};
+ghost use Rattle.kernel_forest.specs.Entries.{Entry};
+ghost use Rattle.query_reach.specs.FullSlots.{AreFullSlots};
+ghost use Rattle.setup_values.specs.Names.{names_view};
+ghost use Rattle.cap_core.specs.Numbers.{tcb_size as tcb_size_of};
+ghost use Rattle.command_never_text.specs.Never as answers;
+ghost use Rattle.command_never_text.specs.Chains as spec;
+
+use crate::never::{Between, Layout, endpoint_size, endpoints_met, has_bytes, is_open};
+use cap_core::Profile;
+use query_chains::{Target, shortest_chain};
+use query_parts::PartMemory;
+use query_reach::FullSlot;
+use setup_report::CapText;
+use setup_values::{Name, thread_name};
+use std::alloc::{AllocError, Global};
+use std::fmt::Write;
+
+/// The size of a thread control block in bytes.
+#[tactic(auto, using(crate::proofs::Sizes::tcb_bits_small))]
+fn tcb_size<P: Profile>() -> u64
+    ensures { result ≡ tcb_size_of P.profile }
+{
+    1u64 << P::TCB_BITS
+}
+
+fn add_slot(out: &mut String, slot: &FullSlot) -> Result<(), AllocError>
+    ensures { OnOk result (string_bytes out.new ≡ string_bytes out.old ++ spec.slot_line slot.now) }
+{
+    let address = slot.address;
+    let cap = CapText(slot.cap);
+    writeln!(out, "  slot {address} {cap}")
+}
+
+fn add_slots(out: &mut String, chain: &[FullSlot]) -> Result<(), AllocError>
+    ensures { OnOk result (string_bytes out.new ≡ string_bytes out.old ++ flat_map spec.slot_line chain.now) }
+{
+    for slot in chain {
+        add_slot(out, slot)?;
+    }
+    Ok(())
+}
+
+fn add_head(out: &mut String, names: &[Name], thread: u64, target: u64) -> Result<(), AllocError>
+    ensures { OnOk result (string_bytes out.new ≡ string_bytes out.old ++ spec.chain_line (names_view names.now) thread target) }
+{
+    let name = thread_name(names, thread);
+    writeln!(out, "chain {name} -> {target}")
+}
+
+/// Adds the lines of a chain, where it has slots.
+fn add_chain(
+    out: &mut String,
+    names: &[Name],
+    thread: u64,
+    target: u64,
+    chain: &[FullSlot],
+) -> Result<(), AllocError>
+    ensures { OnOk result (string_bytes out.new ≡ string_bytes out.old ++ spec.chain_lines (names_view names.now) thread target chain.now) }
+{
+    if chain.is_empty() {
+        return Ok(());
+    }
+    add_head(out, names, thread, target)?;
+    add_slots(out, chain)
+}
+
+/// The text of a shortest chain from a thread's root slot to a capability that is sought; nothing where there is no chain.
+fn chain_text<P: Profile>(
+    alloc: Global,
+    names: &[Name],
+    filled: &[FullSlot],
+    thread: u64,
+    target: &Target,
+) -> Result<String, AllocError>
+    ensures { IfOk result (λ text. (f : Forest Entry) → AreFullSlots f filled.now → spec.IsChainText P.profile (names_view names.now) f thread target.now (string_bytes text)) }
+{
+    let chain = shortest_chain::<P>(alloc, filled, thread, target)?;
+    let mut out = String::new(alloc);
+    add_chain(&mut out, names, thread, target.first, chain.as_slice())?;
+    Ok(out)
+}
+
+/// What a chain to a thread's control block is to come to.
+fn control_block<P: Profile>(thread: u64) -> Target
+    ensures { result ≡ spec.control_block P.profile thread }
+{
+    Target {
+        first: thread,
+        size: tcb_size::<P>(),
+        to_send: false,
+    }
+}
+
+/// The chains from each of two threads to the other's control block.
+fn chains_within<P: Profile>(
+    alloc: Global,
+    names: &[Name],
+    filled: &[FullSlot],
+    from: u64,
+    to: u64,
+) -> Result<String, AllocError>
+    ensures { IfOk result (λ text. (f : Forest Entry) → AreFullSlots f filled.now → spec.AreChainsWithin P.profile (names_view names.now) f from to (string_bytes text)) }
+{
+    let mut there = chain_text::<P>(alloc, names, filled, from, &control_block::<P>(to))?;
+    let back = chain_text::<P>(alloc, names, filled, to, &control_block::<P>(from))?;
+    there.push_str(back.as_str())?;
+    Ok(there)
+}
+
+fn first_open<P: Profile>(
+    layout: &Layout<'_>,
+    between: &Between<'_>,
+    endpoints: &[u64],
+) -> Option<u64>
+    ensures { result ≡ find (answers.is_open P.profile layout.now.memory.now layout.now.uses.now layout.now.waits.now between.now.by.now between.now.from between.now.to) endpoints.now }
+{
+    endpoints
+        .iter()
+        .find(|endpoint| is_open::<P>(layout, between, **endpoint))
+        .copied()
+}
+
+/// What a chain to an endpoint that is open to a part is to come to.
+fn open_endpoint<P: Profile>(memory: &[PartMemory], part: u64, endpoint: u64) -> Target
+    ensures { result ≡ spec.open_endpoint P.profile memory.now part endpoint }
+{
+    Target {
+        first: endpoint,
+        size: endpoint_size::<P>(),
+        to_send: !has_bytes::<P>(memory, part, endpoint),
+    }
+}
+
+/// The chain to the first endpoint that is open to a part, where there is one.
+fn chain_to_open<P: Profile>(
+    alloc: Global,
+    names: &[Name],
+    filled: &[FullSlot],
+    memory: &[PartMemory],
+    part: u64,
+    from: u64,
+    first: Option<u64>,
+) -> Result<String, AllocError>
+    ensures { IfOk result (λ text. (f : Forest Entry) → AreFullSlots f filled.now → spec.IsChainToOpen P.profile (names_view names.now) f memory.now part from first (string_bytes text)) }
+{
+    match first {
+        None => Ok(String::new(alloc)),
+        Some(endpoint) => {
+            let target = open_endpoint::<P>(memory, part, endpoint);
+            chain_text::<P>(alloc, names, filled, from, &target)
+        }
+    }
+}
+
+/// The chains of two threads of one part; nothing of a thread and itself.
+fn chains_of_one_part<P: Profile>(
+    alloc: Global,
+    names: &[Name],
+    filled: &[FullSlot],
+    from: u64,
+    to: u64,
+) -> Result<String, AllocError>
+    ensures { IfOk result (λ text. (f : Forest Entry) → AreFullSlots f filled.now → spec.AreChainsOfOnePart P.profile (names_view names.now) f from to (string_bytes text)) }
+{
+    if from == to {
+        return Ok(String::new(alloc));
+    }
+    chains_within::<P>(alloc, names, filled, from, to)
+}
+
+/// The chain to the first endpoint that is open from one part to another.
+fn chain_between_parts<P: Profile>(
+    alloc: Global,
+    names: &[Name],
+    filled: &[FullSlot],
+    layout: &Layout<'_>,
+    between: &Between<'_>,
+    from: u64,
+) -> Result<String, AllocError>
+    ensures { IfOk result (λ text. (f : Forest Entry) → AreFullSlots f filled.now → spec.IsChainToOpen P.profile (names_view names.now) f layout.now.memory.now between.now.to from
+        (find (answers.is_open P.profile layout.now.memory.now layout.now.uses.now layout.now.waits.now between.now.by.now between.now.from between.now.to) (answers.endpoints_met layout.now.uses.now layout.now.waits.now)) (string_bytes text)) }
+{
+    let endpoints = endpoints_met(alloc, layout)?;
+    let first = first_open::<P>(layout, between, endpoints.as_slice());
+    chain_to_open::<P>(alloc, names, filled, layout.memory, between.to, from, first)
+}
+
+/// The chains that are told for threads of two parts, which may be one. `filled` has all full slots.
+fn chains_of_parts<P: Profile>(
+    alloc: Global,
+    names: &[Name],
+    filled: &[FullSlot],
+    layout: &Layout<'_>,
+    between: &Between<'_>,
+    from: u64,
+    to: u64,
+) -> Result<String, AllocError>
+    ensures { IfOk result (λ text. (f : Forest Entry) → AreFullSlots f filled.now →
+        spec.AreChainsOfParts P.profile (names_view names.now) f layout.now.memory.now layout.now.uses.now layout.now.waits.now between.now.by.now from to between.now.from between.now.to (string_bytes text)) }
+{
+    if between.from == between.to {
+        return chains_of_one_part::<P>(alloc, names, filled, from, to);
+    }
+    chain_between_parts::<P>(alloc, names, filled, layout, between, from)
+}
+
+/// The chains that are told for two threads, each with its part. `filled` has all full slots.
+///
+/// # Errors
+///
+/// Memory was refused.
+pub fn chains_between<P: Profile>(
+    alloc: Global,
+    names: &[Name],
+    filled: &[FullSlot],
+    layout: &Layout<'_>,
+    by: &[u64],
+    from: (u64, Option<u64>),
+    to: (u64, Option<u64>),
+) -> Result<String, AllocError>
+    ensures { IfOk result (λ text. (f : Forest Entry) → AreFullSlots f filled.now →
+        spec.AreChainsBetween P.profile (names_view names.now) f layout.now.memory.now layout.now.uses.now layout.now.waits.now by.now from.0 to.0 from.1 to.1 (string_bytes text)) }
+{
+    let (Some(first), Some(second)) = (from.1, to.1) else {
+        return Ok(String::new(alloc));
+    };
+    let between = Between {
+        from: first,
+        to: second,
+        by,
+    };
+    chains_of_parts::<P>(alloc, names, filled, layout, &between, from.0, to.0)
+}

@@ -1,0 +1,185 @@
+//! Whether one part is kept from another, but for the endpoints that are named.
+ghost use Rattle.std.specs.Prelude.{◌≡◌, IfOk};
+ghost use Rattle.std.specs.List.{list_any};
+ghost use Rattle.cap_core.specs.Numbers.{endpoint_size as endpoint_size_of};
+ghost use Rattle.query_parts.specs.Listed as listed;
+ghost use Rattle.command_never_text.specs.Never as spec;
+
+use crate::waits::Wait;
+use cap_core::Profile;
+use command_parts::{has_use_to_receive, has_use_to_send, is_in, is_of_part, rising};
+use query_parts::{PartMemory, PartUse};
+use std::alloc::{AllocError, Global};
+
+/// Whether a thread's part is kept from another's, whatever calls threads make that are not trusted to make no more.
+#[derive(Clone, Copy, PartialEq, Eq, Debug, Drop)]
+pub enum Never {
+    /// The part never gets a capability to an object that has bytes in the other's memory, and no message of it is ever
+    /// delivered there, but by the endpoints that are named.
+    Excluded,
+    /// That is not excluded.
+    Possible,
+}
+
+/// Parts, and the threads that wait.
+#[derive(Clone, Copy)]
+pub struct Layout<'a> {
+    pub memory: &'a [PartMemory],
+    pub uses: &'a [PartUse],
+    pub waits: &'a [Wait],
+}
+
+/// What is asked of two parts: whether, but by the endpoints that are named, the one is kept from the other.
+#[derive(Clone, Copy)]
+pub struct Between<'a> {
+    pub from: u64,
+    pub to: u64,
+    pub by: &'a [u64],
+}
+
+/// The size of an endpoint in bytes.
+#[tactic(auto, using(crate::proofs::Sizes::endpoint_bits_small))]
+pub fn endpoint_size<P: Profile>() -> u64
+    ensures { result ≡ endpoint_size_of P.profile }
+{
+    1u64 << P::ENDPOINT_BITS
+}
+
+/// Whether a stretch is of the part, and has one of so many bytes.
+pub fn has_some(memory: &PartMemory, part: u64, first: u64, size: u64) -> bool
+    ensures { result ≡ spec.has_some part first size memory.now }
+{
+    memory.part == part
+        && (memory.first < first || memory.first - first < size)
+        && first <= memory.last
+}
+
+fn has_some_of_all(memory: &[PartMemory], part: u64, first: u64, size: u64) -> bool
+    ensures { result ≡ list_any (spec.has_some part first size) memory.now }
+{
+    memory.iter().any(|m| has_some(m, part, first, size))
+}
+
+/// Whether some byte of the endpoint is memory of the part.
+pub fn has_bytes<P: Profile>(memory: &[PartMemory], part: u64, endpoint: u64) -> bool
+    ensures { result ≡ spec.has_bytes P.profile memory.now part endpoint }
+{
+    has_some_of_all(memory, part, endpoint, endpoint_size::<P>())
+}
+
+/// Whether a use is of the part and of the endpoint.
+pub fn is_use_of(allowed: &PartUse, part: u64, endpoint: u64) -> bool
+    ensures { result ≡ spec.is_use_of part endpoint allowed.now }
+{
+    allowed.part == part && allowed.endpoint == endpoint
+}
+
+fn has_use_of(uses: &[PartUse], part: u64, endpoint: u64) -> bool
+    ensures { result ≡ list_any (spec.is_use_of part endpoint) uses.now }
+{
+    uses.iter().any(|u| is_use_of(u, part, endpoint))
+}
+
+/// Whether a thread of the part waits on the endpoint to send.
+pub fn is_sender(memory: &[PartMemory], wait: &Wait, part: u64, endpoint: u64) -> bool
+    ensures { result ≡ spec.is_sender memory.now part endpoint wait.now }
+{
+    wait.sends && wait.endpoint == endpoint && is_of_part(memory, part, wait.thread)
+}
+
+/// Whether a thread of the part waits on the endpoint to receive.
+pub fn is_receiver(memory: &[PartMemory], wait: &Wait, part: u64, endpoint: u64) -> bool
+    ensures { result ≡ spec.is_receiver memory.now part endpoint wait.now }
+{
+    !wait.sends && wait.endpoint == endpoint && is_of_part(memory, part, wait.thread)
+}
+
+fn has_sender(memory: &[PartMemory], waits: &[Wait], part: u64, endpoint: u64) -> bool
+    ensures { result ≡ list_any (spec.is_sender memory.now part endpoint) waits.now }
+{
+    waits.iter().any(|w| is_sender(memory, w, part, endpoint))
+}
+
+fn has_receiver(memory: &[PartMemory], waits: &[Wait], part: u64, endpoint: u64) -> bool
+    ensures { result ≡ list_any (spec.is_receiver memory.now part endpoint) waits.now }
+{
+    waits.iter().any(|w| is_receiver(memory, w, part, endpoint))
+}
+
+fn may_send_to<P: Profile>(layout: &Layout<'_>, part: u64, endpoint: u64) -> bool
+    ensures { result ≡ spec.may_send_to P.profile layout.now.memory.now layout.now.uses.now layout.now.waits.now part endpoint }
+{
+    has_bytes::<P>(layout.memory, part, endpoint)
+        || has_use_to_send(layout.uses, part, endpoint)
+        || has_sender(layout.memory, layout.waits, part, endpoint)
+}
+
+fn may_receive_on<P: Profile>(layout: &Layout<'_>, part: u64, endpoint: u64) -> bool
+    ensures { result ≡ spec.may_receive_on P.profile layout.now.memory.now layout.now.uses.now layout.now.waits.now part endpoint }
+{
+    has_bytes::<P>(layout.memory, part, endpoint)
+        || has_use_to_receive(layout.uses, part, endpoint)
+        || has_receiver(layout.memory, layout.waits, part, endpoint)
+}
+
+/// Whether an endpoint that is not named is open from the one part to the other.
+pub fn is_open<P: Profile>(layout: &Layout<'_>, between: &Between<'_>, endpoint: u64) -> bool
+    ensures { result ≡ spec.is_open P.profile layout.now.memory.now layout.now.uses.now layout.now.waits.now between.now.by.now between.now.from between.now.to endpoint }
+{
+    let takes = has_use_of(layout.uses, between.from, endpoint)
+        && has_bytes::<P>(layout.memory, between.to, endpoint);
+    let passes = may_send_to::<P>(layout, between.from, endpoint)
+        && may_receive_on::<P>(layout, between.to, endpoint);
+    !is_in(between.by, endpoint) && (takes || passes)
+}
+
+/// The endpoints of which a part has a use, and those on which a thread waits.
+///
+/// # Errors
+///
+/// Memory was refused.
+pub fn endpoints_met(alloc: Global, layout: &Layout<'_>) -> Result<Vec<u64>, AllocError>
+    ensures { IfOk result (λ v. v.items ≡ spec.endpoints_met layout.now.uses.now layout.now.waits.now) }
+{
+    let mut endpoints: Vec<u64> = layout.uses.iter().map(|u| u.endpoint).collect(alloc)?;
+    let waited: Vec<u64> = layout.waits.iter().map(|w| w.endpoint).collect(alloc)?;
+    endpoints.extend_from_slice(waited.as_slice())?;
+    rising(alloc, endpoints.as_slice())
+}
+
+fn is_one_open<P: Profile>(layout: &Layout<'_>, between: &Between<'_>, endpoints: &[u64]) -> bool
+    ensures { result ≡ list_any (spec.is_open P.profile layout.now.memory.now layout.now.uses.now layout.now.waits.now between.now.by.now between.now.from between.now.to) endpoints.now }
+{
+    endpoints
+        .iter()
+        .any(|endpoint| is_open::<P>(layout, between, *endpoint))
+}
+
+/// Whether they are one part, or an endpoint is open from the one to the other.
+pub fn are_open<P: Profile>(layout: &Layout<'_>, between: &Between<'_>, endpoints: &[u64]) -> bool
+    requires { endpoints.now ≡ spec.endpoints_met layout.now.uses.now layout.now.waits.now }
+    ensures { result ≡ spec.are_open P.profile layout.now.memory.now layout.now.uses.now layout.now.waits.now between.now.by.now between.now.from between.now.to }
+{
+    between.from == between.to || is_one_open::<P>(layout, between, endpoints)
+}
+
+/// The answer for the parts of two threads.
+pub fn never_between<P: Profile>(
+    layout: &Layout<'_>,
+    endpoints: &[u64],
+    by: &[u64],
+    from: Option<u64>,
+    to: Option<u64>,
+) -> Never
+    requires { endpoints.now ≡ spec.endpoints_met layout.now.uses.now layout.now.waits.now }
+    ensures { result ≡ spec.never_between P.profile layout.now.memory.now layout.now.uses.now layout.now.waits.now by.now from to }
+{
+    let (Some(from), Some(to)) = (from, to) else {
+        return Never::Possible;
+    };
+    if are_open::<P>(layout, &Between { from, to, by }, endpoints) {
+        Never::Possible
+    } else {
+        Never::Excluded
+    }
+}

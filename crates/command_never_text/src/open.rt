@@ -1,0 +1,439 @@
+//! The text of an answer: whether one thread's part is kept from another's, and what is open between them.
+ghost use Rattle.std.specs.Prelude.{◌≡◌, ◌++◌, ℕ, IfErr, IfOk, OnOk, Some, string_bytes};
+ghost use Rattle.std.specs.List.{flat_map};
+ghost use Rattle.kernel_abstract.specs.Memory.{IsInMemory};
+ghost use Rattle.kernel_abstract.specs.Waiting.{offer_at};
+ghost use Rattle.query_reach.specs.FullSlots.{AreFullSlots};
+ghost use Rattle.setup_values.specs.Names.{names_view};
+ghost use Rattle.command_never_text.specs.Never as answers;
+ghost use Rattle.command_never_text.specs.Waits.{waits as waits_of};
+ghost use Rattle.setup_values.specs.Told as told;
+ghost use Rattle.command_never_text.specs.Open as spec;
+
+use crate::chain_text::chains_between;
+use crate::never::{
+    Between, Layout, Never, endpoint_size, endpoints_met, has_some, is_open, is_receiver,
+    is_sender, is_use_of, never_between,
+};
+use crate::waits::{Wait, waits};
+use cap_core::Profile;
+use command_parts::{BadgeText, listed, parts_of_callers};
+use ipc_core::Waiters;
+use kernel_core::Kernel;
+use query_parts::{PartMemory, PartUse, PartsFault, part_at};
+use query_reach::{FullSlot, full_slots};
+use setup_report::{RightsText, state_rows};
+use setup_values::{Name, thread_name};
+use slot_core::{CapStore, DerivationStore};
+use std::alloc::{AllocError, Global};
+use std::fmt;
+use std::fmt::Write;
+
+/// The number of a part, or that there is none.
+#[derive(Clone, Copy)]
+struct PartText(Option<u64>);
+
+impl fmt::Display for PartText {
+    ghost output = { λ p. Some (spec.part_text p.0) };
+
+    fn fmt<W: fmt::Write>(&self, f: &mut fmt::Formatter<W>) -> fmt::Result {
+        match self.0 {
+            None => write!(f, "none"),
+            Some(part) => write!(f, "{part}"),
+        }
+    }
+}
+
+fn never_word(answer: Never) -> &'static str
+    ensures { result.now ≡ spec.never_word answer }
+{
+    match answer {
+        Never::Excluded => "excluded",
+        Never::Possible => "possible",
+    }
+}
+
+fn add_answer(
+    out: &mut String,
+    names: &[Name],
+    memory: &[PartMemory],
+    from: u64,
+    to: u64,
+    answer: Never,
+) -> Result<(), AllocError>
+    ensures { OnOk result (string_bytes out.new ≡ string_bytes out.old
+        ++ spec.answer_line (names_view names.now) memory.now from to answer) }
+{
+    let sender = thread_name(names, from);
+    let receiver = thread_name(names, to);
+    let first = PartText(part_at(memory, from));
+    let second = PartText(part_at(memory, to));
+    let word = never_word(answer);
+    writeln!(
+        out,
+        "never {sender} part {first} -> {receiver} part {second} {word}"
+    )
+}
+
+fn add_bytes<P: Profile>(
+    out: &mut String,
+    part: u64,
+    endpoint: u64,
+    stretch: &PartMemory,
+) -> Result<(), AllocError>
+    ensures { OnOk result (string_bytes out.new ≡ string_bytes out.old
+        ++ spec.bytes_line P.profile part endpoint stretch.now) }
+{
+    let first = stretch.first;
+    let last = stretch.last;
+    if has_some(stretch, part, endpoint, endpoint_size::<P>()) {
+        writeln!(out, "  part {part} memory {first} to {last}")
+    } else {
+        Ok(())
+    }
+}
+
+fn add_all_bytes<P: Profile>(
+    out: &mut String,
+    part: u64,
+    endpoint: u64,
+    memory: &[PartMemory],
+) -> Result<(), AllocError>
+    ensures { OnOk result (string_bytes out.new ≡ string_bytes out.old
+        ++ flat_map (spec.bytes_line P.profile part endpoint) memory.now) }
+{
+    for stretch in memory {
+        add_bytes::<P>(out, part, endpoint, stretch)?;
+    }
+    Ok(())
+}
+
+fn add_used(out: &mut String, part: u64, endpoint: u64, allowed: &PartUse) -> Result<(), AllocError>
+    ensures { OnOk result (string_bytes out.new ≡ string_bytes out.old ++ spec.used_line part endpoint allowed.now) }
+{
+    let badge = BadgeText(allowed.badge.0);
+    let rights = RightsText(allowed.rights);
+    if is_use_of(allowed, part, endpoint) {
+        writeln!(
+            out,
+            "  part {part} use {endpoint} badge {badge} rights {rights}"
+        )
+    } else {
+        Ok(())
+    }
+}
+
+fn add_all_used(
+    out: &mut String,
+    part: u64,
+    endpoint: u64,
+    uses: &[PartUse],
+) -> Result<(), AllocError>
+    ensures { OnOk result (string_bytes out.new ≡ string_bytes out.old
+        ++ flat_map (spec.used_line part endpoint) uses.now) }
+{
+    for allowed in uses {
+        add_used(out, part, endpoint, allowed)?;
+    }
+    Ok(())
+}
+
+/// Adds what a part has of an endpoint by its memory and by its uses.
+fn add_had<P: Profile>(
+    out: &mut String,
+    layout: &Layout<'_>,
+    part: u64,
+    endpoint: u64,
+) -> Result<(), AllocError>
+    ensures { OnOk result (string_bytes out.new ≡ string_bytes out.old
+        ++ spec.had_lines P.profile layout.now.memory.now layout.now.uses.now part endpoint) }
+{
+    add_all_bytes::<P>(out, part, endpoint, layout.memory)?;
+    add_all_used(out, part, endpoint, layout.uses)
+}
+
+fn add_offered<P: Profile, S: CapStore<P> + Drop, W: Waiters<P> + Drop>(
+    out: &mut String,
+    names: &[Name],
+    kernel: &Kernel<P, S, W>,
+    thread: u64,
+    part: u64,
+    endpoint: u64,
+) -> Result<(), AllocError>
+    ensures { OnOk result (string_bytes out.new ≡ string_bytes out.old
+        ++ spec.offered_line (told.thread_name (names_view names.now) thread) part endpoint (offer_at kernel.now thread)) }
+{
+    match kernel.offer(thread) {
+        None => Ok(()),
+        Some(offer) => {
+            let name = thread_name(names, thread);
+            let badge = offer.badge.0;
+            writeln!(
+                out,
+                "  part {part} waiting {name} -> {endpoint} badge {badge}"
+            )
+        }
+    }
+}
+
+fn add_sender<P: Profile, S: CapStore<P> + Drop, W: Waiters<P> + Drop>(
+    out: &mut String,
+    names: &[Name],
+    memory: &[PartMemory],
+    kernel: &Kernel<P, S, W>,
+    part: u64,
+    endpoint: u64,
+    wait: &Wait,
+) -> Result<(), AllocError>
+    ensures { OnOk result (string_bytes out.new ≡ string_bytes out.old
+        ++ spec.sender_line (names_view names.now) memory.now kernel.now part endpoint wait.now) }
+{
+    if is_sender(memory, wait, part, endpoint) {
+        add_offered::<P, S, W>(out, names, kernel, wait.thread, part, endpoint)
+    } else {
+        Ok(())
+    }
+}
+
+fn add_senders<P: Profile, S: CapStore<P> + Drop, W: Waiters<P> + Drop>(
+    out: &mut String,
+    names: &[Name],
+    layout: &Layout<'_>,
+    kernel: &Kernel<P, S, W>,
+    part: u64,
+    endpoint: u64,
+) -> Result<(), AllocError>
+    ensures { OnOk result (string_bytes out.new ≡ string_bytes out.old
+        ++ flat_map (spec.sender_line (names_view names.now) layout.now.memory.now kernel.now part endpoint) layout.now.waits.now) }
+{
+    for wait in layout.waits {
+        add_sender::<P, S, W>(out, names, layout.memory, kernel, part, endpoint, wait)?;
+    }
+    Ok(())
+}
+
+fn add_receiver(
+    out: &mut String,
+    names: &[Name],
+    memory: &[PartMemory],
+    part: u64,
+    endpoint: u64,
+    wait: &Wait,
+) -> Result<(), AllocError>
+    ensures { OnOk result (string_bytes out.new ≡ string_bytes out.old
+        ++ spec.receiver_line (names_view names.now) memory.now part endpoint wait.now) }
+{
+    let name = thread_name(names, wait.thread);
+    if is_receiver(memory, wait, part, endpoint) {
+        writeln!(out, "  part {part} waiting {endpoint} -> {name}")
+    } else {
+        Ok(())
+    }
+}
+
+fn add_receivers(
+    out: &mut String,
+    names: &[Name],
+    layout: &Layout<'_>,
+    part: u64,
+    endpoint: u64,
+) -> Result<(), AllocError>
+    ensures { OnOk result (string_bytes out.new ≡ string_bytes out.old
+        ++ flat_map (spec.receiver_line (names_view names.now) layout.now.memory.now part endpoint) layout.now.waits.now) }
+{
+    for wait in layout.waits {
+        add_receiver(out, names, layout.memory, part, endpoint, wait)?;
+    }
+    Ok(())
+}
+
+fn add_number(out: &mut String, endpoint: u64) -> Result<(), AllocError>
+    ensures { OnOk result (string_bytes out.new ≡ string_bytes out.old ++ spec.endpoint_line endpoint) }
+{
+    writeln!(out, "open {endpoint}")
+}
+
+/// Adds what two parts have of an endpoint: the one to send there, and the other to receive.
+fn add_endpoint<P: Profile, S: CapStore<P> + Drop, W: Waiters<P> + Drop>(
+    out: &mut String,
+    names: &[Name],
+    layout: &Layout<'_>,
+    kernel: &Kernel<P, S, W>,
+    between: &Between<'_>,
+    endpoint: u64,
+) -> Result<(), AllocError>
+    requires { layout.now.waits.now ≡ waits_of P.profile kernel.now }
+    ensures { OnOk result (string_bytes out.new ≡ string_bytes out.old
+        ++ spec.endpoint_lines P.profile (names_view names.now) layout.now.memory.now layout.now.uses.now kernel.now between.now.from between.now.to endpoint) }
+{
+    add_number(out, endpoint)?;
+    add_had::<P>(out, layout, between.from, endpoint)?;
+    add_senders::<P, S, W>(out, names, layout, kernel, between.from, endpoint)?;
+    add_had::<P>(out, layout, between.to, endpoint)?;
+    add_receivers(out, names, layout, between.to, endpoint)
+}
+
+fn add_where_open<P: Profile, S: CapStore<P> + Drop, W: Waiters<P> + Drop>(
+    out: &mut String,
+    names: &[Name],
+    layout: &Layout<'_>,
+    kernel: &Kernel<P, S, W>,
+    between: &Between<'_>,
+    endpoint: u64,
+) -> Result<(), AllocError>
+    requires { layout.now.waits.now ≡ waits_of P.profile kernel.now }
+    ensures { OnOk result (string_bytes out.new ≡ string_bytes out.old
+        ++ spec.open_lines P.profile (names_view names.now) layout.now.memory.now layout.now.uses.now kernel.now between.now.by.now between.now.from between.now.to endpoint) }
+{
+    if is_open::<P>(layout, between, endpoint) {
+        add_endpoint::<P, S, W>(out, names, layout, kernel, between, endpoint)
+    } else {
+        Ok(())
+    }
+}
+
+fn add_all_open<P: Profile, S: CapStore<P> + Drop, W: Waiters<P> + Drop>(
+    out: &mut String,
+    names: &[Name],
+    layout: &Layout<'_>,
+    kernel: &Kernel<P, S, W>,
+    between: &Between<'_>,
+    endpoints: &[u64],
+) -> Result<(), AllocError>
+    requires { layout.now.waits.now ≡ waits_of P.profile kernel.now }
+    ensures { OnOk result (string_bytes out.new ≡ string_bytes out.old
+        ++ flat_map (spec.open_lines P.profile (names_view names.now) layout.now.memory.now layout.now.uses.now kernel.now between.now.by.now between.now.from between.now.to) endpoints.now) }
+{
+    for endpoint in endpoints {
+        add_where_open::<P, S, W>(out, names, layout, kernel, between, *endpoint)?;
+    }
+    Ok(())
+}
+
+/// Adds the endpoints that are open between the parts of two threads, where these are two.
+fn add_between<P: Profile, S: CapStore<P> + Drop, W: Waiters<P> + Drop>(
+    out: &mut String,
+    names: &[Name],
+    layout: &Layout<'_>,
+    kernel: &Kernel<P, S, W>,
+    endpoints: &[u64],
+    by: &[u64],
+    from: Option<u64>,
+    to: Option<u64>,
+) -> Result<(), AllocError>
+    requires waits { layout.now.waits.now ≡ waits_of P.profile kernel.now }
+    requires endpoints { endpoints.now ≡ answers.endpoints_met layout.now.uses.now layout.now.waits.now }
+    ensures { OnOk result (string_bytes out.new ≡ string_bytes out.old
+        ++ spec.lines_between P.profile (names_view names.now) layout.now.memory.now layout.now.uses.now kernel.now by.now from to) }
+{
+    let (Some(from), Some(to)) = (from, to) else {
+        return Ok(());
+    };
+    if from == to {
+        return Ok(());
+    }
+    let between = Between { from, to, by };
+    add_all_open::<P, S, W>(out, names, layout, kernel, &between, endpoints)
+}
+
+/// The full slots of a kernel, each with what it holds.
+fn slots_of<P: Profile, S: DerivationStore<P> + Drop, W: Waiters<P> + Drop>(
+    alloc: Global,
+    kernel: &Kernel<P, S, W>,
+) -> Result<Vec<FullSlot>, AllocError>
+    ensures { IfOk result (λ filled. AreFullSlots kernel.now.derivations filled.items) }
+{
+    let derivations = kernel.derivations(alloc)?;
+    let filled = full_slots::<P>(alloc, derivations.as_slice())?;
+    Ok(filled)
+}
+
+/// The text, but for the chains, and the answer for parts that are given.
+#[tactic(auto, unfolding(crate::specs::Open::never_text))]
+fn never_of_parts<P: Profile, S: DerivationStore<P> + Drop, W: Waiters<P> + Drop>(
+    alloc: Global,
+    names: &[Name],
+    from: u64,
+    to: u64,
+    by: &[u64],
+    kernel: &Kernel<P, S, W>,
+    layout: &Layout<'_>,
+) -> Result<(String, Never), AllocError>
+    requires { layout.now.waits.now ≡ waits_of P.profile kernel.now }
+    ensures text { IfOk result (λ made. string_bytes made.0 ≡ spec.never_text P.profile (names_view names.now) layout.now.memory.now layout.now.uses.now kernel.now by.now from to) }
+    ensures answer { IfOk result (λ made. made.1 ≡ answers.never P.profile layout.now.memory.now layout.now.uses.now (waits_of P.profile kernel.now) by.now from to) }
+{
+    let endpoints = endpoints_met(alloc, layout)?;
+    let first = part_at(layout.memory, from);
+    let second = part_at(layout.memory, to);
+    let answer = never_between::<P>(layout, endpoints.as_slice(), by, first, second);
+    let mut out = String::new(alloc);
+    add_answer(&mut out, names, layout.memory, from, to, answer)?;
+    add_between::<P, S, W>(
+        &mut out,
+        names,
+        layout,
+        kernel,
+        endpoints.as_slice(),
+        by,
+        first,
+        second,
+    )?;
+    Ok((out, answer))
+}
+
+/// The text of an answer for parts that are given, with the chains behind it, and the answer.
+fn never_with_chains<P: Profile, S: DerivationStore<P> + Drop, W: Waiters<P> + Drop>(
+    alloc: Global,
+    names: &[Name],
+    from: u64,
+    to: u64,
+    by: &[u64],
+    kernel: &Kernel<P, S, W>,
+    layout: &Layout<'_>,
+) -> Result<(Vec<u8>, Never), AllocError>
+    requires { layout.now.waits.now ≡ waits_of P.profile kernel.now }
+    ensures text { IfOk result (λ made. spec.IsNeverText P.profile (names_view names.now) layout.now.memory.now layout.now.uses.now kernel.now by.now from to made.0.items) }
+    ensures answer { IfOk result (λ made. made.1 ≡ answers.never P.profile layout.now.memory.now layout.now.uses.now (waits_of P.profile kernel.now) by.now from to) }
+{
+    let (mut text, answer) = never_of_parts::<P, S, W>(alloc, names, from, to, by, kernel, layout)?;
+    let filled = slots_of::<P, S, W>(alloc, kernel)?;
+    let from_in = (from, part_at(layout.memory, from));
+    let to_in = (to, part_at(layout.memory, to));
+    let chains = chains_between::<P>(alloc, names, filled.as_slice(), layout, by, from_in, to_in)?;
+    text.push_str(chains.as_str())?;
+    Ok((text.into_bytes(), answer))
+}
+
+/// Whether a thread's part is kept from another's, but for the endpoints that `by` names, whatever calls the threads make that
+/// `without` does not name; and the text that says so, with the endpoints that are open where it is not, and the slots through
+/// which the one thread comes there.
+///
+/// # Errors
+///
+/// `Memory` where memory was refused; `Block` where the control block of a live thread would end past the last address. No kernel
+/// whose objects lie in its memory has such a thread (`fault`).
+pub fn never_gets<P: Profile, S: DerivationStore<P> + Drop, W: Waiters<P> + Drop>(
+    alloc: Global,
+    names: &[Name],
+    without: &[u64],
+    from: u64,
+    to: u64,
+    by: &[u64],
+    kernel: &Kernel<P, S, W>,
+) -> Result<(Vec<u8>, Never), PartsFault>
+    ensures told { IfOk result (λ made. spec.IsNeverOf P.profile (names_view names.now) without.now kernel.now by.now from to made.0.items made.1) }
+    ensures fault { IfErr result (λ fault. fault ≡ PartsFault.Block → (memory : ℕ) → IsInMemory P.profile memory kernel.now → ⊥) }
+{
+    let rows = state_rows::<P, S, W>(alloc, kernel)?;
+    let parts = parts_of_callers::<P, S, W>(alloc, without, kernel, &rows)?;
+    let threads = listed(alloc, &rows.threads)?;
+    let waits = waits::<P, S, W>(alloc, kernel, threads.as_slice())?;
+    let layout = Layout {
+        memory: parts.memory.as_slice(),
+        uses: parts.uses.as_slice(),
+        waits: waits.as_slice(),
+    };
+    let made = never_with_chains::<P, S, W>(alloc, names, from, to, by, kernel, &layout)?;
+    Ok(made)
+}

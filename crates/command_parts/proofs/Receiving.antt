@@ -1,0 +1,109 @@
+-- Ways by the uses that a part has, and by the parts that may receive on each endpoint.
+use Rattle.std.proofs.Common.{◌≡◌, ℕ, ◌+◌, ◌<◌, Bool, true, false, not, cond, ◌==◌, ◌&&◌, ◌||◌, List, [], ◌∷◌, ◌++◌, filter, map, length, take, get_or, append_assoc, Vec, Global, refl, sym, ap, ◌∙◌, arith}
+use Rattle.std.specs.List.{list_any, flat_map}
+use Rattle.std.proofs.lemmas.Bool.{false≢true}
+use Rattle.std.proofs.lemmas.List.{append-nil, get_or-map, length-map, take_more}
+use Rattle.std.proofs.lemmas.List.Concat.{flat_map-append}
+use Rattle.std.proofs.lemmas.List.Elements.{filter_agree}
+use Rattle.cap_core.specs.declared.profile.ProfileName.{ProfileName}
+use Rattle.cap_core.specs.Rights.{write_bit, read_bit}
+use Rattle.kernel_abstract.proofs.Lists.Rising.{filter_both}
+use Rattle.query_parts.specs.declared.listed.PartMemory.{PartMemory}
+use Rattle.query_parts.specs.declared.listed.PartUse.{PartUse}
+use Rattle.query_parts.specs.Order.{owns_endpoint}
+use Rattle.setup_report.specs.State.{rising}
+use Rattle.command_parts.specs.Text.{parts_of, is_use, is_of_part, is_of_endpoint, sends_with_any, may_send_any, badges, may_receive, receivers_on, receivers, way, ways_on}
+
+-- ---- what a filter leaves out, a stricter test does not miss
+
+any_kept : {X : Type 0} (test keep : X → Bool) → ((x : X) → test x ≡ true → keep x ≡ true) → (l : List X) → list_any test (filter keep l) ≡ list_any test l
+any_kept test keep h [] = refl
+any_kept test keep h (x ∷ l) = by (keep x) refl (test x) refl (any_kept test keep h l)
+  where
+    by : (b : Bool) → keep x ≡ b → (c : Bool) → test x ≡ c → list_any test (filter keep l) ≡ list_any test l →
+        list_any test (cond b (x ∷ filter keep l) (filter keep l)) ≡ (test x || list_any test l)
+    by true kept c is rest = ap (λ d. test x || d) rest
+    by false out true is rest = absurd (false≢true (sym out ∙ h x is))
+    by false out false is rest = rest ∙ sym (ap (λ d. d || list_any test l) is)
+
+filter_kept : {X : Type 0} (test keep : X → Bool) → ((x : X) → test x ≡ true → keep x ≡ true) → (l : List X) → filter test (filter keep l) ≡ filter test l
+filter_kept test keep h [] = refl
+filter_kept {X} test keep h (x ∷ l) = by (keep x) refl (test x) refl (filter_kept test keep h l)
+  where
+    by : (b : Bool) → keep x ≡ b → (c : Bool) → test x ≡ c → filter test (filter keep l) ≡ filter test l →
+        filter test (cond b (x ∷ filter keep l) (filter keep l)) ≡ cond (test x) (x ∷ filter test l) (filter test l)
+    by true kept c is rest = ap (λ (r : List X). cond (test x) (x ∷ r) r) rest
+    by false out true is rest = absurd (false≢true (sym out ∙ h x is))
+    by false out false is rest = rest ∙ sym (ap (λ d. cond d (x ∷ filter test l) (filter test l)) is)
+
+left_true : (b c : Bool) → b && c ≡ true → b ≡ true
+left_true true c h = refl
+left_true false c h = h
+
+right_true : (b c : Bool) → b && c ≡ true → c ≡ true
+right_true true c h = h
+right_true false c h = absurd (false≢true h)
+
+exchanged : (b c : Bool) → b && c ≡ c && b
+exchanged true true = refl
+exchanged true false = refl
+exchanged false true = refl
+exchanged false false = refl
+
+-- ---- a part's own uses
+
+module _ (p : ProfileName) (memory : List PartMemory) (uses : List PartUse) where
+  own_badges : (from endpoint : ℕ) → badges p memory (filter (is_of_part from) uses) from endpoint ≡ badges p memory uses from endpoint
+  own_badges from endpoint =
+      ap (λ b. cond (owns_endpoint p memory from endpoint || b) (0 ∷ [])
+      (rising (map (λ (u : PartUse). u.badge.0) (filter (is_use write_bit from endpoint) (filter (is_of_part from) uses)))))
+      (any_kept (sends_with_any from endpoint) (is_of_part from) (λ u h. left_true _ _ (left_true _ _ h)) uses)
+      ∙ ap (λ (l : List PartUse). cond (may_send_any p memory uses from endpoint) (0 ∷ []) (rising (map (λ (u : PartUse). u.badge.0) l)))
+      (filter_kept (is_use write_bit from endpoint) (is_of_part from) (λ u h. left_true _ _ h) uses)
+
+  pub receivers_here : (endpoint : ℕ) (here : List PartUse) (parts : List ℕ) → here ≡ filter (is_of_endpoint endpoint) uses → parts ≡ parts_of memory →
+      filter (may_receive p memory here endpoint) parts ≡ receivers_on p memory uses endpoint
+  receivers_here endpoint here parts is all =
+      filter_agree (may_receive p memory here endpoint) (may_receive p memory uses endpoint) (λ part.
+      ap (λ b. owns_endpoint p memory part endpoint || b)
+      (ap (list_any (is_use read_bit part endpoint)) is
+      ∙ any_kept (is_use read_bit part endpoint) (is_of_endpoint endpoint) (λ u h. left_true _ _ (right_true (u.part == part) _ h)) uses)) parts
+      ∙ ap (filter (may_receive p memory uses endpoint)) all
+
+  others_are : (from endpoint : ℕ) → filter (λ other. not (other == from)) (receivers_on p memory uses endpoint) ≡ receivers p memory uses from endpoint
+  others_are from endpoint =
+      sym (filter_both (may_receive p memory uses endpoint) (λ other. not (other == from)) (parts_of memory))
+      ∙ filter_agree (λ other. may_receive p memory uses endpoint other && not (other == from)) (λ other. not (other == from) && may_receive p memory uses endpoint other)
+      (λ other. exchanged (may_receive p memory uses endpoint other) (not (other == from))) (parts_of memory)
+
+  -- the ways from a part by an endpoint
+  pub ways_here : (from endpoint : ℕ) (own : List PartUse) (heard : List ℕ) → own ≡ filter (is_of_part from) uses → heard ≡ receivers_on p memory uses endpoint →
+      flat_map (λ badge. map (way from endpoint badge) (filter (λ other. not (other == from)) heard)) (badges p memory own from endpoint)
+      ≡ ways_on p memory uses from endpoint
+  ways_here from endpoint own heard own_is heard_is =
+      ap (λ (l : List PartUse). flat_map (λ badge. map (way from endpoint badge) (filter (λ other. not (other == from)) heard)) (badges p memory l from endpoint)) own_is
+      ∙ ap (flat_map (λ badge. map (way from endpoint badge) (filter (λ other. not (other == from)) heard))) (own_badges from endpoint)
+      ∙ ap (λ (r : List ℕ). flat_map (λ badge. map (way from endpoint badge) r) (badges p memory uses from endpoint))
+      (ap (filter (λ other. not (other == from))) heard_is ∙ others_are from endpoint)
+
+  -- what was found of the endpoint at a place
+  pub heard_at : (endpoints : List ℕ) (all : List (Vec ℕ Global)) (i : ℕ) (r : Vec ℕ Global) → i < length endpoints →
+      map (λ (v : Vec ℕ Global). v.items) all ≡ map (receivers_on p memory uses) endpoints → r ≡ get_or all i r →
+      r.items ≡ receivers_on p memory uses (get_or endpoints i 0)
+  heard_at endpoints all i r low same is =
+      let long = sym (length-map all (λ (v : Vec ℕ Global). v.items)) ∙ ap length same ∙ length-map endpoints (receivers_on p memory uses) in
+      let there : i < length all = omega (arith, long, low) in
+      ap (λ (v : Vec ℕ Global). v.items) is
+      ∙ sym (get_or-map (λ (v : Vec ℕ Global). v.items) all i r [] there)
+      ∙ ap (λ (l : List (List ℕ)). get_or l i []) same
+      ∙ get_or-map (receivers_on p memory uses) endpoints i 0 [] low
+
+-- what one element more adds
+pub one_more : {X Y : Type 0} (f : X → List Y) (xs : List X) (i : ℕ) (d : X) (start before after : List Y) → i < length xs →
+    before ≡ start ++ flat_map f (take i xs) → after ≡ before ++ f (get_or xs i d) → after ≡ start ++ flat_map f (take (i + 1) xs)
+one_more {X} {Y} f xs i d start before after within is so =
+    so ∙ ap (λ (l : List Y). l ++ f (get_or xs i d)) is
+    ∙ append_assoc start (flat_map f (take i xs)) (f (get_or xs i d))
+    ∙ ap (λ (l : List Y). start ++ l)
+    (ap (λ (l : List Y). flat_map f (take i xs) ++ l) (sym (append-nil (f (get_or xs i d))))
+    ∙ sym (flat_map-append f (take i xs) (get_or xs i d ∷ [])) ∙ ap (flat_map f) (sym (take_more xs i d within)))

@@ -1,0 +1,28 @@
+-- What is told of the parts of a layout.
+use Rattle.std.specs.Prelude.{◌≡◌, ℕ, List}
+use Rattle.cap_core.specs.declared.profile.ProfileName.{ProfileName}
+use Rattle.kernel_abstract.specs.Shown.{Shown}
+use Rattle.query_parts.specs.declared.listed.PartMemory.{PartMemory}
+use Rattle.query_parts.specs.declared.listed.PartUse.{PartUse}
+use Rattle.query_parts.specs.Order.{AreInOrder, AreInParts}
+use Rattle.query_parts.specs.Ever.{AreConfinedEver}
+use Rattle.query_parts.specs.Least.{AreLeast}
+use Rattle.setup_values.specs.Names.{Names}
+use Rattle.setup_format.specs.Views.{SetupView}
+use Rattle.command_parts.specs.Threads.{callers}
+use Rattle.command_parts.specs.Text.{ever_text}
+
+-- Parts that may be told: whatever calls their threads make, nothing leaves them; they stand in order, with nothing in them
+-- that goes without saying; they lie in all parts that are closed around the live threads that are not trusted; and the whole
+-- control block of each of these threads lies in one
+pub record AreRightParts (p : ProfileName) (v : Shown) (without : List ℕ) (memory : List PartMemory) (uses : List PartUse) : Type 0 where
+  pub ever : AreConfinedEver p memory uses v
+  pub order : AreInOrder p memory uses
+  pub least : AreLeast p (callers p v without) memory uses v
+  pub callers : AreInParts p memory (callers p v without)
+
+-- the text of such parts
+abbrev pub IsTextOf : ProfileName → Names → SetupView → ℕ → List ℕ → Shown → List ℕ → Type 0
+IsTextOf p names setup made without v text =
+    (memory : List PartMemory) × ((uses : List PartUse)
+    × (AreRightParts p v without memory uses × (text ≡ ever_text p names setup made without memory uses v)))

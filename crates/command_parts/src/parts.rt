@@ -1,0 +1,204 @@
+//! The lines of a part: its live threads, its memory, and the endpoints that it may use.
+ghost use Rattle.std.specs.Prelude.{◌≡◌, ◌++◌, OnOk, Some, codes, string_bytes};
+ghost use Rattle.std.specs.List.{flat_map};
+ghost use Rattle.setup_values.specs.Names.{names_view};
+ghost use Rattle.std.specs.Fmt.{decimal};
+ghost use Rattle.kernel_abstract.specs.Shown.{state_at};
+ghost use Rattle.query_parts.specs.Listed as listed;
+ghost use Rattle.setup_report.specs.Report.{terminated};
+ghost use Rattle.setup_report.specs.State.{threads as threads_of};
+ghost use Rattle.setup_values.specs.Told as told;
+ghost use Rattle.command_parts.specs.Text as spec;
+
+use cap_core::Profile;
+use ipc_core::Waiters;
+use kernel_core::{Kernel, ThreadState};
+use query_parts::{PartMemory, PartUse, Parts, part_at};
+use setup_report::RightsText;
+use setup_values::{Name, thread_name};
+use slot_core::CapStore;
+use std::alloc::AllocError;
+use std::fmt;
+use std::fmt::Write;
+
+/// A badge, or that it may be any, which 0 stands for.
+#[derive(Clone, Copy)]
+pub struct BadgeText(pub u64);
+
+impl fmt::Display for BadgeText {
+    ghost output = { λ b. Some (spec.badge_text b.0) };
+
+    fn fmt<W: fmt::Write>(&self, f: &mut fmt::Formatter<W>) -> fmt::Result {
+        let badge = self.0;
+        if badge == 0 {
+            write!(f, "any")
+        } else {
+            write!(f, "{badge}")
+        }
+    }
+}
+
+fn state_word(state: ThreadState) -> &'static str
+    ensures { result.now ≡ spec.state_word state }
+{
+    match state {
+        ThreadState::Ready => "ready",
+        ThreadState::Inactive => "inactive",
+        ThreadState::Sending(_) => "sending",
+        ThreadState::Receiving(_) => "receiving",
+    }
+}
+
+fn add_state<P: Profile, S: CapStore<P> + Drop, W: Waiters<P> + Drop>(
+    out: &mut String,
+    names: &[Name],
+    kernel: &Kernel<P, S, W>,
+    thread: u64,
+) -> Result<(), AllocError>
+    ensures { OnOk result (string_bytes out.new ≡ string_bytes out.old
+        ++ spec.state_line (told.thread_name (names_view names.now) thread) (state_at kernel.now thread)) }
+{
+    match kernel.thread_state(thread) {
+        None => Ok(()),
+        Some(state) => {
+            let name = thread_name(names, thread);
+            let word = state_word(state);
+            writeln!(out, "  thread {name} {word}")
+        }
+    }
+}
+
+/// Whether an address lies in the memory of a part.
+pub fn is_of_part(memory: &[PartMemory], part: u64, address: u64) -> bool
+    ensures { result ≡ spec.is_part part (listed.part_at memory.now address) }
+{
+    match part_at(memory, address) {
+        Some(i) => i == part,
+        None => false,
+    }
+}
+
+fn add_thread<P: Profile, S: CapStore<P> + Drop, W: Waiters<P> + Drop>(
+    out: &mut String,
+    names: &[Name],
+    kernel: &Kernel<P, S, W>,
+    memory: &[PartMemory],
+    part: u64,
+    thread: u64,
+) -> Result<(), AllocError>
+    ensures { OnOk result (string_bytes out.new ≡ string_bytes out.old
+        ++ spec.thread_line (names_view names.now) memory.now part kernel.now thread) }
+{
+    if is_of_part(memory, part, thread) {
+        add_state::<P, S, W>(out, names, kernel, thread)
+    } else {
+        Ok(())
+    }
+}
+
+fn add_threads<P: Profile, S: CapStore<P> + Drop, W: Waiters<P> + Drop>(
+    out: &mut String,
+    names: &[Name],
+    kernel: &Kernel<P, S, W>,
+    memory: &[PartMemory],
+    part: u64,
+    threads: &[u64],
+) -> Result<(), AllocError>
+    ensures { OnOk result (string_bytes out.new ≡ string_bytes out.old
+        ++ flat_map (spec.thread_line (names_view names.now) memory.now part kernel.now) threads.now) }
+{
+    for thread in threads {
+        add_thread::<P, S, W>(out, names, kernel, memory, part, *thread)?;
+    }
+    Ok(())
+}
+
+fn add_stretch(out: &mut String, part: u64, stretch: &PartMemory) -> Result<(), AllocError>
+    ensures { OnOk result (string_bytes out.new ≡ string_bytes out.old ++ spec.memory_line part stretch.now) }
+{
+    let first = stretch.first;
+    let last = stretch.last;
+    if stretch.part == part {
+        writeln!(out, "  memory {first} to {last}")
+    } else {
+        Ok(())
+    }
+}
+
+fn add_memory(out: &mut String, part: u64, memory: &[PartMemory]) -> Result<(), AllocError>
+    ensures { OnOk result (string_bytes out.new ≡ string_bytes out.old ++ flat_map (spec.memory_line part) memory.now) }
+{
+    for stretch in memory {
+        add_stretch(out, part, stretch)?;
+    }
+    Ok(())
+}
+
+fn add_use(out: &mut String, part: u64, allowed: &PartUse) -> Result<(), AllocError>
+    ensures { OnOk result (string_bytes out.new ≡ string_bytes out.old ++ spec.use_line part allowed.now) }
+{
+    let endpoint = allowed.endpoint;
+    let badge = BadgeText(allowed.badge.0);
+    let rights = RightsText(allowed.rights);
+    if allowed.part == part {
+        writeln!(out, "  use {endpoint} badge {badge} rights {rights}")
+    } else {
+        Ok(())
+    }
+}
+
+fn add_uses(out: &mut String, part: u64, uses: &[PartUse]) -> Result<(), AllocError>
+    ensures { OnOk result (string_bytes out.new ≡ string_bytes out.old ++ flat_map (spec.use_line part) uses.now) }
+{
+    for allowed in uses {
+        add_use(out, part, allowed)?;
+    }
+    Ok(())
+}
+
+fn add_number(out: &mut String, part: u64) -> Result<(), AllocError>
+    ensures { OnOk result (string_bytes out.new ≡ string_bytes out.old ++ terminated (codes "part " ++ decimal part)) }
+{
+    writeln!(out, "part {part}")
+}
+
+fn add_part<P: Profile, S: CapStore<P> + Drop, W: Waiters<P> + Drop>(
+    out: &mut String,
+    names: &[Name],
+    kernel: &Kernel<P, S, W>,
+    threads: &[u64],
+    parts: &Parts,
+    part: u64,
+) -> Result<(), AllocError>
+    requires { threads.now ≡ threads_of P.profile kernel.now }
+    ensures { OnOk result (string_bytes out.new ≡ string_bytes out.old
+        ++ spec.part_lines P.profile (names_view names.now) parts.now.memory.items parts.now.uses.items kernel.now part) }
+{
+    add_number(out, part)?;
+    add_threads::<P, S, W>(out, names, kernel, parts.memory.as_slice(), part, threads)?;
+    add_memory(out, part, parts.memory.as_slice())?;
+    add_uses(out, part, parts.uses.as_slice())
+}
+
+/// Adds the lines of parts, by their numbers.
+///
+/// # Errors
+///
+/// Memory was refused.
+pub fn add_parts<P: Profile, S: CapStore<P> + Drop, W: Waiters<P> + Drop>(
+    out: &mut String,
+    names: &[Name],
+    kernel: &Kernel<P, S, W>,
+    threads: &[u64],
+    parts: &Parts,
+    numbers: &[u64],
+) -> Result<(), AllocError>
+    requires { threads.now ≡ threads_of P.profile kernel.now }
+    ensures { OnOk result (string_bytes out.new ≡ string_bytes out.old
+        ++ flat_map (spec.part_lines P.profile (names_view names.now) parts.now.memory.items parts.now.uses.items kernel.now) numbers.now) }
+{
+    for part in numbers {
+        add_part::<P, S, W>(out, names, kernel, threads, parts, *part)?;
+    }
+    Ok(())
+}

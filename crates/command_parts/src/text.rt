@@ -1,0 +1,201 @@
+//! The text of the parts of a kernel.
+ghost use Rattle.std.specs.Prelude.{◌≡◌, ◌++◌, ℕ, IfErr, IfOk, OnOk, string_bytes};
+ghost use Rattle.std.specs.List.{flat_map};
+ghost use Rattle.kernel_abstract.specs.Memory.{IsInMemory};
+ghost use Rattle.setup_values.specs.Names.{names_view};
+ghost use Rattle.setup_report.specs.State as state;
+ghost use Rattle.command_parts.specs.Text as spec;
+ghost use Rattle.command_parts.specs.Ever.{AreRightParts, IsTextOf};
+
+use crate::head::{add_head, add_trusted};
+use crate::parts::add_parts;
+use crate::sets::listed;
+use crate::threads::callers;
+use crate::ways::{add_ways, parts_of, ways};
+use cap_core::Profile;
+use ipc_core::Waiters;
+use kernel_core::Kernel;
+use query_parts::{Parts, PartsFault, parts_around};
+use setup_format::Setup;
+use setup_report::{StateRows, state_rows, waiting_threads};
+use setup_values::{Name, thread_name};
+use slot_core::{CapStore, DerivationStore};
+use std::alloc::{AllocError, Global};
+use std::fmt::Write;
+
+fn add_offer<P: Profile, S: CapStore<P> + Drop, W: Waiters<P> + Drop>(
+    out: &mut String,
+    names: &[Name],
+    kernel: &Kernel<P, S, W>,
+    endpoint: u64,
+    thread: u64,
+) -> Result<(), AllocError>
+    ensures { OnOk result (string_bytes out.new ≡ string_bytes out.old
+        ++ spec.waiting_line (names_view names.now) kernel.now endpoint thread) }
+{
+    match kernel.offer(thread) {
+        None => Ok(()),
+        Some(offer) => {
+            let name = thread_name(names, thread);
+            let badge = offer.badge.0;
+            writeln!(out, "waiting {name} -> {endpoint} badge {badge}")
+        }
+    }
+}
+
+fn add_offers<P: Profile, S: CapStore<P> + Drop, W: Waiters<P> + Drop>(
+    out: &mut String,
+    names: &[Name],
+    kernel: &Kernel<P, S, W>,
+    endpoint: u64,
+    threads: &[u64],
+) -> Result<(), AllocError>
+    ensures { OnOk result (string_bytes out.new ≡ string_bytes out.old
+        ++ flat_map (spec.waiting_line (names_view names.now) kernel.now endpoint) threads.now) }
+{
+    for thread in threads {
+        add_offer::<P, S, W>(out, names, kernel, endpoint, *thread)?;
+    }
+    Ok(())
+}
+
+fn add_waiting_on<P: Profile, S: CapStore<P> + Drop, W: Waiters<P> + Drop>(
+    alloc: Global,
+    out: &mut String,
+    names: &[Name],
+    kernel: &Kernel<P, S, W>,
+    endpoint: u64,
+) -> Result<(), AllocError>
+    ensures { OnOk result (string_bytes out.new ≡ string_bytes out.old
+        ++ spec.waiting_lines (names_view names.now) kernel.now endpoint) }
+{
+    let threads = waiting_threads::<P, S, W>(alloc, endpoint, kernel)?;
+    add_offers::<P, S, W>(out, names, kernel, endpoint, threads.as_slice())
+}
+
+/// Adds a line for each send that waits.
+fn add_waiting<P: Profile, S: CapStore<P> + Drop, W: Waiters<P> + Drop>(
+    alloc: Global,
+    out: &mut String,
+    names: &[Name],
+    kernel: &Kernel<P, S, W>,
+    endpoints: &[u64],
+) -> Result<(), AllocError>
+    ensures { OnOk result (string_bytes out.new ≡ string_bytes out.old
+        ++ flat_map (spec.waiting_lines (names_view names.now) kernel.now) endpoints.now) }
+{
+    for endpoint in endpoints {
+        add_waiting_on::<P, S, W>(alloc, out, names, kernel, *endpoint)?;
+    }
+    Ok(())
+}
+
+fn add_count(out: &mut String, parts: usize, ways: usize) -> Result<(), AllocError>
+    ensures { OnOk result (string_bytes out.new ≡ string_bytes out.old ++ spec.count_line parts ways) }
+{
+    writeln!(out, "parts {parts} ways {ways}")
+}
+
+/// Adds the lines of parts, of the ways between them, and of the sends that wait.
+#[tactic(auto, unfolding(crate::specs::Text::ever_lines))]
+fn add_lines<P: Profile, S: DerivationStore<P> + Drop, W: Waiters<P> + Drop>(
+    alloc: Global,
+    out: &mut String,
+    names: &[Name],
+    kernel: &Kernel<P, S, W>,
+    threads: &[u64],
+    endpoints: &[u64],
+    parts: &Parts,
+) -> Result<(), AllocError>
+    requires threads { threads.now ≡ state.threads P.profile kernel.now }
+    requires endpoints { endpoints.now ≡ state.endpoints P.profile kernel.now }
+    ensures { OnOk result (string_bytes out.new ≡ string_bytes out.old
+        ++ spec.ever_lines P.profile (names_view names.now) parts.now.memory.items parts.now.uses.items kernel.now) }
+{
+    let memory = parts.memory.as_slice();
+    let numbers = parts_of(alloc, memory)?;
+    let ways = ways::<P>(alloc, memory, parts.uses.as_slice(), numbers.as_slice())?;
+    add_parts::<P, S, W>(out, names, kernel, threads, parts, numbers.as_slice())?;
+    add_ways(out, ways.as_slice())?;
+    add_waiting::<P, S, W>(alloc, out, names, kernel, endpoints)?;
+    add_count(out, numbers.len(), ways.len())
+}
+
+/// The text of parts that are given.
+#[tactic(auto, unfolding(crate::specs::Text::ever_text))]
+fn text_of_parts<P: Profile, S: DerivationStore<P> + Drop, W: Waiters<P> + Drop>(
+    alloc: Global,
+    names: &[Name],
+    setup: &Setup,
+    made: usize,
+    without: &[u64],
+    kernel: &Kernel<P, S, W>,
+    rows: &StateRows,
+    parts: &Parts,
+) -> Result<Vec<u8>, AllocError>
+    requires threads { rows.now.threads.keys ≡ state.threads P.profile kernel.now }
+    requires endpoints { rows.now.endpoints.keys ≡ state.endpoints P.profile kernel.now }
+    ensures { IfOk result (λ text. text.items
+        ≡ spec.ever_text P.profile (names_view names.now) setup.now made without.now parts.now.memory.items parts.now.uses.items kernel.now) }
+{
+    let threads = listed(alloc, &rows.threads)?;
+    let endpoints = listed(alloc, &rows.endpoints)?;
+    let mut out = String::new(alloc);
+    add_head(&mut out, setup, made)?;
+    add_trusted::<P, S, W>(&mut out, names, kernel, without)?;
+    add_lines::<P, S, W>(
+        alloc,
+        &mut out,
+        names,
+        kernel,
+        threads.as_slice(),
+        endpoints.as_slice(),
+        parts,
+    )?;
+    Ok(out.into_bytes())
+}
+
+/// The least closed parts around the live threads that are not trusted to make no more calls.
+///
+/// # Errors
+///
+/// `Memory` where memory was refused; `Block` where the control block of a live thread would end past the last address. No kernel
+/// whose objects lie in its memory has such a thread (`fault`).
+pub fn parts_of_callers<P: Profile, S: DerivationStore<P> + Drop, W: Waiters<P> + Drop>(
+    alloc: Global,
+    without: &[u64],
+    kernel: &Kernel<P, S, W>,
+    rows: &StateRows,
+) -> Result<Parts, PartsFault>
+    requires { rows.now.threads.keys ≡ state.threads P.profile kernel.now }
+    ensures right { IfOk result (λ parts. AreRightParts P.profile kernel.now without.now parts.memory.items parts.uses.items) }
+    ensures fault { IfErr result (λ fault. fault ≡ PartsFault.Block → (memory : ℕ) → IsInMemory P.profile memory kernel.now → ⊥) }
+{
+    let threads = listed(alloc, &rows.threads)?;
+    let callers = callers(alloc, threads.as_slice(), without)?;
+    parts_around::<P, S, W>(alloc, kernel, callers.as_slice())
+}
+
+/// What the threads of a kernel can never get, but those that are trusted to make no more calls: the text of closed parts
+/// around them.
+///
+/// # Errors
+///
+/// `Memory` where memory was refused; `Block` where the control block of a live thread would end past the last address. No kernel
+/// whose objects lie in its memory has such a thread (`fault`).
+pub fn ever<P: Profile, S: DerivationStore<P> + Drop, W: Waiters<P> + Drop>(
+    alloc: Global,
+    names: &[Name],
+    setup: &Setup,
+    made: usize,
+    without: &[u64],
+    kernel: &Kernel<P, S, W>,
+) -> Result<Vec<u8>, PartsFault>
+    ensures text { IfOk result (λ text. IsTextOf P.profile (names_view names.now) setup.now made without.now kernel.now text.items) }
+    ensures fault { IfErr result (λ fault. fault ≡ PartsFault.Block → (memory : ℕ) → IsInMemory P.profile memory kernel.now → ⊥) }
+{
+    let rows = state_rows::<P, S, W>(alloc, kernel)?;
+    let parts = parts_of_callers::<P, S, W>(alloc, without, kernel, &rows)?;
+    let text = text_of_parts::<P, S, W>(alloc, names, setup, made, without, kernel, &rows, &parts)?;
+    Ok(text)
+}

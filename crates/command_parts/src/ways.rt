@@ -1,0 +1,363 @@
+//! Ways from one part to another, by an endpoint that the one may send to, and the other receive on.
+ghost use Rattle.std.specs.Prelude.{◌≡◌, ◌++◌, ◌==◌, not, IfOk, OnOk, filter, map, string_bytes};
+ghost use Rattle.std.specs.List.{flat_map, list_any};
+ghost use Rattle.cap_core.specs.Rights.{write_bit, read_bit};
+ghost use Rattle.command_parts.specs.Text as spec;
+
+use crate::parts::BadgeText;
+use crate::sets::rising;
+use bitflags::Flags;
+use cap_core::{Profile, Rights};
+use query_parts::{PartMemory, PartUse, owns_endpoint};
+use std::alloc::{AllocError, Global};
+use std::fmt::Write;
+
+/// A way: a part may send to an endpoint, with this badge, or with any where it is 0; another may receive there.
+#[derive(Clone, Copy)]
+pub struct Way {
+    pub from: u64,
+    pub endpoint: u64,
+    pub badge: u64,
+    pub to: u64,
+}
+
+/// The numbers of parts.
+///
+/// # Errors
+///
+/// Memory was refused.
+pub fn parts_of(alloc: Global, memory: &[PartMemory]) -> Result<Vec<u64>, AllocError>
+    ensures { IfOk result (λ v. v.items ≡ spec.parts_of memory.now) }
+{
+    let parts: Vec<u64> = memory.iter().map(|m| m.part).collect(alloc)?;
+    rising(alloc, parts.as_slice())
+}
+
+fn endpoints_used(alloc: Global, uses: &[PartUse]) -> Result<Vec<u64>, AllocError>
+    ensures { IfOk result (λ v. v.items ≡ spec.endpoints_used uses.now) }
+{
+    let endpoints: Vec<u64> = uses.iter().map(|u| u.endpoint).collect(alloc)?;
+    rising(alloc, endpoints.as_slice())
+}
+
+fn may_send(allowed: &PartUse, part: u64, endpoint: u64) -> bool
+    ensures { result ≡ spec.is_use write_bit part endpoint allowed.now }
+{
+    allowed.part == part && allowed.endpoint == endpoint && allowed.rights.contains(Rights::WRITE)
+}
+
+fn may_hear(allowed: &PartUse, part: u64, endpoint: u64) -> bool
+    ensures { result ≡ spec.is_use read_bit part endpoint allowed.now }
+{
+    allowed.part == part && allowed.endpoint == endpoint && allowed.rights.contains(Rights::READ)
+}
+
+fn has_use_for_any(uses: &[PartUse], part: u64, endpoint: u64) -> bool
+    ensures { result ≡ list_any (spec.sends_with_any part endpoint) uses.now }
+{
+    uses.iter()
+        .any(|u| may_send(u, part, endpoint) && u.badge.0 == 0)
+}
+
+/// Whether a part has a use to send to an endpoint.
+pub fn has_use_to_send(uses: &[PartUse], part: u64, endpoint: u64) -> bool
+    ensures { result ≡ list_any (spec.is_use write_bit part endpoint) uses.now }
+{
+    uses.iter().any(|u| may_send(u, part, endpoint))
+}
+
+/// Whether a part has a use to receive on an endpoint.
+pub fn has_use_to_receive(uses: &[PartUse], part: u64, endpoint: u64) -> bool
+    ensures { result ≡ list_any (spec.is_use read_bit part endpoint) uses.now }
+{
+    uses.iter().any(|u| may_hear(u, part, endpoint))
+}
+
+fn may_receive<P: Profile>(
+    memory: &[PartMemory],
+    uses: &[PartUse],
+    endpoint: u64,
+    part: u64,
+) -> bool
+    ensures { result ≡ spec.may_receive P.profile memory.now uses.now endpoint part }
+{
+    owns_endpoint::<P>(memory, part, endpoint) || has_use_to_receive(uses, part, endpoint)
+}
+
+fn own_badges(
+    alloc: Global,
+    uses: &[PartUse],
+    part: u64,
+    endpoint: u64,
+) -> Result<Vec<u64>, AllocError>
+    ensures { IfOk result (λ v. v.items ≡ map (λ u. u.badge.0) (filter (spec.is_use write_bit part endpoint) uses.now)) }
+{
+    uses.iter()
+        .filter(|u| may_send(u, part, endpoint))
+        .map(|u| u.badge.0)
+        .collect(alloc)
+}
+
+fn may_send_any<P: Profile>(
+    memory: &[PartMemory],
+    uses: &[PartUse],
+    part: u64,
+    endpoint: u64,
+) -> bool
+    ensures { result ≡ spec.may_send_any P.profile memory.now uses.now part endpoint }
+{
+    owns_endpoint::<P>(memory, part, endpoint) || has_use_for_any(uses, part, endpoint)
+}
+
+/// The badges with which a part may send to an endpoint, 0 alone where it may be any.
+fn badges<P: Profile>(
+    alloc: Global,
+    memory: &[PartMemory],
+    uses: &[PartUse],
+    part: u64,
+    endpoint: u64,
+) -> Result<Vec<u64>, AllocError>
+    ensures { IfOk result (λ v. v.items ≡ spec.badges P.profile memory.now uses.now part endpoint) }
+{
+    if may_send_any::<P>(memory, uses, part, endpoint) {
+        let mut any = Vec::new(alloc);
+        any.push(0)?;
+        return Ok(any);
+    }
+    let own = own_badges(alloc, uses, part, endpoint)?;
+    rising(alloc, own.as_slice())
+}
+
+/// The uses that a part has.
+fn uses_of(alloc: Global, uses: &[PartUse], part: u64) -> Result<Vec<PartUse>, AllocError>
+    ensures { IfOk result (λ v. v.items ≡ filter (spec.is_of_part part) uses.now) }
+{
+    uses.iter()
+        .filter(|u| u.part == part)
+        .copied()
+        .collect(alloc)
+}
+
+/// The uses of an endpoint.
+fn uses_on(alloc: Global, uses: &[PartUse], endpoint: u64) -> Result<Vec<PartUse>, AllocError>
+    ensures { IfOk result (λ v. v.items ≡ filter (spec.is_of_endpoint endpoint) uses.now) }
+{
+    uses.iter()
+        .filter(|u| u.endpoint == endpoint)
+        .copied()
+        .collect(alloc)
+}
+
+/// Those of some parts that may receive on an endpoint.
+fn parts_that_receive<P: Profile>(
+    alloc: Global,
+    memory: &[PartMemory],
+    uses: &[PartUse],
+    parts: &[u64],
+    endpoint: u64,
+) -> Result<Vec<u64>, AllocError>
+    ensures { IfOk result (λ v. v.items ≡ filter (spec.may_receive P.profile memory.now uses.now endpoint) parts.now) }
+{
+    parts
+        .iter()
+        .filter(|part| may_receive::<P>(memory, uses, endpoint, **part))
+        .copied()
+        .collect(alloc)
+}
+
+/// The parts that may receive on an endpoint.
+fn receivers_on<P: Profile>(
+    alloc: Global,
+    memory: &[PartMemory],
+    uses: &[PartUse],
+    parts: &[u64],
+    endpoint: u64,
+) -> Result<Vec<u64>, AllocError>
+    requires { parts.now ≡ spec.parts_of memory.now }
+    ensures { IfOk result (λ v. v.items ≡ spec.receivers_on P.profile memory.now uses.now endpoint) }
+{
+    let here = uses_on(alloc, uses, endpoint)?;
+    parts_that_receive::<P>(alloc, memory, here.as_slice(), parts, endpoint)
+}
+
+/// The parts that may receive on each of some endpoints.
+fn all_receivers<P: Profile>(
+    alloc: Global,
+    memory: &[PartMemory],
+    uses: &[PartUse],
+    parts: &[u64],
+    endpoints: &[u64],
+) -> Result<Vec<Vec<u64>>, AllocError>
+    requires { parts.now ≡ spec.parts_of memory.now }
+    ensures { IfOk result (λ all. map (λ v. v.items) all.items ≡ map (spec.receivers_on P.profile memory.now uses.now) endpoints.now) }
+{
+    let mut all = Vec::new(alloc);
+    for endpoint in endpoints {
+        all.push(receivers_on::<P>(alloc, memory, uses, parts, *endpoint)?)?;
+    }
+    Ok(all)
+}
+
+/// The others of some parts.
+fn others(alloc: Global, parts: &[u64], from: u64) -> Result<Vec<u64>, AllocError>
+    ensures { IfOk result (λ v. v.items ≡ filter (λ other. not (other == from)) parts.now) }
+{
+    parts
+        .iter()
+        .filter(|part| **part != from)
+        .copied()
+        .collect(alloc)
+}
+
+fn add_ways_to(
+    ways: &mut Vec<Way>,
+    receivers: &[u64],
+    from: u64,
+    endpoint: u64,
+    badge: u64,
+) -> Result<(), AllocError>
+    ensures { OnOk result (ways.new.items ≡ ways.old.items ++ map (spec.way from endpoint badge) receivers.now) }
+{
+    for to in receivers {
+        ways.push(Way {
+            from,
+            endpoint,
+            badge,
+            to: *to,
+        })?;
+    }
+    Ok(())
+}
+
+fn add_ways_with(
+    ways: &mut Vec<Way>,
+    badges: &[u64],
+    receivers: &[u64],
+    from: u64,
+    endpoint: u64,
+) -> Result<(), AllocError>
+    ensures { OnOk result (ways.new.items ≡ ways.old.items
+        ++ flat_map (λ badge. map (spec.way from endpoint badge) receivers.now) badges.now) }
+{
+    for badge in badges {
+        add_ways_to(ways, receivers, from, endpoint, *badge)?;
+    }
+    Ok(())
+}
+
+/// Adds the ways from a part by an endpoint, by the uses that the part has and the parts that may receive there.
+fn add_ways_on<P: Profile>(
+    alloc: Global,
+    ways: &mut Vec<Way>,
+    memory: &[PartMemory],
+    own: &[PartUse],
+    receivers: &[u64],
+    from: u64,
+    endpoint: u64,
+) -> Result<(), AllocError>
+    ensures { OnOk result (ways.new.items ≡ ways.old.items
+        ++ flat_map (λ badge. map (spec.way from endpoint badge) (filter (λ other. not (other == from)) receivers.now))
+        (spec.badges P.profile memory.now own.now from endpoint)) }
+{
+    let badges = badges::<P>(alloc, memory, own, from, endpoint)?;
+    if badges.is_empty() {
+        return Ok(());
+    }
+    let receivers = others(alloc, receivers, from)?;
+    add_ways_with(
+        ways,
+        badges.as_slice(),
+        receivers.as_slice(),
+        from,
+        endpoint,
+    )
+}
+
+fn add_ways_from<P: Profile>(
+    alloc: Global,
+    ways: &mut Vec<Way>,
+    memory: &[PartMemory],
+    uses: &[PartUse],
+    endpoints: &[u64],
+    receivers: &[Vec<u64>],
+    from: u64,
+) -> Result<(), AllocError>
+    requires endpoints { endpoints.now ≡ spec.endpoints_used uses.now }
+    requires receivers { map (λ v. v.items) receivers.now ≡ map (spec.receivers_on P.profile memory.now uses.now) endpoints.now }
+    ensures { OnOk result (ways.new.items ≡ ways.old.items ++ spec.ways_from P.profile memory.now uses.now from) }
+{
+    let own = uses_of(alloc, uses, from)?;
+    for (place, endpoint) in endpoints.iter().enumerate() {
+        let here = receivers[place].as_slice();
+        add_ways_on::<P>(alloc, ways, memory, own.as_slice(), here, from, *endpoint)?;
+    }
+    Ok(())
+}
+
+/// Adds the ways between parts, by the part that sends, then the endpoint, the badge, and the part that receives.
+fn add_ways_between<P: Profile>(
+    alloc: Global,
+    ways: &mut Vec<Way>,
+    memory: &[PartMemory],
+    uses: &[PartUse],
+    parts: &[u64],
+    endpoints: &[u64],
+    receivers: &[Vec<u64>],
+) -> Result<(), AllocError>
+    requires parts { parts.now ≡ spec.parts_of memory.now }
+    requires endpoints { endpoints.now ≡ spec.endpoints_used uses.now }
+    requires receivers { map (λ v. v.items) receivers.now ≡ map (spec.receivers_on P.profile memory.now uses.now) endpoints.now }
+    ensures { OnOk result (ways.new.items ≡ ways.old.items ++ spec.ways P.profile memory.now uses.now) }
+{
+    for from in parts {
+        add_ways_from::<P>(alloc, ways, memory, uses, endpoints, receivers, *from)?;
+    }
+    Ok(())
+}
+
+/// The ways between parts.
+///
+/// # Errors
+///
+/// Memory was refused.
+pub fn ways<P: Profile>(
+    alloc: Global,
+    memory: &[PartMemory],
+    uses: &[PartUse],
+    parts: &[u64],
+) -> Result<Vec<Way>, AllocError>
+    requires { parts.now ≡ spec.parts_of memory.now }
+    ensures { IfOk result (λ v. v.items ≡ spec.ways P.profile memory.now uses.now) }
+{
+    let mut ways = Vec::new(alloc);
+    let endpoints = endpoints_used(alloc, uses)?;
+    let endpoints = endpoints.as_slice();
+    let receivers = all_receivers::<P>(alloc, memory, uses, parts, endpoints)?;
+    let receivers = receivers.as_slice();
+    add_ways_between::<P>(alloc, &mut ways, memory, uses, parts, endpoints, receivers)?;
+    Ok(ways)
+}
+
+fn add_way(out: &mut String, way: &Way) -> Result<(), AllocError>
+    ensures { OnOk result (string_bytes out.new ≡ string_bytes out.old ++ spec.way_line way.now) }
+{
+    let from = way.from;
+    let endpoint = way.endpoint;
+    let badge = BadgeText(way.badge);
+    let to = way.to;
+    writeln!(out, "way {from} -> {endpoint} badge {badge} -> {to}")
+}
+
+/// Adds a line for each way.
+///
+/// # Errors
+///
+/// Memory was refused.
+pub fn add_ways(out: &mut String, ways: &[Way]) -> Result<(), AllocError>
+    ensures { OnOk result (string_bytes out.new ≡ string_bytes out.old ++ flat_map spec.way_line ways.now) }
+{
+    for way in ways {
+        add_way(out, way)?;
+    }
+    Ok(())
+}

@@ -1,0 +1,49 @@
+use Rattle.std.proofs.Common.{rules, ◌≡◌, ◌-◌, drop, length, ap, ap₂, subst, sym, ◌∙◌}
+use Rattle.std.proofs.lemmas.List.{length-map}
+use Rattle.kernel_abstract.specs.Reached.{IsReached}
+use Rattle.kernel_abstract.specs.State.{State, shown}
+use Rattle.kernel_abstract.specs.Boot.{boot}
+use Rattle.kernel_abstract.proofs.Reached.Runs.{reached_after}
+use Rattle.setup_format.specs.Views.{CallView}
+use Rattle.setup_threads.specs.SharedReport.{shared_report_of}
+use Rattle.command_check.specs.Program.{verdict_on}
+use Rattle.setup_report.proofs.Runs.{boot_reached}
+use Rattle.command_threads.specs.Private.Begun.{IsRunFrom, calls_in, state_begun}
+use Rattle.command_threads.specs.SharedRuns.{count_first, first_calls}
+use Rattle.command_threads.proofs.Reports.{book_shows}
+use Rattle.command_threads.proofs.Wholes.{shared_run_is, state_is, whole_is}
+use Rattle.command_threads.proofs.threads.report_on.Goals as goal
+
+pub returns-clause-made : goal.returns-clause-made
+returns-clause-made g c =
+    let p = g.P.Profile.profile in
+    let ends = g.G.Gate.ends in
+    let setup = c.args.setup.now in
+    let first = c.args.first in
+    let replies = c.args.begun.replies in
+    let b = c.in_ok-book.book in
+    let later = b.history.items in
+    let history = c.in-Ok.history in
+    let h = history.items in
+    let start = state_begun p setup first in
+    let calls = ap length c.calls.ensures ∙ length-map setup.calls (λ (v : CallView). v.call) in
+    let counted : length h ≡ history.len = search rules in
+    let long : length replies.items ≡ replies.len = search rules in
+    let made : c.len.result ≡ count_first first setup = c.len.ensures ∙ c.requires.many in
+    let whole = whole_is setup first replies.items c.as_slice.result.now later c.as_slice-later.result.now h c.as_slice.ensures.value c.as_slice-later.ensures.value (long ∙ c.requires.many) c.in-Ok.ensures in
+    let from : IsRunFrom ends p start (drop (count_first first setup) setup.calls) (setup.limit - count_first first setup) later =
+    subst (λ n. IsRunFrom ends p start (drop n setup.calls) (setup.limit - count_first first setup) later) made
+    (subst (λ n. IsRunFrom ends p start (drop c.len.result setup.calls) n later) c.requires.limit
+    (subst (λ (A : State). IsRunFrom ends p A (drop c.len.result setup.calls) g.N.Naming.limit later) c.requires.start c.in_ok-book.ensures.run)) in
+    let reached : IsReached p start = reached_after p (boot p setup.plan) (calls_in (first_calls first setup)) (boot_reached p setup.plan c.requires.plan) in
+    let told = ap (λ l. shared_report_of p (length setup.calls) l b.kernel) c.as_slice-2.ensures.value in
+    let shows = book_shows p start g.N.Naming.opening b.kernel later h (length setup.calls) reached c.requires.opening b.stands in
+    let state = ap (λ (A : State). shared_report_of p (length setup.calls) h (shown A)) (state_is first setup replies.items later h whole p) in
+    let l = c.len-2.ensures in (
+      h,
+      shared_run_is first setup replies.items later h whole ends p c.requires.begun.answered from,
+      (
+        c.in-Ok-history_report.ensures ∙ (told ∙ (shows ∙ state)),
+        c.verdict_on-verdict.ensures ∙ ap₂ verdict_on (l ∙ sym counted) calls,
+      ),
+    )

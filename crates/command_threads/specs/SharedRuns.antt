@@ -1,0 +1,87 @@
+-- What the program writes for the bytes that it reads where the clients of a set-up share one kernel, and its verdict.
+use Rattle.std.specs.Prelude.{◌≡◌, ℕ, ◌<◌, ◌≤◌, ◌==◌, ◌⊎◌, min, true, List, [], ◌++◌, map, filter, length, take, Result, Ok, Err}
+use Rattle.cap_core.specs.declared.profile.ProfileName.{ProfileName}
+use Rattle.kernel_abstract.specs.declared.call.Call.{Call}
+use Rattle.kernel_abstract.specs.Boot.{boot}
+use Rattle.kernel_abstract.specs.State.{State, shown}
+use Rattle.kernel_abstract.specs.Step.{replies_of, state_after}
+use Rattle.kernel_book.specs.declared.entry.Entry.{Entry}
+use Rattle.kernel_book.specs.Laws.{calls_of, replies_in, is_numbered}
+use Rattle.setup_format.specs.Views.{SetupView, CallView}
+use Rattle.setup_format.specs.Faults.{Fault}
+use Rattle.setup_format.specs.Setups.{setup_of_bytes}
+use Rattle.setup_format.specs.Refusal.{refusal_line}
+use Rattle.setup_threads.specs.SharedReport.{shared_report_of}
+use Rattle.command_check.specs.Program.{verdict_on}
+use Rattle.command_core.specs.declared.fault.Verdict.{Verdict}
+use Rattle.command_core.specs.declared.fault.Verdict.TheVariants.{Refused}
+
+-- the calls of a client in a set-up, in order
+abbrev pub client_calls : ℕ → List CallView → List Call
+client_calls client calls = map (λ (c : CallView). c.call) (filter (λ (c : CallView). c.client == client) calls)
+
+-- the calls of a client in a history, in order
+abbrev pub calls_by : ℕ → List Entry → List Call
+calls_by client history = calls_of (filter (λ (e : Entry). e.client == client) history)
+
+-- the calls begin with these
+abbrev pub IsBeginning : List Call → List Call → Type 0
+IsBeginning first calls = (rest : List Call) × (calls ≡ first ++ rest)
+
+-- The calls that are made before the clients begin: so many, but not more than the set-up has, or than the history has room
+-- for.
+abbrev pub count_first : ℕ → SetupView → ℕ
+count_first first setup = min (min first setup.limit) (length setup.calls)
+
+abbrev pub first_calls : ℕ → SetupView → List CallView
+first_calls first setup = take (count_first first setup) setup.calls
+
+-- an entry of a history, and a call of a set-up, as a client and its call
+abbrev pub call_made : Entry → ℕ × Call
+call_made e = (e.client, e.call)
+
+abbrev pub call_asked : CallView → ℕ × Call
+call_asked c = (c.client, c.call)
+
+-- A history that the clients of a set-up can make of a kernel that they share. It begins with the first calls of the set-up, in
+-- its order; behind them stand the calls that the clients then make. The replies are those of the abstract kernel from its boot
+-- on; each client's entries are numbered from 0 on, in order; there are no more entries than the set-up's limit; and each
+-- client's entries carry a beginning of its calls. That is all of them where the history has as many entries as the set-up has
+-- calls. Where it has fewer than the limit, it is all of them, or the gate may end the client (`ends`) before the call that would
+-- come next; the gate counts the calls that the client makes behind the first.
+pub record IsSharedRun (ends : ℕ → ℕ → Type 0) (first : ℕ) (p : ProfileName) (setup : SetupView) (history : List Entry) : Type 0 where
+  pub before : List Entry
+  pub behind : List Entry
+  pub is : history ≡ before ++ behind
+  pub first_made : map call_made before ≡ map call_asked (first_calls first setup)
+  pub replies : replies_in history ≡ replies_of p (boot p setup.plan) (calls_of history)
+  pub numbered : is_numbered [] history ≡ true
+  pub within : length history ≤ setup.limit
+  pub beginnings : (client : ℕ) → IsBeginning (calls_by client history) (client_calls client setup.calls)
+  pub unless_full : length history < setup.limit → (client : ℕ)
+      → (calls_by client history ≡ client_calls client setup.calls) ⊎ ends client (length (calls_by client behind))
+  pub whole : length history ≡ length setup.calls → (client : ℕ) → calls_by client history ≡ client_calls client setup.calls
+
+-- what the abstract kernel shows after the calls of a history
+abbrev pub state_of : ProfileName → SetupView → List Entry → State
+state_of p setup history = state_after p (boot p setup.plan) (calls_of history)
+
+-- the report of a history, and its verdict: all calls of the set-up are made, or not all
+abbrev pub IsReportOf : ProfileName → SetupView → List Entry → List ℕ → Verdict → Type 0
+IsReportOf p setup history text verdict =
+    (text ≡ shared_report_of p (length setup.calls) history (shown (state_of p setup history)))
+    × (verdict ≡ verdict_on (length history) (length setup.calls))
+
+-- the report of some shared run of the set-up
+abbrev pub IsOutcomeIn : (ℕ → ℕ → Type 0) → ℕ → ProfileName → SetupView → List ℕ → Verdict → Type 0
+IsOutcomeIn ends first p setup text verdict =
+    (history : List Entry) × IsSharedRun ends first p setup history × IsReportOf p setup history text verdict
+
+-- or the line by which it is refused
+abbrev pub IsOutcome : (ℕ → ℕ → Type 0) → ℕ → Result SetupView Fault → List ℕ → Verdict → Type 0
+IsOutcome ends first (Ok setup) text verdict = IsOutcomeIn ends first setup.profile setup text verdict
+IsOutcome ends first (Err fault) text verdict = (text ≡ refusal_line fault) × (verdict ≡ Refused)
+
+-- what is right to write for the bytes of an input, in the profile that its set-up names, where so many calls are made first
+unfoldable pub IsSharedProgram : (ℕ → ℕ → Type 0) → ℕ → List ℕ → List ℕ → Verdict → Type 0
+IsSharedProgram ends first input text verdict = IsOutcome ends first (setup_of_bytes input) text verdict

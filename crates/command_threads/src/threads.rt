@@ -1,0 +1,239 @@
+//! The run of a set-up's clients, over a source and a sink.
+ghost use Rattle.std.specs.Prelude.{◌≡◌, ◌++◌, ◌-◌, List, ℕ, Err, IsOk, false, IfOk, IfErr, codes, vec_len};
+ghost use Rattle.command_core.specs.Devices.{Gave};
+ghost use Rattle.setup_format.specs.Refusal.{setup_fault_text};
+ghost use Rattle.setup_format.specs.Setups.{setup_of_bytes};
+ghost use Rattle.kernel_abstract.specs.Plan.{IsPlan};
+ghost use Rattle.kernel_abstract.specs.State.{shown};
+ghost use Rattle.command_check.specs.Program.{verdict_on as verdict_of_counts};
+ghost use Rattle.command_core.specs.Runs.{IsRun};
+ghost use Rattle.command_threads.specs.Private.Begun.{IsBegun, state_begun};
+ghost use Rattle.command_threads.specs.Private.Settled.{IsOwnFault};
+ghost use Rattle.command_threads.specs.SharedRuns.{IsOutcomeIn, IsSharedProgram, count_first};
+
+use crate::beginning::{Begun, begin, whole_history};
+use crate::open_gate::OpenGate;
+use crate::sharing::shared_run;
+use cap_core::{Narrow, Profile, ProfileName, Wide};
+use command_check::refusal;
+use command_core::{INPUT_LIMIT, RunFault, Sink, Source, Verdict, read_below, write_all};
+use ipc_core::{LinkedWaiters, MakeWaiters};
+use kernel_shared::{Gate, Naming};
+use setup_format::{Setup, SetupFault, read_setup};
+use setup_threads::history_report;
+use slot_core::{DerivationStore, LinkedStore, MakeStore};
+use std::alloc::Global;
+use std::marker::Brand;
+use std::sync::Wait;
+use std::sync::ledger::Blank;
+use std::thread::Threads;
+
+/// Whether all calls of the set-up are made.
+fn verdict_on(entries: usize, calls: usize) -> Verdict
+    ensures { result ≡ verdict_of_counts entries calls }
+{
+    if entries == calls {
+        Verdict::AllMet
+    } else {
+        Verdict::NotMet
+    }
+}
+
+/// Lets the clients of a set-up share a kernel behind its first calls, and reports on the history of all calls.
+fn report_on<
+    N: Naming + Send + Sync,
+    P: Profile + Send + Sync,
+    S: MakeStore<P> + DerivationStore<P> + Send + Sync,
+    W: MakeWaiters<P> + Send + Sync,
+    R: Threads + Wait + Sync,
+    G: Gate + Sync,
+>(
+    rt: &R,
+    alloc: Global,
+    blank: Blank,
+    setup: &Setup,
+    begun: Begun<P, S, W>,
+    first: usize,
+    gate: &G,
+) -> Result<(Vec<u8>, Verdict), RunFault>
+    requires name { blank.name ≡ N.name }
+    requires parts { blank.parts ≡ N.parts }
+    requires clients { blank.parts ≡ setup.now.clients }
+    requires plan { IsPlan P.profile setup.now.plan }
+    requires begun { IsBegun P.profile setup.now first begun.replies.items begun.kernel }
+    requires many { vec_len begun.replies ≡ count_first first setup.now }
+    requires profile { N.profile ≡ P.profile }
+    requires start { N.start ≡ state_begun P.profile setup.now first }
+    requires opening { N.opening ≡ shown (state_begun P.profile setup.now first) }
+    requires limit { N.limit ≡ setup.now.limit - count_first first setup.now }
+    ensures made { IfOk result (λ made. IsOutcomeIn G.ends first P.profile setup.now made.0.items made.1) }
+    ensures fault { IfErr result IsOwnFault }
+{
+    let Begun { kernel, replies } = begun;
+    let book = shared_run::<N, P, S, W, R, G>(
+        rt,
+        alloc,
+        blank,
+        setup,
+        kernel,
+        replies.len(),
+        gate,
+    )?;
+    let _limit = setup.limit();
+    let later = book.history.as_slice();
+    let Ok(history) = whole_history(alloc, setup, replies.as_slice(), later) else {
+        return Err(RunFault::Memory);
+    };
+    let Ok(text) = history_report(alloc, setup, history.as_slice(), &book.kernel) else {
+        return Err(RunFault::Memory);
+    };
+    let verdict = verdict_on(history.len(), setup.calls().len());
+    Ok((text, verdict))
+}
+
+/// The same by the linked forms, from a boot on, under a name of its own.
+fn report_by_links<P: Profile + Send + Sync, R: Threads + Wait + Sync, G: Gate + Sync>(
+    rt: &R,
+    alloc: Global,
+    setup: &Setup,
+    first: usize,
+    gate: &G,
+) -> Result<(Vec<u8>, Verdict), RunFault>
+    requires { IsPlan P.profile setup.now.plan }
+    ensures made { IfOk result (λ made. IsOutcomeIn G.ends first P.profile setup.now made.0.items made.1) }
+    ensures fault { IfErr result IsOwnFault }
+{
+    let Ok(begun) = begin::<P, LinkedStore<P>, LinkedWaiters<P>>(alloc, setup, first) else {
+        return Err(RunFault::Memory);
+    };
+    let blank = Blank::new(u64::from(setup.clients()));
+    report_on::<Brand, P, LinkedStore<P>, LinkedWaiters<P>, R, G>(
+        rt, alloc, blank, setup, begun, first, gate,
+    )
+}
+
+/// The same in the profile of the set-up.
+fn report_in_profile<R: Threads + Wait + Sync, G: Gate + Sync>(
+    rt: &R,
+    alloc: Global,
+    setup: &Setup,
+    first: usize,
+    gate: &G,
+) -> Result<(Vec<u8>, Verdict), RunFault>
+    requires { IsPlan setup.now.profile setup.now.plan }
+    ensures made { IfOk result (λ made. IsOutcomeIn G.ends first setup.now.profile setup.now made.0.items made.1) }
+    ensures fault { IfErr result IsOwnFault }
+{
+    match setup.profile() {
+        ProfileName::Wide => report_by_links::<Wide, R, G>(rt, alloc, setup, first, gate),
+        ProfileName::Narrow => report_by_links::<Narrow, R, G>(rt, alloc, setup, first, gate),
+    }
+}
+
+/// The line that is written for a set-up that is refused, and the verdict.
+fn refused(alloc: Global, fault: &SetupFault) -> Result<(Vec<u8>, Verdict), RunFault>
+    ensures text { IfOk result (λ made. made.0.items ≡ setup_fault_text fault.now ++ codes "\n") }
+    ensures verdict { IfOk result (λ made. made.1 ≡ Verdict.Refused) }
+    ensures memory { IfErr result (λ e. e ≡ RunFault.Memory) }
+{
+    match refusal(alloc, fault) {
+        Ok(text) => Ok((text, Verdict::Refused)),
+        Err(_) => Err(RunFault::Memory),
+    }
+}
+
+/// The text that is written for the bytes of an input, and the verdict.
+#[tactic(auto, unfolding(crate::specs::SharedRuns::IsSharedProgram))]
+fn report_of_input<R: Threads + Wait + Sync, G: Gate + Sync>(
+    rt: &R,
+    alloc: Global,
+    first: usize,
+    input: &[u8],
+    gate: &G,
+) -> Result<(Vec<u8>, Verdict), RunFault>
+    ensures made { IfOk result (λ made. IsSharedProgram G.ends first input.now made.0.items made.1) }
+    ensures fault { IfErr result IsOwnFault }
+    ensures accepted { result ≡ Err RunFault.Thread → IsOk (setup_of_bytes input.now) }
+{
+    match read_setup(alloc, input) {
+        Ok(setup) => report_in_profile(rt, alloc, &setup, first, gate),
+        Err(SetupFault::Memory) => Err(RunFault::Memory),
+        Err(fault) => refused(alloc, &fault),
+    }
+}
+
+/// The same with a gate that is always open.
+#[tactic(auto, unfolding(crate::specs::SharedRuns::IsSharedProgram))]
+fn report_of_input_open<R: Threads + Wait + Sync>(
+    rt: &R,
+    alloc: Global,
+    first: usize,
+    input: &[u8],
+) -> Result<(Vec<u8>, Verdict), RunFault>
+    ensures made { IfOk result (λ made. IsSharedProgram (λ _ _. ⊥) first input.now made.0.items made.1) }
+    ensures fault { IfErr result IsOwnFault }
+    ensures accepted { result ≡ Err RunFault.Thread → IsOk (setup_of_bytes input.now) }
+{
+    match read_setup(alloc, input) {
+        Ok(setup) => {
+            let gate = OpenGate::among(setup.clients());
+            report_in_profile(rt, alloc, &setup, first, &gate)
+        }
+        Err(SetupFault::Memory) => Err(RunFault::Memory),
+        Err(fault) => refused(alloc, &fault),
+    }
+}
+
+/// Reads the source to its end, makes the first calls of the set-up that it holds, in the set-up's order, as many as `first`
+/// says or as the history has room for, and lets the clients then make the others of one kernel, each its own calls in a
+/// thread of its own, with the gate before and after each call. It writes the report of the history to the sink, or the
+/// line by which the set-up is refused. It waits until the clients have ended. A history may lack calls where it is full,
+/// and where the gate ended a client.
+///
+/// # Errors
+/// `Reading` where a read failed in this call, or where `INPUT_LIMIT` bytes came without an end; nothing is written
+/// then. `Writing` where a write failed or took no byte; a front of the text was written then. `Memory` where memory was
+/// wanted and not there, by any client too, whatever stopped the others; nothing is written then. `Thread` where a
+/// thread could not be started, the shared kernel gave a reader no entry, or a client lost a call or found its name
+/// taken; nothing is written then.
+pub fn threads_run<R: Threads + Wait + Sync, S: Source, K: Sink, G: Gate + Sync>(
+    rt: &R,
+    alloc: Global,
+    first: usize,
+    source: &mut S,
+    sink: &mut K,
+    gate: &G,
+) -> Result<Verdict, RunFault>
+    requires source { S.failed source.old ≡ false }
+    requires sink { K.failed sink.old ≡ false }
+    ensures run { IsRun (IsSharedProgram G.ends first) S.Source K.Sink source.old source.new sink.old sink.new result }
+    ensures accepted { result ≡ Err RunFault.Thread → (input : List ℕ) × Gave S.left S.given source.old source.new input × IsOk (setup_of_bytes input) }
+{
+    let input = read_below(alloc, source, INPUT_LIMIT)?;
+    let (text, verdict) = report_of_input(rt, alloc, first, input.as_slice(), gate)?;
+    write_all(sink, text.as_slice())?;
+    Ok(verdict)
+}
+
+/// The same with a gate that is always open, an `OpenGate`, as the program's subcommand `threads` has it: a history lacks
+/// calls only where it is full.
+///
+/// # Errors
+/// As `threads_run`.
+pub fn threads_run_open<R: Threads + Wait + Sync, S: Source, K: Sink>(
+    rt: &R,
+    alloc: Global,
+    first: usize,
+    source: &mut S,
+    sink: &mut K,
+) -> Result<Verdict, RunFault>
+    requires source { S.failed source.old ≡ false }
+    requires sink { K.failed sink.old ≡ false }
+    ensures run { IsRun (IsSharedProgram (λ _ _. ⊥) first) S.Source K.Sink source.old source.new sink.old sink.new result }
+    ensures accepted { result ≡ Err RunFault.Thread → (input : List ℕ) × Gave S.left S.given source.old source.new input × IsOk (setup_of_bytes input) }
+{
+    let input = read_below(alloc, source, INPUT_LIMIT)?;
+    let (text, verdict) = report_of_input_open(rt, alloc, first, input.as_slice())?;
+    write_all(sink, text.as_slice())?;
+    Ok(verdict)
+}

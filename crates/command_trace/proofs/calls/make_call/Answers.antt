@@ -1,0 +1,44 @@
+use Rattle.std.proofs.Common.{◌+◌, ◌++◌, subst, ◌∙◌, string_bytes, option_copied}
+use Rattle.kernel_abstract.specs.Reached.{StepsTo}
+use Rattle.setup_report.specs.Report.{terminated, call_text}
+use Rattle.command_trace_lines.specs.Told.{told_lines, told_changes}
+use Rattle.command_why.specs.Why.{explained}
+use Rattle.command_trace.specs.Trace.{words_line, why_text}
+use Rattle.command_trace_lines.proofs.Steps.{follows, call_is, expected_is}
+use Rattle.command_trace.proofs.Steps.{four_parts}
+use Rattle.command_trace.proofs.calls.make_call.Goals as goal
+
+pub tell_call-requires : goal.tell_call-requires
+tell_call-requires g c = (
+  c.args.kernel.now,
+  c.requires.told,
+  follows g.P.Profile.profile c.requires.reached.0 _ c.step-reply.result c.args.kernel.now c.step-reply.new.self c.requires.reached.2
+      (c.step-reply.ensures.stands c.requires.reached.0 c.requires.reached.1 c.requires.reached.2),
+)
+
+pub returns-clause-steps : goal.returns-clause-steps
+returns-clause-steps g c = λ A call reached same there.
+    subst (λ k. StepsTo g.P.Profile.profile A k c.step-reply.result c.step-reply.new.self)
+    (call_is c.args.setup.now.calls c.calls.result.now c.args.i _ call c.calls.ensures there)
+    (c.step-reply.ensures.stands A reached same)
+
+pub returns-clause-text : goal.returns-clause-text
+returns-clause-text g c = λ call there.
+    let p = g.P.Profile.profile in
+    let made = call_is c.args.setup.now.calls c.calls.result.now c.args.i _ call c.calls.ensures there in
+    let expected = expected_is c.args.setup.now.calls c.args.i (option_copied c.expect.result) call c.expect.ensures there in
+    let told = told_lines p c.step-reply.new.self in
+    let before = c.requires.reached in
+    let after = follows p before.0 _ c.step-reply.result c.args.kernel.now c.step-reply.new.self before.2 (c.step-reply.ensures.stands before.0 before.1 before.2) in
+    four_parts (string_bytes c.args.out.now) (string_bytes c.add_call.new.out) (string_bytes c.add_words.new.out) (string_bytes c.add_why.new.out) (string_bytes c.tell_call.new.out) _ _ _ _
+    c.in_ok-add_call.ensures.line c.in_ok-add_words.ensures c.in_ok-add_why.ensures (c.in_ok-told.ensures.text c.args.kernel.now c.requires.told after)
+    ∙ (λ k. string_bytes c.args.out.now
+    ++ (terminated (call_text (c.args.i + 1) (made k) c.step-reply.result (expected k))
+    ++ (words_line (made k).op
+    ++ (why_text (c.in_ok-why.ensures k)
+    ++ told_changes (told_lines p c.args.kernel.now) told))))
+    ∙ (λ k. string_bytes c.args.out.now
+    ++ (terminated (call_text (c.args.i + 1) call.call c.step-reply.result call.expect)
+    ++ (words_line call.call.op
+    ++ (why_text (explained p c.args.kernel.now (record { call = made k; table = c.call_table.ensures k }))
+    ++ told_changes (told_lines p c.args.kernel.now) told))))

@@ -1,0 +1,35 @@
+-- What the law of a trace says: the report within it.
+use Rattle.std.specs.Prelude.{ℕ, ◌+◌, List, [], ◌∷◌, ◌++◌}
+use Rattle.toml.specs.Data.{Members}
+use Rattle.cap_core.specs.declared.profile.ProfileName.{ProfileName}
+use Rattle.kernel_abstract.specs.declared.call.Call.{Call}
+use Rattle.kernel_abstract.specs.declared.call.Reply.{Reply}
+use Rattle.kernel_abstract.specs.State.{State, shown}
+use Rattle.kernel_abstract.specs.Step.{step}
+use Rattle.setup_format.specs.Views.{CallView}
+use Rattle.setup_report.specs.Report.{terminated, call_text}
+use Rattle.command_trace_lines.specs.Told.{told_lines, told_changes}
+use Rattle.command_trace.specs.Trace.{words_line, why_text, why_at}
+
+-- the report's line of each call
+abbrev pub report_lines : ℕ → List CallView → List Reply → List (List ℕ)
+report_lines number [] replies = []
+report_lines number (call ∷ calls) [] = []
+report_lines number (call ∷ calls) (reply ∷ replies) =
+    terminated (call_text number call.call reply call.expect) ∷ report_lines (number + 1) calls replies
+
+-- what a trace says of each call below that line: its words, why it is refused, and what it changed
+abbrev pub call_details : ProfileName → Members → ℕ → State → Call → List ℕ
+call_details p table i A call =
+    words_line call.op ++ (why_text (why_at p table i A call) ++ told_changes (told_lines p (shown A)) (told_lines p (shown (step p A call).state)))
+
+unfoldable pub details : ProfileName → Members → ℕ → State → List CallView → List (List ℕ)
+details p table i A [] = []
+details p table i A (call ∷ calls) =
+    call_details p table i A call.call ∷ details p table (i + 1) (step p A call.call).state calls
+
+-- each line, followed by its own of some details while there are any
+abbrev pub followed : List (List ℕ) → List (List ℕ) → List ℕ
+followed [] details = []
+followed (line ∷ lines) [] = line ++ followed lines []
+followed (line ∷ lines) (detail ∷ details) = line ++ (detail ++ followed lines details)

@@ -1,0 +1,14 @@
+-- What the program writes of what each call of a set-up changes, and its verdict.
+use Rattle.std.specs.Prelude.{◌≡◌, ℕ, List}
+use Rattle.cap_core.specs.declared.profile.ProfileName.{ProfileName}
+use Rattle.setup_format.specs.Views.{ReadView}
+use Rattle.command_trace.specs.Trace.{trace_of}
+use Rattle.command_check.specs.Program.{replies_to, verdict_of}
+use Rattle.command_core.specs.declared.fault.Verdict.{Verdict}
+
+-- the trace of a set-up, with the verdict on its expectations
+unfoldable pub traced_in : ProfileName → ReadView → List ℕ × Verdict
+traced_in p read = (trace_of p read.table read.names read.setup, verdict_of read.setup.calls (replies_to p read.setup))
+
+abbrev pub IsTrace : ProfileName → ReadView → List ℕ → Verdict → Type 0
+IsTrace p read text verdict = (text, verdict) ≡ traced_in p read

@@ -1,0 +1,45 @@
+//! The trace of a set-up's run, as the answer of a command.
+ghost use Rattle.std.specs.Prelude.{◌≡◌, IfOk};
+ghost use Rattle.kernel_abstract.specs.Plan.{IsPlan};
+ghost use Rattle.setup_format.specs.Read.{read_view};
+ghost use Rattle.command_trace.specs.Traces.{traced_in};
+
+use crate::run::trace;
+use cap_core::Profile;
+use command_check::{Command, verdict_on};
+use command_core::Verdict;
+use ipc_core::MakeWaiters;
+use setup_format::ReadSetup;
+use slot_core::{DerivationStore, MakeStore};
+use std::alloc::{AllocError, Global};
+
+/// Runs the set-up in a profile, and tells what each call changes.
+#[tactic(auto, unfolding(crate::specs::Traces::traced_in))]
+fn trace_setup<P: Profile, S: MakeStore<P> + DerivationStore<P>, W: MakeWaiters<P>>(
+    alloc: Global,
+    read: &ReadSetup,
+) -> Result<(Vec<u8>, Verdict), AllocError>
+    requires { IsPlan P.profile read.now.setup.plan }
+    ensures { IfOk result (λ made. (made.0.items, made.1) ≡ traced_in P.profile (read_view read.now)) }
+{
+    let (text, count) = trace::<P, S, W>(alloc, &read.table, read.names.as_slice(), &read.setup)?;
+    Ok((text, verdict_on(count)))
+}
+
+/// What each call of a set-up changes, in a line each. The verdict is that of the expectations.
+#[derive(Clone, Copy, Drop)]
+pub struct Trace;
+
+impl Command for Trace {
+    ghost use Rattle.command_trace.specs.Traces.{IsTrace};
+
+    ghost answers = { λ trace. IsTrace };
+
+    fn answer<P: Profile, S: MakeStore<P> + DerivationStore<P>, W: MakeWaiters<P>>(
+        &self,
+        alloc: Global,
+        read: ReadSetup,
+    ) -> Result<(Vec<u8>, Verdict), AllocError> {
+        trace_setup::<P, S, W>(alloc, &read)
+    }
+}

@@ -1,0 +1,33 @@
+use Rattle.std.proofs.Common.{◌≡◌, ◌++◌, inl, inr, string_bytes, sym, ap, subst, ◌∙◌, append-nil}
+use Rattle.kernel_abstract.specs.declared.call.Reply.{Reply}
+use Rattle.command_trace_lines.specs.Told.{told_lines}
+use Rattle.command_trace_lines.specs.Views.{Follows}
+use Rattle.command_trace_lines.proofs.Views.{nothing_differs}
+use Rattle.command_trace_lines.proofs.Kept.{same_forest}
+use Rattle.command_trace_lines.proofs.told.tell_call.Goals as goal
+
+pub tell_messages-requires : goal.tell_messages-requires
+tell_messages-requires g c =
+    let w = c.args.kernel.now in
+    let follows = λ (r : Reply). Follows r c.requires.0 w in (
+      c.requires.0,
+      c.requires.1,
+      same_forest c.requires.0 w (elim c.in-Waiting.is [
+        | inl is ↦ subst follows is c.requires.2
+        | inr x ↦ subst follows x.5 c.requires.2
+      ]),
+    )
+
+pub returns-in-Dropped-clause-text : goal.returns-in-Dropped-clause-text
+returns-in-Dropped-clause-text g c = λ v told after.
+    let p = g.P.Profile.profile in
+    let w = c.args.kernel.now in
+    let follows = λ (r : Reply). Follows r v w in
+    let same : w ≡ v = elim c.in-Dropped.is [
+      | inl is ↦ subst follows is after
+      | inr x ↦ elim x [
+        | inl is ↦ subst follows is after
+        | inr y ↦ subst follows y.1 after
+      ]
+    ] in
+    sym (ap (λ l. string_bytes c.args.out.now ++ l) (nothing_differs (told_lines p v) (told_lines p w) (ap (told_lines p) (sym same))) ∙ append-nil (string_bytes c.args.out.now))

@@ -1,0 +1,70 @@
+-- How two states differ: the lines of the old one that are gone, and those of the new one that are not of the old one.
+use Rattle.std.specs.Prelude.{codes, ℕ, List, [], ◌∷◌, ◌++◌, map, ◌==◌, cond, if◌then◌else◌, Option, Some, None, nat_eq}
+use Rattle.std.specs.List.{flat_map}
+use lib.Pointwise.{pointwise}
+use Rattle.cap_core.specs.declared.profile.ProfileName.{ProfileName}
+use Rattle.kernel_forest.specs.Entries.{derivations_of}
+use Rattle.kernel_abstract.specs.Shown.{Shown}
+use Rattle.setup_report.specs.State.{rising}
+use Rattle.setup_report.specs.Report.{terminated}
+use Rattle.command_trace_lines.specs.Lines.{Lines, thread_lines, inbox_lines, endpoint_lines, slot_lines, selfheld_lines}
+
+-- the line at an address, if there is one
+abbrev pub text_at : ℕ → Lines → Option (List ℕ)
+text_at address [] = None
+text_at address (l ∷ lines) = cond (l.0 == address) (Some l.1) (text_at address lines)
+
+abbrev pub removed : Option (List ℕ) → List ℕ
+removed None = []
+removed (Some text) = terminated (codes "  - " ++ text)
+
+abbrev pub added : Option (List ℕ) → List ℕ
+added None = []
+added (Some text) = terminated (codes "  + " ++ text)
+
+-- one address: nothing, where its line stays
+abbrev pub change : Option (List ℕ) → Option (List ℕ) → List ℕ
+change None new = added new
+change (Some old) None = removed (Some old)
+change (Some old) (Some new) = if pointwise nat_eq old new then [] else removed (Some old) ++ added (Some new)
+
+-- the addresses of lines
+abbrev pub addresses : Lines → List ℕ
+addresses lines = map (λ (l : ℕ × List ℕ). l.0) lines
+
+-- each address of the old lines or of the new ones, in rising order
+abbrev pub change_at : Lines → Lines → ℕ → List ℕ
+change_at old new address = change (text_at address old) (text_at address new)
+
+abbrev pub line_changes : Lines → Lines → List ℕ
+line_changes old new = flat_map (change_at old new) (rising (addresses old ++ addresses new))
+
+-- all that is told of a state, kind by kind
+pub record StateLines : Type 0 where
+  pub threads : Lines
+  pub inboxes : Lines
+  pub endpoints : Lines
+  pub slots : Lines
+  pub selfheld : Lines
+
+abbrev pub state_lines : ProfileName → Shown → StateLines
+state_lines p v =
+    record {
+      threads = thread_lines p v;
+      inboxes = inbox_lines p v;
+      endpoints = endpoint_lines p v;
+      slots = slot_lines (derivations_of v.derivations);
+      selfheld = selfheld_lines p (derivations_of v.derivations);
+    }
+
+-- a state that is not there has no lines
+abbrev pub no_lines : StateLines
+no_lines = record { threads = []; inboxes = []; endpoints = []; slots = []; selfheld = [] }
+
+abbrev pub changes : StateLines → StateLines → List ℕ
+changes old new =
+    line_changes old.threads new.threads
+    ++ (line_changes old.inboxes new.inboxes
+    ++ (line_changes old.endpoints new.endpoints
+    ++ (line_changes old.slots new.slots
+    ++ line_changes old.selfheld new.selfheld)))

@@ -1,0 +1,8 @@
+-- Lines of which no two are of one address.
+use Rattle.std.specs.Prelude.{ℕ, ◌==◌}
+use Rattle.std.specs.List.{IsDistinct}
+use Rattle.command_trace_lines.specs.Lines.{Lines}
+use Rattle.command_trace_lines.specs.Changes.{addresses}
+
+abbrev pub Apart : Lines → Type 0
+Apart lines = IsDistinct (λ (a b : ℕ). a == b) (addresses lines)

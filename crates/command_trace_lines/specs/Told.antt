@@ -1,0 +1,21 @@
+-- All that a trace tells of a state: its lines, and then the order of siblings.
+use Rattle.std.specs.Prelude.{ℕ, List, [], ◌++◌}
+use Rattle.cap_core.specs.declared.profile.ProfileName.{ProfileName}
+use Rattle.kernel_abstract.specs.Shown.{Shown}
+use Rattle.command_trace_lines.specs.Lines.{Lines}
+use Rattle.command_trace_lines.specs.Siblings.{sibling_lines}
+use Rattle.command_trace_lines.specs.Changes.{StateLines, state_lines, no_lines, line_changes, changes}
+
+pub record ToldLines : Type 0 where
+  pub state : StateLines
+  pub siblings : Lines
+
+abbrev pub told_lines : ProfileName → Shown → ToldLines
+told_lines p v = record { state = state_lines p v; siblings = sibling_lines v.derivations }
+
+-- of a state that is not there nothing is told
+abbrev pub nothing_told : ToldLines
+nothing_told = record { state = no_lines; siblings = [] }
+
+abbrev pub told_changes : ToldLines → ToldLines → List ℕ
+told_changes old new = changes old.state new.state ++ line_changes old.siblings new.siblings

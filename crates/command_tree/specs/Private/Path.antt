@@ -1,0 +1,24 @@
+-- The path to a full slot, which is the slots above it from the top down, found from the slot that it stands right below.
+use Rattle.std.specs.Prelude.{ℕ, ◌+◌, ◌==◌, List, [], ◌∷◌, ◌++◌, take, Option, Some, None}
+use Rattle.std.specs.List.{position}
+use Rattle.kernel_forest.specs.Entries.{Entry}
+use Rattle.setup_report.specs.State.{Derived}
+
+-- the first ones, up to a place
+abbrev pub up_to : Option ℕ → List ℕ → List ℕ
+up_to None path = []
+up_to (Some place) path = take (place + 1) path
+
+-- the first ones, up to a slot; none where no slot is given
+abbrev pub kept : Option ℕ → List ℕ → List ℕ
+kept None path = []
+kept (Some slot) path = up_to (position (λ s. s == slot) path) path
+
+-- the path to what stands right below a full slot, where `path` is that to what was told before it
+abbrev pub path_below : Derived → List ℕ → List ℕ
+path_below d path = kept d.1 path ++ d.0.slot ∷ []
+
+-- each full slot with its path
+abbrev pub walked : List ℕ → List Derived → List (Entry × List ℕ)
+walked path [] = []
+walked path (d ∷ list) = (d.0, kept d.1 path) ∷ walked (path_below d path) list

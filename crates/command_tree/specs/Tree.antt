@@ -1,0 +1,96 @@
+-- The derivation forest of a set-up as text, behind so many of its calls: a line for each full slot, below the slot that it
+-- is derived from; or a graph.
+use Rattle.std.specs.Prelude.{codes, ℕ, List, [], ◌∷◌, ◌++◌, length, Option, Some, None}
+use Rattle.std.specs.List.{flat_map}
+use Rattle.std.specs.Fmt.{decimal}
+use Rattle.cap_core.specs.declared.capability.Cap.{Cap}
+use Rattle.cap_core.specs.declared.capability.Cap.TheVariants.{Null, Untyped, Endpoint, CNode, Tcb}
+use Rattle.kernel_forest.specs.Forest.{Forest}
+use Rattle.kernel_forest.specs.Forest.Forest.{none, tree}
+use Rattle.kernel_forest.specs.Entries.{Entry, derivations_of}
+use Rattle.setup_values.specs.Names.{Names}
+use Rattle.setup_values.specs.Told.{profile_text, name_of}
+use Rattle.setup_format.specs.Views.{SetupView}
+use Rattle.setup_report.specs.Text.{cap_text}
+use Rattle.setup_report.specs.Report.{terminated}
+use Rattle.setup_report.specs.State.{Derived}
+use Rattle.command_tree.specs.declared.form.Form.{Form}
+use Rattle.command_tree.specs.declared.form.Form.TheVariants.{Lines, Dot}
+
+-- each full slot, before those below it, with the slots that it stands below, from the top down; those that stand right
+-- below one slot in the forest's own order
+abbrev pub placed : List ℕ → Forest Entry → List (Entry × List ℕ)
+placed above none = []
+placed above (tree e under others) = (e, above) ∷ (placed (above ++ e.slot ∷ []) under ++ placed above others)
+
+-- two spaces for each slot above
+abbrev pub indent : List ℕ → List ℕ
+indent above = flat_map (λ (slot : ℕ). codes "  ") above
+
+-- the name of the thread that a capability is of
+abbrev pub thread_named : Names → Cap → Option (List ℕ)
+thread_named names (Tcb base) = name_of names base
+thread_named names Null = None
+thread_named names (Untyped base bits free) = None
+thread_named names (Endpoint base badge rights) = None
+thread_named names (CNode base radix guard) = None
+
+abbrev pub name_text : Option (List ℕ) → List ℕ
+name_text None = []
+name_text (Some name) = codes " @" ++ name
+
+-- a slot's address, and what it holds, with a name where it has one
+abbrev pub slot_words : ℕ → Cap → Option (List ℕ) → List ℕ
+slot_words slot cap name = decimal slot ++ (codes " " ++ (cap_text cap ++ name_text name))
+
+-- the same with the name of its thread
+abbrev pub slot_text : Names → Entry → List ℕ
+slot_text names e = slot_words e.slot e.cap (thread_named names e.cap)
+
+abbrev pub slot_line : Names → Entry → List ℕ → List ℕ
+slot_line names e above = indent above ++ terminated (slot_text names e)
+
+abbrev pub placed_line : Names → Entry × List ℕ → List ℕ
+placed_line names x = slot_line names x.0 x.1
+
+abbrev pub forest_lines : Names → Forest Entry → List ℕ
+forest_lines names f = flat_map (placed_line names) (placed [] f)
+
+-- the first line: the version of the text's form, how large the set-up is, and how many of its calls are made
+abbrev pub head_words : List ℕ → ℕ → ℕ → ℕ → List ℕ
+head_words profile memory_bits calls made =
+    codes "tree 1 " ++ (profile ++ (codes " memory_bits " ++ (decimal memory_bits
+    ++ (codes " calls " ++ (decimal calls ++ (codes " after " ++ decimal made))))))
+
+abbrev pub head_text : SetupView → ℕ → List ℕ
+head_text setup made = head_words (profile_text setup.profile) setup.plan.memory_bits (length setup.calls) made
+
+abbrev pub forest_text : Names → SetupView → ℕ → Forest Entry → List ℕ
+forest_text names setup made f = terminated (head_text setup made) ++ forest_lines names f
+
+-- ---- the same as a graph, in Graphviz' language DOT: a node for each full slot, and an edge to it from the one that it is
+-- derived from, in the kernel's order
+
+abbrev pub node_line : Names → Entry → List ℕ
+node_line names e = terminated (codes "  " ++ (decimal e.slot ++ (codes " [label=\"" ++ (slot_text names e ++ codes "\"];"))))
+
+abbrev pub edge_line : Option ℕ → ℕ → List ℕ
+edge_line None slot = []
+edge_line (Some parent) slot = terminated (codes "  " ++ (decimal parent ++ (codes " -> " ++ (decimal slot ++ codes ";"))))
+
+abbrev pub node_lines : Names → Derived → List ℕ
+node_lines names d = node_line names d.0 ++ edge_line d.1 d.0.slot
+
+abbrev pub graph_head : List ℕ → List ℕ
+graph_head label =
+    codes "digraph derivation {\n  graph [label=\"" ++ (label ++ codes "\" rankdir=LR ordering=out];\n  node [shape=box];\n")
+
+abbrev pub graph_text : Names → SetupView → ℕ → Forest Entry → List ℕ
+graph_text names setup made f =
+    (graph_head (head_text setup made) ++ flat_map (node_lines names) (derivations_of f)) ++ terminated (codes "}")
+
+-- ---- in a form
+
+abbrev pub text_in : Form → Names → SetupView → ℕ → Forest Entry → List ℕ
+text_in Lines names setup made f = forest_text names setup made f
+text_in Dot names setup made f = graph_text names setup made f

@@ -1,0 +1,49 @@
+-- The lines of reasons that are about the slots a call names, and the capabilities in them.
+use Rattle.std.specs.Prelude.{codes, ℕ, List, ◌++◌}
+use Rattle.std.specs.Fmt.{decimal}
+use Rattle.cap_core.specs.declared.capability.Cap.TheVariants.{Null}
+use Rattle.cap_core.specs.declared.capability.Kind.{Kind}
+use Rattle.kernel_abstract.specs.declared.call.Op.{Op}
+use Rattle.kernel_abstract.specs.declared.call.Op.TheVariants.{CapMutate}
+use Rattle.kernel_reasons.specs.declared.reason.Held.{Held}
+use Rattle.kernel_reasons.specs.declared.reason.Right.{Right}
+use Rattle.kernel_reasons.specs.declared.reason.Right.TheVariants.{Write, Read}
+use Rattle.kernel_reasons.specs.declared.reason.Word.{Word}
+use Rattle.kernel_reasons.specs.declared.reason.Word.TheVariants.{Invoked, SourceIndex}
+use Rattle.command_why_words.specs.Text.{told, an_op, kind_text}
+use Rattle.command_why_words.specs.Asked.{AskedView, data_said, led_said}
+
+abbrev pub nothing_in : ℕ → Held
+nothing_in slot = record { slot = slot; cap = Null }
+
+-- where a word leads to, and what had to be so
+abbrev pub fact_lines : AskedView → Word → Held → List ℕ → List ℕ
+fact_lines a word held fact = told (led_said a word held) ++ told fact
+
+-- the invoked capability is of another kind, or not there
+abbrev pub kind_lines : AskedView → Held → Kind → List ℕ
+kind_lines a held wanted = fact_lines a Invoked held (an_op a.call.op ++ (codes " is made by " ++ kind_text wanted))
+
+abbrev pub right_text : Right → List ℕ
+right_text Write = codes "Write (w)"
+right_text Read = codes "Read (r)"
+
+abbrev pub right_lines : AskedView → Held → Right → List ℕ
+right_lines a held needed = fact_lines a Invoked held (an_op a.call.op ++ (codes " needs the right " ++ right_text needed))
+
+-- a badge that can't be set
+abbrev pub badge_text : Op → List ℕ
+badge_text (CapMutate cap index depth src_root src_index src_depth word) = codes "a mutate sets no badge"
+badge_text op = codes "a mint sets a badge only where there is none"
+
+unfoldable pub long_text : ℕ → ℕ → ℕ → List ℕ
+long_text size radix most =
+    decimal size ++ (codes " bits, which with radix " ++ (decimal radix ++ (codes " is more than " ++ decimal most)))
+
+unfoldable pub guard_text : AskedView → ℕ → ℕ → ℕ → List ℕ
+guard_text a size radix most = data_said a ++ (codes " is a guard of " ++ long_text size radix most)
+
+abbrev pub children_lines : AskedView → Held → ℕ → List ℕ
+children_lines a source child =
+    fact_lines a SourceIndex source (codes "it has children, the first of them in slot " ++ decimal child)
+    ++ told (an_op a.call.op ++ codes " is made of an untyped capability only while it has no children")

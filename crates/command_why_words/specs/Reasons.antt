@@ -1,0 +1,77 @@
+-- The lines of each reason, below the line of the call.
+use Rattle.std.specs.Prelude.{codes, ℕ, ◌-◌, nat_lt, List, [], ◌∷◌, ◌++◌, length, take, if◌then◌else◌}
+use Rattle.std.specs.Fmt.{decimal}
+use Rattle.cap_core.specs.declared.profile.ProfileName.{ProfileName}
+use Rattle.kernel_abstract.specs.declared.call.ThreadState.{ThreadState}
+use Rattle.kernel_abstract.specs.declared.call.ThreadState.TheVariants.{Ready, Inactive, Sending, Receiving}
+use Rattle.kernel_abstract.specs.Shown.{Shown}
+use Rattle.setup_report.specs.State.{threads}
+use Rattle.setup_report.specs.Text.{numbers_text}
+use Rattle.kernel_reasons.specs.declared.reason.Word.TheVariants.{Root, Index, SourceIndex}
+use Rattle.kernel_reasons.specs.declared.reason.Reason.{Reason}
+use Rattle.kernel_reasons.specs.declared.reason.Reason.TheVariants.{NoThread, NotReady, NotFound, NoDepth, NoCapability, OtherKind, NoRight, IsFull, IsEmpty, HasBadge, LongGuard, HasChildren, NotAllRights, NoSpace}
+use Rattle.command_why_words.specs.Limits.{threads_told}
+use Rattle.command_why_words.specs.Text.{told, name_text, radix_of}
+use Rattle.command_why_words.specs.Asked.{AskedView, thread_name}
+use Rattle.command_why_words.specs.Facts.{nothing_in, fact_lines, kind_lines, right_lines, badge_text, guard_text, children_lines}
+use Rattle.command_why_words.specs.Lookups.{not_found_lines, no_depth_lines}
+use Rattle.command_why_words.specs.Retypes.{retype_lines}
+
+-- ---- the calling thread
+
+unfoldable pub thread_text : AskedView → List ℕ
+thread_text a = decimal a.call.thread ++ name_text (thread_name a)
+
+-- the live threads: the first of them, and how many there are besides
+abbrev pub more_text : ℕ → List ℕ
+more_text count = if nat_lt threads_told count then codes " and " ++ (decimal (count - threads_told) ++ codes " more") else codes ""
+
+unfoldable pub live_line : List ℕ → List ℕ
+live_line [] = told (codes "no thread is live")
+live_line (first ∷ rest) =
+    told (codes "live threads:" ++ (numbers_text (take threads_told (first ∷ rest)) ++ more_text (length (first ∷ rest))))
+
+unfoldable pub no_thread_line : AskedView → List ℕ
+no_thread_line a = told (codes "no live thread is at " ++ thread_text a)
+
+abbrev pub no_thread_lines : ProfileName → Shown → AskedView → List ℕ
+no_thread_lines p v a = no_thread_line a ++ live_line (threads p v)
+
+abbrev pub does_text : ThreadState → List ℕ
+does_text Ready = codes "is ready"
+does_text Inactive = codes "is inactive"
+does_text (Sending endpoint) = codes "waits to send on endpoint " ++ decimal endpoint
+does_text (Receiving endpoint) = codes "waits to receive on endpoint " ++ decimal endpoint
+
+abbrev pub not_ready_lines : AskedView → ThreadState → List ℕ
+not_ready_lines a state =
+    told (codes "thread " ++ (thread_text a ++ (codes " " ++ does_text state)))
+    ++ told (codes "a call is made by a thread that is ready")
+
+-- ---- each reason
+
+-- of a slot that the call names, or of a retype
+abbrev pub named_lines : AskedView → Reason → List ℕ
+named_lines a (IsFull held) = fact_lines a Index held (codes "the slot to fill has to be empty")
+named_lines a (IsEmpty slot) = fact_lines a SourceIndex (nothing_in slot) (codes "the source has to be full")
+named_lines a (HasBadge held) = fact_lines a SourceIndex held (badge_text a.call.op)
+named_lines a (NotAllRights held) =
+    fact_lines a Index held (codes "a cancel_badged names an endpoint's capability with all four rights")
+named_lines a (NoSpace held) = fact_lines a Root held (codes "a thread's capability space begins at a CNode's capability")
+named_lines a reason = retype_lines a reason
+
+-- of the invoked capability, or of any other
+abbrev pub capability_lines : AskedView → Reason → List ℕ
+capability_lines a (NoCapability slot wanted) = kind_lines a (nothing_in slot) wanted
+capability_lines a (OtherKind found wanted) = kind_lines a found wanted
+capability_lines a (NoRight found needed) = right_lines a found needed
+capability_lines a (LongGuard word node size most) = fact_lines a word node (guard_text a size (radix_of node.cap) most)
+capability_lines a (HasChildren source child) = children_lines a source child
+capability_lines a reason = named_lines a reason
+
+abbrev pub reason_lines : ProfileName → Shown → AskedView → Reason → List ℕ
+reason_lines p v a NoThread = no_thread_lines p v a
+reason_lines p v a (NotReady state) = not_ready_lines a state
+reason_lines p v a (NotFound word from miss) = not_found_lines p v a word from miss
+reason_lines p v a (NoDepth word from most) = no_depth_lines p v a word from most
+reason_lines p v a reason = capability_lines a reason

@@ -1,0 +1,343 @@
+//! The lines of a lookup that fails.
+ghost use Rattle.std.specs.Prelude.{◌≡◌, ◌≤◌, ◌-◌, ◌++◌, length, take, OnOk, Some, string_bytes};
+ghost use Rattle.cap_core.specs.Numbers.{word_bits};
+ghost use Rattle.command_why_words.specs.Asked.{asked_view};
+ghost use Rattle.command_why_words.specs.Text.{told};
+ghost use Rattle.command_why_words.specs.Lookups as spec;
+
+use crate::asked::{Asked, depth_said, word_said};
+use crate::facts::add_led;
+use crate::keys::{KeyWords, key_words};
+use crate::text::{SlotText, guard_of, radix_of};
+use crate::words::{depth_key, depth_of, is_whole, key_of, root_of, value_of};
+use cap_core::{Guard, Profile};
+use ipc_core::Waiters;
+use kernel_core::{Held, Hint, Kernel, Miss, Word};
+use slot_core::CapStore;
+use std::alloc::{AllocError, Global};
+use std::fmt::{self, Write};
+
+/// Adds from which slot on a word is looked up.
+fn add_start(out: &mut String, asked: Asked<'_>, word: Word, from: Held) -> Result<(), AllocError>
+    ensures { OnOk result (string_bytes out.new ≡ string_bytes out.old ++ spec.start_line (asked_view asked.entry) word from) }
+{
+    let said = word_said(asked, word);
+    let slot = SlotText(from);
+    if is_whole(word) {
+        writeln!(out, "  {said} is looked up from the thread's root {slot}")
+    } else {
+        let depth = depth_said(asked, word);
+        writeln!(out, "  {said} {depth} is looked up from {slot}")
+    }
+}
+
+/// Adds that a lookup begins at no CNode.
+fn add_no_root(out: &mut String, asked: Asked<'_>, word: Word, from: Held) -> Result<(), AllocError>
+    ensures { OnOk result (string_bytes out.new ≡ string_bytes out.old ++ spec.no_root_lines (asked_view asked.entry) word from) }
+{
+    if is_whole(word) {
+        add_start(out, asked, word, from)?;
+        writeln!(out, "  the thread has no capability space")
+    } else {
+        add_led(out, asked, root_of(word), from)?;
+        let key = key_of(word);
+        writeln!(out, "  {key} is looked up from a CNode's capability")
+    }
+}
+
+/// What is said before the slots that a way goes by.
+fn by_text(count: usize) -> &'static str
+    ensures { result.now ≡ spec.by_text count }
+{
+    match count {
+        0 => "",
+        1 => " by slot",
+        _ => " by slots",
+    }
+}
+
+/// The address of each slot after a space.
+#[derive(Clone, Copy)]
+struct SlotsText<'a>(&'a [Held]);
+
+impl fmt::Display for SlotsText<'_> {
+    ghost output = { λ s. Some (spec.slots_text s.0.now) };
+
+    fn fmt<W: fmt::Write>(&self, f: &mut fmt::Formatter<W>) -> fmt::Result {
+        for held in self.0 {
+            let slot = held.slot;
+            write!(f, " {slot}")?;
+        }
+        Ok(())
+    }
+}
+
+/// Adds the way of a lookup, where it comes to a slot.
+fn add_way(out: &mut String, path: &[Held]) -> Result<(), AllocError>
+    ensures { OnOk result (string_bytes out.new ≡ string_bytes out.old ++ spec.way_line path.now) }
+{
+    match path {
+        [] => Ok(()),
+        [_, rest @ ..] => add_way_on(out, rest),
+    }
+}
+
+/// A way to a slot, by those before it.
+#[derive(Clone, Copy)]
+struct WayText<'a> {
+    between: &'a [Held],
+    last: Held,
+}
+
+impl fmt::Display for WayText<'_> {
+    ghost output = { λ w. Some (spec.way_text w.between.now w.last) };
+
+    #[tactic(auto, unfolding(crate::specs::Lookups::way_text))]
+    fn fmt<W: fmt::Write>(&self, f: &mut fmt::Formatter<W>) -> fmt::Result {
+        let by = by_text(self.between.len());
+        let slots = SlotsText(self.between);
+        let last = SlotText(self.last);
+        write!(f, "it comes{by}{slots} to {last}")
+    }
+}
+
+/// Some slots without the last.
+fn without_last(slots: &[Held]) -> &[Held]
+    ensures { result.now ≡ take (length slots.now - 1) slots.now }
+{
+    if slots.is_empty() {
+        slots
+    } else {
+        &slots[..slots.len() - 1]
+    }
+}
+
+/// Adds the way of a lookup behind its first slot.
+fn add_way_on(out: &mut String, rest: &[Held]) -> Result<(), AllocError>
+    ensures { OnOk result (string_bytes out.new ≡ string_bytes out.old ++ spec.way_on rest.now) }
+{
+    match rest.last() {
+        None => Ok(()),
+        Some(last) => {
+            let between = without_last(rest);
+            let last = *last;
+            let way = WayText { between, last };
+            writeln!(out, "  {way}")
+        }
+    }
+}
+
+/// How a guard differs from the bits that are left.
+#[derive(Clone, Copy)]
+struct GuardText {
+    guard: Guard,
+    left: u32,
+    read: u64,
+}
+
+impl fmt::Display for GuardText {
+    ghost output = { λ g. Some (spec.guard_text g.guard g.left g.read) };
+
+    #[tactic(auto, unfolding(crate::specs::Lookups::guard_text))]
+    fn fmt<W: fmt::Write>(&self, f: &mut fmt::Formatter<W>) -> fmt::Result {
+        let value = self.guard.value;
+        let size = self.guard.size;
+        let left = self.left;
+        let read = self.read;
+        if left < size {
+            write!(f, "its guard has size {size}; bits left: {left}")
+        } else {
+            write!(
+                f,
+                "its guard is {value} of size {size}; the next {size} of the {left} bits left read {read}"
+            )
+        }
+    }
+}
+
+/// Why a lookup ends.
+#[derive(Clone, Copy)]
+struct MissText(Miss);
+
+impl fmt::Display for MissText {
+    ghost output = { λ m. Some (spec.miss_text m.0) };
+
+    fn fmt<W: fmt::Write>(&self, f: &mut fmt::Formatter<W>) -> fmt::Result {
+        match self.0 {
+            Miss::NoRoot => Ok(()),
+            Miss::OtherGuard { node, left, read } => {
+                let guard = guard_of(node.cap);
+                let guard = GuardText { guard, left, read };
+                write!(f, "{guard}")
+            }
+            Miss::TooFewBits { node, left } => {
+                let radix = radix_of(node.cap);
+                write!(
+                    f,
+                    "its radix is {radix}; bits left behind the guard: {left}"
+                )
+            }
+            Miss::BitsLeft { left, .. } => {
+                write!(f, "no CNode is there; bits left over: {left}")
+            }
+        }
+    }
+}
+
+fn add_miss(out: &mut String, miss: Miss) -> Result<(), AllocError>
+    ensures { OnOk result (string_bytes out.new ≡ string_bytes out.old ++ told (spec.miss_text miss)) }
+{
+    let miss = MissText(miss);
+    writeln!(out, "  {miss}")
+}
+
+fn would_text(word: Word) -> &'static str
+    ensures { result.now ≡ spec.would_text word }
+{
+    if is_whole(word) {
+        " would lead to slot "
+    } else {
+        " would name slot "
+    }
+}
+
+/// What would lead to a slot.
+#[derive(Clone, Copy)]
+struct HintText {
+    key: &'static str,
+    number: u64,
+    would: &'static str,
+    slot: u64,
+}
+
+impl fmt::Display for HintText {
+    ghost output = { λ h. Some (spec.hint_text h.key.now h.number h.would.now h.slot) };
+
+    #[tactic(auto, unfolding(crate::specs::Lookups::hint_text))]
+    fn fmt<W: fmt::Write>(&self, f: &mut fmt::Formatter<W>) -> fmt::Result {
+        let key = self.key;
+        let number = self.number;
+        let would = self.would;
+        let slot = self.slot;
+        write!(f, "{key} {number}{would}{slot}")
+    }
+}
+
+/// Adds what would lead to a slot.
+fn add_hint(out: &mut String, word: Word, hint: Option<Hint>) -> Result<(), AllocError>
+    ensures { OnOk result (string_bytes out.new ≡ string_bytes out.old ++ spec.hint_line word hint) }
+{
+    match hint {
+        None => Ok(()),
+        Some(Hint::Depth { depth, slot }) => {
+            let key = depth_key(word);
+            let number = depth as u64;
+            let would = " would name slot ";
+            let text = HintText {
+                key,
+                number,
+                would,
+                slot,
+            };
+            writeln!(out, "  {text}")
+        }
+        Some(Hint::Number { number, slot }) => {
+            let key = key_of(word);
+            let would = would_text(word);
+            let text = HintText {
+                key,
+                number,
+                would,
+                slot,
+            };
+            writeln!(out, "  {text}")
+        }
+    }
+}
+
+fn hint_of<P: Profile, S: CapStore<P> + Drop, W: Waiters<P> + Drop>(
+    kernel: &Kernel<P, S, W>,
+    words: &KeyWords,
+    word: Word,
+    from: Held,
+) -> Option<Hint>
+    ensures { result ≡ spec.hint_of P.profile kernel.now words.now word from }
+{
+    let value = value_of(words, word);
+    if is_whole(word) {
+        kernel.word_hint(from.slot, value)
+    } else {
+        kernel.index_hint(from.slot, value, depth_of(words, word))
+    }
+}
+
+/// How many bits of a word a lookup takes.
+fn levels<P: Profile>(words: &KeyWords, word: Word) -> u32
+    ensures value { result ≡ spec.levels P.profile words.now word }
+    ensures most { result ≤ word_bits P.profile }
+{
+    if is_whole(word) {
+        P::WORD_BITS
+    } else {
+        depth_of(words, word).min(P::WORD_BITS as u64) as u32
+    }
+}
+
+/// Adds the lines of a lookup that begins at a CNode and fails.
+fn add_missed<P: Profile, S: CapStore<P> + Drop, W: Waiters<P> + Drop>(
+    alloc: Global,
+    out: &mut String,
+    kernel: &Kernel<P, S, W>,
+    asked: Asked<'_>,
+    word: Word,
+    from: Held,
+    miss: Miss,
+) -> Result<(), AllocError>
+    ensures { OnOk result (string_bytes out.new ≡ string_bytes out.old
+        ++ spec.missed_lines P.profile kernel.now (asked_view asked.entry) word from miss) }
+{
+    let words = key_words(&asked.call.op);
+    let bits = levels::<P>(&words, word);
+    let path = kernel.lookup_path(alloc, from.slot, value_of(&words, word), bits)?;
+    add_start(out, asked, word, from)?;
+    add_way(out, path.as_slice())?;
+    add_miss(out, miss)?;
+    add_hint(out, word, hint_of::<P, S, W>(kernel, &words, word, from))
+}
+
+/// Adds the lines of a lookup that fails.
+pub fn add_not_found<P: Profile, S: CapStore<P> + Drop, W: Waiters<P> + Drop>(
+    alloc: Global,
+    out: &mut String,
+    kernel: &Kernel<P, S, W>,
+    asked: Asked<'_>,
+    word: Word,
+    from: Held,
+    miss: Miss,
+) -> Result<(), AllocError>
+    ensures { OnOk result (string_bytes out.new ≡ string_bytes out.old
+        ++ spec.not_found_lines P.profile kernel.now (asked_view asked.entry) word from miss) }
+{
+    match miss {
+        Miss::NoRoot => add_no_root(out, asked, word, from),
+        _ => add_missed::<P, S, W>(alloc, out, kernel, asked, word, from, miss),
+    }
+}
+
+/// Adds that a depth names nothing.
+pub fn add_no_depth<P: Profile, S: CapStore<P> + Drop, W: Waiters<P> + Drop>(
+    out: &mut String,
+    kernel: &Kernel<P, S, W>,
+    asked: Asked<'_>,
+    word: Word,
+    from: Held,
+    most: u32,
+) -> Result<(), AllocError>
+    ensures { OnOk result (string_bytes out.new ≡ string_bytes out.old
+        ++ spec.no_depth_lines P.profile kernel.now (asked_view asked.entry) word from most) }
+{
+    let depth = depth_said(asked, word);
+    writeln!(out, "  {depth} is not from 1 to {most}")?;
+    let words = key_words(&asked.call.op);
+    add_hint(out, word, hint_of::<P, S, W>(kernel, &words, word, from))
+}

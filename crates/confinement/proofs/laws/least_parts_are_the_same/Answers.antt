@@ -1,6 +1,0 @@
--- The proof of `least_parts_are_the_same`: the goals that a search leaves open.
-use Rattle.confinement.proofs.Same.{lie_in_each_other}
-use Rattle.confinement.proofs.laws.least_parts_are_the_same.Goals as goal
-
-pub returns : goal.returns
-returns c = lie_in_each_other

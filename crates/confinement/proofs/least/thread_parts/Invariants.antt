@@ -1,7 +1,0 @@
--- The proof of `thread_parts`: the loop's invariant.
-use Rattle.std.proofs.Common.{take}
-use Rattle.confinement.specs.Private.Search.{AreAround}
-use Rattle.confinement.proofs.least.thread_parts.Given as goal
-
-abbrev pub invariant-loop-thread : goal.invariant-loop-thread
-invariant-loop-thread g l = AreAround g.P.Profile.profile (take l.thread-index l.threads) l.parts.memory.items l.parts.uses.items

@@ -1,9 +1,0 @@
--- A forest that several leave at once.
-use Rattle.std.specs.Prelude.{Bool, cond}
-use Rattle.derivation.specs.Forest.{Forest, none, tree, join}
-
--- all that pass leave at once, and what stands below one takes its place
-abbrev pub without : {A : Type 0} → (A → Bool) → Forest A → Forest A
-without is none = none
-without is (tree a under others) =
-    cond (is a) (join (without is under) (without is others)) (tree a (without is under) (without is others))

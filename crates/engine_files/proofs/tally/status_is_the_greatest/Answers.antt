@@ -1,6 +1,0 @@
--- By induction over the files.
-use Rattle.engine_files.proofs.Tallies.{status_is}
-use Rattle.engine_files.proofs.tally.status_is_the_greatest.Goals as goal
-
-pub returns : goal.returns
-returns c = status_is

@@ -1,7 +1,0 @@
-use Rattle.std.proofs.Common.{[], ap}
-use Rattle.kernel_book.specs.Laws.{is_numbered}
-use Rattle.engine_threads.proofs.numbered.Numbered.with_capacity.Goals as goal
-
-pub invariant_of-result-clause-numbered : goal.invariant_of-result-clause-numbered
-unfolding is_numbered
-invariant_of-result-clause-numbered c = ap (is_numbered []) c.in_ok-entries.ensures.items

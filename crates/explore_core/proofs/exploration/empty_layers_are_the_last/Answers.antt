@@ -1,5 +1,0 @@
-use Rattle.explore_core.proofs.Explorations.{no_orders_behind}
-use Rattle.explore_core.proofs.exploration.empty_layers_are_the_last.Goals as goal
-
-pub returns : goal.returns
-returns c = no_orders_behind

@@ -1,0 +1,59 @@
+-- The checks of a copy, a mint, a move and a mutate, with their reasons.
+use Rattle.std.specs.Prelude.{ℕ, true, false, ◌^◌, ◌%◌, cond, Option, None, Some, Result, Ok, Err}
+use Rattle.cap_core.specs.declared.profile.ProfileName.{ProfileName}
+use Rattle.cap_core.specs.declared.capability.Cap.{Cap}
+use Rattle.cap_core.specs.declared.capability.Cap.TheVariants.{CNode}
+use Rattle.cap_core.specs.declared.capability.Kind.TheVariants as kind
+use Rattle.cap_core.specs.Numbers.{word_bits, guard_size_bits}
+use Rattle.cap_core.specs.Objects.{is_untyped}
+use Rattle.cap_core.specs.Minting.{masked, with_data}
+use Rattle.cap_core.specs.Checks.{◌>>=◌}
+use Rattle.kernel_forest.specs.Forest.{Forest}
+use Rattle.kernel_forest.specs.Entries.{Entry, cap_at, first_child}
+use Rattle.kernel_abstract.specs.declared.invocation.Change.{Change}
+use Rattle.kernel_abstract.specs.declared.invocation.Change.TheVariants.{Copy, Mint, Move, Mutate}
+use Rattle.kernel_abstract.specs.declared.invocation.CapPlacement.{CapPlacement}
+use Rattle.kernel_abstract.specs.declared.invocation.SlotArguments.{SlotArguments}
+use Rattle.kernel_reasons.specs.declared.reason.Held.{Held}
+use Rattle.kernel_reasons.specs.declared.reason.Word.{Word}
+use Rattle.kernel_reasons.specs.declared.reason.Word.TheVariants.{SourceRoot, Index, SourceIndex}
+use Rattle.kernel_reasons.specs.declared.reason.Reason.{Reason}
+use Rattle.kernel_reasons.specs.declared.reason.Reason.TheVariants.{HasBadge, LongGuard, HasChildren}
+use Rattle.kernel_reasons.specs.Reasons.{held_at}
+use Rattle.kernel_reasons.specs.Lookups.{slot_by_word, slot_by_index, of_kind, ensure_empty, ensure_full}
+
+-- why the data of the capability in a slot can't be set by a word: a guard is too long, or a badge is there
+abbrev pub no_data : ProfileName → Word → ℕ → ℕ → Cap → Reason
+no_data p of word slot (CNode base radix guard) =
+    LongGuard of (record { slot = slot; cap = CNode base radix guard }) (word % 2 ^ guard_size_bits p) (word_bits p)
+no_data p of word slot cap = HasBadge (record { slot = slot; cap = cap })
+
+abbrev pub ensure_set : Reason → Option Cap → Result Cap Reason
+ensure_set reason (Some cap) = Ok cap
+ensure_set reason None = Err reason
+
+-- an untyped capability is derived only while it has no child
+abbrev pub ensure_childless : Held → Cap → Option ℕ → Result Cap Reason
+ensure_childless source cap None = Ok cap
+ensure_childless source cap (Some child) = Err (HasChildren source child)
+
+abbrev pub ensure_derivable : Forest Entry → ℕ → Cap → Result Cap Reason
+ensure_derivable f source cap =
+    cond (is_untyped cap) (ensure_childless (held_at (cap_at f) source) cap (first_child source f)) (Ok cap)
+
+abbrev pub changed : ProfileName → Forest Entry → ℕ → Change → Cap → Result Cap Reason
+changed p f source (Copy rights) cap = ensure_derivable f source (masked rights cap)
+changed p f source (Mint rights word) cap =
+    ensure_set (no_data p SourceIndex word source cap) (with_data p false word (masked rights cap)) >>= ensure_derivable f source
+changed p f source Move cap = Ok cap
+changed p f source (Mutate word) cap = ensure_set (no_data p SourceIndex word source cap) (with_data p true word cap)
+
+-- the checks in their order, by the capability in the slot `at`
+abbrev pub explained_placement : ProfileName → Forest Entry → ℕ → ℕ → SlotArguments → Change → Result CapPlacement Reason
+explained_placement p f thread at asked change =
+    of_kind kind.CNode (held_at (cap_at f) at) >>= λ node.
+    slot_by_word p f SourceRoot thread asked.src_root >>= λ root.
+    ensure_empty f (slot_by_index p (cap_at f) Index at asked.index asked.depth) >>= λ slot.
+    ensure_full f (slot_by_index p (cap_at f) SourceIndex root asked.src_index asked.src_depth) >>= λ source.
+    changed p f source change (cap_at f source) >>= λ cap.
+    Ok (record { source = source; slot = slot; cap = cap })

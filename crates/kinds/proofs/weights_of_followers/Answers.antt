@@ -1,5 +1,0 @@
-use Rattle.kinds.proofs.Counting.{weight-counted_followers}
-use Rattle.kinds.proofs.weights_of_followers.Goals as goal
-
-pub returns : goal.returns
-returns g c = λ same f next xs respects. weight-counted_followers same f next xs respects

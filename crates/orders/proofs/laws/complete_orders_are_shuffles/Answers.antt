@@ -1,5 +1,0 @@
-use Rattle.orders.proofs.Shuffles.{complete_shuffles}
-use Rattle.orders.proofs.laws.complete_orders_are_shuffles.Goals as goal
-
-pub returns : goal.returns
-returns c = complete_shuffles

@@ -1,0 +1,56 @@
+//! Laws of confinement, for each state that runs reach. Nothing is done.
+ghost use Rattle.std.specs.Prelude.{ℕ, List};
+ghost use Rattle.cap_core.specs.declared.profile.ProfileName.{ProfileName};
+ghost use Rattle.kernel_abstract.specs.declared.call.Call.{Call};
+ghost use Rattle.kernel_abstract.specs.State.{State};
+ghost use Rattle.kernel_forest.specs.Forest.{Forest};
+ghost use Rattle.kernel_forest.specs.Entries.{Entry};
+ghost use Rattle.kernel_abstract.specs.Shown.{Shown};
+ghost use Rattle.query_parts.specs.declared.listed.PartMemory.{PartMemory};
+ghost use Rattle.query_parts.specs.declared.listed.PartUse.{PartUse};
+ghost use Rattle.query_parts.specs.Parts.{Parts};
+ghost use Rattle.query_parts.specs.Laws.{StaysClosed, LeavesOthers, TakesOnlyNear, NamesItsOwn, StayClosed, SendWithin, ReceiveWithin, LiveThreadsAreAddressed};
+ghost use Rattle.query_parts.specs.Least.{LieInEachOther};
+ghost use Rattle.query_parts.specs.Delivered.{DeliverWithin, TellWithin};
+
+/// A call of a thread of a closed part leaves the part closed, and each slot outside it as it was, or empty. It
+/// empties none outside but of an object of the part, or of an endpoint that the part may use.
+pub fn calls_keep_within_their_part()
+    ensures closed { (p : ProfileName) (parts : Parts) (i : ℕ) (A : State) (call : Call) → StaysClosed p parts i A call }
+    ensures others { (p : ProfileName) (parts : Parts) (i : ℕ) (A : State) (call : Call) → LeavesOthers p parts i A call }
+    ensures taken { (p : ProfileName) (parts : Parts) (i : ℕ) (A : State) (call : Call) → TakesOnlyNear p parts i A call }
+{}
+
+/// Whatever calls the threads of closed parts make, in whatever order, every part stays closed. What they send they may
+/// send, by that endpoint and with that badge, and what they receive they may receive.
+pub fn closed_parts_stay_closed()
+    ensures closed { (p : ProfileName) (parts : Parts) (A : State) (calls : List Call) → StayClosed p parts A calls }
+    ensures sends { (p : ProfileName) (parts : Parts) (A : State) (calls : List Call) → SendWithin p parts A calls }
+    ensures receives { (p : ProfileName) (parts : Parts) (A : State) (calls : List Call) → ReceiveWithin p parts A calls }
+{}
+
+/// Whatever calls the threads of closed parts make, each delivery that a reply tells of is of a send that the part of its
+/// thread may make, by that endpoint and with that badge, or that waited before these calls; and it is to a thread whose
+/// part may receive on that endpoint, or that waited to receive there before these calls.
+pub fn deliveries_stay_within_uses()
+    ensures records { (p : ProfileName) (parts : Parts) (A : State) (calls : List Call) → DeliverWithin p parts A calls }
+    ensures replies { (p : ProfileName) (parts : Parts) (A : State) (calls : List Call) → TellWithin p parts A calls }
+{}
+
+/// A thread of a closed part names no slot outside the part: neither by a word, nor by an index and a depth from the capability
+/// that a word leads to. So what may not stand in the part no call of its threads can use.
+pub fn threads_name_slots_of_their_part()
+    ensures { (p : ProfileName) (parts : Parts) (i : ℕ) (f : Forest Entry) (thread : ℕ) → NamesItsOwn p parts i f thread }
+{}
+
+/// The least parts around some threads are the only ones, but for how they are told: two such families lie in each other.
+pub fn least_parts_are_the_same()
+    ensures { (p : ProfileName) (threads : List ℕ) (v : Shown) (memory : List PartMemory) (uses : List PartUse) (memory' : List PartMemory) (uses' : List PartUse) →
+        LieInEachOther p threads v memory uses memory' uses' }
+{}
+
+/// Each address of a live thread's control block is a word. So `parts_around` answers no `Block` where it is asked of live
+/// threads.
+pub fn live_threads_are_addressed()
+    ensures { (p : ProfileName) (memory : ℕ) (v : Shown) → LiveThreadsAreAddressed p memory v }
+{}

@@ -1,0 +1,78 @@
+-- The words of threads that lead to endpoints, and the channels between them.
+use Rattle.std.proofs.Common.{◌≡◌, ℕ, zero, suc, ◌+◌, ◌<◌, ◌≤◌, refl, sym, ap, ◌∙◌, arith, Bool, cond, not, ◌==◌, List, [], ◌∷◌, ◌++◌, length, take, get_or, map, filter, Option, Some, None}
+use Rattle.std.specs.List.{slice_get, cons_option, flat_map}
+use Rattle.std.proofs.lemmas.Bool.{eq-eqb}
+use Rattle.std.proofs.lemmas.List.{take_more, append-nil}
+use Rattle.std.proofs.lemmas.List.Elements.{filter_map-append, filter-append}
+use Rattle.cap_core.specs.declared.capability.Cap.{Cap}
+use Rattle.cap_core.specs.declared.capability.Cap.TheVariants.{Null, Untyped, Endpoint, CNode, Tcb}
+use Rattle.cap_core.specs.declared.capability.Badge.{Badge}
+use Rattle.cap_core.specs.declared.rights.Rights.{Rights}
+use Rattle.kernel_forest.specs.Forest.{Forest}
+use Rattle.kernel_forest.specs.Entries.{Entry, cap_at}
+use Rattle.query_reach.specs.declared.endpoints.EndpointWord.{EndpointWord}
+use Rattle.query_reach.specs.declared.filled.FullSlot.{FullSlot}
+use Rattle.query_reach.specs.declared.reached.Reached.{Reached}
+use Rattle.query_reach.specs.FullSlots.{AreFullSlots}
+use Rattle.query_reach.specs.declared.senders.Channel.{Channel}
+use Rattle.query_reach.specs.Endpoints.{endpoint_word, endpoint_words}
+use Rattle.query_reach.specs.Channels.{is_sender, others, channel, channels_of, channels}
+
+pub no_endpoint : (thread word : ℕ) (cap : Cap) → ((base : ℕ) (badge : Badge) (rights : Rights) → cap ≡ Endpoint base badge rights → ⊥) → endpoint_word thread word cap ≡ None
+no_endpoint thread word Null none = refl
+no_endpoint thread word (Untyped base bits free) none = refl
+no_endpoint thread word (Endpoint base badge rights) none = absurd (none base badge rights refl)
+no_endpoint thread word (CNode base radix guard) none = refl
+no_endpoint thread word (Tcb base) none = refl
+
+-- the capability at a place
+pub held_there : (f : Forest Entry) (filled : List FullSlot) (place slot : ℕ) (u d : FullSlot) → AreFullSlots f filled → slice_get filled place ≡ Some u → u.address ≡ slot →
+    get_or filled place d ≡ u → cap_at f slot ≡ (get_or filled place d).cap
+held_there f filled place slot u d are holds at got = rw got (rw (← at) (sym (are.holds place u holds)))
+
+words_more : (f : Forest Entry) (thread : ℕ) (list : List Reached) (i : ℕ) (d : Reached) → i < length list →
+    endpoint_words f thread (take (i + 1) list)
+    ≡ endpoint_words f thread (take i list) ++ cons_option (endpoint_word thread (get_or list i d).word (cap_at f (get_or list i d).slot)) []
+words_more f thread list i d h =
+    ap (endpoint_words f thread) (take_more list i d h)
+    ∙ filter_map-append (λ (r : Reached). endpoint_word thread r.word (cap_at f r.slot)) (take i list) (get_or list i d ∷ [])
+
+pub words_some : (f : Forest Entry) (thread : ℕ) (list : List Reached) (i : ℕ) (d : Reached) (found : EndpointWord) (out : List EndpointWord) → i < length list →
+    out ≡ endpoint_words f thread (take i list) → Some found ≡ endpoint_word thread (get_or list i d).word (cap_at f (get_or list i d).slot) →
+    out ++ found ∷ [] ≡ endpoint_words f thread (take (i + 1) list)
+words_some f thread list i d found out h e e' =
+    ap (λ (l : List EndpointWord). l ++ found ∷ []) e
+    ∙ (ap (λ (o : Option EndpointWord). endpoint_words f thread (take i list) ++ cons_option o []) e' ∙ sym (words_more f thread list i d h))
+
+pub words_none : (f : Forest Entry) (thread : ℕ) (list : List Reached) (i : ℕ) (d : Reached) (out : List EndpointWord) → i < length list →
+    out ≡ endpoint_words f thread (take i list) → None ≡ endpoint_word thread (get_or list i d).word (cap_at f (get_or list i d).slot) →
+    out ≡ endpoint_words f thread (take (i + 1) list)
+words_none f thread list i d out h e e' =
+    e ∙ (sym (append-nil (endpoint_words f thread (take i list)))
+    ∙ (ap (λ (o : Option EndpointWord). endpoint_words f thread (take i list) ++ cons_option o []) e' ∙ sym (words_more f thread list i d h)))
+
+-- one receiver more
+others_more : (thread : ℕ) (list : List EndpointWord) (i : ℕ) (d : EndpointWord) → i < length list →
+    others thread (take (i + 1) list) ≡ others thread (take i list) ++ cond (not ((get_or list i d).thread == thread)) (get_or list i d ∷ []) []
+others_more thread list i d h =
+    ap (others thread) (take_more list i d h) ∙ filter-append (λ (v : EndpointWord). not (v.thread == thread)) (take i list) (get_or list i d ∷ [])
+
+others_same : (thread : ℕ) (list : List EndpointWord) (i : ℕ) (d : EndpointWord) → i < length list → (get_or list i d).thread ≡ thread →
+    others thread (take (i + 1) list) ≡ others thread (take i list)
+others_same thread list i d h e =
+    others_more thread list i d h
+    ∙ (ap (λ (b : Bool). others thread (take i list) ++ cond (not b) (get_or list i d ∷ []) []) (eq-eqb (get_or list i d).thread thread e) ∙ append-nil (others thread (take i list)))
+
+-- what was added so far
+pub record IsAdded (u : EndpointWord) (old : List Channel) (receivers : List EndpointWord) (count : ℕ) (out : List Channel) (alone : Bool) : Type 0 where
+  pub added : out ≡ old ++ map (λ (w : EndpointWord). channel u (Some w)) (others u.thread (take count receivers))
+  pub alone_is : alone ≡ (length (others u.thread (take count receivers)) == 0)
+
+pub all_of : {X : Type 0} (list : List X) (n : ℕ) → length list ≤ n → take n list ≡ list
+all_of [] zero h = refl
+all_of [] (suc n) h = refl
+all_of (x ∷ list) zero h = absurd (omega arith)
+all_of (x ∷ list) (suc n) h = ap (λ (l : List _). x ∷ l) (all_of list n (omega arith))
+
+pub senders_all : (words : List EndpointWord) (n : ℕ) (out : List Channel) → length words ≤ n → out ≡ flat_map (channels_of words) (filter is_sender (take n words)) → out ≡ channels words
+senders_all words n out h e = e ∙ ap (λ (l : List EndpointWord). flat_map (channels_of words) (filter is_sender l)) (all_of words n h)

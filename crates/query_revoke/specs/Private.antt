@@ -1,0 +1,30 @@
+-- These serve the proofs of private functions, no public contract cites them.
+use Rattle.std.specs.Prelude.{◌≡◌, ℕ, ◌<◌, Bool, true, false, ◌&&◌, nat_le, nat_lt, List, filter, Some, slice_get}
+use Rattle.std.specs.List.{list_all}
+use Rattle.cap_core.specs.declared.capability.Cap.{Cap}
+use Rattle.cap_core.specs.declared.capability.Cap.TheVariants.{Null, Untyped, Endpoint, CNode, Tcb}
+use Rattle.query_revoke.specs.declared.keyed.Keyed.{Keyed}
+use Rattle.query_revoke.specs.Keyed.{has_key}
+use Rattle.query_revoke.specs.Objects.{object_number}
+
+-- a place lies from one on, and in front of another one
+abbrev pub lies_within : ℕ → ℕ → Keyed → Bool
+lies_within start end k = nat_le start k.place && nat_lt k.place end
+
+-- the places rise
+abbrev pub AreAscending : List Keyed → Type 0
+AreAscending list = (i j : ℕ) (a b : Keyed) → i < j → slice_get list i ≡ Some a → slice_get list j ≡ Some b → a.place < b.place
+
+-- all capabilities of an object lie there
+abbrev pub is_within_alone : List Keyed → ℕ → ℕ → Cap → Bool
+is_within_alone objects start end cap = list_all (lies_within start end) (filter (has_key (object_number cap)) objects)
+
+abbrev pub has_slots : Cap → Bool
+has_slots Null = false
+has_slots (Untyped base bits free) = false
+has_slots (Endpoint base badge rights) = false
+has_slots (CNode base radix guard) = true
+has_slots (Tcb base) = true
+
+abbrev pub ends_slots : List Keyed → ℕ → ℕ → Cap → Bool
+ends_slots objects start end cap = has_slots cap && is_within_alone objects start end cap

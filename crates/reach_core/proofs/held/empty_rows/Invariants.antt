@@ -1,5 +1,0 @@
-use Rattle.std.proofs.Common.{◌≡◌, map, replicate, []}
-use Rattle.reach_core.proofs.held.empty_rows.Given as goal
-
-abbrev pub invariant-loop-read : goal.invariant-loop-read
-invariant-loop-read g l = map (λ r. r.items) l.rows.items ≡ replicate l.read []

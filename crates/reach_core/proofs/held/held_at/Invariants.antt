@@ -1,7 +1,0 @@
-use Rattle.std.proofs.Common.{length, map}
-use Rattle.reach_core.specs.Private.Entries.{IsBest}
-use Rattle.reach_core.proofs.Depths.{bound}
-use Rattle.reach_core.proofs.held.held_at.Given as goal
-
-abbrev pub invariant-loop-at : goal.invariant-loop-at
-invariant-loop-at g l = IsBest (map (λ r. r.items) l.rows) l.place l.slot (bound l.depths (length (map (λ r. r.items) l.rows)) l.at) l.best

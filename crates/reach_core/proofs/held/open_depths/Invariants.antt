@@ -1,6 +1,0 @@
-use Rattle.std.proofs.Common.{map}
-use Rattle.reach_core.proofs.Depths.{Below}
-use Rattle.reach_core.proofs.held.open_depths.Given as goal
-
-abbrev pub invariant-loop-depth : goal.invariant-loop-depth
-invariant-loop-depth l = Below (map (λ r. r.items) l.rows) l.depths.items l.depth

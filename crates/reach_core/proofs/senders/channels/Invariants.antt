@@ -1,7 +1,0 @@
-use Rattle.std.proofs.Common.{◌≡◌, take, filter}
-use Rattle.std.specs.List.{flat_map}
-use Rattle.reach_core.specs.Channels.{channels_of, is_sender}
-use Rattle.reach_core.proofs.senders.channels.Given as goal
-
-abbrev pub invariant-loop-word : goal.invariant-loop-word
-invariant-loop-word l = l.list.items ≡ flat_map (channels_of l.words) (filter is_sender (take l.word-index l.words))

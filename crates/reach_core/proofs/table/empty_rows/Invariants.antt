@@ -1,9 +1,0 @@
-use Rattle.std.proofs.Common.{◌≡◌, map, vec_len}
-use Rattle.reach_core.specs.Private.Tables.{AreEmpty}
-use Rattle.reach_core.proofs.table.empty_rows.Given as goal
-
-abbrev pub invariant-loop-left : goal.invariant-loop-left
-invariant-loop-left l = record {
-  height : vec_len l.rows ≡ l.left;
-  empty : AreEmpty (map (λ r. r.items) l.rows.items);
-}

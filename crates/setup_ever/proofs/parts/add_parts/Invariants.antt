@@ -1,8 +1,0 @@
-use Rattle.std.proofs.Common.{◌≡◌, ◌++◌, take, string_bytes}
-use Rattle.std.specs.List.{flat_map}
-use Rattle.setup_values.specs.Names.{names_view}
-use Rattle.setup_ever.specs.Text.{part_lines}
-use Rattle.setup_ever.proofs.parts.add_parts.Given as goal
-
-abbrev pub invariant-loop-part : goal.invariant-loop-part
-invariant-loop-part g l = string_bytes l.out ≡ string_bytes l.initial.out ++ flat_map (part_lines g.P.Profile.profile (names_view l.names) l.parts.memory.items l.parts.uses.items l.kernel) (take l.part-index l.numbers)

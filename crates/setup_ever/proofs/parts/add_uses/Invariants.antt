@@ -1,7 +1,0 @@
-use Rattle.std.proofs.Common.{◌≡◌, ◌++◌, take, string_bytes}
-use Rattle.std.specs.List.{flat_map}
-use Rattle.setup_ever.specs.Text.{use_line}
-use Rattle.setup_ever.proofs.parts.add_uses.Given as goal
-
-abbrev pub invariant-loop-allowed : goal.invariant-loop-allowed
-invariant-loop-allowed l = string_bytes l.out ≡ string_bytes l.initial.out ++ flat_map (use_line l.part) (take l.allowed-index l.uses)

@@ -1,8 +1,0 @@
-use Rattle.std.proofs.Common.{◌≡◌, ◌++◌, take, string_bytes}
-use Rattle.std.specs.List.{flat_map}
-use Rattle.setup_values.specs.Names.{names_view}
-use Rattle.setup_ever.specs.Text.{waiting_lines}
-use Rattle.setup_ever.proofs.text.add_waiting.Given as goal
-
-abbrev pub invariant-loop-endpoint : goal.invariant-loop-endpoint
-invariant-loop-endpoint g l = string_bytes l.out ≡ string_bytes l.initial.out ++ flat_map (waiting_lines (names_view l.names) l.kernel) (take l.endpoint-index l.endpoints)

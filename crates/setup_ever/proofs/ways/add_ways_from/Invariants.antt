@@ -1,8 +1,0 @@
--- The proof of `add_ways_from`: the loop's invariant.
-use Rattle.std.proofs.Common.{◌≡◌, ◌++◌, take}
-use Rattle.std.specs.List.{flat_map}
-use Rattle.setup_ever.specs.Text.{ways_on}
-use Rattle.setup_ever.proofs.ways.add_ways_from.Given as goal
-
-abbrev pub invariant-loop-place : goal.invariant-loop-place
-invariant-loop-place g l = l.ways.items ≡ l.initial.ways.items ++ flat_map (ways_on g.P.Profile.profile l.memory l.uses l.from) (take l.place l.endpoints)

@@ -1,6 +1,0 @@
-use Rattle.std.proofs.Common.{◌≡◌, ◌++◌, drop}
-use Rattle.setup_explore.specs.Clients.{client_calls}
-use Rattle.setup_explore.proofs.clients.calls_of_client.Given as goal
-
-abbrev pub invariant-loop-i : goal.invariant-loop-i
-invariant-loop-i l = l.own.items ++ client_calls (drop l.i l.setup.calls) l.client ≡ client_calls l.setup.calls l.client

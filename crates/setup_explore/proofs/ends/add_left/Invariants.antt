@@ -1,8 +1,0 @@
-use Rattle.std.proofs.Common.{◌≡◌, ◌++◌, drop, string_bytes}
-use Rattle.std.specs.List.{flat_map}
-use Rattle.setup_explore.specs.Numbers.{numbers_in}
-use Rattle.setup_explore.specs.Text.{left_line}
-use Rattle.setup_explore.proofs.ends.add_left.Given as goal
-
-abbrev pub invariant-loop-call : goal.invariant-loop-call
-invariant-loop-call l = string_bytes l.out ++ flat_map (left_line (numbers_in l.numbers)) (drop l.call-index l.left) ≡ string_bytes l.fn.out ++ flat_map (left_line (numbers_in l.numbers)) l.left

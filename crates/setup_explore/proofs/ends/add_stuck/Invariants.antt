@@ -1,8 +1,0 @@
-use Rattle.std.proofs.Common.{◌≡◌, ◌++◌, ◌+◌, drop, string_bytes}
-use Rattle.explore_core.specs.Found.{stuck_of}
-use Rattle.setup_explore.specs.Numbers.{numbers_in}
-use Rattle.setup_explore.specs.Text.{stuck_blocks}
-use Rattle.setup_explore.proofs.ends.add_stuck.Given as goal
-
-abbrev pub invariant-loop-i : goal.invariant-loop-i
-invariant-loop-i l = string_bytes l.out ++ stuck_blocks (numbers_in l.numbers) (l.i + 1) (stuck_of (drop l.i l.stuck)) ≡ string_bytes l.fn.out ++ stuck_blocks (numbers_in l.numbers) 1 (stuck_of l.stuck)

@@ -1,6 +1,0 @@
-use Rattle.std.proofs.Common.{◌≡◌, ◌++◌, ◌+◌, drop, string_bytes}
-use Rattle.setup_shared_report.specs.SharedReport.{entry_lines}
-use Rattle.setup_shared_report.proofs.add_entries.Given as goal
-
-abbrev pub invariant-loop-i : goal.invariant-loop-i
-invariant-loop-i l = string_bytes l.out ++ entry_lines (l.i + 1) (drop l.i l.history) ≡ string_bytes l.initial.out ++ entry_lines 1 l.history

@@ -1,9 +1,0 @@
-use Rattle.std.proofs.Common.{◌≡◌}
-use Rattle.store_cycle.specs.Cycle.{memory_bits, family}
-use Rattle.store_cycle.proofs.derive_all.Given as goal
-
-abbrev pub invariant-loop-i : goal.invariant-loop-i
-invariant-loop-i g l = record {
-  memory : g.S.CapStore.memory_bits l.store ≡ memory_bits;
-  forest : g.S.CapStore.forest l.store ≡ family l.i;
-}

@@ -1,0 +1,11 @@
+-- A boot is a state that runs reach.
+use Rattle.std.specs.Prelude.{[], refl}
+use Rattle.cap_core.specs.declared.profile.ProfileName.{ProfileName}
+use Rattle.kernel_abstract.specs.Plan.{Plan, IsPlan}
+use Rattle.kernel_abstract.specs.Boot.{boot}
+use Rattle.kernel_abstract.specs.Step.{state_after}
+use Rattle.kernel_abstract.specs.Reached.{IsReached}
+
+pub boot_reached : (p : ProfileName) (plan : Plan) → IsPlan p plan → IsReached p (boot p plan)
+unfolding state_after
+boot_reached p plan lawful = record { plan = plan; lawful = lawful; calls = []; is = refl }

@@ -1,8 +1,0 @@
-use Rattle.std.specs.Map.Iter.{deref}
-use Rattle.trace_lines.specs.Lines.{line_at, endpoint_at}
-use Rattle.trace_lines.proofs.Listed.{told_more}
-use Rattle.trace_lines.proofs.messages.endpoint_rows.Goals as goal
-
-pub loop-endpoint-preserved : goal.loop-endpoint-preserved
-loop-endpoint-preserved g c =
-    told_more (line_at (endpoint_at c.args.kernel.now)) deref c.loop-endpoint.yielded c.in-Some.endpoint _ _ c.loop-endpoint.invariant c.in_ok-add_endpoint.ensures

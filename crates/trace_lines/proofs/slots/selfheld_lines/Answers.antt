@@ -1,7 +1,0 @@
-use Rattle.trace_lines.specs.Lines.{line_at, selfheld_at}
-use Rattle.trace_lines.proofs.Listed.{told_next}
-use Rattle.trace_lines.proofs.slots.selfheld_lines.Goals as goal
-
-pub loop-node-preserved : goal.loop-node-preserved
-loop-node-preserved c =
-    told_next (line_at selfheld_at) c.args.nodes.now c.loop-node.node-index 0 _ _ c.loop-node-test.true c.loop-node.invariant c.in_ok-add_selfheld.ensures
