@@ -14,10 +14,10 @@
 # texts that are broken, deep or long, three clients and four in whatever order they come, and what the documents
 # print; it says first what it needs and does not find;
 # make rows-python: of these the rows that need nothing but Python and the program, as make run or make test left it;
-# make browser: site/sel4sim.html, the proved program as one page for any browser (docs/browser.md); make browser-test: tries
+# make browser: web/site/sel4sim.html, the proved program as one page for any browser (docs/browser.md); make browser-test: tries
 # it in chromium and firefox, beside the native program (pictures=FOLDER: writes pictures of it there); they say first what
 # they need and do not find;
-# make page: a page that steps through the run of each example, in page/out/; make page-test: steps through these pages in
+# make page: a page that steps through the run of each example, in web/page/out/; make page-test: steps through these pages in
 # chromium and compares what they show (traces=FOLDER: pages of the traces in a folder instead); it says first what it needs
 # and does not find;
 # make bench: how the cost of check, the kernel and the linked forms grows, beside plain Rust, measured and drawn
@@ -36,76 +36,76 @@ stored = $(setups)/examples/send_then_receive.toml
 first_format = $(setups)/messages/receive_then_send.toml
 
 run:
-	@python3 build/prove.py < $(given)
+	@python3 tools/prove.py < $(given)
 
 dist:
-	@python3 build/archive.py dist
+	@python3 tools/archive.py dist
 
 dist-test:
-	python3 build/archive_test.py
+	python3 tools/archive_test.py
 
 install:
-	@python3 build/archive.py install
+	@python3 tools/archive.py install
 
 test:
-	@python3 build/gate.py
+	@python3 tools/gate.py
 
 try:
 	@test -z "$$FILE" || test -e "$$FILE" || { echo "make try: there is no file $$FILE" >&2; exit 3; }
-	@python3 build/unproved.py $(if $(FILE),$(or $(DO),check) "$$FILE",$(DO) < $(given))
+	@python3 tools/unproved.py $(if $(FILE),$(or $(DO),check) "$$FILE",$(DO) < $(given))
 
 rows-needs:
-	@python3 rows/needs.py
+	@python3 tests/needs.py
 
 rows: rows-needs run
 	@$(MAKE) --no-print-directory rows-python
-	python3 rows/browser_page.py site/sel4sim.html
-	python3 rows/schema.py $(program) $(setups) crates/sel4sim/data $(answers) page/test/setups rows
-	python3 build/prove.py test_memory
-	python3 rows/refuse_memory.py $(program) $(calls) $(stored) $(first_format)
-	python3 rows/fail_each_transfer.py $(program) $(stored)
+	python3 tests/browser_page.py web/site/sel4sim.html
+	python3 tests/schema.py $(program) $(setups) crates/sel4sim/data $(answers) web/page/test/setups tests
+	python3 tools/prove.py test_memory
+	python3 tests/refuse_memory.py $(program) $(calls) $(stored) $(first_format)
+	python3 tests/fail_each_transfer.py $(program) $(stored)
 
 rows-python:
-	@python3 rows/needs.py $(program)
-	python3 build/test_build.py
-	python3 build/completions_test.py
-	python3 build/completions.py --check $(program)
-	python3 rows/private_definitions.py crates docs/definitions.md
-	python3 rows/exercises.py $(setups)
-	python3 rows/run.py $(program) $(setups)
-	python3 rows/several_files.py $(program) $(setups)
-	python3 rows/migrate.py $(program) $(setups)
-	python3 rows/traces.py $(program) $(setups)
-	python3 rows/why.py $(program) $(setups)
-	python3 rows/audits.py $(program) $(answers)/audits $(answers)/parts $(answers)/trees
-	python3 rows/revokes.py $(program) $(answers)/audits $(setups)
-	python3 rows/explore.py $(program) $(answers)/explorations
-	python3 rows/orders_one_by_one.py $(program) 100
-	python3 rows/new_set_ups.py $(program)
-	python3 rows/messages.py $(program)
-	python3 rows/use_address_again.py $(program) 1000
-	python3 rows/devices.py $(program) $(stored)
-	python3 rows/hostile_texts.py $(program) $(setups) $(stored)
-	python3 rows/run_clients.py $(program) $(setups)/examples/three_clients.toml 100
-	python3 rows/run_clients.py $(program) rows/four_clients.toml 100
-	python3 rows/run_clients.py --first 2 $(program) $(answers)/explorations/badge_names_the_sender.toml 100
-	python3 rows/run_clients.py --first 5 $(program) rows/four_clients.toml 20
-	python3 rows/run_clients.py --first 1000 $(program) rows/four_clients.toml 5
-	python3 rows/run_clients.py --first 5 $(program) rows/three_of_four_calls.toml 5
-	python3 rows/documents.py $(dir $(program)) README.md docs/*.md
+	@python3 tests/needs.py $(program)
+	python3 tools/test_build.py
+	python3 tools/completions_test.py
+	python3 tools/completions.py --check $(program)
+	python3 tests/private_definitions.py crates docs/definitions.md
+	python3 tests/exercises.py $(setups)
+	python3 tests/run.py $(program) $(setups)
+	python3 tests/several_files.py $(program) $(setups)
+	python3 tests/migrate.py $(program) $(setups)
+	python3 tests/traces.py $(program) $(setups)
+	python3 tests/why.py $(program) $(setups)
+	python3 tests/audits.py $(program) $(answers)/audits $(answers)/parts $(answers)/trees
+	python3 tests/revokes.py $(program) $(answers)/audits $(setups)
+	python3 tests/explore.py $(program) $(answers)/explorations
+	python3 tests/orders_one_by_one.py $(program) 100
+	python3 tests/new_set_ups.py $(program)
+	python3 tests/messages.py $(program)
+	python3 tests/use_address_again.py $(program) 1000
+	python3 tests/devices.py $(program) $(stored)
+	python3 tests/hostile_texts.py $(program) $(setups) $(stored)
+	python3 tests/run_clients.py $(program) $(setups)/examples/three_clients.toml 100
+	python3 tests/run_clients.py $(program) tests/four_clients.toml 100
+	python3 tests/run_clients.py --first 2 $(program) $(answers)/explorations/badge_names_the_sender.toml 100
+	python3 tests/run_clients.py --first 5 $(program) tests/four_clients.toml 20
+	python3 tests/run_clients.py --first 1000 $(program) tests/four_clients.toml 5
+	python3 tests/run_clients.py --first 5 $(program) tests/three_of_four_calls.toml 5
+	python3 tests/documents.py $(dir $(program)) README.md docs/*.md
 
 browser: run
-	@python3 browser/build.py
+	@python3 web/browser/build.py
 
 browser-test: run
-	python3 browser/test/browser_test.py $(program) $(setups) $(if $(pictures),--pictures $(pictures))
+	python3 web/browser/test/browser_test.py $(program) $(setups) $(if $(pictures),--pictures $(pictures))
 
 page: run
-	python3 page/join.py
-	page/pages.sh $(program) $(setups)/examples page/out
+	python3 web/page/join.py
+	web/page/pages.sh $(program) $(setups)/examples web/page/out
 
 page-test: $(if $(traces),,run)
-	python3 page/test/page_test.py $(if $(traces),--traces $(traces),$(program) $(setups)/examples)
+	python3 web/page/test/page_test.py $(if $(traces),--traces $(traces),$(program) $(setups)/examples)
 
 needs:
 	bench/needs.sh

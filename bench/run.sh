@@ -10,7 +10,7 @@ kit=$(dirname "$(rt doc)")
 BENCH_LIBRARIES="$kit/c"
 for library in "$@"; do
     log="$PWD/bench/$name/out/prove.log"
-    python3 build/prove.py "$library" >"$log" 2>&1 || { cat "$log"; exit 1; }
+    python3 tools/prove.py "$library" >"$log" 2>&1 || { cat "$log"; exit 1; }
     BENCH_LIBRARIES="$PWD/crates/$library/out:$BENCH_LIBRARIES"
 done
 export BENCH_LIBRARIES

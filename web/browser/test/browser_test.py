@@ -1,11 +1,11 @@
 #!/usr/bin/env python3
-"""browser_test.py PROGRAM FOLDER [--short] [--pictures FOLDER] [--page FILE]: tries site/sel4sim.html in chromium, and shortly in firefox.
+"""browser_test.py PROGRAM FOLDER [--short] [--pictures FOLDER] [--page FILE]: tries web/site/sel4sim.html in chromium, and shortly in firefox.
 
 Each set-up in the folders of FOLDER is run by each subcommand in the page's own worker: standard output, standard error and
-status have to be those of PROGRAM, byte for byte; so are the worked audits, parts and orders with their options, and texts that are broken, deep and long (rows/hostile_texts.py). Then
+status have to be those of PROGRAM, byte for byte; so are the worked audits, parts and orders with their options, and texts that are broken, deep and long (tests/hostile_texts.py). Then
 the page is used as a reader uses it. Nothing may leave it: no request may reach the proxy. With --pictures, pictures of the
 page at several widths are written there; with --short, the broken and long texts are left out. With --page
-another page is tried than site/sel4sim.html, as a draft of it (browser/build.py).
+another page is tried than web/site/sel4sim.html, as a draft of it (web/browser/build.py).
 """
 import base64
 import json
@@ -18,8 +18,8 @@ import sys
 import tempfile
 import time
 
-TOP = pathlib.Path(__file__).resolve().parent.parent.parent
-sys.path[:0] = [str(TOP / "page" / "test"), str(TOP / "rows"), str(TOP / "browser" / "test"), str(TOP / "browser")]
+TOP = pathlib.Path(__file__).resolve().parent.parent.parent.parent
+sys.path[:0] = [str(TOP / "web" / "page" / "test"), str(TOP / "tests"), str(TOP / "web" / "browser" / "test"), str(TOP / "web" / "browser")]
 
 import build  # noqa: E402
 import chromium  # noqa: E402

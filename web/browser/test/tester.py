@@ -6,7 +6,7 @@ import subprocess
 import sys
 import time
 
-TOP = pathlib.Path(__file__).resolve().parent.parent.parent
+TOP = pathlib.Path(__file__).resolve().parent.parent.parent.parent
 # What takes longer does not come; a machine that is busy is ten times as slow as one that is not.
 SECONDS = 600
 
@@ -16,7 +16,7 @@ def option(name):
     return sys.argv[sys.argv.index(name) + 1] if name in sys.argv else None
 
 
-SITE = pathlib.Path(option("--page") or TOP / "site" / "sel4sim.html").resolve()
+SITE = pathlib.Path(option("--page") or TOP / "web" / "site" / "sel4sim.html").resolve()
 
 # Runs the program on bytes: what it wrote, as base64, and how it ended.
 RUN = """(async () => {

@@ -8,8 +8,8 @@ the crates that can begin, the one with the most work above it begins first; sec
 functions are proved at a time as `make -j N` is told, or as there are processors, and as memory allows: one of each
 crate, or more where fewer crates can begin than there are processors.
 
-What is built stays in build/out, with a sum of what it was made from, so that after an interrupt the build goes on with
-the crates that are not built. `rt` keeps its own work in the crates' folders, and takes nothing from build/out."""
+What is built stays in tools/out, with a sum of what it was made from, so that after an interrupt the build goes on with
+the crates that are not built. `rt` keeps its own work in the crates' folders, and takes nothing from tools/out."""
 import contextlib
 import fcntl
 import hashlib
@@ -25,7 +25,7 @@ from crates import TOP, in_order, kit, listed, toolchain, uses_of
 
 NAME = "sel4sim"
 PARTS = ("src", "specs", "proofs")
-OUT = os.path.join(TOP, "build", "out")
+OUT = os.path.join(TOP, "tools", "out")
 TARGET = "x86_64-unknown-linux-gnu"
 BYTES_A_JOB = 3 << 30
 LINES_SHOWN = 30
@@ -54,7 +54,7 @@ def rattle():
 
 def costs():
     """Returns what each crate costs, in processor seconds."""
-    with open(os.path.join(TOP, "build", "seconds.txt"), encoding="utf-8") as file:
+    with open(os.path.join(TOP, "tools", "seconds.txt"), encoding="utf-8") as file:
         rows = [line.split("#")[0].split() for line in file]
     return {row[0]: int(row[1]) for row in rows if row}
 
@@ -254,7 +254,7 @@ class Build:
 
 @contextlib.contextmanager
 def locked():
-    """Keeps other builds out of build/out, and gives the lock."""
+    """Keeps other builds out of tools/out, and gives the lock."""
     os.makedirs(OUT, exist_ok=True)
     with open(os.path.join(OUT, "lock"), "w", encoding="utf-8") as file:
         try:

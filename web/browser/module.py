@@ -15,13 +15,13 @@ import subprocess
 import sys
 import tempfile
 
-sys.path.insert(0, os.path.join(os.path.dirname(os.path.dirname(os.path.abspath(__file__))), "build"))
+sys.path.insert(0, os.path.join(os.path.dirname(os.path.dirname(os.path.dirname(os.path.abspath(__file__)))), "tools"))
 
 import prove  # noqa: E402
 from crates import TOP, kit, toolchain  # noqa: E402
 from retarget import NoCounterpart, retargeted  # noqa: E402
 
-HERE = os.path.join(TOP, "browser")
+HERE = os.path.join(TOP, "web", "browser")
 OUT = os.path.join(HERE, "out")
 NAME = prove.NAME
 PROGRAM = os.path.join(TOP, "crates", NAME, "out", NAME)

@@ -85,10 +85,10 @@ class Archive(unittest.TestCase):
         self.assertTrue(page.rstrip().endswith("</html>"))
 
     def test_has_the_page_for_browsers(self):
-        page = self.below("share/doc/sel4sim/site/sel4sim.html")
+        page = self.below("share/doc/sel4sim/web/site/sel4sim.html")
         with open(page, encoding="utf-8") as file:
             linked = re.findall(r'href="([^"#]+)"', file.read())
-        self.assertIn("../docs/browser.md", linked)
+        self.assertIn("../../docs/browser.md", linked)
         for it in linked:
             self.assertTrue(os.path.isfile(os.path.join(os.path.dirname(page), it)), it)
 
@@ -103,7 +103,7 @@ class Archive(unittest.TestCase):
 
 
 class ManPage(unittest.TestCase):
-    page = os.path.join(TOP, "build", "sel4sim.1")
+    page = os.path.join(TOP, "tools", "sel4sim.1")
 
     def test_has_no_warnings(self):
         ran = subprocess.run(["groff", "-man", "-ww", "-z", self.page], capture_output=True, text=True, check=True)

@@ -1,14 +1,14 @@
 #!/usr/bin/env python3
-"""build.py [--check | --draft FILE]: writes site/sel4sim.html, the proved program as a page of one file.
+"""build.py [--check | --draft FILE]: writes web/site/sel4sim.html, the proved program as a page of one file.
 
-The page has in it the program's WebAssembly module (module.py), the page of a trace (page/viewer.html), the editor
+The page has in it the program's WebAssembly module (module.py), the page of a trace (web/page/viewer.html), the editor
 CodeMirror as Debian packs it, the worked set-ups, and the modules in source/, joined as the page of a trace is. It
 tells the last commit of what it is made of, and the toolchain's line; where these files are not as committed, it says
 so. The same commit gives the same bytes.
 
 With --check nothing is written, and the status is 1 where the file is not what would be written.
 
-With --draft the page is written to FILE with the module that site/sel4sim.html has in it. So a change of the page itself
+With --draft the page is written to FILE with the module that web/site/sel4sim.html has in it. So a change of the page itself
 can be looked at before anything is proved or compiled.
 """
 import base64
@@ -21,19 +21,19 @@ import shutil
 import subprocess
 import sys
 
-TOP = pathlib.Path(__file__).resolve().parent.parent
-sys.path[:0] = [str(TOP / "page"), str(TOP / "browser")]
+TOP = pathlib.Path(__file__).resolve().parent.parent.parent
+sys.path[:0] = [str(TOP / "web" / "page"), str(TOP / "web" / "browser")]
 
 import join  # noqa: E402
 
-SOURCE = TOP / "browser" / "source"
+SOURCE = TOP / "web" / "browser" / "source"
 SETUPS = TOP / "crates" / "test_worked" / "data"
-SITE = TOP / "site" / "sel4sim.html"
+SITE = TOP / "web" / "site" / "sel4sim.html"
 CODEMIRROR = pathlib.Path("/usr/share/javascript/codemirror")
 SCRIPTS = ("lib/codemirror.js", "mode/toml/toml.js")
 # What the page is made of; a change elsewhere leaves it as it is.
-MADE_OF = ("crates", "crates.txt", "page/source", "page/join.py", "browser/source", "browser/c", "browser/build.py",
-           "browser/module.py", "browser/retarget.py")
+MADE_OF = ("crates", "crates.txt", "web/page/source", "web/page/join.py", "web/browser/source", "web/browser/c", "web/browser/build.py",
+           "web/browser/module.py", "web/browser/retarget.py")
 FIRST_TOPICS, LAST_TOPICS = ("exercises", "examples"), ("expectations", "refused")
 # The set-ups of other topics are tests, each of one reason: they come behind the others.
 TESTS = re.compile("why_")
@@ -194,11 +194,11 @@ def main():
         return 1
     if sys.argv[1:] == ["--check"]:
         is_same = SITE.exists() and SITE.read_text() == text
-        print(f"site/{SITE.name} is " + ("the same" if is_same else "not what would be made of these sources"))
+        print(f"web/site/{SITE.name} is " + ("the same" if is_same else "not what would be made of these sources"))
         return 0 if is_same else 1
     SITE.parent.mkdir(exist_ok=True)
     SITE.write_text(text)
-    print(f"site/{SITE.name}: {len(text.encode()):,} bytes, of commit {commit()}")
+    print(f"web/site/{SITE.name}: {len(text.encode()):,} bytes, of commit {commit()}")
     return 0
 
 

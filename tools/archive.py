@@ -28,7 +28,7 @@ SHA-256 of bin/sel4sim: {sum}
 The program needs x86-64 Linux with the GNU C library, and no toolchain. To install it: copy bin/ and share/ below
 /usr/local or another prefix. In README and the pages, `examples` is `share/sel4sim/examples` here, and `page` is
 `share/sel4sim/page`. To begin: bin/sel4sim check share/sel4sim/examples/send_then_receive.toml
-Without installing anything: open share/doc/sel4sim/site/sel4sim.html in a browser. It is the same program, compiled for
+Without installing anything: open share/doc/sel4sim/web/site/sel4sim.html in a browser. It is the same program, compiled for
 WebAssembly, of the commit that the page itself names; tested against the native one, not proved.
 """
 
@@ -46,18 +46,18 @@ def below(folder):
 
 def contents():
     """Returns a dict from each path below the prefix to the file of the repository that goes there."""
-    files = {"bin/sel4sim": PROGRAM, "share/man/man1/sel4sim.1": "build/sel4sim.1"}
+    files = {"bin/sel4sim": PROGRAM, "share/man/man1/sel4sim.1": "tools/sel4sim.1"}
     # Where each shell looks for completions of programs that are installed below the prefix.
-    files["share/bash-completion/completions/sel4sim"] = "build/completions/sel4sim.bash"
-    files["share/zsh/site-functions/_sel4sim"] = "build/completions/_sel4sim"
-    files["share/fish/vendor_completions.d/sel4sim.fish"] = "build/completions/sel4sim.fish"
-    scripts = sorted(it for it in os.listdir(os.path.join(TOP, "page")) if it.endswith((".sh", ".html")))
-    files.update((f"share/sel4sim/page/{it}", f"page/{it}") for it in scripts)
+    files["share/bash-completion/completions/sel4sim"] = "tools/completions/sel4sim.bash"
+    files["share/zsh/site-functions/_sel4sim"] = "tools/completions/_sel4sim"
+    files["share/fish/vendor_completions.d/sel4sim.fish"] = "tools/completions/sel4sim.fish"
+    scripts = sorted(it for it in os.listdir(os.path.join(TOP, "web", "page")) if it.endswith((".sh", ".html")))
+    files.update((f"share/sel4sim/page/{it}", f"web/page/{it}") for it in scripts)
     examples = "crates/test_worked/data/examples"
     files.update((f"share/sel4sim/examples/{it}", f"{examples}/{it}") for it in below(examples))
     files.update((f"share/doc/sel4sim/docs/{it}", f"docs/{it}") for it in below("docs"))
     # Beside the pages, so that its link to docs/browser.md leads there.
-    files["share/doc/sel4sim/site/sel4sim.html"] = "site/sel4sim.html"
+    files["share/doc/sel4sim/web/site/sel4sim.html"] = "web/site/sel4sim.html"
     top = ["README.md", *sorted(it for it in os.listdir(TOP) if it.startswith("LICENSE"))]
     files.update((f"share/doc/sel4sim/{it}", it) for it in top)
     return files

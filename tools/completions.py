@@ -1,5 +1,5 @@
 #!/usr/bin/env python3
-"""completions.py PROGRAM: writes the files of build/completions/ from what `PROGRAM --help` and `PROGRAM COMMAND --help`
+"""completions.py PROGRAM: writes the files of tools/completions/ from what `PROGRAM --help` and `PROGRAM COMMAND --help`
 print. They complete commands, options, the values of options where the help has them, and files, in bash, zsh and fish.
 completions.py --check PROGRAM: writes nothing, and says in which of these files something else stands than the help
 gives now, and where the man page has other commands or options than the help."""
@@ -10,7 +10,7 @@ import sys
 
 HERE = os.path.dirname(os.path.abspath(__file__))
 NAME = "sel4sim"
-MADE = f"# Made by build/completions.py from what `{NAME} --help` and `{NAME} COMMAND --help` print."
+MADE = f"# Made by tools/completions.py from what `{NAME} --help` and `{NAME} COMMAND --help` print."
 # An option's entry: its letter, its name, what stands for its value, and what it is for.
 OPTION = re.compile(r"(?:-(\w)(?:, |$))?(?:--([\w-]+))?(?:[ =]([<\[].*?[>\]]))?(?:\s{2,}(.*))?$")
 
@@ -210,7 +210,7 @@ def main(words):
     check, program = words[:-1], words[-1]
     made = completions(program)
     if check == ["--check"]:
-        wrong = [f"build/completions/{name} is not what the help gives now: build/completions.py {program} writes it"
+        wrong = [f"tools/completions/{name} is not what the help gives now: tools/completions.py {program} writes it"
                  for name, text in made.items() if text_of("completions", name) != text]
         wrong += page_faults(*helps(program))
         for fault in wrong:

@@ -1,4 +1,4 @@
-# Made by build/completions.py from what `sel4sim --help` and `sel4sim COMMAND --help` print.
+# Made by tools/completions.py from what `sel4sim --help` and `sel4sim COMMAND --help` print.
 complete -c sel4sim -f
 complete -c sel4sim -n '__fish_use_subcommand' -s V -l version -d 'Print help, which begins with the version'
 complete -c sel4sim -n '__fish_use_subcommand' -s h -l help -d 'Print help'

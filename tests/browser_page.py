@@ -1,7 +1,7 @@
 #!/usr/bin/env python3
 """browser_page.py PAGE: says whether the page that has the program in it is older than the program.
 
-The page names the last commit of what it is made of (browser/build.py). Being older is no fault, since the page is made
+The page names the last commit of what it is made of (web/browser/build.py). Being older is no fault, since the page is made
 once a release; a page that names no commit, or changes that were never committed, is one.
 """
 import pathlib
@@ -10,7 +10,7 @@ import subprocess
 import sys
 
 ROOT = pathlib.Path(__file__).resolve().parent.parent
-sys.path.insert(0, str(ROOT / "browser"))
+sys.path.insert(0, str(ROOT / "web" / "browser"))
 
 from build import MADE_OF  # noqa: E402
 

@@ -1,4 +1,4 @@
-# Made by build/completions.py from what `sel4sim --help` and `sel4sim COMMAND --help` print.
+# Made by tools/completions.py from what `sel4sim --help` and `sel4sim COMMAND --help` print.
 _sel4sim() {
     local word=${COMP_WORDS[COMP_CWORD]} command= at
     for ((at = 1; at < COMP_CWORD; at++)); do
