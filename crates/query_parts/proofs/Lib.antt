@@ -5,6 +5,8 @@ pub mod Changes
 pub mod Spared
 pub mod Messages
 pub mod Runs
+pub mod Below
+pub mod Taking
 pub mod Delivered
 pub mod Lists
 pub mod Joining

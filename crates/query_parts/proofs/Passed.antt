@@ -59,6 +59,7 @@ module _ (p : ProfileName) (parts : Parts) (i : ℕ) where
 
   pub record IsSpaceIn (new : NewSpace) : Type 0 where
     pub tcb : parts.part_of new.tcb ≡ Some i
+    pub source : parts.part_of new.source ≡ Some i
     pub cap : IsWithin p parts i new.cap
 
   abbrev pub StaysIn : Invocation → Type 0
@@ -161,6 +162,7 @@ module _ (p : ProfileName) (parts : Parts) (i : ℕ) where
         subst IsSpaceIn (ok_same found new cap.1.1)
         (record {
           tcb = tcb_stays slot tcb.0 here tcb.1.0;
+          source = from;
           cap = within-space p parts i word (cap_at f source.0) cap.0 (closed source.0 from) cap.1.0;
         })
 

@@ -164,6 +164,18 @@ module _ (p : ProfileName) (parts : Parts) (i : ℕ) where
             subst (IsNear p parts i) (cap-entry f a distinct (in_contains (preorder f) a m))
             (gone_near a.slot (implied (same_object a.cap a.cap) (may_go a.slot) (has_self p a.cap n s) goes))
 
+    -- what is cleared is this slot, or a slot of the part
+    pub kept-clear : (n : ℕ) → (n ≡ c → ⊥) → (parts.part_of n ≡ Some i → ⊥) → cap_at (clear p c f) n ≡ cap_at f n
+    unfolding may_go
+    kept-clear n other outside = elim (tells (cleared p (preorder f) c n)) [
+      | inl gone ↦ absurd (elim (either_true (n == c) (is_mine i (parts.part_of n))
+          ((cleared_least p (preorder f) c).least may_go (λ h. true_left (c == c) _ (eqb_self c)) may_go_closed n gone)) [
+            | inl at ↦ other (eqb-true n c at)
+            | inr own ↦ outside (mine_is i (parts.part_of n) own)
+          ])
+      | inr stays ↦ ap (cap_in n) (preorder-without (λ (e : Entry). cleared p (preorder f) c e.slot) f) ∙ left_in (cleared p (preorder f) c) n (preorder f) stays
+    ]
+
     pub spared-clear : (n : ℕ) → (cap_at (clear p c f) n ≡ cap_at f n) ⊎ IsNear p parts i (cap_at f n)
     unfolding may_go
     spared-clear n = elim (tells (cleared p (preorder f) c n)) [
@@ -172,7 +184,7 @@ module _ (p : ProfileName) (parts : Parts) (i : ℕ) where
     ]
 
 -- the first of the trees below a slot
-child_below : (h : Forest Entry) (c : ℕ) → first_slot (tops h) ≡ Some c → (d : Entry) × (In d (preorder h) × (d.slot ≡ c))
+pub child_below : (h : Forest Entry) (c : ℕ) → first_slot (tops h) ≡ Some c → (d : Entry) × (In d (preorder h) × (d.slot ≡ c))
 child_below none c e = cc
 child_below (tree b k r) c e = (b, (inl refl, cc))
 
@@ -185,7 +197,7 @@ other-with_new untyped a (put ∷ puts) f h =
 
 module _ (p : ProfileName) (parts : Parts) (i memory : ℕ) (f : Forest Entry) (store : IsKernelStore p memory f) (closed : IsClosed p parts i f) where
   -- a slot outside the part is none of its slots
-  apart : (slot own : ℕ) → (parts.part_of slot ≡ Some i → ⊥) → parts.part_of own ≡ Some i → slot ≡ own → ⊥
+  pub apart : (slot own : ℕ) → (parts.part_of slot ≡ Some i → ⊥) → parts.part_of own ≡ Some i → slot ≡ own → ⊥
   apart slot own other mine same = other (subst (λ n. parts.part_of n ≡ Some i) (sym same) mine)
 
   -- a slot of the part is cleared
@@ -194,7 +206,7 @@ module _ (p : ProfileName) (parts : Parts) (i memory : ℕ) (f : Forest Entry) (
       spared-clear p parts i f store.slots_distinct closed c (within_near p parts i (cap_at f c) (closed c own)) slot
 
   -- the first child of a slot of the part
-  child_near : (s c : ℕ) → parts.part_of s ≡ Some i → first_child s f ≡ Some c → IsNear p parts i (cap_at f c)
+  pub child_near : (s c : ℕ) → parts.part_of s ≡ Some i → first_child s f ≡ Some c → IsNear p parts i (cap_at f c)
   child_near s c own e =
       let d = child_below (below_those (is_at s) f) c e in
       elim (tells (is_full s f)) [
@@ -215,12 +227,13 @@ module _ (p : ProfileName) (parts : Parts) (i memory : ℕ) (f : Forest Entry) (
   same_spared : IsSpared p parts i f f
   same_spared slot other = inl refl
 
-  pub spared-derived : (placement : CapPlacement) → IsPlacedIn p parts i placement → IsSpared p parts i f (with_derived p placement f)
-  spared-derived placement is slot other =
-      inl ((elim (is_untyped placement.cap) as (λ b. cap_at (cond b (freed placement.source (2 ^ bits_of p placement.cap) put) put) slot ≡ cap_at f slot) [
+  pub same-derived : (placement : CapPlacement) → IsPlacedIn p parts i placement → (slot : ℕ) → (parts.part_of slot ≡ Some i → ⊥) →
+      cap_at (with_derived p placement f) slot ≡ cap_at f slot
+  same-derived placement is slot other =
+      (elim (is_untyped placement.cap) as (λ b. cap_at (cond b (freed placement.source (2 ^ bits_of p placement.cap) put) put) slot ≡ cap_at f slot) [
         | true ↦ cap-freed_other slot placement.source (2 ^ bits_of p placement.cap) put (apart slot placement.source other is.source) ∙ put_same
         | false ↦ put_same
-      ]))
+      ])
     where
       put : Forest Entry
       put = derived placement.source placement.slot placement.cap f
@@ -228,18 +241,29 @@ module _ (p : ProfileName) (parts : Parts) (i memory : ℕ) (f : Forest Entry) (
       put_same : cap_at put slot ≡ cap_at f slot
       put_same = cap-derived_other slot placement.source placement.slot placement.cap f (apart slot placement.slot other is.slot)
 
-  pub spared-moved : (placement : CapPlacement) → IsPlacedIn p parts i placement → IsSpared p parts i f (with_moved placement f)
-  spared-moved placement is slot other =
-      inl (cap-moved_other slot placement.source placement.slot placement.cap f (apart slot placement.source other is.source)
-      (apart slot placement.slot other is.slot))
+  pub spared-derived : (placement : CapPlacement) → IsPlacedIn p parts i placement → IsSpared p parts i f (with_derived p placement f)
+  spared-derived placement is slot other = inl (same-derived placement is slot other)
 
-  pub spared-objects : (new : NewObjects) → IsMadeIn p parts i new → IsSpared p parts i f (with_objects p new f)
-  spared-objects new is slot other =
-      inl (other-with_new new.untyped slot (new_caps p new) (freed new.untyped new.placed.free f)
+  pub same-moved : (placement : CapPlacement) → IsPlacedIn p parts i placement → (slot : ℕ) → (parts.part_of slot ≡ Some i → ⊥) →
+      cap_at (with_moved placement f) slot ≡ cap_at f slot
+  same-moved placement is slot other =
+      cap-moved_other slot placement.source placement.slot placement.cap f (apart slot placement.source other is.source)
+      (apart slot placement.slot other is.slot)
+
+  pub spared-moved : (placement : CapPlacement) → IsPlacedIn p parts i placement → IsSpared p parts i f (with_moved placement f)
+  spared-moved placement is slot other = inl (same-moved placement is slot other)
+
+  pub same-objects : (new : NewObjects) → IsMadeIn p parts i new → (slot : ℕ) → (parts.part_of slot ≡ Some i → ⊥) →
+      cap_at (with_objects p new f) slot ≡ cap_at f slot
+  same-objects new is slot other =
+      other-with_new new.untyped slot (new_caps p new) (freed new.untyped new.placed.free f)
       (each-range (λ (put : ℕ × Cap). slot ≡ put.0 → ⊥)
       (λ k. (slot_of p new.first_slot k, new_cap new.shape.kind (object_at new.placed k) new.shape.size_bits)) 0 new.count
       (λ k low high. apart slot (slot_of p new.first_slot k) other (is.slots k (omega (arith, high)))))
-      ∙ cap-freed_other slot new.untyped new.placed.free f (apart slot new.untyped other is.untyped))
+      ∙ cap-freed_other slot new.untyped new.placed.free f (apart slot new.untyped other is.untyped)
+
+  pub spared-objects : (new : NewObjects) → IsMadeIn p parts i new → IsSpared p parts i f (with_objects p new f)
+  spared-objects new is slot other = inl (same-objects new is slot other)
 
   pub spared-space : (new : NewSpace) → IsSpace p f new → IsSpaceIn p parts i new → IsSpared p parts i f (with_space p new f)
   spared-space new is stays =

@@ -11,6 +11,7 @@ ghost use Rattle.query_parts.specs.declared.listed.PartUse.{PartUse};
 ghost use Rattle.query_parts.specs.Parts.{Parts};
 ghost use Rattle.query_parts.specs.Laws.{StaysClosed, LeavesOthers, TakesOnlyNear, NamesItsOwn, StayClosed, SendWithin, ReceiveWithin, LiveThreadsAreAddressed};
 ghost use Rattle.query_parts.specs.Least.{LieInEachOther};
+ghost use Rattle.query_parts.specs.Below.{TakesNothing, TakesNothingOutside, StayNoneBelow, StayOwnBelow};
 ghost use Rattle.query_parts.specs.Delivered.{DeliverWithin, TellWithin};
 
 /// A call of a thread of a closed part leaves the part closed, and each slot outside it as it was, or empty. It
@@ -53,4 +54,14 @@ pub fn least_parts_are_the_same()
 /// threads.
 pub fn live_threads_are_addressed()
     ensures { (p : ProfileName) (memory : ℕ) (v : Shown) → LiveThreadsAreAddressed p memory v }
+{}
+
+/// Where no full slot of part j stands below a slot of part i in the derivation forest, a call of part i leaves each slot of
+/// part j as it is: no revoke and no delete takes from it. And whatever calls the threads of closed parts make, it stays so.
+/// The same holds of all slots outside part i, where only slots of part i stand below its slots.
+pub fn revokes_take_what_stands_below()
+    ensures taken { (p : ProfileName) (parts : Parts) (i j : ℕ) (A : State) (call : Call) → TakesNothing p parts i j A call }
+    ensures outside { (p : ProfileName) (parts : Parts) (i : ℕ) (A : State) (call : Call) → TakesNothingOutside p parts i A call }
+    ensures stays { (p : ProfileName) (parts : Parts) (i j : ℕ) (A : State) (calls : List Call) → StayNoneBelow p parts i j A calls }
+    ensures stays_outside { (p : ProfileName) (parts : Parts) (i : ℕ) (A : State) (calls : List Call) → StayOwnBelow p parts i A calls }
 {}
