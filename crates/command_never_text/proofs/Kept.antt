@@ -49,25 +49,25 @@ module _ (uses : List PartUse) (ws : List Wait) (e : ℕ) where
       any_rising (λ a. e == a) (map (λ (u : PartUse). u.endpoint) uses ++ map (λ (w : Wait). w.endpoint) ws)
       ∙ list_any-append (λ a. e == a) (map (λ (u : PartUse). u.endpoint) uses) (map (λ (w : Wait). w.endpoint) ws) ∙ h
 
-  used_met : (f : PartUse → Bool) → ((u : PartUse) → f u ≡ true → u.endpoint ≡ e) → list_any f uses ≡ true → is_in e (endpoints_met uses ws) ≡ true
+  pub used_met : (f : PartUse → Bool) → ((u : PartUse) → f u ≡ true → u.endpoint ≡ e) → list_any f uses ≡ true → is_in e (endpoints_met uses ws) ≡ true
   used_met f at h = met (true_left _ _ (is_in_mapped (λ (u : PartUse). u.endpoint) e f at uses h))
 
-  waited_met : (f : Wait → Bool) → ((w : Wait) → f w ≡ true → w.endpoint ≡ e) → list_any f ws ≡ true → is_in e (endpoints_met uses ws) ≡ true
+  pub waited_met : (f : Wait → Bool) → ((w : Wait) → f w ≡ true → w.endpoint ≡ e) → list_any f ws ≡ true → is_in e (endpoints_met uses ws) ≡ true
   waited_met f at h = met (true_right _ _ (is_in_mapped (λ (w : Wait). w.endpoint) e f at ws h))
 
-use_at : (right i e : ℕ) (u : PartUse) → is_use right i e u ≡ true → u.endpoint ≡ e
+pub use_at : (right i e : ℕ) (u : PartUse) → is_use right i e u ≡ true → u.endpoint ≡ e
 use_at right i e u h = eqb-true u.endpoint e (both_true (u.endpoint == e) _ (both_true (u.part == i) _ h).1).0
 
 use_of_at : (i e : ℕ) (u : PartUse) → is_use_of i e u ≡ true → u.endpoint ≡ e
 use_of_at i e u h = eqb-true u.endpoint e (both_true (u.part == i) _ h).1
 
-sender_at : (memory : List PartMemory) (i e : ℕ) (w : Wait) → is_sender memory i e w ≡ true → w.endpoint ≡ e
+pub sender_at : (memory : List PartMemory) (i e : ℕ) (w : Wait) → is_sender memory i e w ≡ true → w.endpoint ≡ e
 sender_at memory i e w h = eqb-true w.endpoint e (both_true (w.endpoint == e) _ (both_true w.sends _ h).1).0
 
-receiver_at : (memory : List PartMemory) (i e : ℕ) (w : Wait) → is_receiver memory i e w ≡ true → w.endpoint ≡ e
+pub receiver_at : (memory : List PartMemory) (i e : ℕ) (w : Wait) → is_receiver memory i e w ≡ true → w.endpoint ≡ e
 receiver_at memory i e w h = eqb-true w.endpoint e (both_true (w.endpoint == e) _ (both_true (not w.sends) _ h).1).0
 
-part_is : (o : Option ℕ) (i : ℕ) → o ≡ Some i → is_part i o ≡ true
+pub part_is : (o : Option ℕ) (i : ℕ) → o ≡ Some i → is_part i o ≡ true
 part_is o i is = rw is (eq-eqb i i refl)
 
 -- ---- what an endpoint is that is not open
@@ -197,7 +197,7 @@ module _ (p : ProfileName) (memory : List PartMemory) (uses : List PartUse) (A :
 -- ---- the law
 
 module _ (p : ProfileName) (memory : List PartMemory) (uses : List PartUse) (by : List ℕ) (i j : ℕ) where
-  now_closed : (v : Shown) → AreConfinedEver p memory uses v → (A : State) → IsReached p A → v ≡ shown A → AreClosed p (parts_listed memory uses) A
+  pub now_closed : (v : Shown) → AreConfinedEver p memory uses v → (A : State) → IsReached p A → v ≡ shown A → AreClosed p (parts_listed memory uses) A
   unfolding state_after
   now_closed v confined A reached is = (confined A reached is [] tt).closed
 

@@ -1,6 +1,6 @@
 pub mod Sizes
-mod Tests
-mod Had
-mod Waiting
+pub mod Tests
+pub mod Had
+pub mod Waiting
 pub mod Kept
 pub mod Answered

@@ -1,0 +1,4 @@
+pub mod Held
+pub mod Larger
+pub mod Keeps
+pub mod Grants

@@ -1,0 +1,57 @@
+//! What it promises that a layout keeps to a policy. Nothing is done.
+ghost use Rattle.std.specs.Prelude.{◌≡◌, ℕ, ◌==◌, true, false, List};
+ghost use Rattle.cap_core.specs.declared.profile.ProfileName.{ProfileName};
+ghost use Rattle.kernel_abstract.specs.Shown.{Shown};
+ghost use Rattle.query_parts.specs.declared.listed.PartMemory.{PartMemory};
+ghost use Rattle.query_parts.specs.declared.listed.PartUse.{PartUse};
+ghost use Rattle.query_parts.specs.Parts.{Parts};
+ghost use Rattle.query_parts.specs.Ever.{AreConfinedEver};
+ghost use Rattle.command_parts.specs.declared.ways.Way.{Way};
+ghost use Rattle.command_policy_laws.specs.Grants.{are_answered, are_given, AreAnswersKeptEver, AreGrantsKeptEver};
+ghost use Rattle.command_policy_laws.specs.Held.{are_passages_let, AreWaysHeldEver};
+ghost use Rattle.command_policy_laws.specs.Keeps.{LeastKeepMost, WhatIsKeptIsHeld};
+ghost use Rattle.command_policy_laws.specs.Larger.{HoldNoLess};
+
+/// Where parts are confined, and ways let pass all that the one part may send and the other receive, then, whatever calls the threads
+/// of the parts make, and whatever messages other threads send and receive: each message of a thread of the one that is delivered
+/// to a thread of the other passes by an endpoint and with a badge that a way lets pass.
+pub fn what_ways_let_is_delivered()
+    ensures { (p : ProfileName) (memory : List PartMemory) (uses : List PartUse) (v : Shown) (ways : List Way) (i j : ℕ) →
+        AreConfinedEver p memory uses v → (i == j) ≡ false → are_passages_let p memory uses v ways i j ≡ true →
+        AreWaysHeldEver p memory uses v ways i j }
+{}
+
+/// Where parts are confined, and the one part could hand nothing to the other by an endpoint with Grant, then, whatever calls the
+/// threads of the parts make: no slot of the one ever holds a capability with Write and Grant to an endpoint on which the other
+/// may receive.
+pub fn no_grant_leads_out()
+    ensures { (p : ProfileName) (memory : List PartMemory) (uses : List PartUse) (v : Shown) (i j : ℕ) →
+        are_given p memory uses v i j ≡ false → AreConfinedEver p memory uses v → AreGrantsKeptEver p memory uses v i j }
+{}
+
+/// Where parts are confined, and the one part could hand nothing to the other by an answer with Grant, then, whatever calls the threads
+/// of the parts make: no slot of the one ever holds a capability with Read and Grant to an endpoint by which the other may call.
+pub fn no_answer_leads_out()
+    ensures { (p : ProfileName) (memory : List PartMemory) (uses : List PartUse) (v : Shown) (i j : ℕ) →
+        are_answered p memory uses v i j ≡ false → AreConfinedEver p memory uses v → AreAnswersKeptEver p memory uses v i j }
+{}
+
+/// What may stand in a part may stand in each part in which it lies, and by what endpoint and badge it may send or receive, that part
+/// may. So what is told of the least parts is so of all that are closed around the same threads.
+pub fn larger_parts_hold_no_less()
+    ensures { (p : ProfileName) (parts : Parts) (i : ℕ) (others : Parts) (j : ℕ) → HoldNoLess p parts i others j }
+{}
+
+/// Where some parts that are closed around the threads keep to a policy, the least parts do. So a breach that is told of the least
+/// parts is one of every such family, and no smaller bound of this kind tells less.
+pub fn least_parts_keep_what_larger_keep()
+    ensures { (p : ProfileName) (threads : List ℕ) (memory : List PartMemory) (uses : List PartUse) (v : Shown) →
+        LeastKeepMost p threads memory uses v }
+{}
+
+/// Where confined parts keep to a policy, it is held to, whatever calls the threads of the parts make, and whatever messages other threads
+/// send and receive: each slot of a thread's part holds what the thread's group may hold, and each delivery between threads of parts
+/// that are of two groups is one that may pass.
+pub fn what_is_kept_is_held()
+    ensures { (p : ProfileName) (memory : List PartMemory) (uses : List PartUse) (v : Shown) → WhatIsKeptIsHeld p memory uses v }
+{}
