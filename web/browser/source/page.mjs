@@ -313,9 +313,10 @@ class Page {
 
   drawTabs() {
     for (const tab of TABS) {
-      const { name, about } = tab;
+      const { name, about, isRare } = tab;
       const [id, panel] = [`tab-${name}`, `panel-${name}`];
       const button = element("button", { type: "button", role: "tab", id, "aria-controls": panel, title: about }, name);
+      button.classList.toggle("rare", isRare === true);
       button.addEventListener("click", () => this.choose(tab));
       byId("tabs").append(button);
       byId("panels").append(element("div", { id: panel, role: "tabpanel", "aria-labelledby": id }));
@@ -336,6 +337,13 @@ class Page {
     document.body.dataset.tab = this.tab.name;
     this.options.draw(this.tab);
     byId("command-line").textContent = this.commandOf(this.tab);
+  }
+
+  /** Shows the tabs that are used less, or hides them again. */
+  showMore(isMore) {
+    document.body.classList.toggle("more", isMore);
+    byId("more-tabs").setAttribute("aria-expanded", String(isMore));
+    byId("more-tabs").textContent = isMore ? "fewer" : "more";
   }
 
   choose(tab) {
@@ -466,13 +474,17 @@ class Page {
     byId("address").select();
   }
 
-  /** Shows an address of what is open. That of a page from a disk would hold on this machine alone, and tell its folders: of
-      it there is the part behind the page's own address. */
+  /** The page's address for others. That of a page from a disk would hold on this machine alone, and tell its folders: it has
+      the address at which it is published, where it tells one, and else none. */
+  get home() {
+    if (location.protocol !== "file:") return location.href.split("#")[0];
+    return document.querySelector("meta[name=sel4sim-home]").content;
+  }
+
+  /** Shows an address of what is open; where the page has none for others, the part behind it. */
   async drawAddress() {
-    const isFromDisk = location.protocol === "file:";
-    byId("from-disk").hidden = !isFromDisk;
-    const fragment = await fragmentOf(this.sharedText, this.name, this.place);
-    byId("address").value = `${isFromDisk ? "" : location.href.split("#")[0]}${fragment}`;
+    byId("from-disk").hidden = this.home !== "";
+    byId("address").value = `${this.home}${await fragmentOf(this.sharedText, this.name, this.place)}`;
   }
 
   /** Opens the set-up of the page's address, if it has one that was not read before: whether it has. */
@@ -596,6 +608,7 @@ class Page {
     on("welcome-exercise", () => this.openExample(...FIRST_EXERCISE));
     on("wide", () => this.setWide(!document.body.classList.contains("wide")));
     on("project", () => this.project(true));
+    on("more-tabs", () => this.showMore(!document.body.classList.contains("more")));
     on("letters", () => this.keep());
     on("show-keys", () => byId("keys").showModal());
     on("show-about", () => byId("about").showModal());

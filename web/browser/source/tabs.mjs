@@ -74,7 +74,7 @@ const EVER = {
 
 /** A tab: its name, the program's words, what the tab is for, and how to show what the program writes. It may have options
     of its command line (options.mjs), and say what status 1 means. A tab without `show` says why the program cannot do it
-    in a browser. */
+    in a browser. A rare one is in sight where it is chosen, or behind "more". */
 export const TABS = [
   { name: "report", words: ["check"], about: "What each call is answered, and the state at the end", show: showReport },
   { name: "steps", words: ["trace"], about: "What each call changes, step by step", show: showSteps },
@@ -87,9 +87,9 @@ export const TABS = [
     missed: "an expectation is not met in some order, an order ends stuck, or not all orders were made",
     options: [{ name: "first", about: "So many calls are made before the clients begin", least: "0" },
       { name: "states", about: "The most states that are kept", least: "100000" }], show: showOrders },
-  { name: "trace", words: ["trace"], about: "The steps as text", show: showText },
-  { name: "migrate", words: ["migrate"], about: "A set-up of format 1 as one of format 2", show: showSetup },
-  { name: "threads", words: ["threads"], about: "The clients of a set-up side by side",
+  { name: "trace", words: ["trace"], about: "The steps as text", isRare: true, show: showText },
+  { name: "migrate", words: ["migrate"], about: "A set-up of format 1 as one of format 2", isRare: true, show: showSetup },
+  { name: "threads", words: ["threads"], about: "The clients of a set-up side by side", isRare: true,
     told: "A browser gives this program no threads, so clients that run side by side cannot be shown here. The program "
       + "on a computer of your own runs them; every order that they can come in is in the tab orders:" },
 ];

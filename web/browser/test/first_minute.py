@@ -62,4 +62,26 @@ def said_in_words(test, _):
     browser.call("Emulation.setEmulatedMedia", media="")
 
 
-CHECKS = (welcomed, ordered, said_in_words)
+IN_SIGHT = "[...document.querySelectorAll('#tabs button')].filter((it) => it.offsetParent !== null).map((it) => it.textContent)"
+RARE = ["trace", "migrate", "threads"]
+
+
+def rare_ones_behind_more(test, _):
+    """The tabs that are used less are behind "more"; one that is chosen by its key is in sight, and only as long."""
+    browser = test.browser
+    test.click("#tab-report")
+    usual = browser.value(IN_SIGHT)
+    test.wanted(usual[:2] == ["report", "steps"] and not set(RARE) & set(usual), f"at first the tabs {usual} are in sight")
+    for name in RARE:
+        test.wanted(browser.value(f"sel4sim.page.chooseAt({len(usual) + RARE.index(name)}), true"), "no tab is chosen by its place")
+        test.wanted(browser.value(IN_SIGHT) == [*usual, name], f"where {name} is chosen {browser.value(IN_SIGHT)} are in sight")
+    test.click("#tab-report")
+    test.wanted(browser.value(IN_SIGHT) == usual, "a tab that is used less stays in sight")
+    test.click("#more-tabs")
+    test.wanted(browser.value(IN_SIGHT) == [*usual, *RARE], f"behind more there are {browser.value(IN_SIGHT)}")
+    test.click("#more-tabs")
+    test.wanted(browser.value(IN_SIGHT) == usual, "the tabs cannot be made fewer again")
+    test.settle()
+
+
+CHECKS = (welcomed, ordered, said_in_words, rare_ones_behind_more)

@@ -115,6 +115,17 @@ def cursor_leads_steps(test, _):
     test.until(f"{POINTED} > 0", "the call of the cursor is not marked")
 
 
+def address_of_home(test, _):
+    """A page from a disk shares the address at which it is published, where its head tells one."""
+    home = "https://lectures.example/sel4sim.html"
+    meta = "document.querySelector('meta[name=sel4sim-home]')"
+    test.browser.value(f"{meta}.content = {json.dumps(home)}")
+    address = address_of(test)
+    test.wanted(address.startswith(f"{home}#"), f"the published page shares {address[:60]}")
+    test.browser.value(f"{meta}.content = ''")
+    test.wanted(address_of(test) == address.removeprefix(home), "a page that tells no address shares another part")
+
+
 def address_of_place(test, _):
     """An address leads to the step, and to the tab with its options; that of a file tells no folder."""
     at_step(test, 8)
@@ -172,4 +183,4 @@ def reason_in_report(test, _):
     test.settle()
 
 
-CHECKS = (fault_keeps_steps, steps_stand_still, cursor_leads_steps, address_of_place, way_back, reason_in_report)
+CHECKS = (fault_keeps_steps, steps_stand_still, cursor_leads_steps, address_of_home, address_of_place, way_back, reason_in_report)
