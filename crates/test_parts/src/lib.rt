@@ -1,4 +1,5 @@
-//! Tests of the kernel's words: their numbers, the sizes and ranges of objects, and what a mint makes.
+//! Tests of the parts of a kernel: words and capabilities, where a retype places objects, the capability stores (`slots`), lookups
+//! (`spaces`), and threads that wait on endpoints (`waiters`), in both forms and both profiles.
 #![tactic(auto)]
 
 #[cfg(test)]
@@ -9,3 +10,11 @@ mod minting;
 mod numbers;
 #[cfg(test)]
 mod objects;
+#[cfg(test)]
+mod retypes;
+#[cfg(test)]
+mod slots;
+#[cfg(test)]
+mod spaces;
+#[cfg(test)]
+mod waiters;

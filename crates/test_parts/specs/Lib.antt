@@ -1,0 +1,2 @@
+pub mod TestForests
+pub mod Memory

@@ -1,0 +1,4 @@
+//! Tests of lookups in capability spaces.
+
+mod lookups;
+mod memory;
