@@ -1,5 +1,5 @@
 //! Traces of set-ups, over each pair of stores and in both profiles.
-use crate::stored as wanted;
+use crate::trace::stored as wanted;
 use cap_core::{Narrow, ProfileName, Wide};
 use command_trace::trace;
 use ipc_core::{LinkedWaiters, MakeWaiters, RowWaiters};

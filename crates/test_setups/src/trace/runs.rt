@@ -1,5 +1,5 @@
 //! Runs of set-ups from bytes to bytes: the text that is written, and the exit status.
-use crate::stored as wanted;
+use crate::trace::stored as wanted;
 use command_check::{OnSetup, ReaderSource, WriterSink, run_engine, status_of};
 use command_trace::Trace;
 use std::alloc::Global;

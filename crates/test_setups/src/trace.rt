@@ -1,9 +1,5 @@
 //! Tests of traces, and of their runs from bytes to bytes: whole texts, byte for byte.
-#![tactic(auto)]
 
-#[cfg(test)]
 mod runs;
-#[cfg(test)]
 mod stored;
-#[cfg(test)]
 mod traces;
