@@ -8,7 +8,7 @@
 # make install: the program that make run built, and the same files, below PREFIX (/usr/local) and DESTDIR;
 # make test: the gate, and what it took;
 # make rows: each exercise beside its key; the built program: each worked set-up, as it is, with others in one run, migrated and traced,
-# why its calls are refused, and by the schema for editors; each worked audit, layout and exploration; each revoke that an audit tells beside the call; explorations of random set-ups beside all orders one by one; what --help names beside the completions and the
+# why its calls are refused, and by the schema for editors; each worked audit, layout and exploration; each revoke that an audit tells beside the call; random calls behind each layout, which break nothing that is excluded; explorations of random set-ups beside all orders one by one; what --help names beside the completions and the
 # man page; what it says of wrong command lines, files and set-ups, an address used again a thousand times, each
 # request for memory refused in turn, by each subcommand and by calls of the libraries, inputs and outputs that fail,
 # texts that are broken, deep or long, three clients and four in whatever order they come, and what the documents
@@ -78,6 +78,7 @@ rows-python:
 	python3 tests/traces.py $(program) $(setups)
 	python3 tests/why.py $(program) $(setups)
 	python3 tests/audits.py $(program) $(answers)/audits $(answers)/parts $(answers)/trees
+	python3 tests/parts.py $(program) $(answers)/parts 5
 	python3 tests/revokes.py $(program) $(answers)/audits $(setups)
 	python3 tests/explore.py $(program) $(answers)/explorations
 	python3 tests/orders_one_by_one.py $(program) 100
