@@ -4,8 +4,8 @@
 Of each format that the set-ups in the folders of FOLDER have, the longest that is not just calls repeated: each beginning of
 it. Of the set-up STORED: itself with each byte replaced by others. Then texts that are deep or long, within limits of time, of
 memory and of stack. The answer to each is a report (status 0 or 1) or the line of a refusal (status 2), with nothing on
-standard error but lines in words beside a status other than 0, and the numbers of the calls that were refused where nothing
-was expected; a text that is too long is a failed read (status 3).
+standard error but lines in words beside a status other than 0, and a line for each call that was refused where nothing was
+expected; a text that is too long is a failed read (status 3).
 """
 import collections
 import concurrent.futures
@@ -23,10 +23,10 @@ BYTES = (0, 10, 34, 91, 123, 255)
 INPUT_LIMIT = 67_108_864
 REFUSAL = re.compile(rb"set-up refused (20[0-5]) at (text|(top|untyped \d+|call \d+) key [A-Za-z0-9_?-]+|layout [a-z]+|untyped \d+ [a-z]+)\n")
 TOO_LONG = re.compile(rb"sel4sim: reading failed\nsel4sim: .*: 67108864 bytes or more; a set-up has to be shorter\n")
-# each of these lines may have four behind it that show a part of the text
-WORDS = re.compile(rb"(?:sel4sim: .*\n(?:(?: .*\n){4})?)*")
+# each of these lines may have four behind it that show a part of the text, and one with a place has three
+WORDS = re.compile(rb"(?:sel4sim: .*\n(?:(?: .*\n){4})?|.+:\d+:\d+: (?:error|warning): .*\n(?: .*\n){3})*")
 UNEXPECTED = re.compile(rb"^(\d+) \d+ \w+: refused [0-9/]+$", re.M)
-MOST_NAMED = 12
+MOST_NAMED = 20
 LAST_LINE = re.compile(rb"(?:.*\n)*expected (\d+) of (\d+)\n")
 
 # The bounds of one run: seconds of processor time, bytes of stack, and bytes of memory: so many, and so many for each byte of
@@ -37,21 +37,14 @@ MOST_MEMORY = 64 << 20
 MOST_MEMORY_A_BYTE = 48
 
 
-def named(output):
-    """What is said of a report's calls that were refused where nothing was expected."""
-    calls = UNEXPECTED.findall(output)
-    if not calls:
-        return b""
-    more = b" and %d more" % (len(calls) - MOST_NAMED) if len(calls) > MOST_NAMED else b""
-    were = b"call was" if len(calls) == 1 else b"calls were"
-    numbers = b" ".join(calls[:MOST_NAMED])
-    return b"sel4sim: %d %s refused where nothing was expected: %s%s; sel4sim why" % (len(calls), were, numbers, more)
-
-
 def is_named(output, errors):
-    """Whether this is said, and behind it the command that tells why, with the file where one was named."""
-    wanted = named(output)
-    return re.fullmatch(re.escape(wanted) + (rb"( \S+)? tells why\n" if wanted else b""), errors) is not None
+    """Whether just the report's calls that were refused and of which nothing was expected are told, each with its place and with
+    the command that tells why, with the file where one was named."""
+    calls = UNEXPECTED.findall(output)
+    said = [rb".+:\d+:\d+: warning: call %s: refused, and nothing is expected of it; sel4sim why --call %s(?: \S+)? tells why\n"
+            rb"(?: .*\n){3}" % (call, call) for call in calls[:MOST_NAMED]]
+    more = [b"sel4sim: %d more\n" % (len(calls) - MOST_NAMED)] if len(calls) > MOST_NAMED else []
+    return re.fullmatch(b"".join(said + more), errors) is not None
 
 
 def is_answer(status, output, errors):

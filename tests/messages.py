@@ -62,23 +62,29 @@ def untyped(base, bits):
     return f"[[untyped]]\nbase = {base}\nbits = {bits}\n"
 
 
-# a set-up on standard input, the exit status of check, and the whole of standard error, without `sel4sim: `
+def warned(call):
+    """What is said of a call that was refused, and of which nothing was expected."""
+    return f"warning: call {call}: refused, and nothing is expected of it; sel4sim why --call {call} tells why"
+
+
+# a set-up on standard input, the exit status of check, and the whole of standard error, without `sel4sim: ` and without places
 SETUPS = [
     (FIRST, 0, []),
     (FIRST + CALL.replace("cap = 4", "cap = 9") + 'op = "send"\n', 0,
-     ["1 call was refused where nothing was expected: 1; sel4sim why tells why"]),
-    (FIRST + (CALL.replace("cap = 4", "cap = 9") + 'op = "send"\n') * 15 + CALL.replace("cap = 4", "cap = 9")
-     + 'op = "send"\nexpect = "refused"\n', 0,
-     ["15 calls were refused where nothing was expected: 1 2 3 4 5 6 7 8 9 10 11 12 and 3 more; sel4sim why tells why"]),
+     [warned(1)]),
+    (FIRST + (CALL.replace("cap = 4", "cap = 9") + 'op = "send"\n') * 23 + CALL.replace("cap = 4", "cap = 9")
+     + 'op = "send"\nexpect = "refused"\n', 0, [*(warned(call) for call in range(1, 21)), "3 more"]),
     (FIRST + CALL + 'op = "nbsend"\nexpect = "empty"\n', 1,
-     ['call 1: no reply to nbsend begins with "empty"; did you mean dropped?']),
-    (FIRST + CALL + 'op = "nbsend"\nexpect = "refused"\n', 1, []),
+     ['error: call 1: dropped, and not empty; no reply to nbsend begins with "empty"; did you mean dropped?']),
+    (FIRST + CALL + 'op = "nbsend"\nexpect = "refused"\n', 1, ["error: call 1: dropped, and not refused"]),
     (FIRST + CALL + 'op = "nbsend"\nexpect = "?"\n', 1, []),
-    (FIRST + CALL + 'op = "nbsend"\nexpect = "delivered 6144 from 2048"\n', 1, []),
+    (FIRST + CALL + 'op = "nbsend"\nexpect = "delivered 6144 from 2048"\n', 1,
+     ["error: call 1: dropped, and not delivered 6144 from 2048"]),
     (FIRST + CALL + 'op = "nbsend"\nexpect = "refused IllegalOperation"\n', 1,
-     ['call 1: no reply to nbsend begins with "refused IllegalOperation"; did you mean refused 3?']),
+     ['error: call 1: dropped, and not refused IllegalOperation; no reply to nbsend begins with "refused IllegalOperation"; '
+      "did you mean refused 3?"]),
     (FIRST + CALL + 'op = "nbsend"\nexpect = "delivered to 2048"\n', 1,
-     ['call 1: no reply to nbsend begins with "delivered to 2048"' + DELIVERY]),
+     ['error: call 1: dropped, and not delivered to 2048; no reply to nbsend begins with "delivered to 2048"' + DELIVERY]),
     (FIRST + CALL + 'op = "Send"\n', 2,
      [f'call 1, key op: the value is "Send"; it has to be one of {OPERATIONS}; did you mean send?']),
     (FIRST + CALL + 'op = "seL4_NBSend"\n', 2,
@@ -248,7 +254,7 @@ STREAMS = [
     (["--help"], "", "/dev/full", 3, ["writing failed", "standard output: No space left on device (os error 28)"]),
     (["trace"], FIRST, "/dev/full", 3, ["writing failed", "standard output: No space left on device (os error 28)"]),
     (["trace"], FIRST + CALL + 'op = "nbsend"\nexpect = "delivered to 2048"\n', "/dev/null", 1,
-     ['call 1: no reply to nbsend begins with "delivered to 2048"' + DELIVERY]),
+     ['error: call 1: dropped, and not delivered to 2048; no reply to nbsend begins with "delivered to 2048"' + DELIVERY]),
     (["trace"], "format = 1\nthreads =\n", "/dev/null", 2, ["TOML parse error at line 2, column 10", None]),
     (["migrate"], FIRST, "/dev/null", 0, []),
     (["migrate"], SECOND, "/dev/null", 2, [f"top, key format: the value is 2; it has to be {FORMAT_1}"]),
@@ -360,25 +366,35 @@ PLACES = [
     (FIRST + ('[[call]]\nop = "recv"\ncap = 4\n') * 30, [(6 + 3 * n, 1, 2) for n in range(20)]),
 ]
 
+# a line that has a place, and the words behind it
+PLACED = re.compile(r"standard input:(\d+):(\d+): ((?:error|warning): .*)")
+
+
 def said(program, words, text, output=subprocess.PIPE):
     text = text.encode("utf-8", "surrogateescape")
     done = subprocess.run([program, *words], input=text, stdout=output, stderr=subprocess.PIPE, timeout=600)
     return done.returncode, done.stderr.decode()
 
 
+def without_place(line):
+    """A line of standard error without `sel4sim: `, or, where it has a place, without that."""
+    told = PLACED.fullmatch(line)
+    return told[3] if told else line.removeprefix("sel4sim: ") if line.startswith("sel4sim: ") else None
+
+
 def fits(lines, wanted):
     """Whether these are the lines that are wanted, but for those that show a part of the text."""
-    lines = [line for line in lines if not line.startswith(" ")]
-    return len(lines) == len(wanted) and all(w is None or line == f"sel4sim: {w}" for line, w in zip(lines, wanted))
+    lines = [without_place(line) for line in lines if not line.startswith(" ")]
+    return len(lines) == len(wanted) and None not in lines and all(w in (None, line) for line, w in zip(lines, wanted))
 
 
 def places_shown(text, lines):
     """The places of the parts of a text that are shown; none where the lines that show one are not of its form."""
     found = []
     text = re.split("[\udc80-\udcff]", text)[0]    # what is UTF-8 of it
-    blocks = [line for line in lines if line.startswith(" ")]
+    blocks = [line for line in lines if line.startswith(" ") or PLACED.fullmatch(line)]
     for head, bar, shown, marks in zip(*[iter(blocks)] * 4):
-        told = re.fullmatch(r" +--> standard input:(\d+):(\d+)", head)
+        told = re.fullmatch(r" +--> standard input:(\d+):(\d+)", head) or PLACED.fullmatch(head)
         mark = re.fullmatch(r"( +\| )( *)(\^+)", marks)
         if not told or not mark or bar != mark[1].rstrip():
             return None
@@ -402,8 +418,13 @@ def wrong_places(program):
     for setup, status, wanted in SETUPS:
         shown = places_shown(setup, said(program, ["check"], setup)[1].splitlines())
         is_missing = any("the key is missing" in (words or "") and words.startswith("top") for words in wanted)
-        if shown is None or status == 2 and len(shown) != (0 if is_missing else 1) or status != 2 and shown:
+        of_calls = [words for words in wanted if re.match("error|warning", words or "")]
+        if shown is None or len(shown) != (len(of_calls) if status != 2 else 0 if is_missing else 1):
             yield f"{setup}shown {shown}"
+            continue
+        if of_calls:    # each call at its expectation, or where its table begins
+            if any(setup.split("\n")[line - 1][:length] not in ("expect", "[[") for line, _, length in shown):
+                yield f"{setup}shown {shown}"
             continue
         key = re.match(r"(?:top|untyped \d+|call \d+)(?:, key (\w+)|: there is no key \"(\w+)\")", wanted[0] or "") if shown else None
         if not key:
@@ -430,7 +451,8 @@ def wrong_expectations(program):
         setup = SECOND + CALL + f'op = "recv"\nexpect = "{expectation}"\n'
         meant = f"; did you mean {MEANT[expectation]}?" if expectation in MEANT else ""
         meant = DELIVERY if expectation in NO_DELIVERIES else meant
-        wanted = [] if expectation in begins else [f'call 1: no reply to recv begins with "{expectation}"{meant}']
+        unmeetable = "" if expectation in begins else f'; no reply to recv begins with "{expectation}"{meant}'
+        wanted = [] if expectation == "waiting" else [f"error: call 1: waiting, and not {expectation}{unmeetable}"]
         status, error = said(program, ["check"], setup)
         if status != (0 if expectation == "waiting" else 1) or not fits(error.splitlines(), wanted):
             yield f"{setup}status {status}, said\n{error}"
@@ -442,9 +464,11 @@ def wrong_words(program):
         for expectation in ["done", "waiting", "dropped", "empty", "delivered 6144"]:
             setup = FIRST + CALL + f'op = "{op}"\n{keys}expect = "{expectation}"\n'
             can_be = expectation == own or expectation == "delivered 6144" and op in DELIVERING
-            wanted = [] if can_be else [f'call 1: no reply to {op} begins with "{expectation}"; did you mean {own}?']
+            unmeetable = "" if can_be else f'; no reply to {op} begins with "{expectation}"; did you mean {own}?'
             status, error = said(program, ["check"], setup)
-            if status not in (0, 1) or not fits(error.splitlines(), wanted):
+            told = [without_place(line) for line in error.splitlines() if not line.startswith(" ")]
+            wanted = rf"error: call 1: [a-z]+(?: [0-9/]+)?, and not {expectation}{re.escape(unmeetable)}"
+            if status != len(told) or any(not re.fullmatch(wanted, line or "") for line in told) or not can_be and not told:
                 yield f"{setup}status {status}, said\n{error}"
 
 
@@ -463,8 +487,8 @@ def wrong_many(program):
     calls, text = 65536, "x" * 120
     refused = CALL.replace("cap = 4", "cap = 9") + 'op = "send"\n'
     status, error = said(program, ["check"], FIRST + (refused + f'expect = "{text}"\n') * (calls - 1) + refused)
-    wanted = [*(f'call {n}: no reply to send begins with "{text}"' for n in range(1, 21)), f"{calls - 21} more",
-              f"1 call was refused where nothing was expected: {calls}; sel4sim why tells why"]
+    unmet = f'refused 2, and not {text}; no reply to send begins with "{text}"'
+    wanted = [*(f"error: call {n}: {unmet}" for n in range(1, 21)), f"{calls - 21} more", warned(calls)]
     if status != 1 or not fits(error.splitlines(), wanted):
         yield f"{calls} calls: status {status}, said\n{error[:4000]}"
 

@@ -8,6 +8,7 @@ theirs, and standard error has to say of each file what it says of it alone.
 import os
 import pathlib
 import random
+import re
 import subprocess
 import sys
 import tempfile
@@ -22,6 +23,7 @@ TEXTS = {
     "unmet.toml": (SIZES + CALL * 2 + 'expect = "done"\n', "expected 0 of 1"),
     "no_reply.toml": (SIZES + CALL + 'expect = "don"\n', "expected 0 of 1"),
     "unexpected.toml": (SIZES + CALL.replace("cap = 4", "cap = 9"), "expected 0 of 0"),
+    "many.toml": (SIZES + CALL.replace("cap = 4", "cap = 9") * 22 + (CALL + 'expect = "done"\n') * 21, "expected 0 of 21"),
     "refused.toml": ("format = 3\n", "set-up refused 204 at top key format"),
     "no_text.toml": ("format\n", "set-up refused 200 at text"),
     "empty.toml": ("", "set-up refused 202 at top key format"),
@@ -48,8 +50,8 @@ def named(name, error):
     shown = "standard input" if name == "-" else name or "''"
     for line in error.splitlines(keepends=True):
         said = line.removeprefix("sel4sim: ")
-        is_part = line.startswith(" ") or said == "reading failed\n"
-        has_name = said.startswith(f"{shown}: ") or "where nothing was expected" in said
+        is_part = not line.startswith("sel4sim: ") or said == "reading failed\n" or re.fullmatch(r"\d+ more\n", said)
+        has_name = said.startswith(f"{shown}: ")
         yield line if is_part or has_name else f"sel4sim: {shown}: {said}"
 
 
@@ -65,7 +67,7 @@ class Files:
             words = ["check"] if name == "-" else ["check", "--", name]
             status, out, error = run(self.program, words, self.text)
             end = UNREAD if status == 3 else out.splitlines()[-1]
-            error = error.replace("sel4sim why tells why", "sel4sim why - tells why") if name == "-" else error
+            error = re.sub(r"(sel4sim why --call \d+) tells why", r"\1 - tells why", error) if name == "-" else error
             self.known[name] = status, end, "".join(named(name, error))
         return self.known[name]
 

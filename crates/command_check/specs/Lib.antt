@@ -1,3 +1,4 @@
 pub mod Commands
 pub mod Migrations
 pub mod Program
+pub mod Notes

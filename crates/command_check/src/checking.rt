@@ -1,12 +1,13 @@
 //! The engine that runs a set-up and compares its replies with what it expects.
 ghost use Rattle.std.specs.Prelude.{◌≡◌, ◌≢◌, false, IfOk};
 ghost use Rattle.setup_format.specs.Setups.{setup_of_bytes};
+ghost use Rattle.command_check.specs.Notes.{unexpected_in};
 ghost use Rattle.command_check.specs.Program.{IsTextOfSetup, program};
 ghost use Rattle.command_core.specs.Runs.{IsRun};
 
 use crate::run::{CountedText, counted_text_of, text_of};
 use cap_core::{Narrow, Wide};
-use command_core::{Engine, RunFault, Sink, Source, Verdict, run_engine};
+use command_core::{Answer, Engine, Found, RunFault, Sink, Source, run_engine};
 use ipc_core::LinkedWaiters;
 use slot_core::LinkedStore;
 use std::alloc::{AllocError, Global};
@@ -17,7 +18,8 @@ use std::alloc::{AllocError, Global};
 ///
 /// Memory was refused.
 pub fn checked_text(alloc: Global, bytes: &[u8]) -> Result<CountedText, AllocError>
-    ensures { IfOk result (IsTextOfSetup (setup_of_bytes bytes.now)) }
+    ensures text { IfOk result (IsTextOfSetup (setup_of_bytes bytes.now)) }
+    ensures refused { IfOk result (λ made. made.notes.refused.items ≡ unexpected_in (setup_of_bytes bytes.now)) }
 {
     counted_text_of::<
         LinkedStore<Wide>,
@@ -34,7 +36,7 @@ pub struct Checker;
 impl Engine for Checker {
     ghost means = { λ checker input text verdict. program input ≡ (text, verdict) };
 
-    fn make(&self, alloc: Global, input: &[u8]) -> Result<(Vec<u8>, Verdict), RunFault> {
+    fn make(&self, alloc: Global, input: &[u8]) -> Result<Answer, RunFault> {
         text_of::<
             LinkedStore<Wide>,
             LinkedWaiters<Wide>,
@@ -55,7 +57,7 @@ pub fn check<S: Source, K: Sink>(
     alloc: Global,
     source: &mut S,
     sink: &mut K,
-) -> Result<Verdict, RunFault>
+) -> Result<Found, RunFault>
     requires source { S.failed source.old ≡ false }
     requires sink { K.failed sink.old ≡ false }
     ensures run { IsRun (λ input text verdict. program input ≡ (text, verdict))

@@ -1,12 +1,11 @@
 //! Commands on a set-up: how it is read, refused and given its profile is the same for all of them.
-ghost use Rattle.std.specs.Prelude.{◌≡◌, IfOk, option_map};
+ghost use Rattle.std.specs.Prelude.{IfOk};
 ghost use Rattle.kernel_abstract.specs.Plan.{IsPlan};
-ghost use Rattle.command_check.specs.Commands.{answered as answered_of};
 ghost use Rattle.setup_format.specs.Read.{read_view};
 
-use crate::run::refusal;
+use crate::run::refused;
 use cap_core::{Narrow, Profile, ProfileName, Wide};
-use command_core::{Engine, RunFault, Verdict};
+use command_core::{Answer, Engine, RunFault};
 use ipc_core::{LinkedWaiters, MakeWaiters};
 use setup_format::{ReadSetup, SetupFault, read};
 use slot_core::{DerivationStore, LinkedStore, MakeStore};
@@ -22,7 +21,8 @@ pub trait Command {
     /// The text and the verdict are right for a set-up that was read, in a profile.
     ghost answers: { Self → ProfileName → ReadView → List ℕ → Verdict → Type 0 };
 
-    /// The text that is to be written of the set-up, and the verdict. A kernel that it boots can be of these stores.
+    /// The text that is to be written of the set-up, the verdict, and what standard error tells. A kernel that it boots can be of
+    /// these stores.
     ///
     /// # Errors
     ///
@@ -31,19 +31,9 @@ pub trait Command {
         &self,
         alloc: Global,
         read: ReadSetup,
-    ) -> Result<(Vec<u8>, Verdict), AllocError>
+    ) -> Result<Answer, AllocError>
         requires { IsPlan P.profile read.setup.plan }
-        ensures { IfOk result (λ made. answers self.now P.profile (read_view read) made.0.items made.1) };
-}
-
-/// The answer where there is a text; nothing, where the set-up does not have what is asked for.
-pub fn answered(alloc: Global, text: Option<Vec<u8>>) -> (Vec<u8>, Verdict)
-    ensures { (result.0.items, result.1) ≡ answered_of (option_map (λ v. v.items) text) }
-{
-    match text {
-        Some(text) => (text, Verdict::AllMet),
-        None => (Vec::new(alloc), Verdict::Absent),
-    }
+        ensures { IfOk result (λ made. answers self.now P.profile (read_view read) made.text.items made.verdict) };
 }
 
 /// A command, on the set-up that the bytes of an input are.
@@ -57,9 +47,9 @@ impl<C: Command> OnSetup<C> {
     ghost use Rattle.command_check.specs.Commands.{IsAnswer};
 
     /// The command's answer in the profile that the set-up names, by the linked forms.
-    fn answer_read(&self, alloc: Global, read: ReadSetup) -> Result<(Vec<u8>, Verdict), AllocError>
+    fn answer_read(&self, alloc: Global, read: ReadSetup) -> Result<Answer, AllocError>
         requires { IsPlan read.setup.profile read.setup.plan }
-        ensures { IfOk result (λ made. C.answers self.now.command read.setup.profile (read_view read) made.0.items made.1) }
+        ensures { IfOk result (λ made. C.answers self.now.command read.setup.profile (read_view read) made.text.items made.verdict) }
     {
         let command = &self.command;
         match read.setup.profile() {
@@ -72,14 +62,14 @@ impl<C: Command> OnSetup<C> {
         }
     }
 
-    /// The text that is written for the bytes of an input, and the verdict.
-    fn answer_bytes(&self, alloc: Global, bytes: &[u8]) -> Result<(Vec<u8>, Verdict), AllocError>
-        ensures { IfOk result (λ made. IsAnswer (C.answers self.now.command) (read_of_bytes bytes.now) made.0.items made.1) }
+    /// The answer for the bytes of an input.
+    fn answer_bytes(&self, alloc: Global, bytes: &[u8]) -> Result<Answer, AllocError>
+        ensures { IfOk result (λ made. IsAnswer (C.answers self.now.command) (read_of_bytes bytes.now) made.text.items made.verdict) }
     {
         match read(alloc, bytes) {
             Ok(read) => self.answer_read(alloc, read),
             Err(SetupFault::Memory) => Err(AllocError),
-            Err(fault) => Ok((refusal(alloc, &fault)?, Verdict::Refused)),
+            Err(fault) => refused(alloc, &fault),
         }
     }
 }
@@ -89,7 +79,7 @@ impl<C: Command> Engine for OnSetup<C> {
 
     ghost means = { λ on. IsAnswerTo (C.answers on.command) };
 
-    fn make(&self, alloc: Global, input: &[u8]) -> Result<(Vec<u8>, Verdict), RunFault> {
+    fn make(&self, alloc: Global, input: &[u8]) -> Result<Answer, RunFault> {
         self.answer_bytes(alloc, input)
             .map_err(|_| RunFault::Memory)
     }

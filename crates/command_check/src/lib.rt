@@ -5,15 +5,17 @@
 mod checking;
 mod command;
 mod migrating;
+mod notes;
 mod run;
 mod state;
 
 pub use checking::{Checker, check, checked_text};
-pub use command::{Command, OnSetup, answered};
+pub use command::{Command, OnSetup};
 pub use command_core::{
-    DeviceFault, Engine, INPUT_LIMIT, ReaderSource, RunFault, Sink, Source, Verdict, WriterSink,
-    read_below, run_engine, status_of, write_all,
+    Answer, CallNote, DeviceFault, Engine, Found, INPUT_LIMIT, Notes, ReaderSource, RunFault, Sink,
+    Source, Verdict, WriterSink, read_below, run_engine, status_of, write_all,
 };
 pub use migrating::{Migrator, table_text};
-pub use run::{CountedText, counted_text_of, refusal, text_of, verdict_on};
+pub use notes::{notes_on, unmet_calls};
+pub use run::{CountedText, counted_text_of, refused, text_of, verdict_on};
 pub use state::{OnState, StateCommand};

@@ -4,8 +4,8 @@ ghost use Rattle.toml.specs.View.{table_view};
 ghost use Rattle.setup_format.specs.Setups.{document_of};
 ghost use Rattle.command_check.specs.Migrations.{IsMigration};
 
-use crate::run::refusal;
-use command_core::{Engine, RunFault, Verdict};
+use crate::run::refused;
+use command_core::{Answer, Engine, RunFault, Verdict};
 use setup_format::SetupFault;
 use setup_migrate::migrate;
 use setup_values::table_is_within;
@@ -36,13 +36,16 @@ pub fn table_text(alloc: Global, table: &Table) -> Result<Vec<u8>, AllocError>
 
 /// The text that is written for the bytes of a set-up of format 1, and the verdict.
 #[tactic(auto, using(crate::proofs::Texts::same_program))]
-fn migration_of(alloc: Global, bytes: &[u8]) -> Result<(Vec<u8>, Verdict), AllocError>
-    ensures { IfOk result (λ made. IsMigration bytes.now made.0.items made.1) }
+fn migration_of(alloc: Global, bytes: &[u8]) -> Result<Answer, AllocError>
+    ensures { IfOk result (λ made. IsMigration bytes.now made.text.items made.verdict) }
 {
     match migrate(alloc, bytes) {
-        Ok(table) => Ok((table_text(alloc, &table)?, Verdict::AllMet)),
+        Ok(table) => {
+            let text = table_text(alloc, &table)?;
+            Ok(Answer::new(alloc, text, Verdict::AllMet))
+        }
         Err(SetupFault::Memory) => Err(AllocError),
-        Err(fault) => Ok((refusal(alloc, &fault)?, Verdict::Refused)),
+        Err(fault) => refused(alloc, &fault),
     }
 }
 
@@ -53,7 +56,7 @@ pub struct Migrator;
 impl Engine for Migrator {
     ghost means = { λ migrator. IsMigration };
 
-    fn make(&self, alloc: Global, input: &[u8]) -> Result<(Vec<u8>, Verdict), RunFault> {
+    fn make(&self, alloc: Global, input: &[u8]) -> Result<Answer, RunFault> {
         migration_of(alloc, input).map_err(|_| RunFault::Memory)
     }
 }

@@ -5,10 +5,12 @@ ghost use Rattle.kernel_abstract.specs.Plan.{IsPlan};
 ghost use Rattle.kernel_abstract.specs.State.{shown};
 ghost use Rattle.setup_format.specs.Refusal.{setup_fault_text};
 ghost use Rattle.setup_format.specs.Setups.{setup_of_bytes};
+ghost use Rattle.command_check.specs.Notes.{unexpected_from, unexpected_in};
 ghost use Rattle.command_check.specs.Program.{IsTextIn, IsTextOfSetup, program, replies_to, end_of, verdict_in, verdict_on as verdict_of_counts};
 
+use crate::notes::notes_on;
 use cap_core::{Narrow, Profile, ProfileName, Wide};
-use command_core::Verdict;
+use command_core::{Answer, Notes, Verdict};
 use ipc_core::MakeWaiters;
 use kernel_core::{BootPlan, Kernel, Reply};
 use setup_format::{Setup, SetupFault, read_setup};
@@ -16,13 +18,15 @@ use setup_report::{ExpectationCount, counted_report};
 use slot_core::{DerivationStore, MakeStore};
 use std::alloc::{AllocError, Global};
 
-/// The text that is written for an input, and the count of its expectations.
+/// The text that is written for an input, the count of its expectations, and what standard error tells.
 #[derive(Drop)]
 pub struct CountedText {
     /// The report, or the line by which the set-up is refused.
     pub text: Vec<u8>,
     /// How many calls have an expectation, and how many of these are met; nothing where the set-up is refused.
     pub count: Option<ExpectationCount>,
+    /// What standard error tells.
+    pub notes: Notes,
 }
 
 impl CountedText {
@@ -75,13 +79,17 @@ fn run_setup<P: Profile, S: MakeStore<P> + DerivationStore<P>, W: MakeWaiters<P>
     setup: &Setup,
 ) -> Result<CountedText, AllocError>
     requires { IsPlan P.profile setup.now.plan }
-    ensures { IfOk result (IsTextIn P.profile setup.now) }
+    ensures text { IfOk result (IsTextIn P.profile setup.now) }
+    ensures refused { IfOk result (λ made. made.notes.refused.items ≡ unexpected_from 1 setup.now.calls (replies_to P.profile setup.now)) }
 {
-    let (kernel, replies) = run_calls::<P, S, W>(alloc, setup)?;
-    let (text, count) = counted_report(alloc, setup, replies.as_slice(), &kernel)?;
+    let (kernel, made) = run_calls::<P, S, W>(alloc, setup)?;
+    let replies = made.as_slice();
+    let (text, count) = counted_report(alloc, setup, replies, &kernel)?;
+    let notes = notes_on(alloc, setup, replies, count)?;
     Ok(CountedText {
         text,
         count: Some(count),
+        notes,
     })
 }
 
@@ -104,6 +112,15 @@ pub fn refusal(alloc: Global, fault: &SetupFault) -> Result<Vec<u8>, AllocError>
     Ok(text.into_bytes())
 }
 
+/// The answer that refuses a set-up.
+pub fn refused(alloc: Global, fault: &SetupFault) -> Result<Answer, AllocError>
+    ensures text { IfOk result (λ made. made.text.items ≡ setup_fault_text fault.now ++ codes "\n") }
+    ensures verdict { IfOk result (λ made. made.verdict ≡ Verdict.Refused) }
+{
+    let text = refusal(alloc, fault)?;
+    Ok(Answer::new(alloc, text, Verdict::Refused))
+}
+
 /// The text that the program writes for the bytes of its input, and the count of the expectations. The kernel has the words
 /// of the set-up's profile: `S` and `W` are the stores of a wide kernel, `T` and `V` those of a narrow one. The text is the
 /// same whatever stores it is made of.
@@ -117,7 +134,8 @@ pub fn counted_text_of<
     T: MakeStore<Narrow> + DerivationStore<Narrow>,
     V: MakeWaiters<Narrow>,
 >(alloc: Global, bytes: &[u8]) -> Result<CountedText, AllocError>
-    ensures { IfOk result (IsTextOfSetup (setup_of_bytes bytes.now)) }
+    ensures text { IfOk result (IsTextOfSetup (setup_of_bytes bytes.now)) }
+    ensures refused { IfOk result (λ made. made.notes.refused.items ≡ unexpected_in (setup_of_bytes bytes.now)) }
 {
     match read_setup(alloc, bytes) {
         Ok(setup) => match setup.profile() {
@@ -128,6 +146,7 @@ pub fn counted_text_of<
         Err(fault) => Ok(CountedText {
             text: refusal(alloc, &fault)?,
             count: None,
+            notes: Notes::none(alloc),
         }),
     }
 }
@@ -142,10 +161,16 @@ pub fn text_of<
     W: MakeWaiters<Wide>,
     T: MakeStore<Narrow> + DerivationStore<Narrow>,
     V: MakeWaiters<Narrow>,
->(alloc: Global, bytes: &[u8]) -> Result<(Vec<u8>, Verdict), AllocError>
-    ensures { IfOk result (λ made. (made.0.items, made.1) ≡ program bytes.now) }
+>(alloc: Global, bytes: &[u8]) -> Result<Answer, AllocError>
+    ensures text { IfOk result (λ made. (made.text.items, made.verdict) ≡ program bytes.now) }
+    ensures refused { IfOk result (λ made. made.notes.refused.items ≡ unexpected_in (setup_of_bytes bytes.now)) }
 {
     let made = counted_text_of::<S, W, T, V>(alloc, bytes)?;
     let verdict = made.verdict();
-    Ok((made.text, verdict))
+    let CountedText { text, notes, .. } = made;
+    Ok(Answer {
+        text,
+        verdict,
+        notes,
+    })
 }

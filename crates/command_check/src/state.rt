@@ -7,7 +7,7 @@ ghost use Rattle.setup_values.specs.Names.{names_view};
 
 use crate::command::Command;
 use cap_core::Profile;
-use command_core::Verdict;
+use command_core::Answer;
 use ipc_core::MakeWaiters;
 use kernel_core::Kernel;
 use setup_format::{ReadSetup, Setup};
@@ -28,7 +28,7 @@ pub trait StateCommand {
     /// to this state.
     ghost answers: { Self → ProfileName → Names → SetupView → ℕ → State → List ℕ → Verdict → Type 0 };
 
-    /// The text that is to be written of a kernel, and the verdict.
+    /// The text that is to be written of a kernel, the verdict, and what standard error tells.
     ///
     /// # Errors
     ///
@@ -40,10 +40,10 @@ pub trait StateCommand {
         setup: &Setup,
         made: usize,
         kernel: &Kernel<P, S, W>,
-    ) -> Result<(Vec<u8>, Verdict), AllocError>
+    ) -> Result<Answer, AllocError>
         requires { (memory : ℕ) × IsInMemory P.profile memory kernel.now }
         ensures { IfOk result (λ answer. (A : State) → IsReached P.profile A → kernel.now ≡ shown A
-            → answers self.now P.profile (names_view names.now) setup.now made A answer.0.items answer.1) };
+            → answers self.now P.profile (names_view names.now) setup.now made A answer.text.items answer.verdict) };
 }
 
 /// A command, on the state after the first `after` calls, or after all. Where the set-up has fewer calls, nothing is written, and
@@ -63,10 +63,12 @@ impl<C: StateCommand> Command for OnState<C> {
         &self,
         alloc: Global,
         read: ReadSetup,
-    ) -> Result<(Vec<u8>, Verdict), AllocError> {
+    ) -> Result<Answer, AllocError> {
         let (names, setup) = (read.names.as_slice(), &read.setup);
         let Some(made) = calls_made(setup, self.after) else {
-            return Ok((Vec::new(alloc), Verdict::Absent));
+            let (asked, calls) = (self.after.unwrap_or(0), setup.calls().len());
+            let absent = format!(in alloc; "--after {asked}: the set-up has {calls} calls")?;
+            return Ok(Answer::absent(alloc, absent));
         };
         let kernel = kernel_after::<P, S, W>(alloc, setup, made)?;
         self.command

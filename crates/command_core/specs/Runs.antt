@@ -2,6 +2,7 @@
 use Rattle.std.specs.Prelude.{◌≡◌, ◌⊎◌, ◌+◌, ◌<◌, ℕ, List, true, Result, Err, IfOk, OnOk}
 use Rattle.std.specs.Io.KnownBytes.{IsAtEnd}
 use Rattle.command_core.specs.Devices.{Gave, GaveAsMany, Took, TookFront}
+use Rattle.command_core.specs.declared.answer.Found.{Found}
 use Rattle.command_core.specs.declared.fault.Verdict.{Verdict}
 use Rattle.command_core.specs.declared.fault.RunFault.{RunFault}
 use Rattle.command_core.specs.declared.fault.RunFault.TheVariants.{Reading, Writing, Memory, Thread}
@@ -12,12 +13,12 @@ use Rattle.command_core.specs.declared.source.Source.{Ghosts as SourceGhosts}
 -- what a run answers, and what it leaves of the source and of the sink, where `means` says which text and which verdict are
 -- right for an input; `from` and `to` say what the devices tell
 pub record IsRun {S K : Type 0} (means : List ℕ → List ℕ → Verdict → Type 0) (from : SourceGhosts S) (to : SinkGhosts K)
-    (source_old source_new : S) (sink_old sink_new : K) (result : Result Verdict RunFault) : Type 0 where
+    (source_old source_new : S) (sink_old sink_new : K) (result : Result Found RunFault) : Type 0 where
   -- Ok: the source gave the input to its end, and the sink took just a text that is right for the input, with the verdict
-  pub ok : IfOk result (λ verdict. (input text : List ℕ)
+  pub ok : IfOk result (λ found. (input text : List ℕ)
       × Gave from.left from.given source_old source_new input
       × Took to.taken to.written sink_old sink_new text
-      × means input text verdict)
+      × means input text found.verdict)
   pub end : OnOk result (IsAtEnd (from.left source_new))
   pub short : OnOk result (from.given source_new < from.given source_old + input_limit)
   -- Reading: a read failed, or the source gave that many bytes without an end; nothing was written

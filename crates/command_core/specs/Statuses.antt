@@ -1,15 +1,19 @@
 -- The program's exit status after a run, and what it says of a fault.
 use Rattle.std.specs.Prelude.{ℕ, List, codes, Result, Ok, Err}
+use Rattle.command_core.specs.declared.answer.Found.{Found}
 use Rattle.command_core.specs.declared.fault.Verdict.{Verdict}
 use Rattle.command_core.specs.declared.fault.Verdict.TheVariants.{AllMet, NotMet, Refused, Absent}
 use Rattle.command_core.specs.declared.fault.RunFault.{RunFault}
 use Rattle.command_core.specs.declared.fault.RunFault.TheVariants.{Reading, Writing, Memory, Thread}
 
-abbrev pub run_status : Result Verdict RunFault → ℕ
-run_status (Ok AllMet) = 0
-run_status (Ok NotMet) = 1
-run_status (Ok Refused) = 2
-run_status (Ok Absent) = 4
+abbrev pub verdict_status : Verdict → ℕ
+verdict_status AllMet = 0
+verdict_status NotMet = 1
+verdict_status Refused = 2
+verdict_status Absent = 4
+
+abbrev pub run_status : Result Found RunFault → ℕ
+run_status (Ok found) = verdict_status found.verdict
 run_status (Err fault) = 3
 
 abbrev pub run_fault_text : RunFault → List ℕ

@@ -3,24 +3,25 @@ ghost use Rattle.std.specs.Prelude.{◌≡◌, ◌≢◌, ℕ, List, false, IfOk
 ghost use Rattle.command_core.specs.Runs.{IsRun};
 ghost use Rattle.command_core.specs.declared.fault.Verdict.{Verdict};
 
-use crate::fault::{RunFault, Verdict};
+use crate::answer::{Answer, Found};
+use crate::fault::RunFault;
 use crate::limits::INPUT_LIMIT;
 use crate::sink::Sink;
 use crate::source::Source;
 use crate::streams::{read_below, write_all};
 use std::alloc::Global;
 
-/// What makes a text and a verdict of an input.
+/// What makes an answer of an input.
 pub trait Engine {
     /// The text and the verdict are right for the input.
     ghost means: { Self → List ℕ → List ℕ → Verdict → Type 0 };
 
-    /// The text that is to be written for the input, and the verdict.
+    /// The text that is to be written for the input, the verdict, and what standard error tells.
     ///
     /// # Errors
     /// `Memory`.
-    fn make(&self, alloc: Global, input: &[u8]) -> Result<(Vec<u8>, Verdict), RunFault>
-        ensures made { IfOk result (λ made. means self.now input.now made.0.items made.1) }
+    fn make(&self, alloc: Global, input: &[u8]) -> Result<Answer, RunFault>
+        ensures made { IfOk result (λ made. means self.now input.now made.text.items made.verdict) }
         ensures memory { IfErr result (λ fault. fault ≡ RunFault.Memory) };
 }
 
@@ -35,14 +36,14 @@ pub fn run_engine<S: Source, K: Sink, E: Engine>(
     engine: &E,
     source: &mut S,
     sink: &mut K,
-) -> Result<Verdict, RunFault>
+) -> Result<Found, RunFault>
     requires source { S.failed source.old ≡ false }
     requires sink { K.failed sink.old ≡ false }
     ensures run { IsRun (E.means engine.now) S.Source K.Sink source.old source.new sink.old sink.new result }
     ensures never_thread { result ≢ Err RunFault.Thread }
 {
     let input = read_below(alloc, source, INPUT_LIMIT)?;
-    let (text, verdict) = engine.make(alloc, input.as_slice())?;
-    write_all(sink, text.as_slice())?;
-    Ok(verdict)
+    let answer = engine.make(alloc, input.as_slice())?;
+    write_all(sink, answer.text.as_slice())?;
+    Ok(answer.found())
 }

@@ -2,6 +2,7 @@
 ghost use Rattle.std.specs.Prelude.{◌≡◌};
 ghost use Rattle.command_core.specs.Statuses.{run_status};
 
+use crate::answer::Found;
 use thiserror::Error;
 
 /// What a run found.
@@ -15,6 +16,23 @@ pub enum Verdict {
     Refused,
     /// The command line names a call, a slot or an order that the set-up does not have.
     Absent,
+}
+
+impl Verdict {
+    ghost use Rattle.command_core.specs.Statuses.{verdict_status};
+
+    /// The program's exit status: 0 where all expectations are met, 1 where one is not, 2 where the set-up is refused, 4 where it
+    /// does not have what the command line names.
+    pub fn status(self) -> u8
+        ensures { result ≡ verdict_status self }
+    {
+        match self {
+            Verdict::AllMet => 0,
+            Verdict::NotMet => 1,
+            Verdict::Refused => 2,
+            Verdict::Absent => 4,
+        }
+    }
 }
 
 /// Why a run came to no verdict. It is shown as its `text`.
@@ -47,16 +65,12 @@ impl RunFault {
     }
 }
 
-/// The program's exit status: 0 where all expectations are met, 1 where one is not, 2 where the set-up is refused, 4
-/// where it does not have what the command line names, 3 after a fault.
-pub fn status_of(answer: &Result<Verdict, RunFault>) -> u8
+/// The program's exit status: that of the verdict, 3 after a fault.
+pub fn status_of(answer: &Result<Found, RunFault>) -> u8
     ensures { result ≡ run_status answer.now }
 {
     match answer {
-        Ok(Verdict::AllMet) => 0,
-        Ok(Verdict::NotMet) => 1,
-        Ok(Verdict::Refused) => 2,
-        Ok(Verdict::Absent) => 4,
+        Ok(found) => found.verdict.status(),
         Err(_) => 3,
     }
 }

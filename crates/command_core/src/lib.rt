@@ -2,6 +2,7 @@
 //! how the run ends.
 #![tactic(auto)]
 
+mod answer;
 mod device;
 mod engines;
 mod fault;
@@ -11,6 +12,7 @@ mod sink;
 mod source;
 mod streams;
 
+pub use answer::{Answer, CallNote, Found, Notes};
 pub use device::DeviceFault;
 pub use engines::{Engine, run_engine};
 pub use fault::{RunFault, Verdict, status_of};

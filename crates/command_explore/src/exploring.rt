@@ -5,7 +5,7 @@ ghost use Rattle.command_explore.specs.Explorations.{explored_in, verdict_of};
 
 use cap_core::Profile;
 use command_check::Command;
-use command_core::Verdict;
+use command_core::{Answer, Verdict};
 use command_explore_text::explored_report;
 use ipc_core::{MakeWaiters, RowWaiters};
 use setup_format::{ReadSetup, Setup};
@@ -36,12 +36,13 @@ fn explore_setup<P: Profile, S: MakeStore<P> + DerivationStore<P>, W: MakeWaiter
     alloc: Global,
     options: ExploreOptions,
     setup: &Setup,
-) -> Result<(Vec<u8>, Verdict), AllocError>
+) -> Result<Answer, AllocError>
     requires { IsPlan P.profile setup.now.plan }
-    ensures { IfOk result (λ made. (made.0.items, made.1) ≡ explored_in P.profile options.first options.states setup.now) }
+    ensures { IfOk result (λ made. (made.text.items, made.verdict) ≡ explored_in P.profile options.first options.states setup.now) }
 {
     let told = explored_report::<P, S, W>(alloc, setup, options.first, options.states)?;
-    Ok((told.text, verdict_on(told.is_well)))
+    let verdict = verdict_on(told.is_well);
+    Ok(Answer::with_unmet(alloc, told.text, verdict, told.unmet))
 }
 
 /// The report on every order of the calls that the clients of a set-up make. It is made by the plain forms: a copy of these has
@@ -61,7 +62,7 @@ impl Command for Explore {
         &self,
         alloc: Global,
         read: ReadSetup,
-    ) -> Result<(Vec<u8>, Verdict), AllocError> {
+    ) -> Result<Answer, AllocError> {
         explore_setup::<P, RowStore<P>, RowWaiters<P>>(alloc, self.options, &read.setup)
     }
 }

@@ -6,7 +6,7 @@ ghost use Rattle.command_explore.specs.Witnessed.{IsTextOfTable};
 use crate::exploring::ExploreOptions;
 use cap_core::Profile;
 use command_check::{Command, table_text};
-use command_core::Verdict;
+use command_core::{Answer, Verdict};
 use command_explore_text::{Witness, make_witness};
 use ipc_core::{MakeWaiters, RowWaiters};
 use setup_format::ReadSetup;
@@ -15,12 +15,15 @@ use std::alloc::{AllocError, Global};
 use toml::Table;
 
 /// The text that is written for a table, where there is one, and the verdict.
-fn witness_text(alloc: Global, made: Option<Table>) -> Result<(Vec<u8>, Verdict), AllocError>
-    ensures { IfOk result (λ written. IsTextOfTable (option_map table_view made) written.0.items written.1) }
+fn witness_text(alloc: Global, made: Option<Table>) -> Result<Answer, AllocError>
+    ensures { IfOk result (λ written. IsTextOfTable (option_map table_view made) written.text.items written.verdict) }
 {
     match made {
-        Some(table) => Ok((table_text(alloc, &table)?, Verdict::AllMet)),
-        None => Ok((Vec::new(alloc), Verdict::Absent)),
+        Some(table) => {
+            let text = table_text(alloc, &table)?;
+            Ok(Answer::new(alloc, text, Verdict::AllMet))
+        }
+        None => Ok(Answer::new(alloc, Vec::new(alloc), Verdict::Absent)),
     }
 }
 
@@ -41,7 +44,7 @@ impl Command for WriteWitness {
         &self,
         alloc: Global,
         read: ReadSetup,
-    ) -> Result<(Vec<u8>, Verdict), AllocError> {
+    ) -> Result<Answer, AllocError> {
         let ExploreOptions { first, states } = self.options;
         let ReadSetup { table, setup, .. } = read;
         let made = make_witness::<P, RowStore<P>, RowWaiters<P>>(

@@ -117,7 +117,7 @@ pub fn judge(
 }
 
 /// Whether there is an expectation that an answer does not meet.
-fn misses(alloc: Global, answer: Answer, expected: Option<&str>) -> Result<bool, AllocError>
+pub fn misses(alloc: Global, answer: Answer, expected: Option<&str>) -> Result<bool, AllocError>
     ensures { IfOk result (λ missed. missed ≡ spec.misses (option_copied expected.entry) answer) }
 {
     match expected {

@@ -13,6 +13,7 @@ mod numbers;
 mod rows;
 mod run;
 mod tables;
+mod unmet;
 mod witness;
 
 pub use answers::AnswerText;

@@ -10,7 +10,9 @@ use crate::clients::{calls_of_clients, first_clients};
 use crate::ends::add_stuck;
 use crate::marks::CountText;
 use crate::numbers::numbers_of_clients;
+use crate::unmet::unmet_answers;
 use cap_core::Profile;
+use command_core::CallNote;
 use ipc_core::MakeWaiters;
 use kernel_core::Kernel;
 use query_explore::{Explored, FoundStuck, explore};
@@ -27,6 +29,8 @@ use std::fmt::Write;
 pub struct ExploredText {
     pub text: Vec<u8>,
     pub is_well: bool,
+    /// The answers that do not meet the expectation of their call.
+    pub unmet: Vec<CallNote>,
 }
 
 /// Adds the first line: the version of the report's form, and how large the set-up is.
@@ -108,6 +112,7 @@ fn explored_text(
     Ok(ExploredText {
         text: out.into_bytes(),
         is_well: is_well(is_whole, count, stuck),
+        unmet: unmet_answers(alloc, setup, numbers, answers)?,
     })
 }
 

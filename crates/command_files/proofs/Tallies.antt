@@ -10,7 +10,7 @@ use Rattle.setup_report.specs.declared.calls.ExpectationCount.{ExpectationCount}
 use Rattle.command_check.specs.Program.{outcome_in, outcome_of, program, replies_to, verdict_in}
 use Rattle.command_check.specs.declared.run.CountedText.{CountedText}
 use Rattle.command_check.proofs.Runs.{counted_program}
-use Rattle.command_core.specs.Statuses.{run_status}
+use Rattle.command_core.specs.Statuses.{verdict_status}
 use Rattle.command_core.specs.declared.fault.Verdict.{Verdict}
 use Rattle.command_core.specs.declared.fault.Verdict.TheVariants.{AllMet, NotMet}
 use Rattle.command_files.specs.Files.{count_with, greatest, status_alone, tally_of, tally_status}
@@ -50,13 +50,13 @@ pub found_status_is : (contents : Option (List ℕ)) (found : Option CountedText
 found_status_is None None is = refl
 found_status_is None (Some made) is = absurd is
 found_status_is (Some bytes) None is = absurd is
-found_status_is (Some bytes) (Some made) is = ap (λ (p : List ℕ × Verdict). run_status (Ok p.1)) (counted_program bytes made is)
+found_status_is (Some bytes) (Some made) is = ap (λ (p : List ℕ × Verdict). verdict_status p.1) (counted_program bytes made is)
 
-run_size : (b : Bool) (t : Tally) → tally_size (with_status (run_status (Ok (cond b AllMet NotMet))) t) ≤ tally_size t + 1
+run_size : (b : Bool) (t : Tally) → tally_size (with_status (verdict_status (cond b AllMet NotMet)) t) ≤ tally_size t + 1
 run_size true t = omega arith
 run_size false t = omega arith
 
-counted_size : (count : Option ExpectationCount) (t : Tally) → tally_size (with_status (run_status (Ok (verdict_in count))) t) ≤ tally_size t + 1
+counted_size : (count : Option ExpectationCount) (t : Tally) → tally_size (with_status (verdict_status (verdict_in count)) t) ≤ tally_size t + 1
 counted_size None t = omega arith
 counted_size (Some count) t = run_size (count.met == count.expected) t
 
@@ -79,12 +79,12 @@ refused_more t = grind arith
 unread_more : (t : Tally) → tally_status (with_status 3 t) ≡ max 3 (tally_status t)
 unread_more t = grind arith
 
-run_more : (b : Bool) (t : Tally) → tally_status (with_status (run_status (Ok (cond b AllMet NotMet))) t) ≡ max (run_status (Ok (cond b AllMet NotMet))) (tally_status t)
+run_more : (b : Bool) (t : Tally) → tally_status (with_status (verdict_status (cond b AllMet NotMet)) t) ≡ max (verdict_status (cond b AllMet NotMet)) (tally_status t)
 run_more true t = met_more t
 run_more false t = unmet_more t
 
 outcome_more : (setup : Result SetupView Fault) (t : Tally)
-    → tally_status (with_status (run_status (Ok (outcome_in setup).1)) t) ≡ max (run_status (Ok (outcome_in setup).1)) (tally_status t)
+    → tally_status (with_status (verdict_status (outcome_in setup).1) t) ≡ max (verdict_status (outcome_in setup).1) (tally_status t)
 unfolding outcome_of
 outcome_more (Ok setup) t =
     run_more (met_count setup.calls (replies_to setup.profile setup) == expectation_count setup.calls (replies_to setup.profile setup)) t

@@ -9,8 +9,7 @@ use Rattle.setup_format.specs.Views.{SetupView}
 use Rattle.setup_report.specs.Report.{expectation_line, terminated}
 use Rattle.command_check.specs.Program.{program, replies_to}
 use Rattle.command_core.specs.Devices.{Gave, GaveAsMany, Took, TookFront}
-use Rattle.command_core.specs.Statuses.{run_status}
-use Rattle.command_core.specs.declared.fault.Verdict.{Verdict}
+use Rattle.command_core.specs.Statuses.{run_status, verdict_status}
 use Rattle.command_core.specs.declared.fault.RunFault.{RunFault}
 use Rattle.command_core.specs.declared.fault.RunFault.TheVariants.{Reading, Writing, Memory}
 use Rattle.command_core.specs.Limits.{input_limit}
@@ -70,13 +69,10 @@ file_lines (name ∷ names) (contents ∷ files) = file_line name contents ++ fi
 
 -- ---- the summary
 
--- what `check` answers to a file alone, and its exit status
-abbrev pub answer_alone : Option (List ℕ) → Result Verdict RunFault
-answer_alone None = Err Reading
-answer_alone (Some bytes) = Ok (program bytes).1
-
+-- the exit status of `check` for a file alone: a read fails, or it is that of the verdict
 abbrev pub status_alone : Option (List ℕ) → ℕ
-status_alone contents = run_status (answer_alone contents)
+status_alone None = run_status (Err Reading)
+status_alone (Some bytes) = verdict_status (program bytes).1
 
 -- how many of the files have that exit status
 abbrev pub count_with : ℕ → List (Option (List ℕ)) → ℕ

@@ -1,12 +1,12 @@
 -- What is known of a file while its line is written. No public clause cites it.
-use Rattle.std.specs.Prelude.{◌+◌, ◌==◌, ⊤, ℕ, cond, codes, List, ◌++◌, Option, Some, None, Ok}
+use Rattle.std.specs.Prelude.{◌+◌, ◌==◌, ⊤, ℕ, cond, codes, List, ◌++◌, Option, Some, None}
 use Rattle.std.specs.Fmt.{decimal}
 use Rattle.setup_format.specs.Setups.{setup_of_bytes}
 use Rattle.setup_report.specs.Report.{terminated}
 use Rattle.setup_report.specs.declared.calls.ExpectationCount.{ExpectationCount}
 use Rattle.command_check.specs.Program.{IsTextOfSetup, verdict_in}
 use Rattle.command_check.specs.declared.run.CountedText.{CountedText}
-use Rattle.command_core.specs.Statuses.{run_status}
+use Rattle.command_core.specs.Statuses.{verdict_status}
 use Rattle.command_files.specs.declared.tally.Tally.{Tally}
 
 -- the text of what a file has
@@ -32,7 +32,7 @@ named_line name found = name ++ (codes ": " ++ found_line found)
 
 abbrev pub found_status : Option CountedText → ℕ
 found_status None = 3
-found_status (Some made) = run_status (Ok (verdict_in made.count))
+found_status (Some made) = verdict_status (verdict_in made.count)
 
 -- the tally with one more file of that exit status
 abbrev pub with_status : ℕ → Tally → Tally

@@ -7,7 +7,7 @@ ghost use Rattle.command_never.specs.Never as spec;
 
 use cap_core::Profile;
 use command_check::StateCommand;
-use command_core::Verdict;
+use command_core::{Answer, Verdict};
 use command_never_text::{Never, never_gets};
 use command_parts::{are_meant, thread_meant, trusted};
 use ipc_core::{MakeWaiters, Waiters};
@@ -63,13 +63,13 @@ impl Question<'_> {
         kernel: &Kernel<P, S, W>,
         from: u64,
         to: u64,
-    ) -> Result<(Vec<u8>, Verdict), AllocError>
+    ) -> Result<Answer, AllocError>
         requires { (memory : ℕ) × IsInMemory P.profile memory kernel.now }
         ensures { IfOk result (λ made. spec.IsAnsweredOf P.profile (names_view names.now) (meant.trusted (names_view names.now) (spec.asked_of self.now).without)
-            kernel.now (meant.trusted (names_view names.now) (spec.asked_of self.now).by) from to made.0.items made.1) }
+            kernel.now (meant.trusted (names_view names.now) (spec.asked_of self.now).by) from to made.text.items made.verdict) }
     {
         if !are_live::<P, S, W>(kernel, from, to) {
-            return Ok((Vec::new(alloc), Verdict::Absent));
+            return Ok(Answer::new(alloc, Vec::new(alloc), Verdict::Absent));
         }
         let without = trusted(alloc, names, self.without)?;
         let by = trusted(alloc, names, self.by)?;
@@ -82,7 +82,7 @@ impl Question<'_> {
             by.as_slice(),
             kernel,
         ) {
-            Ok((text, answer)) => Ok((text, verdict_of(answer))),
+            Ok((text, answer)) => Ok(Answer::new(alloc, text, verdict_of(answer))),
             Err(PartsFault::Memory) => Err(AllocError),
             Err(PartsFault::Block) => unreachable!(),
         }
@@ -94,16 +94,16 @@ impl Question<'_> {
         alloc: Global,
         names: &[Name],
         kernel: &Kernel<P, S, W>,
-    ) -> Result<(Vec<u8>, Verdict), AllocError>
+    ) -> Result<Answer, AllocError>
         requires { (memory : ℕ) × IsInMemory P.profile memory kernel.now }
         ensures { IfOk result (λ made. spec.IsAnswered P.profile (names_view names.now) kernel.now (spec.asked_of self.now)
-            (meant.thread_meant (names_view names.now) self.now.from.now) (meant.thread_meant (names_view names.now) self.now.to.now) made.0.items made.1) }
+            (meant.thread_meant (names_view names.now) self.now.from.now) (meant.thread_meant (names_view names.now) self.now.to.now) made.text.items made.verdict) }
     {
         let from = thread_meant(names, self.from.as_bytes());
         let to = thread_meant(names, self.to.as_bytes());
         match (from, to) {
             (Some(from), Some(to)) => self.answer_of::<P, S, W>(alloc, names, kernel, from, to),
-            _ => Ok((Vec::new(alloc), Verdict::Absent)),
+            _ => Ok(Answer::new(alloc, Vec::new(alloc), Verdict::Absent)),
         }
     }
 
@@ -127,9 +127,9 @@ impl StateCommand for Question<'_> {
         setup: &Setup,
         made: usize,
         kernel: &Kernel<P, S, W>,
-    ) -> Result<(Vec<u8>, Verdict), AllocError> {
+    ) -> Result<Answer, AllocError> {
         if !self.has_asked(names) {
-            return Ok((Vec::new(alloc), Verdict::Absent));
+            return Ok(Answer::new(alloc, Vec::new(alloc), Verdict::Absent));
         }
         self.answer_meant::<P, S, W>(alloc, names, kernel)
     }

@@ -12,7 +12,7 @@ use crate::names::are_names;
 use crate::planning::fitting_plan;
 use crate::text::whole_text;
 use cap_core::{Narrow, Profile, ProfileName, Wide};
-use command_core::{Engine, RunFault, Verdict};
+use command_core::{Answer, Engine, RunFault, Verdict};
 use setup_format::{ReadSetup, SetupFault, read};
 use setup_values::KnownNames;
 use std::alloc::{AllocError, Global};
@@ -60,24 +60,24 @@ fn is_new<P: Profile>(alloc: Global, asked: &NewSetup, text: &[u8]) -> Result<bo
 }
 
 /// The text of a set-up of what is asked for, and the verdict; nothing where no plan fits, or where the text is refused.
-fn made_for<P: Profile>(alloc: Global, asked: &NewSetup) -> Result<(Vec<u8>, Verdict), AllocError>
+fn made_for<P: Profile>(alloc: Global, asked: &NewSetup) -> Result<Answer, AllocError>
     requires { P.profile ≡ asked.now.profile }
-    ensures { IfOk result (λ made. IsMadeOf asked.now made.0.items made.1) }
+    ensures { IfOk result (λ made. IsMadeOf asked.now made.text.items made.verdict) }
 {
     let Some(plan) = fitting_plan::<P>(asked)? else {
-        return Ok((Vec::new(alloc), Verdict::Absent));
+        return Ok(Answer::new(alloc, Vec::new(alloc), Verdict::Absent));
     };
     let text = whole_text::<P>(alloc, &plan)?.into_bytes();
     if is_new::<P>(alloc, asked, text.as_slice())? {
-        Ok((text, Verdict::AllMet))
+        Ok(Answer::new(alloc, text, Verdict::AllMet))
     } else {
-        Ok((Vec::new(alloc), Verdict::Refused))
+        Ok(Answer::new(alloc, Vec::new(alloc), Verdict::Refused))
     }
 }
 
 /// The same, for the machine that is asked for.
-fn made_of(alloc: Global, asked: &NewSetup) -> Result<(Vec<u8>, Verdict), AllocError>
-    ensures { IfOk result (λ made. IsMadeOf asked.now made.0.items made.1) }
+fn made_of(alloc: Global, asked: &NewSetup) -> Result<Answer, AllocError>
+    ensures { IfOk result (λ made. IsMadeOf asked.now made.text.items made.verdict) }
 {
     match asked.profile {
         ProfileName::Wide => made_for::<Wide>(alloc, asked),
@@ -96,11 +96,11 @@ pub struct Maker<'a> {
 
 impl Maker<'_> {
     /// The text that is written, and the verdict.
-    fn made(self, alloc: Global) -> Result<(Vec<u8>, Verdict), AllocError>
-        ensures { IfOk result (λ made. IsMade (option_copied self.entry.asked) [] made.0.items made.1) }
+    fn made(self, alloc: Global) -> Result<Answer, AllocError>
+        ensures { IfOk result (λ made. IsMade (option_copied self.entry.asked) [] made.text.items made.verdict) }
     {
         match self.asked {
-            None => Ok((Vec::new(alloc), Verdict::Absent)),
+            None => Ok(Answer::new(alloc, Vec::new(alloc), Verdict::Absent)),
             Some(asked) => made_of(alloc, asked),
         }
     }
@@ -109,7 +109,7 @@ impl Maker<'_> {
 impl Engine for Maker<'_> {
     ghost means = { λ maker. IsMade (option_copied maker.asked) };
 
-    fn make(&self, alloc: Global, input: &[u8]) -> Result<(Vec<u8>, Verdict), RunFault> {
+    fn make(&self, alloc: Global, input: &[u8]) -> Result<Answer, RunFault> {
         self.made(alloc).map_err(|_| RunFault::Memory)
     }
 }

@@ -3,7 +3,7 @@ use crate::text::ever;
 use crate::threads::{are_meant, trusted};
 use cap_core::Profile;
 use command_check::StateCommand;
-use command_core::Verdict;
+use command_core::{Answer, Verdict};
 use ipc_core::MakeWaiters;
 use kernel_core::Kernel;
 use query_parts::PartsFault;
@@ -34,13 +34,13 @@ impl StateCommand for Ever<'_> {
         setup: &Setup,
         made: usize,
         kernel: &Kernel<P, S, W>,
-    ) -> Result<(Vec<u8>, Verdict), AllocError> {
+    ) -> Result<Answer, AllocError> {
         if !are_meant(names, self.without) {
-            return Ok((Vec::new(alloc), Verdict::Absent));
+            return Ok(Answer::new(alloc, Vec::new(alloc), Verdict::Absent));
         }
         let without = trusted(alloc, names, self.without)?;
         match ever::<P, S, W>(alloc, names, setup, made, without.as_slice(), kernel) {
-            Ok(text) => Ok((text, Verdict::AllMet)),
+            Ok(text) => Ok(Answer::new(alloc, text, Verdict::AllMet)),
             Err(PartsFault::Memory) => Err(AllocError),
             Err(PartsFault::Block) => unreachable!(),
         }

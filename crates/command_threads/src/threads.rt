@@ -15,8 +15,10 @@ use crate::beginning::{Begun, begin, whole_history};
 use crate::open_gate::OpenGate;
 use crate::sharing::shared_run;
 use cap_core::{Narrow, Profile, ProfileName, Wide};
-use command_check::refusal;
-use command_core::{INPUT_LIMIT, RunFault, Sink, Source, Verdict, read_below, write_all};
+use command_check::refused as refused_answer;
+use command_core::{
+    Answer, Found, INPUT_LIMIT, RunFault, Sink, Source, Verdict, read_below, write_all,
+};
 use ipc_core::{LinkedWaiters, MakeWaiters};
 use kernel_shared::{Gate, Naming};
 use setup_format::{Setup, SetupFault, read_setup};
@@ -55,7 +57,7 @@ fn report_on<
     begun: Begun<P, S, W>,
     first: usize,
     gate: &G,
-) -> Result<(Vec<u8>, Verdict), RunFault>
+) -> Result<Answer, RunFault>
     requires name { blank.name ≡ N.name }
     requires parts { blank.parts ≡ N.parts }
     requires clients { blank.parts ≡ setup.now.clients }
@@ -66,7 +68,7 @@ fn report_on<
     requires start { N.start ≡ state_begun P.profile setup.now first }
     requires opening { N.opening ≡ shown (state_begun P.profile setup.now first) }
     requires limit { N.limit ≡ setup.now.limit - count_first first setup.now }
-    ensures made { IfOk result (λ made. IsOutcomeIn G.ends first P.profile setup.now made.0.items made.1) }
+    ensures made { IfOk result (λ made. IsOutcomeIn G.ends first P.profile setup.now made.text.items made.verdict) }
     ensures fault { IfErr result IsOwnFault }
 {
     let Begun { kernel, replies } = begun;
@@ -88,7 +90,7 @@ fn report_on<
         return Err(RunFault::Memory);
     };
     let verdict = verdict_on(history.len(), setup.calls().len());
-    Ok((text, verdict))
+    Ok(Answer::new(alloc, text, verdict))
 }
 
 /// The same by the linked forms, from a boot on, under a name of its own.
@@ -98,9 +100,9 @@ fn report_by_links<P: Profile + Send + Sync, R: Threads + Wait + Sync, G: Gate +
     setup: &Setup,
     first: usize,
     gate: &G,
-) -> Result<(Vec<u8>, Verdict), RunFault>
+) -> Result<Answer, RunFault>
     requires { IsPlan P.profile setup.now.plan }
-    ensures made { IfOk result (λ made. IsOutcomeIn G.ends first P.profile setup.now made.0.items made.1) }
+    ensures made { IfOk result (λ made. IsOutcomeIn G.ends first P.profile setup.now made.text.items made.verdict) }
     ensures fault { IfErr result IsOwnFault }
 {
     let Ok(begun) = begin::<P, LinkedStore<P>, LinkedWaiters<P>>(alloc, setup, first) else {
@@ -119,9 +121,9 @@ fn report_in_profile<R: Threads + Wait + Sync, G: Gate + Sync>(
     setup: &Setup,
     first: usize,
     gate: &G,
-) -> Result<(Vec<u8>, Verdict), RunFault>
+) -> Result<Answer, RunFault>
     requires { IsPlan setup.now.profile setup.now.plan }
-    ensures made { IfOk result (λ made. IsOutcomeIn G.ends first setup.now.profile setup.now made.0.items made.1) }
+    ensures made { IfOk result (λ made. IsOutcomeIn G.ends first setup.now.profile setup.now made.text.items made.verdict) }
     ensures fault { IfErr result IsOwnFault }
 {
     match setup.profile() {
@@ -131,15 +133,12 @@ fn report_in_profile<R: Threads + Wait + Sync, G: Gate + Sync>(
 }
 
 /// The line that is written for a set-up that is refused, and the verdict.
-fn refused(alloc: Global, fault: &SetupFault) -> Result<(Vec<u8>, Verdict), RunFault>
-    ensures text { IfOk result (λ made. made.0.items ≡ setup_fault_text fault.now ++ codes "\n") }
-    ensures verdict { IfOk result (λ made. made.1 ≡ Verdict.Refused) }
+fn refused(alloc: Global, fault: &SetupFault) -> Result<Answer, RunFault>
+    ensures text { IfOk result (λ made. made.text.items ≡ setup_fault_text fault.now ++ codes "\n") }
+    ensures verdict { IfOk result (λ made. made.verdict ≡ Verdict.Refused) }
     ensures memory { IfErr result (λ e. e ≡ RunFault.Memory) }
 {
-    match refusal(alloc, fault) {
-        Ok(text) => Ok((text, Verdict::Refused)),
-        Err(_) => Err(RunFault::Memory),
-    }
+    refused_answer(alloc, fault).map_err(|_| RunFault::Memory)
 }
 
 /// The text that is written for the bytes of an input, and the verdict.
@@ -150,8 +149,8 @@ fn report_of_input<R: Threads + Wait + Sync, G: Gate + Sync>(
     first: usize,
     input: &[u8],
     gate: &G,
-) -> Result<(Vec<u8>, Verdict), RunFault>
-    ensures made { IfOk result (λ made. IsSharedProgram G.ends first input.now made.0.items made.1) }
+) -> Result<Answer, RunFault>
+    ensures made { IfOk result (λ made. IsSharedProgram G.ends first input.now made.text.items made.verdict) }
     ensures fault { IfErr result IsOwnFault }
     ensures accepted { result ≡ Err RunFault.Thread → IsOk (setup_of_bytes input.now) }
 {
@@ -169,8 +168,8 @@ fn report_of_input_open<R: Threads + Wait + Sync>(
     alloc: Global,
     first: usize,
     input: &[u8],
-) -> Result<(Vec<u8>, Verdict), RunFault>
-    ensures made { IfOk result (λ made. IsSharedProgram (λ _ _. ⊥) first input.now made.0.items made.1) }
+) -> Result<Answer, RunFault>
+    ensures made { IfOk result (λ made. IsSharedProgram (λ _ _. ⊥) first input.now made.text.items made.verdict) }
     ensures fault { IfErr result IsOwnFault }
     ensures accepted { result ≡ Err RunFault.Thread → IsOk (setup_of_bytes input.now) }
 {
@@ -203,16 +202,16 @@ pub fn threads_run<R: Threads + Wait + Sync, S: Source, K: Sink, G: Gate + Sync>
     source: &mut S,
     sink: &mut K,
     gate: &G,
-) -> Result<Verdict, RunFault>
+) -> Result<Found, RunFault>
     requires source { S.failed source.old ≡ false }
     requires sink { K.failed sink.old ≡ false }
     ensures run { IsRun (IsSharedProgram G.ends first) S.Source K.Sink source.old source.new sink.old sink.new result }
     ensures accepted { result ≡ Err RunFault.Thread → (input : List ℕ) × Gave S.left S.given source.old source.new input × IsOk (setup_of_bytes input) }
 {
     let input = read_below(alloc, source, INPUT_LIMIT)?;
-    let (text, verdict) = report_of_input(rt, alloc, first, input.as_slice(), gate)?;
-    write_all(sink, text.as_slice())?;
-    Ok(verdict)
+    let answer = report_of_input(rt, alloc, first, input.as_slice(), gate)?;
+    write_all(sink, answer.text.as_slice())?;
+    Ok(answer.found())
 }
 
 /// The same with a gate that is always open, an `OpenGate`, as the program's subcommand `threads` has it: a history lacks
@@ -226,14 +225,14 @@ pub fn threads_run_open<R: Threads + Wait + Sync, S: Source, K: Sink>(
     first: usize,
     source: &mut S,
     sink: &mut K,
-) -> Result<Verdict, RunFault>
+) -> Result<Found, RunFault>
     requires source { S.failed source.old ≡ false }
     requires sink { K.failed sink.old ≡ false }
     ensures run { IsRun (IsSharedProgram (λ _ _. ⊥) first) S.Source K.Sink source.old source.new sink.old sink.new result }
     ensures accepted { result ≡ Err RunFault.Thread → (input : List ℕ) × Gave S.left S.given source.old source.new input × IsOk (setup_of_bytes input) }
 {
     let input = read_below(alloc, source, INPUT_LIMIT)?;
-    let (text, verdict) = report_of_input_open(rt, alloc, first, input.as_slice())?;
-    write_all(sink, text.as_slice())?;
-    Ok(verdict)
+    let answer = report_of_input_open(rt, alloc, first, input.as_slice())?;
+    write_all(sink, answer.text.as_slice())?;
+    Ok(answer.found())
 }

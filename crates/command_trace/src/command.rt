@@ -7,7 +7,7 @@ ghost use Rattle.command_trace.specs.Traces.{traced_in};
 use crate::run::trace;
 use cap_core::Profile;
 use command_check::{Command, verdict_on};
-use command_core::Verdict;
+use command_core::{Answer, Verdict};
 use ipc_core::MakeWaiters;
 use setup_format::ReadSetup;
 use slot_core::{DerivationStore, MakeStore};
@@ -18,12 +18,17 @@ use std::alloc::{AllocError, Global};
 fn trace_setup<P: Profile, S: MakeStore<P> + DerivationStore<P>, W: MakeWaiters<P>>(
     alloc: Global,
     read: &ReadSetup,
-) -> Result<(Vec<u8>, Verdict), AllocError>
+) -> Result<Answer, AllocError>
     requires { IsPlan P.profile read.now.setup.plan }
-    ensures { IfOk result (λ made. (made.0.items, made.1) ≡ traced_in P.profile (read_view read.now)) }
+    ensures { IfOk result (λ made. (made.text.items, made.verdict) ≡ traced_in P.profile (read_view read.now)) }
 {
-    let (text, count) = trace::<P, S, W>(alloc, &read.table, read.names.as_slice(), &read.setup)?;
-    Ok((text, verdict_on(count)))
+    let (text, count, unmet) = trace::<P, S, W>(
+        alloc,
+        &read.table,
+        read.names.as_slice(),
+        &read.setup,
+    )?;
+    Ok(Answer::with_unmet(alloc, text, verdict_on(count), unmet))
 }
 
 /// What each call of a set-up changes, in a line each. The verdict is that of the expectations.
@@ -39,7 +44,7 @@ impl Command for Trace {
         &self,
         alloc: Global,
         read: ReadSetup,
-    ) -> Result<(Vec<u8>, Verdict), AllocError> {
+    ) -> Result<Answer, AllocError> {
         trace_setup::<P, S, W>(alloc, &read)
     }
 }

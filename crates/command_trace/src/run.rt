@@ -10,6 +10,8 @@ ghost use Rattle.command_trace.specs.Trace as spec;
 use crate::calls::add_calls;
 use crate::head::add_head;
 use cap_core::Profile;
+use command_check::unmet_calls;
+use command_core::CallNote;
 use command_trace_lines::{add_names, tell};
 use ipc_core::MakeWaiters;
 use kernel_core::Kernel;
@@ -54,7 +56,7 @@ pub fn trace<P: Profile, S: MakeStore<P> + DerivationStore<P>, W: MakeWaiters<P>
     table: &Table,
     names: &[Name],
     setup: &Setup,
-) -> Result<(Vec<u8>, ExpectationCount), AllocError>
+) -> Result<(Vec<u8>, ExpectationCount, Vec<CallNote>), AllocError>
     requires { IsPlan P.profile setup.now.plan }
     ensures text { IfOk result (λ r. r.0.items ≡ spec.trace_of P.profile (table_view table.now) (names_view names.now) setup.now) }
     ensures met { IfOk result (λ r. r.1.met ≡ met_count setup.now.calls (spec.replies_to P.profile setup.now)) }
@@ -70,5 +72,6 @@ pub fn trace<P: Profile, S: MakeStore<P> + DerivationStore<P>, W: MakeWaiters<P>
     let replies = add_calls::<P, S, W>(alloc, &mut out, setup, table, &mut kernel, told)?;
     let count = expectations(alloc, setup, replies.as_slice())?;
     add_expectations(&mut out, count)?;
-    Ok((out.into_bytes(), count))
+    let unmet = unmet_calls(alloc, setup, replies.as_slice(), count)?;
+    Ok((out.into_bytes(), count, unmet))
 }

@@ -3,7 +3,7 @@ use crate::form::Form;
 use crate::text::text_in;
 use cap_core::Profile;
 use command_check::StateCommand;
-use command_core::Verdict;
+use command_core::{Answer, Verdict};
 use ipc_core::MakeWaiters;
 use kernel_core::Kernel;
 use setup_format::Setup;
@@ -33,8 +33,8 @@ impl StateCommand for Tree {
         setup: &Setup,
         made: usize,
         kernel: &Kernel<P, S, W>,
-    ) -> Result<(Vec<u8>, Verdict), AllocError> {
+    ) -> Result<Answer, AllocError> {
         let text = text_in::<P, S, W>(alloc, self.form, names, setup, made, kernel)?;
-        Ok((text, Verdict::AllMet))
+        Ok(Answer::new(alloc, text, Verdict::AllMet))
     }
 }

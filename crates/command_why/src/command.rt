@@ -7,7 +7,7 @@ ghost use Rattle.command_why.specs.Explained.{explained_in, is_absent};
 use crate::run::why;
 use cap_core::Profile;
 use command_check::{Command, verdict_on};
-use command_core::Verdict;
+use command_core::Answer;
 use ipc_core::MakeWaiters;
 use setup_format::ReadSetup;
 use slot_core::{DerivationStore, MakeStore};
@@ -19,12 +19,12 @@ fn explain_setup<P: Profile, S: MakeStore<P> + DerivationStore<P>, W: MakeWaiter
     alloc: Global,
     call: Option<u64>,
     read: &ReadSetup,
-) -> Result<(Vec<u8>, Verdict), AllocError>
+) -> Result<Answer, AllocError>
     requires { IsPlan P.profile read.now.setup.plan }
-    ensures { IfOk result (λ made. (made.0.items, made.1) ≡ explained_in P.profile call (read_view read.now)) }
+    ensures { IfOk result (λ made. (made.text.items, made.verdict) ≡ explained_in P.profile call (read_view read.now)) }
 {
-    let (text, count) = why::<P, S, W>(alloc, &read.table, &read.setup, call)?;
-    Ok((text, verdict_on(count)))
+    let (text, count, unmet) = why::<P, S, W>(alloc, &read.table, &read.setup, call)?;
+    Ok(Answer::with_unmet(alloc, text, verdict_on(count), unmet))
 }
 
 /// Whether a set-up of so many calls has no call of the number that is chosen.
@@ -53,9 +53,12 @@ impl Command for Why {
         &self,
         alloc: Global,
         read: ReadSetup,
-    ) -> Result<(Vec<u8>, Verdict), AllocError> {
-        if is_absent(self.call, read.setup.calls().len()) {
-            return Ok((Vec::new(alloc), Verdict::Absent));
+    ) -> Result<Answer, AllocError> {
+        let calls = read.setup.calls().len();
+        if is_absent(self.call, calls) {
+            let asked = self.call.unwrap_or(0);
+            let absent = format!(in alloc; "--call {asked}: the set-up has {calls} calls")?;
+            return Ok(Answer::absent(alloc, absent));
         }
         explain_setup::<P, S, W>(alloc, self.call, &read)
     }

@@ -7,6 +7,8 @@ ghost use Rattle.command_why.specs.Why as spec;
 
 use crate::calls::add_calls;
 use cap_core::Profile;
+use command_check::unmet_calls;
+use command_core::CallNote;
 use ipc_core::MakeWaiters;
 use kernel_core::{Kernel, Reply};
 use setup_format::Setup;
@@ -65,7 +67,7 @@ pub fn why<P: Profile, S: MakeStore<P> + DerivationStore<P>, W: MakeWaiters<P>>(
     table: &Table,
     setup: &Setup,
     chosen: Option<u64>,
-) -> Result<(Vec<u8>, ExpectationCount), AllocError>
+) -> Result<(Vec<u8>, ExpectationCount, Vec<CallNote>), AllocError>
     requires { IsPlan P.profile setup.now.plan }
     ensures text { IfOk result (λ r. r.0.items ≡ spec.why_of P.profile (table_view table.now) chosen setup.now) }
     ensures met { IfOk result (λ r. r.1.met ≡ met_count setup.now.calls (spec.replies_to P.profile setup.now)) }
@@ -77,5 +79,6 @@ pub fn why<P: Profile, S: MakeStore<P> + DerivationStore<P>, W: MakeWaiters<P>>(
     let replies = add_calls::<P, S, W>(alloc, &mut out, setup, table, chosen, &mut kernel)?;
     let count = expectations(alloc, setup, replies.as_slice())?;
     add_ending(&mut out, chosen, replies.as_slice(), count)?;
-    Ok((out.into_bytes(), count))
+    let unmet = unmet_calls(alloc, setup, replies.as_slice(), count)?;
+    Ok((out.into_bytes(), count, unmet))
 }

@@ -9,6 +9,7 @@ use Rattle.command_line.specs.declared.arguments.Job.TheVariants.{Check, New}
 use Rattle.command_line.specs.declared.arguments.Options.{Options}
 use Rattle.command_core.specs.Devices.{Took, TookFront}
 use Rattle.command_core.specs.Runs.{IsRun}
+use Rattle.command_core.specs.declared.answer.Found.{Found}
 use Rattle.command_core.specs.declared.fault.Verdict.{Verdict}
 use Rattle.command_core.specs.declared.fault.RunFault.{RunFault}
 use Rattle.command_core.specs.declared.fault.RunFault.TheVariants.{Reading, Writing, Memory, Thread}
@@ -29,8 +30,8 @@ named_input (Some name) = if bytes_eq name (codes "-") then None else Some name
 
 -- a text and a verdict of that meaning were made of no input, and the text was written, or a front of it where a write failed
 pub record IsWriting {K : Type 0} (means : List ℕ → Verdict → Type 0) (to : SinkGhosts K) (sink_old sink_new : K)
-    (result : Result Verdict RunFault) : Type 0 where
-  pub ok : IfOk result (λ verdict. (text : List ℕ) × Took to.taken to.written sink_old sink_new text × means text verdict)
+    (result : Result Found RunFault) : Type 0 where
+  pub ok : IfOk result (λ found. (text : List ℕ) × Took to.taken to.written sink_old sink_new text × means text found.verdict)
   pub writing : result ≡ Err Writing → to.failed sink_new ≡ true
   pub writing_front : result ≡ Err Writing → (text : List ℕ) × (verdict : Verdict)
       × TookFront to.taken to.written sink_old sink_new text × means text verdict
@@ -43,7 +44,7 @@ pub record IsWriting {K : Type 0} (means : List ℕ → Verdict → Type 0) (to 
 -- opened, a failed read, and nothing is written; a new set-up is made of no input
 abbrev pub IsDone : {S F E K : Type 0} → (S → Type 0) → (Text → F → Type 0) → (Text → E → Type 0)
     → SourceGhosts S → SourceGhosts F → SinkGhosts K
-    → Job → Options → Option Text → Used S F E → Result Verdict RunFault → K → K → Type 0
+    → Job → Options → Option Text → Used S F E → Result Found RunFault → K → K → Type 0
 IsDone is_standard is_file is_fault from_standard from_file to job options name (Standard source) answer old new =
     (name ≡ None) × (unread : _) × is_standard unread
     × IsRun (meaning job options) from_standard to unread source old new answer

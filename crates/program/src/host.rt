@@ -4,13 +4,12 @@ ghost use Rattle.std.specs.declared.io.Error.{Error};
 ghost use Rattle.clap.specs.Walk.{texts};
 ghost use Rattle.program.specs.Host.{IsStatusOf, IsUnread};
 
-use crate::front::FrontWriter;
 use crate::lines::run_words;
 use command_check::CountedText;
 use command_core::{KeptReader, KeptWriter, ReaderSource, Sink, Source, WriterSink};
 use command_files::{Inputs, Listener, Used};
 use command_line::LineFault;
-use program_messages::{Output, complain, tell, tell_of_file};
+use program_messages::{complain, tell, tell_of_file};
 use std::env::{self, Env};
 use std::fs::{self, Files};
 use std::io::{self, Eprint, ErrorKind, Input, Printer};
@@ -92,10 +91,9 @@ fn run_texts<R: Files + Input + Print + Eprint + AllocGlobal + Threads + Wait + 
 ) -> u8
     ensures { IsStatusOf {E = Error} IsUnread (λ name. IsUnread) (λ name fault. ⊤)
         ⟦<ReaderSource<KeptReader<R::Reader>> as Source>⟧ ⟦<ReaderSource<KeptReader<R::File>> as Source>⟧
-        ⟦<WriterSink<FrontWriter<KeptWriter<Printer<'static, R>>>> as Sink>⟧ (texts words.now) result }
+        ⟦<WriterSink<KeptWriter<Printer<'static, R>>> as Sink>⟧ (texts words.now) result }
 {
-    let writer = FrontWriter::new(rt.alloc(), KeptWriter::new(io::writer(rt)));
-    let mut sink = WriterSink::new(writer);
+    let mut sink = WriterSink::new(KeptWriter::new(io::writer(rt)));
     let ended = run_words(
         rt,
         rt.alloc(),
@@ -104,12 +102,7 @@ fn run_texts<R: Files + Input + Print + Eprint + AllocGlobal + Threads + Wait + 
         words,
         &mut sink,
     );
-    let writer = sink.writer();
-    let output = Output {
-        front: writer.front(),
-        failure: writer.writer().failure(),
-    };
-    tell(rt, words, &ended, output);
+    tell(rt, words, &ended, sink.writer().failure());
     ended.status()
 }
 

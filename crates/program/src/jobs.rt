@@ -6,7 +6,7 @@ ghost use Rattle.setup_format.specs.Setups.{setup_of_bytes};
 ghost use Rattle.program.specs.Jobs.{IsShared, meaning};
 
 use crate::work::Work;
-use command_core::{RunFault, Sink, Source, Verdict, run_engine};
+use command_core::{Found, RunFault, Sink, Source, run_engine};
 use command_line::{Job, Options};
 use command_threads::threads_run_open;
 use std::alloc::Global;
@@ -20,7 +20,7 @@ fn threads<R: Threads + Wait + Sync, S: Source, K: Sink>(
     options: Options<'_>,
     source: &mut S,
     sink: &mut K,
-) -> Result<Verdict, RunFault>
+) -> Result<Found, RunFault>
     requires source { S.failed source.old ≡ false }
     requires sink { K.failed sink.old ≡ false }
     ensures run { IsRun (IsShared options.entry) S.Source K.Sink source.old source.new sink.old sink.new result }
@@ -37,7 +37,7 @@ pub(crate) fn run_work<S: Source, K: Sink>(
     options: Options<'_>,
     source: &mut S,
     sink: &mut K,
-) -> Result<Verdict, RunFault>
+) -> Result<Found, RunFault>
     requires job { job ≢ Job.Threads }
     requires source { S.failed source.old ≡ false }
     requires sink { K.failed sink.old ≡ false }
@@ -61,7 +61,7 @@ pub fn run_job<R: Threads + Wait + Sync, S: Source, K: Sink>(
     options: Options<'_>,
     source: &mut S,
     sink: &mut K,
-) -> Result<Verdict, RunFault>
+) -> Result<Found, RunFault>
     requires source { S.failed source.old ≡ false }
     requires sink { K.failed sink.old ≡ false }
     ensures run { IsRun (meaning job options.entry) S.Source K.Sink source.old source.new sink.old sink.new result }

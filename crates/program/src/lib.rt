@@ -2,7 +2,6 @@
 #![tactic(auto)]
 
 mod commas;
-mod front;
 mod host;
 mod jobs;
 mod lines;

@@ -14,7 +14,7 @@ use crate::new_setup::asked_by;
 use crate::witness::witness_named;
 use command_audit::Audit;
 use command_check::{Checker, Command, Migrator, OnSetup, OnState, StateCommand};
-use command_core::{Engine, RunFault, Verdict};
+use command_core::{Answer, Engine, RunFault};
 use command_explore::{Explore, ExploreOptions, WriteWitness};
 use command_line::{Job, Options};
 use command_never::Question;
@@ -29,12 +29,8 @@ use std::alloc::Global;
 const MOST_STATES: u64 = 100_000;
 
 /// What a command makes of an input.
-fn on_setup<C: Command + Drop>(
-    alloc: Global,
-    command: C,
-    input: &[u8],
-) -> Result<(Vec<u8>, Verdict), RunFault>
-    ensures made { IfOk result (λ made. IsAnswerTo (C.answers command) input.now made.0.items made.1) }
+fn on_setup<C: Command + Drop>(alloc: Global, command: C, input: &[u8]) -> Result<Answer, RunFault>
+    ensures made { IfOk result (λ made. IsAnswerTo (C.answers command) input.now made.text.items made.verdict) }
     ensures memory { IfErr result (λ fault. fault ≡ RunFault.Memory) }
 {
     OnSetup { command }.make(alloc, input)
@@ -46,20 +42,16 @@ fn on_state<C: StateCommand + Drop>(
     after: Option<u64>,
     command: C,
     input: &[u8],
-) -> Result<(Vec<u8>, Verdict), RunFault>
-    ensures made { IfOk result (λ made. IsAnswerTo (IsStateAnswer (C.answers command) after) input.now made.0.items made.1) }
+) -> Result<Answer, RunFault>
+    ensures made { IfOk result (λ made. IsAnswerTo (IsStateAnswer (C.answers command) after) input.now made.text.items made.verdict) }
     ensures memory { IfErr result (λ fault. fault ≡ RunFault.Memory) }
 {
     on_setup(alloc, OnState { command, after }, input)
 }
 
 /// What threads can never get, where those of `--without` make no more calls.
-fn make_ever(
-    alloc: Global,
-    options: Options<'_>,
-    input: &[u8],
-) -> Result<(Vec<u8>, Verdict), RunFault>
-    ensures made { IfOk result (λ made. IsAnswerTo (IsStateAnswer (IsEver (without_of options.entry)) options.entry.after) input.now made.0.items made.1) }
+fn make_ever(alloc: Global, options: Options<'_>, input: &[u8]) -> Result<Answer, RunFault>
+    ensures made { IfOk result (λ made. IsAnswerTo (IsStateAnswer (IsEver (without_of options.entry)) options.entry.after) input.now made.text.items made.verdict) }
     ensures memory { IfErr result (λ fault. fault ≡ RunFault.Memory) }
 {
     match words_in(alloc, options.without) {
@@ -72,12 +64,8 @@ fn make_ever(
 }
 
 /// The audit of a state or of one slot, or, with `--ever`, what threads can never get.
-fn make_state_audit(
-    alloc: Global,
-    options: Options<'_>,
-    input: &[u8],
-) -> Result<(Vec<u8>, Verdict), RunFault>
-    ensures made { IfOk result (λ made. IsAuditOfState options.entry input.now made.0.items made.1) }
+fn make_state_audit(alloc: Global, options: Options<'_>, input: &[u8]) -> Result<Answer, RunFault>
+    ensures made { IfOk result (λ made. IsAuditOfState options.entry input.now made.text.items made.verdict) }
     ensures memory { IfErr result (λ fault. fault ≡ RunFault.Memory) }
 {
     if options.ever {
@@ -97,10 +85,10 @@ fn make_never_between(
     without: &[&str],
     by: &[&str],
     input: &[u8],
-) -> Result<(Vec<u8>, Verdict), RunFault>
+) -> Result<Answer, RunFault>
     requires without { map (λ w. w.now) without.now ≡ without_of options }
     requires by { map (λ w. w.now) by.now ≡ by_of options }
-    ensures made { IfOk result (λ made. IsAnswerTo (IsStateAnswer (IsNever (question_of options.entry threads.now)) options.entry.after) input.now made.0.items made.1) }
+    ensures made { IfOk result (λ made. IsAnswerTo (IsStateAnswer (IsNever (question_of options.entry threads.now)) options.entry.after) input.now made.text.items made.verdict) }
     ensures memory { IfErr result (λ fault. fault ≡ RunFault.Memory) }
 {
     let (from, to) = around(threads, ',');
@@ -119,8 +107,8 @@ fn make_never(
     options: Options<'_>,
     threads: &str,
     input: &[u8],
-) -> Result<(Vec<u8>, Verdict), RunFault>
-    ensures made { IfOk result (λ made. IsAnswerTo (IsStateAnswer (IsNever (question_of options.entry threads.now)) options.entry.after) input.now made.0.items made.1) }
+) -> Result<Answer, RunFault>
+    ensures made { IfOk result (λ made. IsAnswerTo (IsStateAnswer (IsNever (question_of options.entry threads.now)) options.entry.after) input.now made.text.items made.verdict) }
     ensures memory { IfErr result (λ fault. fault ≡ RunFault.Memory) }
 {
     let Ok(without) = words_in(alloc, options.without) else {
@@ -139,12 +127,8 @@ fn make_never(
     )
 }
 
-fn make_audit(
-    alloc: Global,
-    options: Options<'_>,
-    input: &[u8],
-) -> Result<(Vec<u8>, Verdict), RunFault>
-    ensures made { IfOk result (λ made. IsAudit options.entry input.now made.0.items made.1) }
+fn make_audit(alloc: Global, options: Options<'_>, input: &[u8]) -> Result<Answer, RunFault>
+    ensures made { IfOk result (λ made. IsAudit options.entry input.now made.text.items made.verdict) }
     ensures memory { IfErr result (λ fault. fault ≡ RunFault.Memory) }
 {
     match options.never {
@@ -159,20 +143,16 @@ fn make_witness(
     options: ExploreOptions,
     which: &str,
     input: &[u8],
-) -> Result<(Vec<u8>, Verdict), RunFault>
-    ensures made { IfOk result (λ made. IsNamedWitness which.now options.first options.states input.now made.0.items made.1) }
+) -> Result<Answer, RunFault>
+    ensures made { IfOk result (λ made. IsNamedWitness which.now options.first options.states input.now made.text.items made.verdict) }
     ensures memory { IfErr result (λ fault. fault ≡ RunFault.Memory) }
 {
     let witness = witness_named(which);
     on_setup(alloc, WriteWitness { options, witness }, input)
 }
 
-fn make_exploration(
-    alloc: Global,
-    options: Options<'_>,
-    input: &[u8],
-) -> Result<(Vec<u8>, Verdict), RunFault>
-    ensures made { IfOk result (λ made. IsExplorationBy options.entry input.now made.0.items made.1) }
+fn make_exploration(alloc: Global, options: Options<'_>, input: &[u8]) -> Result<Answer, RunFault>
+    ensures made { IfOk result (λ made. IsExplorationBy options.entry input.now made.text.items made.verdict) }
     ensures memory { IfErr result (λ fault. fault ≡ RunFault.Memory) }
 {
     let asked = ExploreOptions {
@@ -193,12 +173,8 @@ fn form_of(options: Options<'_>) -> Form
 }
 
 /// A set-up of the sizes that the options ask for, whatever the input is.
-fn make_new(
-    alloc: Global,
-    options: Options<'_>,
-    input: &[u8],
-) -> Result<(Vec<u8>, Verdict), RunFault>
-    ensures made { IfOk result (λ made. IsNewOf options.entry made.0.items made.1) }
+fn make_new(alloc: Global, options: Options<'_>, input: &[u8]) -> Result<Answer, RunFault>
+    ensures made { IfOk result (λ made. IsNewOf options.entry made.text.items made.verdict) }
     ensures memory { IfErr result (λ fault. fault ≡ RunFault.Memory) }
 {
     match asked_by(alloc, options) {
@@ -234,7 +210,7 @@ impl Engine for Work<'_> {
 
     ghost means = { λ work. meaning work.job work.options };
 
-    fn make(&self, alloc: Global, input: &[u8]) -> Result<(Vec<u8>, Verdict), RunFault> {
+    fn make(&self, alloc: Global, input: &[u8]) -> Result<Answer, RunFault> {
         let options = self.options;
         match self.job {
             Job::Check => Checker.make(alloc, input),

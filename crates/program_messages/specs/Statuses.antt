@@ -1,6 +1,7 @@
 -- The program's exit status, and what it says first on standard error.
 use Rattle.std.specs.Prelude.{ℕ, List, codes, Option, Some, None, Result, Ok, Err}
 use Rattle.command_core.specs.Statuses.{run_status, run_fault_text}
+use Rattle.command_core.specs.declared.answer.Found.{Found}
 use Rattle.command_core.specs.declared.fault.Verdict.{Verdict}
 use Rattle.command_core.specs.declared.fault.Verdict.TheVariants.{Absent}
 use Rattle.command_core.specs.declared.fault.RunFault.{RunFault}
@@ -20,9 +21,12 @@ end_status (Conflict text) = 4
 end_status NoMemory = 3
 
 -- what is said of a fault of a run, and of options that name what the set-up does not have
-abbrev pub answer_text : Result Verdict RunFault → Option (List ℕ)
-answer_text (Ok Absent) = Some (codes "command line refused")
-answer_text (Ok verdict) = None
+abbrev pub verdict_text : Verdict → Option (List ℕ)
+verdict_text Absent = Some (codes "command line refused")
+verdict_text verdict = None
+
+abbrev pub answer_text : Result Found RunFault → Option (List ℕ)
+answer_text (Ok found) = verdict_text found.verdict
 answer_text (Err fault) = Some (run_fault_text fault)
 
 -- what is said of a fault that ends the check of several files

@@ -59,36 +59,6 @@ fn absent_threads(
     Ok(Some(text))
 }
 
-/// The call that is absent.
-fn absent_call(
-    alloc: Global,
-    options: Options<'_>,
-    calls: u64,
-) -> Result<Option<String>, AllocError> {
-    match options.call {
-        None => Ok(None),
-        Some(n) => {
-            let text = format!(in alloc; "--call {n}: the set-up has {calls} calls")?;
-            Ok(Some(text))
-        }
-    }
-}
-
-/// How many calls are asked for, where the set-up has fewer.
-fn absent_calls(
-    alloc: Global,
-    options: Options<'_>,
-    calls: u64,
-) -> Result<Option<String>, AllocError> {
-    match options.after {
-        Some(n) if n > calls => {
-            let text = format!(in alloc; "--after {n}: the set-up has {calls} calls")?;
-            Ok(Some(text))
-        }
-        _ => Ok(None),
-    }
-}
-
 /// Of the words of some options the first that means nothing.
 fn absent_words(
     alloc: Global,
@@ -106,39 +76,17 @@ fn absent_words(
     }
 }
 
-/// The slot that is absent of an audit.
-fn absent_slot(
-    alloc: Global,
-    options: Options<'_>,
-    calls: u64,
-) -> Result<Option<String>, AllocError> {
-    match options.slot {
-        None => Ok(None),
-        Some(slot) => {
-            let made = options.after.unwrap_or(calls);
-            let text = format!(in alloc;
-                "--slot {slot}: no full slot is there after {made} calls"
-            )?;
-            Ok(Some(text))
-        }
-    }
-}
-
 /// What is absent of an audit.
 fn absent_in_audit(
     alloc: Global,
     named: &ReadSetup,
     options: Options<'_>,
-    calls: u64,
 ) -> Result<Option<String>, AllocError> {
-    if let Some(text) = absent_calls(alloc, options, calls)? {
-        return Ok(Some(text));
-    }
     if let Some(text) = absent_words(alloc, named, options)? {
         return Ok(Some(text));
     }
     match options.never {
-        None => absent_slot(alloc, options, calls),
+        None => Ok(None),
         Some(threads) => absent_threads(alloc, named, threads),
     }
 }
@@ -154,33 +102,20 @@ fn absent_order(alloc: Global, options: Options<'_>) -> Result<Option<String>, A
     }
 }
 
-/// Which word or number of a line's options the set-up does not have.
-fn absent_in(
-    alloc: Global,
-    line: &Line<'_>,
-    named: &ReadSetup,
-) -> Result<Option<String>, AllocError> {
-    let calls = named.setup.calls().len() as u64;
-    match line.job {
-        Job::Why => absent_call(alloc, line.options, calls),
-        Job::Audit => absent_in_audit(alloc, named, line.options, calls),
-        Job::Tree => absent_calls(alloc, line.options, calls),
-        Job::Explore => absent_order(alloc, line.options),
-        Job::Check | Job::Trace | Job::Threads | Job::Migrate | Job::New => Ok(None),
-    }
-}
-
-/// Says which word or number of a line's options the set-up does not have, which the bytes are, or why there is no set-up of
-/// the sizes that they give; nothing where they are none.
+/// Says which word of an audit's options means nothing in the set-up that the bytes are, which order an exploration does not
+/// tell, or why there is no set-up of the sizes that the options give; nothing where they are none, and where the answer itself says
+/// what is absent.
 ///
 /// # Errors
 /// Where memory was refused.
 pub fn absence(alloc: Global, line: &Line<'_>, bytes: &[u8]) -> Result<Option<String>, AllocError> {
-    if let Job::New = line.job {
-        return Ok(Some(absent_size(alloc, line.options)?));
-    }
-    match read(alloc, bytes) {
-        Ok(named) => absent_in(alloc, line, &named),
-        Err(_) => Ok(None),
+    match line.job {
+        Job::New => Ok(Some(absent_size(alloc, line.options)?)),
+        Job::Explore => absent_order(alloc, line.options),
+        Job::Audit => match read(alloc, bytes) {
+            Ok(named) => absent_in_audit(alloc, &named, line.options),
+            Err(_) => Ok(None),
+        },
+        _ => Ok(None),
     }
 }

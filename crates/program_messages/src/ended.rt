@@ -1,7 +1,7 @@
 //! How the program ends: its exit status, and what it says of a fault.
 ghost use Rattle.std.specs.Prelude.{◌≡◌, option_map};
 
-use command_core::{RunFault, Verdict, status_of};
+use command_core::{Found, RunFault, Verdict, status_of};
 use command_files::{Tally, Used, status_of_files};
 use command_line::Line;
 
@@ -16,7 +16,7 @@ pub struct Done<'a, S, F, E> {
     /// The input, after the job.
     pub input: Used<S, F, E>,
     /// What the job found.
-    pub answer: Result<Verdict, RunFault>,
+    pub answer: Result<Found, RunFault>,
 }
 
 /// A line whose several files were checked, and what came of it.
@@ -72,7 +72,12 @@ impl<S, F, E> Ended<'_, S, F, E> {
         match self {
             Ended::Did(
                 Done {
-                    answer: Ok(Verdict::Absent),
+                    answer: Ok(
+                        Found {
+                            verdict: Verdict::Absent,
+                            ..
+                        },
+                    ),
                     ..
                 },
             ) => Some(REFUSED),

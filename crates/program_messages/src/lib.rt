@@ -3,11 +3,11 @@
 #![tactic(auto)]
 
 mod absent;
+mod calls;
 mod ended;
 mod messages;
 mod sizes;
-mod unexpected;
 mod words;
 
 pub use ended::{CheckedFiles, Done, Ended};
-pub use messages::{Output, complain, tell, tell_of_file};
+pub use messages::{complain, tell, tell_of_file};

@@ -1,13 +1,14 @@
 //! What is said on standard error. Where that fails too, nothing more is said.
 use crate::absent::absence;
+use crate::calls::{note_on_refusals, note_on_unmet};
 use crate::ended::{CheckedFiles, Done, Ended};
-use crate::unexpected::unexpected_refusals;
 use crate::words::{is_command, may_be_command, near_command};
 use command_check::CountedText;
-use command_core::{INPUT_LIMIT, KeptReader, ReaderSource, RunFault, Verdict};
+use command_core::{Found, INPUT_LIMIT, KeptReader, Notes, ReaderSource, RunFault, Verdict};
 use command_files::Used;
 use command_line::{Job, Line, refused_line_words};
-use setup_messages::{Formats, refusal_words, unmet_warnings};
+use setup_messages::{Formats, refusal_words};
+use setup_positions::NamedText;
 use std::fmt::Display;
 use std::io::{self, Eprint};
 
@@ -29,15 +30,6 @@ type HostEnded<'a, S, F> = Ended<
     ReaderSource<KeptReader<F>>,
     io::Error,
 >;
-
-/// What is known of standard output after a run.
-#[derive(Clone, Copy)]
-pub struct Output<'a> {
-    /// The beginning of what it took.
-    pub front: &'a [u8],
-    /// Why a write failed, where one did.
-    pub failure: Option<&'a io::Error>,
-}
 
 /// Why a read failed, or why the file could not be opened.
 fn failure_of<S, F>(input: &HostUsed<S, F>) -> Option<&io::Error> {
@@ -190,20 +182,20 @@ fn formats_of(job: Job) -> Formats {
     }
 }
 
-/// Says why a set-up is refused, also one that was made, which of its expectations no reply can meet where it was checked,
-/// traced or explained, or what the options name and it does not have.
-fn note_on_verdict<R: Eprint + AllocGlobal>(
-    rt: &R,
-    line: &Line<'_>,
-    verdict: Verdict,
-    bytes: &[u8],
-) {
-    match (line.job, verdict) {
-        (Job::Check | Job::Trace | Job::Why, Verdict::NotMet) => {
-            if let Ok(warnings) = unmet_warnings(rt.alloc(), bytes) {
-                note(rt, warnings.as_str());
-            }
-        }
+/// Says what the options name and the set-up does not have.
+fn note_on_absence<R: Eprint + AllocGlobal>(rt: &R, line: &Line<'_>, found: &Found, bytes: &[u8]) {
+    if let Some(text) = &found.notes.absent {
+        note(rt, text.as_str());
+        return;
+    }
+    if let Ok(Some(text)) = absence(rt.alloc(), line, bytes) {
+        note(rt, text.as_str());
+    }
+}
+
+/// Says why a set-up is refused, also one that was made, or what the options name and it does not have.
+fn note_on_verdict<R: Eprint + AllocGlobal>(rt: &R, line: &Line<'_>, found: &Found, bytes: &[u8]) {
+    match (line.job, found.verdict) {
         (Job::New, Verdict::Refused) => note(rt, REFUSED_TEXT),
         (_, Verdict::Refused) => {
             let (formats, name) = (formats_of(line.job), name_of(line.file));
@@ -211,48 +203,57 @@ fn note_on_verdict<R: Eprint + AllocGlobal>(
                 note(rt, words.as_str());
             }
         }
-        (_, Verdict::Absent) => {
-            if let Ok(Some(text)) = absence(rt.alloc(), line, bytes) {
-                note(rt, text.as_str());
-            }
-        }
+        (_, Verdict::Absent) => note_on_absence(rt, line, found, bytes),
         _ => {}
     }
 }
 
-/// Says which calls of a set-up that was checked were refused where nothing was expected, and what tells why.
-fn note_on_refusals<R: Eprint + AllocGlobal>(rt: &R, file: Option<&str>, report: &[u8]) {
-    let Ok(refusals) = unexpected_refusals(rt.alloc(), report) else {
-        return;
-    };
-    if refusals.as_str().is_empty() {
-        return;
-    }
+/// Says of the calls of a set-up what a command noted of them. `name` is what the input is called, and `file` is its name, with
+/// a space before it, where it has one.
+fn note_on_calls<R: Eprint + AllocGlobal>(
+    rt: &R,
+    name: &str,
+    file: &str,
+    notes: &Notes,
+    is_one_order: bool,
+    bytes: &[u8],
+) {
+    let text = str::from_utf8(bytes).unwrap_or("");
+    let source = NamedText { name, text };
+    note_on_unmet(rt, source, notes.unmet.as_slice(), is_one_order);
+    note_on_refusals(rt, source, file, notes.refused.as_slice());
+}
+
+/// Says the same of the input of a command. Its name stands behind `sel4sim why` where it has one.
+fn note_on_input<R: Eprint + AllocGlobal>(
+    rt: &R,
+    file: Option<&str>,
+    notes: &Notes,
+    is_one_order: bool,
+    bytes: &[u8],
+) {
+    let name = name_of(file);
     match file {
-        Some(name) => complain(rt, format_args!("{refusals}; sel4sim why {name} tells why")),
-        None => complain(rt, format_args!("{refusals}; sel4sim why tells why")),
+        None => note_on_calls(rt, name, "", notes, is_one_order, bytes),
+        Some(word) => {
+            if let Ok(word) = format!(in rt.alloc(); " {word}") {
+                note_on_calls(rt, name, word.as_str(), notes, is_one_order, bytes);
+            }
+        }
     }
 }
 
-/// Says of the file of that name, one of several, why its set-up is refused, or which of its expectations no reply can meet.
+/// Says of the file of that name, one of several, why its set-up is refused.
 fn note_on_file<R: Eprint + AllocGlobal>(rt: &R, name: &str, verdict: Verdict, bytes: &[u8]) {
-    match verdict {
-        Verdict::NotMet => {
-            if let Ok(warnings) = unmet_warnings(rt.alloc(), bytes) {
-                note_in(rt, name, warnings.as_str());
-            }
-        }
-        Verdict::Refused => {
-            if let Ok(words) = refusal_words(rt.alloc(), bytes, Formats::All, name) {
-                note_in(rt, name, words.as_str());
-            }
-        }
-        Verdict::AllMet | Verdict::Absent => {}
+    if let Verdict::Refused = verdict
+        && let Ok(words) = refusal_words(rt.alloc(), bytes, Formats::All, name)
+    {
+        note_in(rt, name, words.as_str());
     }
 }
 
 /// Says of the file of that name, one of several, what is said of a file that is checked alone: why it cannot be read, why its
-/// set-up is refused, which of its expectations no reply can meet, and which calls were refused where nothing was expected.
+/// set-up is refused, whose expectations are not met, and which calls were refused where nothing was expected.
 pub fn tell_of_file<R: Eprint + AllocGlobal, S, F>(
     rt: &R,
     name: &str,
@@ -264,8 +265,8 @@ pub fn tell_of_file<R: Eprint + AllocGlobal, S, F>(
         Some(made) => {
             if let Some(bytes) = bytes_of(input) {
                 note_on_file(rt, said, made.verdict(), bytes);
+                note_on_input(rt, Some(name), &made.notes, true, bytes);
             }
-            note_on_refusals(rt, Some(name), made.text.as_slice());
         }
         None => {
             complain(rt, RunFault::Reading);
@@ -279,11 +280,11 @@ fn tell_of_files<R: Eprint + AllocGlobal>(
     rt: &R,
     words: &[&str],
     checked: &CheckedFiles<'_>,
-    output: Output<'_>,
+    failure: Option<&io::Error>,
 ) {
     match checked.answer {
         Ok(tally) if tally.unread > 0 => note_on_first_file(rt, words),
-        Err(RunFault::Writing) => explain_writing(rt, output.failure),
+        Err(RunFault::Writing) => explain_writing(rt, failure),
         _ => {}
     }
 }
@@ -293,15 +294,14 @@ fn tell_of_line<R: Eprint + AllocGlobal, S, F>(
     rt: &R,
     words: &[&str],
     done: &HostDone<'_, S, F>,
-    output: Output<'_>,
+    failure: Option<&io::Error>,
 ) {
-    match done.answer {
-        Ok(verdict) => {
+    match &done.answer {
+        Ok(found) => {
             if let Some(bytes) = bytes_of(&done.input) {
-                note_on_verdict(rt, &done.line, verdict, bytes);
-            }
-            if matches!(done.line.job, Job::Check) {
-                note_on_refusals(rt, done.line.file, output.front);
+                note_on_verdict(rt, &done.line, found, bytes);
+                let is_one_order = !matches!(done.line.job, Job::Explore);
+                note_on_input(rt, done.line.file, &found.notes, is_one_order, bytes);
             }
         }
         Err(RunFault::Reading) => {
@@ -311,26 +311,26 @@ fn tell_of_line<R: Eprint + AllocGlobal, S, F>(
                 note_on_command(rt, name, "is no command either");
             }
         }
-        Err(RunFault::Writing) => explain_writing(rt, output.failure),
+        Err(RunFault::Writing) => explain_writing(rt, failure),
         Err(RunFault::Memory | RunFault::Thread) => {}
     }
 }
 
 /// Says what there is to say of an end: first the fault, if there is one, and then what helps to understand it; of words
-/// that are not taken, what clap says.
+/// that are not taken, what clap says. `failure` is why a write to standard output failed, where one did.
 pub fn tell<R: Eprint + AllocGlobal, S, F>(
     rt: &R,
     words: &[&str],
     ended: &HostEnded<'_, S, F>,
-    output: Output<'_>,
+    failure: Option<&io::Error>,
 ) {
     if let Some(text) = ended.fault_text() {
         complain(rt, text);
     }
     match ended {
-        Ended::Did(done) => tell_of_line(rt, words, done, output),
-        Ended::Checked(checked) => tell_of_files(rt, words, checked, output),
-        Ended::Helped(Err(_)) => explain_writing(rt, output.failure),
+        Ended::Did(done) => tell_of_line(rt, words, done, failure),
+        Ended::Checked(checked) => tell_of_files(rt, words, checked, failure),
+        Ended::Helped(Err(_)) => explain_writing(rt, failure),
         Ended::Refused => {
             if let Some(text) = refused_line_words(rt.alloc(), words) {
                 note_on_words(rt, text.as_str());

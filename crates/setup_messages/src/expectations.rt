@@ -31,9 +31,6 @@ const ENDPOINT_PLACE: usize = 1;
 /// The expectation of an exercise that is not answered yet. It is never met, and nothing is said of it.
 const UNANSWERED: &str = "?";
 
-/// How many expectations are told at the most.
-const MOST_WARNINGS: u64 = 20;
-
 /// What is said of a text that begins as a delivery, and is none.
 const DELIVERY: &str = "; a delivery reads delivered E from F to T badge B label L words W ..";
 
@@ -162,56 +159,46 @@ fn unmeetable(setup: &Setup, i: usize) -> Option<&str>
     }
 }
 
-/// Adds the line of a call whose expectation no reply of its operation begins with.
-fn add_warning(
-    message: &mut String,
+/// Says of a call, by its number, that no reply to its operation begins with its expectation, and what may have been meant;
+/// nothing where a reply can, or where there is no such call.
+fn unmeetable_words(
     alloc: Global,
     named: &ReadSetup,
-    i: usize,
-    expectation: &str,
-) -> Result<(), AllocError>
-    requires plan { IsPlan named.now.setup.profile named.now.setup.plan }
-    requires call { i < length named.now.setup.calls }
-{
-    let op = op_name(&named.setup.calls()[i].op);
-    let (n, name, word) = (i.saturating_add(1), op.text(), word_of(op));
-    let numbered = with_numbers(alloc, named, expectation.trim())?;
-    let hint = hint(alloc, word, numbered.as_str())?;
-    writeln!(
-        message,
-        "call {n}: no reply to {name} begins with {expectation:?}{hint}"
-    )
-}
-
-/// A line for each of the first calls whose expectation no reply of their operation begins with, and how many more there are.
-fn warnings_on(alloc: Global, named: &ReadSetup) -> Result<String, AllocError>
+    call: usize,
+) -> Result<Option<String>, AllocError>
     requires { IsPlan named.now.setup.profile named.now.setup.plan }
 {
-    let (mut message, mut count) = (String::new(alloc), 0_u64);
-    for i in 0..named.setup.calls().len() {
-        let Some(expectation) = unmeetable(&named.setup, i) else {
-            continue;
-        };
-        count = count.saturating_add(1);
-        if count <= MOST_WARNINGS {
-            add_warning(&mut message, alloc, named, i, expectation)?;
-        }
+    let i = call.saturating_sub(1);
+    if i >= named.setup.calls().len() {
+        return Ok(None);
     }
-    if count > MOST_WARNINGS {
-        let more = count - MOST_WARNINGS;
-        writeln!(message, "{more} more")?;
-    }
-    Ok(message)
+    let Some(expectation) = unmeetable(&named.setup, i) else {
+        return Ok(None);
+    };
+    let op = op_name(&named.setup.calls()[i].op);
+    let (name, word) = (op.text(), word_of(op));
+    let numbered = with_numbers(alloc, named, expectation.trim())?;
+    let hint = hint(alloc, word, numbered.as_str())?;
+    let words = format!(in alloc; "no reply to {name} begins with {expectation:?}{hint}")?;
+    Ok(Some(words))
 }
 
-/// A line for each of the first 20 calls of a set-up whose expectation no reply of their operation begins with, and a line with
-/// how many more there are; nothing where the set-up is refused.
+/// Of each of some calls of the set-up that the bytes are, by their numbers: that no reply to its operation begins with its
+/// expectation, and what may have been meant; nothing where a reply can.
 ///
 /// # Errors
 /// Where memory was refused.
-pub fn unmet_warnings(alloc: Global, bytes: &[u8]) -> Result<String, AllocError> {
-    match read(alloc, bytes) {
-        Ok(named) => warnings_on(alloc, &named),
-        Err(_) => Ok(String::new(alloc)),
+pub fn unmeetable_expectations(
+    alloc: Global,
+    bytes: &[u8],
+    calls: &[usize],
+) -> Result<Vec<Option<String>>, AllocError> {
+    let mut words = Vec::new(alloc);
+    let Ok(named) = read(alloc, bytes) else {
+        return Ok(words);
+    };
+    for call in calls {
+        words.push(unmeetable_words(alloc, &named, *call)?)?;
     }
+    Ok(words)
 }

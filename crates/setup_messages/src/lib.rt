@@ -15,5 +15,5 @@ mod texts;
 mod values;
 
 pub use document::Formats;
-pub use expectations::unmet_warnings;
+pub use expectations::unmeetable_expectations;
 pub use refused::refusal_words;

@@ -370,7 +370,7 @@ const FAULTS: [(RunFault, &str); 4] = [
 #[test]
 fn statuses_and_faults_are_as_documented(rt: HostRuntime) -> Result<(), Fail> {
     for (verdict, status) in STATUSES {
-        assert!(rt; status_of(&Ok(verdict)) == status, "{status}");
+        assert!(rt; verdict.status() == status, "{status}");
     }
     for (fault, said) in FAULTS {
         assert!(rt; says(rt.alloc(), fault, said)?, "{said}");

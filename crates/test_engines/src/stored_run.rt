@@ -1,6 +1,6 @@
 //! The stored run of the program, with reads and writes that fail at each place.
 use crate::fakes::{PieceWriter, reader, writer};
-use command_check::{ReaderSource, RunFault, Verdict, WriterSink, check};
+use command_check::{Found, ReaderSource, RunFault, Verdict, WriterSink, check};
 use std::alloc::Global;
 
 /// The set-up of the stored run.
@@ -13,9 +13,14 @@ fn run(
     piece: usize,
     reads: usize,
     out: &mut PieceWriter,
-) -> Result<Verdict, RunFault> {
+) -> Result<Found, RunFault> {
     let mut source = ReaderSource::new(reader(STORED, piece, reads));
     check(alloc, &mut source, &mut WriterSink::new(out))
+}
+
+/// Whether all expectations are met.
+fn is_met(answer: &Result<Found, RunFault>) -> bool {
+    matches!(answer, Ok(found) if matches!(found.verdict, Verdict::AllMet))
 }
 
 /// Whether nothing is written where a read of so many bytes fails after so many.
@@ -29,7 +34,7 @@ fn fails_reading(alloc: Global, piece: usize, reads: usize) -> bool {
 fn is_met_after(alloc: Global, piece: usize, reads: usize) -> bool {
     let mut out = writer(alloc, usize::MAX, usize::MAX, false);
     let answer = run(alloc, piece, reads, &mut out);
-    matches!(answer, Ok(Verdict::AllMet))
+    is_met(&answer)
 }
 
 /// Whether each read of so many bytes can fail in turn, and all expectations are met where none does.
@@ -50,7 +55,7 @@ fn fails_writing(alloc: Global, room: usize, shy: bool, whole: &[u8]) -> bool {
 fn report(alloc: Global) -> Option<Vec<u8>> {
     let mut whole = writer(alloc, 1, usize::MAX, false);
     let answer = run(alloc, 4096, usize::MAX, &mut whole);
-    matches!(answer, Ok(Verdict::AllMet)).then_some(whole.taken)
+    is_met(&answer).then_some(whole.taken)
 }
 
 #[test]

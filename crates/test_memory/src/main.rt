@@ -94,8 +94,8 @@ fn run<
     T: MakeStore<Narrow> + DerivationStore<Narrow>,
     V: MakeWaiters<Narrow>,
 >(alloc: Global) -> Option<bool> {
-    let (report, _) = text_of::<S, W, T, V>(alloc, SETUP).ok()?;
-    Some(report.as_slice() == REPORT)
+    let answer = text_of::<S, W, T, V>(alloc, SETUP).ok()?;
+    Some(answer.text.as_slice() == REPORT)
 }
 
 /// The reading of the stored set-up, which has two calls.

@@ -1,5 +1,5 @@
 //! A worked set-up with what is wanted of it.
-use command_check::{Verdict, status_of};
+use command_check::Verdict;
 use std::fmt;
 use std::fs::{self, Files};
 use std::io::ErrorKind;
@@ -142,7 +142,7 @@ impl Case {
         verdict: Verdict,
         wanted: &'a [u8],
     ) -> Option<Difference<'a>> {
-        let given = status_of(&Ok(verdict));
+        let given = verdict.status();
         match first_difference(name, text, wanted) {
             None if given != self.status => Some(Difference::Status {
                 given,

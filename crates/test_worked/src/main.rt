@@ -118,8 +118,9 @@ fn differs<R: Print + AllocGlobal>(
     subject: Subject<'_>,
     case: &Case,
 ) -> anyhow::Result<bool> {
-    let (text, verdict) = subject.pair.run(rt.alloc(), case.setup.as_slice())?;
-    Ok(say_difference(rt, subject, case.difference(text.as_slice(), verdict))?)
+    let answer = subject.pair.run(rt.alloc(), case.setup.as_slice())?;
+    let difference = case.difference(answer.text.as_slice(), answer.verdict);
+    Ok(say_difference(rt, subject, difference)?)
 }
 
 /// Tells why the calls of a case are refused, where that is wanted, and answers how often something differs.

@@ -8,8 +8,8 @@ pub fn migrated(alloc: Global, setup: &[u8]) -> anyhow::Result<Option<Vec<u8>>> 
     let mut text = Vec::new(alloc);
     let mut source = ReaderSource::new(setup);
     let mut sink = WriterSink::new(&mut text);
-    let verdict = run_engine(alloc, &Migrator, &mut source, &mut sink)?;
-    match verdict {
+    let found = run_engine(alloc, &Migrator, &mut source, &mut sink)?;
+    match found.verdict {
         Verdict::AllMet => Ok(Some(text)),
         Verdict::NotMet | Verdict::Refused | Verdict::Absent => Ok(None),
     }

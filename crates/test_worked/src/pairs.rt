@@ -1,6 +1,6 @@
 //! The pairs of a capability store and a store of waiting threads, each in both profiles.
 use cap_core::{Narrow, Wide};
-use command_check::{Verdict, text_of};
+use command_check::{Answer, text_of};
 use ipc_core::{LinkedWaiters, RowWaiters};
 use slot_core::{LinkedStore, RowStore};
 use std::alloc::{AllocError, Global};
@@ -29,7 +29,7 @@ pub const PAIRS: [Pair; 4] = [
 
 impl Pair {
     /// What is written for a set-up's bytes over this pair, and the verdict.
-    pub fn run(self, alloc: Global, setup: &[u8]) -> Result<(Vec<u8>, Verdict), AllocError> {
+    pub fn run(self, alloc: Global, setup: &[u8]) -> Result<Answer, AllocError> {
         match self {
             Pair::Linked => text_of::<
                 LinkedStore<Wide>,

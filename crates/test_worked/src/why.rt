@@ -9,6 +9,6 @@ pub fn why_of(alloc: Global, setup: &[u8]) -> anyhow::Result<(Vec<u8>, Verdict)>
     let mut source = ReaderSource::new(setup);
     let mut sink = WriterSink::new(&mut text);
     let command = Why { call: None };
-    let verdict = run_engine(alloc, &OnSetup { command }, &mut source, &mut sink)?;
-    Ok((text, verdict))
+    let found = run_engine(alloc, &OnSetup { command }, &mut source, &mut sink)?;
+    Ok((text, found.verdict))
 }

@@ -28,7 +28,7 @@ fn trace_of<S: MakeStore<Wide> + DerivationStore<Wide>, W: MakeWaiters<Wide>>(
         }
     };
     match traced {
-        Ok((bytes, _)) => Ok(bytes),
+        Ok((bytes, ..)) => Ok(bytes),
         Err(_) => Err(SetupFault::Memory),
     }
 }

@@ -1,14 +1,20 @@
 -- What is reported on is the abstract kernel's: its replies and its end state.
 use Rattle.std.proofs.Common.{◌∙◌, ap, ap₂}
 use Rattle.setup_report.specs.Report.{report_of, met_count, expectation_count}
+use Rattle.command_check.specs.Notes.{unexpected_from}
 use Rattle.command_check.proofs.run.run_setup.Goals as goal
 
-pub returns : goal.returns
-returns g c =
+pub returns-clause-text : goal.returns-clause-text
+returns-clause-text g c =
     let setup = c.args.setup.now in
-    let replies = c.as_slice.ensures.value ∙ c.in_ok-kernel.ensures.replies in
+    let replies = c.as_slice-replies.ensures.value ∙ c.in_ok-kernel.ensures.replies in
     let made = c.in_ok-text.ensures in
     let text = made.report ∙ ap₂ (λ r k. report_of g.P.Profile.profile setup.calls r k) replies c.in_ok-kernel.ensures.kernel in
     let met = made.met ∙ ap (λ r. met_count setup.calls r) replies in
     let expected = made.expected ∙ ap (λ r. expectation_count setup.calls r) replies in
     (text, (met, expected))
+
+pub returns-clause-refused : goal.returns-clause-refused
+returns-clause-refused g c =
+    c.in_ok-notes.ensures
+    ∙ ap (λ r. unexpected_from 1 c.args.setup.now.calls r) (c.as_slice-replies.ensures.value ∙ c.in_ok-kernel.ensures.replies)

@@ -9,5 +9,5 @@ returns-in_ok-checked_text-in-Ok g c =
     let read = c.in-Ok.ensures in (
       Some c.in-Ok.input.items,
       (read.all, omega (arith, read.all.0, read.short)),
-      subst (λ b. IsTextOfSetup (setup_of_bytes b) c.in_ok-checked_text-in-Ok.field-0) c.as_slice.ensures.value c.in_ok-checked_text-in-Ok.ensures,
+      subst (λ b. IsTextOfSetup (setup_of_bytes b) c.in_ok-checked_text-in-Ok.field-0) c.as_slice.ensures.value c.in_ok-checked_text-in-Ok.ensures.text,
     )

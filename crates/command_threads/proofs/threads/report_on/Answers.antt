@@ -43,7 +43,7 @@ returns-clause-made g c =
       h,
       shared_run_is first setup replies.items later h whole ends p c.requires.begun.answered from,
       (
-        c.in-Ok-history_report.ensures ∙ (told ∙ (shows ∙ state)),
-        c.verdict_on-verdict.ensures ∙ ap₂ verdict_on (l ∙ sym counted) calls,
+        ap (λ v. v.items) c.new.ensures.text ∙ (c.in-Ok-history_report.ensures ∙ (told ∙ (shows ∙ state))),
+        c.new.ensures.verdict ∙ c.verdict_on-verdict.ensures ∙ ap₂ verdict_on (l ∙ sym counted) calls,
       ),
     )

@@ -7,6 +7,6 @@ use Rattle.program.proofs.work.make_ever.Goals as goal
 
 pub returns-in-Ok-clause-made : goal.returns-in-Ok-clause-made
 returns-in-Ok-clause-made c =
-    subst (λ (ws : List (List ℕ)). IfOk c.on_state.result (λ made. IsAnswerTo (IsStateAnswer (IsEver ws) c.args.options.after) c.args.input.now made.0.items made.1))
+    subst (λ (ws : List (List ℕ)). IfOk c.on_state.result (λ made. IsAnswerTo (IsStateAnswer (IsEver ws) c.args.options.after) c.args.input.now made.text.items made.verdict))
     (ap (map (λ w. w.now)) c.as_slice-without.ensures.value ∙ c.in-Ok.ensures)
     c.on_state.ensures.made

@@ -8,6 +8,6 @@ use Rattle.program.proofs.work.make_new.Goals as goal
 pub returns-in-Ok-clause-made : goal.returns-in-Ok-clause-made
 returns-in-Ok-clause-made c =
     if_ok c.make.result _ _
-    (λ made h. asked_is_made c.args.options c.in-Ok.asked c.in-Ok.ensures c.args.input.now made.0.items made.1
-    (subst (λ o. IsMade o c.args.input.now made.0.items made.1) c.as_ref.ensures.value h))
+    (λ made h. asked_is_made c.args.options c.in-Ok.asked c.in-Ok.ensures c.args.input.now made.text.items made.verdict
+    (subst (λ o. IsMade o c.args.input.now made.text.items made.verdict) c.as_ref.ensures.value h))
     c.make.ensures.made

@@ -1,0 +1,120 @@
+//! What standard error tells of a run: which calls were refused and had no expectation, and whose expectation is not met.
+ghost use Rattle.std.specs.Prelude.{◌≡◌, ◌++◌, length, option_copied, IfOk, OnOk};
+ghost use Rattle.command_check.specs.Notes as spec;
+
+use command_core::{CallNote, Notes};
+use kernel_core::Reply;
+use setup_format::Setup;
+use setup_report::{ExpectationCount, ReplyText};
+use std::alloc::{AllocError, Global};
+
+/// The expectation of an exercise that nobody has answered yet: nothing is told of it.
+const UNANSWERED: &str = "?";
+
+/// Adds the number of a call, where it was refused and nothing was expected of it.
+fn add_unexpected(
+    numbers: &mut Vec<usize>,
+    number: usize,
+    expected: Option<&str>,
+    reply: Reply,
+) -> Result<(), AllocError>
+    ensures { OnOk result (numbers.new.items ≡ numbers.old.items ++ spec.unexpected_at number (option_copied expected.entry) reply) }
+{
+    match (expected, reply) {
+        (None, Reply::Refused(_)) => {
+            numbers.push(number)?;
+            Ok(())
+        }
+        _ => Ok(()),
+    }
+}
+
+/// The numbers of the calls of a set-up that were refused and of which nothing was expected, given the reply to each.
+fn unexpected_refusals(
+    alloc: Global,
+    setup: &Setup,
+    replies: &[Reply],
+) -> Result<Vec<usize>, AllocError>
+    requires { length replies.now ≡ length setup.now.calls }
+    ensures { IfOk result (λ v. v.items ≡ spec.unexpected_from 1 setup.now.calls replies.now) }
+{
+    let mut numbers = Vec::new(alloc);
+    for (i, reply) in replies.iter().enumerate() {
+        add_unexpected(&mut numbers, i + 1, setup.expect(i), *reply)?;
+    }
+    Ok(numbers)
+}
+
+/// Whether a reply meets an expectation: it is the expected text, or begins with it followed by a space.
+fn is_met(shown: &str, expected: &str) -> bool {
+    match shown.strip_prefix(expected) {
+        None => false,
+        Some(rest) => rest.is_empty() || rest.starts_with(' '),
+    }
+}
+
+/// Adds what is told of a call, where its reply is not the expected one.
+fn add_unmet(
+    alloc: Global,
+    unmet: &mut Vec<CallNote>,
+    call: usize,
+    expected: Option<&str>,
+    reply: Reply,
+) -> Result<(), AllocError> {
+    let Some(expected) = expected else {
+        return Ok(());
+    };
+    let shown = ReplyText(reply).to_string(alloc)?;
+    if expected != UNANSWERED && !is_met(shown.as_str(), expected) {
+        let text = format!(in alloc; "{shown}, and not {expected}")?;
+        unmet.push(CallNote { call, text })?;
+    }
+    Ok(())
+}
+
+/// The calls of a set-up whose expectation is not met, given the reply to each and the count of their expectations.
+///
+/// # Errors
+///
+/// Memory was refused.
+pub fn unmet_calls(
+    alloc: Global,
+    setup: &Setup,
+    replies: &[Reply],
+    count: ExpectationCount,
+) -> Result<Vec<CallNote>, AllocError> {
+    let mut unmet = Vec::new(alloc);
+    if count.met == count.expected {
+        return Ok(unmet);
+    }
+    for i in 0..setup.calls().len() {
+        if let Some(reply) = replies.get(i) {
+            add_unmet(alloc, &mut unmet, i + 1, setup.expect(i), *reply)?;
+        }
+    }
+    Ok(unmet)
+}
+
+/// What standard error tells of the calls of a set-up, given the reply to each and the count of their expectations: which were
+/// refused where nothing was expected, and whose expectation is not met.
+///
+/// # Errors
+///
+/// Memory was refused.
+pub fn notes_on(
+    alloc: Global,
+    setup: &Setup,
+    replies: &[Reply],
+    count: ExpectationCount,
+) -> Result<Notes, AllocError>
+    requires { length replies.now ≡ length setup.now.calls }
+    ensures { IfOk result (λ notes. notes.refused.items ≡ spec.unexpected_from 1 setup.now.calls replies.now) }
+{
+    let refused = unexpected_refusals(alloc, setup, replies)?;
+    let unmet = unmet_calls(alloc, setup, replies, count)?;
+    Ok(Notes {
+        refused,
+        unmet,
+        absent: None,
+    })
+}

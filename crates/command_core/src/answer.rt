@@ -1,0 +1,120 @@
+//! What is made of an input: the text that is written, the verdict, and what standard error tells beside them.
+ghost use Rattle.std.specs.Prelude.{◌≡◌, [], None};
+
+use crate::fault::Verdict;
+use std::alloc::Global;
+
+/// A call of a set-up, and what standard error tells of it.
+#[derive(Drop)]
+pub struct CallNote {
+    /// The call's number, counted from 1.
+    pub call: usize,
+    /// What is told of it.
+    pub text: String,
+}
+
+/// What standard error tells of an answer. No clause of a command says what it is, unless the command's own says so.
+#[derive(Drop)]
+pub struct Notes {
+    /// The numbers, counted from 1, of the calls that were refused and of which nothing was expected.
+    pub refused: Vec<usize>,
+    /// The calls whose expectation is not met.
+    pub unmet: Vec<CallNote>,
+    /// What the command line names and the input does not have.
+    pub absent: Option<String>,
+}
+
+impl Notes {
+    /// Nothing is told.
+    pub fn none(alloc: Global) -> Notes
+        ensures refused { result.refused.items ≡ [] }
+        ensures unmet { result.unmet.items ≡ [] }
+        ensures absent { result.absent ≡ None }
+    {
+        Notes {
+            refused: Vec::new(alloc),
+            unmet: Vec::new(alloc),
+            absent: None,
+        }
+    }
+}
+
+/// What a run found, beside the text that it wrote.
+#[derive(Drop)]
+pub struct Found {
+    /// The verdict.
+    pub verdict: Verdict,
+    /// What standard error tells.
+    pub notes: Notes,
+}
+
+/// What is made of an input.
+#[derive(Drop)]
+pub struct Answer {
+    /// What is written.
+    pub text: Vec<u8>,
+    /// What was found.
+    pub verdict: Verdict,
+    /// What standard error tells.
+    pub notes: Notes,
+}
+
+impl Answer {
+    /// An answer of which standard error tells nothing.
+    pub fn new(alloc: Global, text: Vec<u8>, verdict: Verdict) -> Answer
+        ensures text { result.text ≡ text }
+        ensures verdict { result.verdict ≡ verdict }
+    {
+        Answer {
+            text,
+            verdict,
+            notes: Notes::none(alloc),
+        }
+    }
+
+    /// An answer of which standard error tells that these calls have an expectation that is not met.
+    pub fn with_unmet(
+        alloc: Global,
+        text: Vec<u8>,
+        verdict: Verdict,
+        unmet: Vec<CallNote>,
+    ) -> Answer
+        ensures text { result.text ≡ text }
+        ensures verdict { result.verdict ≡ verdict }
+    {
+        let notes = Notes {
+            unmet,
+            ..Notes::none(alloc)
+        };
+        Answer {
+            text,
+            verdict,
+            notes,
+        }
+    }
+
+    /// An answer to a command line that names what the input does not have: nothing is written.
+    pub fn absent(alloc: Global, absent: String) -> Answer
+        ensures text { result.text.items ≡ [] }
+        ensures verdict { result.verdict ≡ Verdict.Absent }
+    {
+        Answer {
+            text: Vec::new(alloc),
+            verdict: Verdict::Absent,
+            notes: Notes {
+                absent: Some(absent),
+                ..Notes::none(alloc)
+            },
+        }
+    }
+
+    /// What is left when the text is written.
+    pub fn found(self) -> Found
+        ensures { result.verdict ≡ self.verdict }
+    {
+        Found {
+            verdict: self.verdict,
+            notes: self.notes,
+        }
+    }
+}

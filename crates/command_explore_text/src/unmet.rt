@@ -1,0 +1,56 @@
+//! Answers that do not meet the expectation of their call, as standard error tells them.
+use crate::answers::{AnswerText, misses};
+use crate::numbers::{add_order, number_at};
+use command_core::CallNote;
+use query_explore::FoundAnswer;
+use setup_format::Setup;
+use std::alloc::{AllocError, Global};
+
+/// The expectation of an exercise that nobody has answered yet: nothing is told of it.
+const UNANSWERED: &str = "?";
+
+/// What is expected of the call with a number; nothing where there is no such call.
+fn expected_of(setup: &Setup, number: usize) -> Option<&str> {
+    let i = number.checked_sub(1)?;
+    if i < setup.calls().len() {
+        setup.expect(i)
+    } else {
+        None
+    }
+}
+
+/// Adds what is told of an answer, where it does not meet the expectation of its call: also the first order with it.
+fn add_unmet(
+    alloc: Global,
+    unmet: &mut Vec<CallNote>,
+    setup: &Setup,
+    numbers: &[Vec<usize>],
+    answer: &FoundAnswer,
+) -> Result<(), AllocError> {
+    let call = number_at(numbers, answer.client, answer.place);
+    let Some(expected) = expected_of(setup, call) else {
+        return Ok(());
+    };
+    if expected == UNANSWERED || !misses(alloc, answer.answer, Some(expected))? {
+        return Ok(());
+    }
+    let shown = AnswerText(answer.answer);
+    let mut text = format!(in alloc; "{shown}, and not {expected}, in the order")?;
+    add_order(alloc, &mut text, numbers, &answer.order)?;
+    unmet.push(CallNote { call, text })?;
+    Ok(())
+}
+
+/// What standard error tells of the answers that do not meet the expectation of their call.
+pub fn unmet_answers(
+    alloc: Global,
+    setup: &Setup,
+    numbers: &[Vec<usize>],
+    answers: &[FoundAnswer],
+) -> Result<Vec<CallNote>, AllocError> {
+    let mut unmet = Vec::new(alloc);
+    for answer in answers {
+        add_unmet(alloc, &mut unmet, setup, numbers, answer)?;
+    }
+    Ok(unmet)
+}
