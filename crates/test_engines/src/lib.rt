@@ -1,5 +1,5 @@
-//! Tests of `command_check`, `command_core` and `command_line`: reads and writes that fail, a source without an end, a text that is
-//! cut off at each place, the command line, migrations, and the exit statuses.
+//! Tests of the runs of engines and of the command line: reads and writes that fail, a source without an end, a text that is cut off
+//! at each place, the words of the command line, migrations, clients in threads of their own, and the exit statuses.
 #![tactic(auto)]
 
 #[cfg(test)]
@@ -14,3 +14,5 @@ mod fakes;
 mod migrations;
 #[cfg(test)]
 mod stored_run;
+#[cfg(test)]
+mod threads;

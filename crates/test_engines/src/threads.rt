@@ -1,4 +1,5 @@
-//! Runs of small set-ups by their clients.
+//! Runs of set-ups whose clients share one kernel: whole reports, orders that a gate makes, a limit that is met, set-ups that are
+//! refused, faults of devices, and exit statuses.
 use command_check::{ReaderSource, WriterSink, status_of};
 use command_threads::{OpenGate, threads_run, threads_run_open};
 use kernel_shared::Gate;
