@@ -1,5 +1,5 @@
 //! What two kernels show.
-use crate::layout::{MEMORY_SIZE, slot_address, tcb_address};
+use crate::stores::layout::{MEMORY_SIZE, slot_address, tcb_address};
 use cap_core::{Cap, Profile};
 use ipc_core::MakeWaiters;
 use kernel_core::{Kernel, ThreadState};

@@ -1,10 +1,10 @@
 //! Calls that numbers choose: any operation, with words that mostly lead to slots of a client's CNode.
 ghost use Rattle.std.specs.Prelude.{◌<◌};
 
-use crate::layout::{
+use crate::numbers::Numbers;
+use crate::parts::layout::{
     FIRST_EMPTY, FIRST_HANDED_ENDPOINT, HANDED_REGION, HANDED_TCB, OWN, RADIX, SLOTS, drawn_rights,
 };
-use crate::numbers::Numbers;
 use cap_core::{Message, Profile, Rights};
 use kernel_core::Op;
 

@@ -1,9 +1,11 @@
 //! Layouts, their parts, and calls of the threads of these parts.
-use crate::bound::holds_within;
-use crate::calls::{drawn, drawn_number, operation};
-use crate::layout::{CLIENT_THREADS, MEMORY_SIZE, drawn_layout, hand_thread_out, load, thread_at};
 use crate::numbers::Numbers;
-use crate::tally::Tally;
+use crate::parts::bound::holds_within;
+use crate::parts::calls::{drawn, drawn_number, operation};
+use crate::parts::layout::{
+    CLIENT_THREADS, MEMORY_SIZE, drawn_layout, hand_thread_out, load, thread_at,
+};
+use crate::parts::tally::Tally;
 use anyhow::{Context, Result};
 use cap_core::{Profile, Wide};
 use ipc_core::{LinkedWaiters, MakeWaiters};

@@ -1,6 +1,6 @@
 //! Operations that numbers choose.
-use crate::layout::{REGION, ROOT};
 use crate::numbers::Numbers;
+use crate::stores::layout::{REGION, ROOT};
 use cap_core::{Message, Rights};
 use kernel_core::Op;
 

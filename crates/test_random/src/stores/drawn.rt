@@ -1,7 +1,9 @@
 //! Calls that numbers choose, with an eye to what a kernel holds.
-use crate::layout::{BOOT_THREADS, FIRST_EMPTY, FIRST_TCB, REGION, ROOT, ROOT_SLOTS, slot_address};
 use crate::numbers::Numbers;
-use crate::operations::{Node, Words, any, copy, exchange, fill, revoke};
+use crate::stores::layout::{
+    BOOT_THREADS, FIRST_EMPTY, FIRST_TCB, REGION, ROOT, ROOT_SLOTS, slot_address,
+};
+use crate::stores::operations::{Node, Words, any, copy, exchange, fill, revoke};
 use cap_core::{Cap, Profile, Refusal, Rights};
 use ipc_core::MakeWaiters;
 use kernel_core::{Call, Kernel, Op, Reply, ThreadState};

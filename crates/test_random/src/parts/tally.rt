@@ -1,7 +1,7 @@
 //! What calls reached.
 ghost use Rattle.std.specs.Prelude.{◌<◌};
 
-use crate::bound::delivered_between;
+use crate::parts::bound::delivered_between;
 use cap_core::Profile;
 use kernel_core::Reply;
 use query_parts::Parts;

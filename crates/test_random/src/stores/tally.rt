@@ -1,8 +1,8 @@
 //! What calls reached.
 ghost use Rattle.std.specs.Prelude.{◌<◌};
 
-use crate::drawn::is_smallest_in_region;
-use crate::layout::REGION;
+use crate::stores::drawn::is_smallest_in_region;
+use crate::stores::layout::REGION;
 use cap_core::Refusal;
 use kernel_core::{Call, Op, Reply};
 

@@ -1,9 +1,9 @@
 //! The same calls on two kernels.
-use crate::drawn::Drawn;
-use crate::layout::plan;
-use crate::planted::Planted;
-use crate::shown::{are_slots_same, are_threads_same};
-use crate::tally::Tally;
+use crate::stores::drawn::Drawn;
+use crate::stores::layout::plan;
+use crate::stores::planted::Planted;
+use crate::stores::shown::{are_slots_same, are_threads_same};
+use crate::stores::tally::Tally;
 use anyhow::Result;
 use cap_core::{Profile, Refusal};
 use ipc_core::{LinkedWaiters, MakeWaiters};

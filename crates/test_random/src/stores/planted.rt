@@ -1,5 +1,5 @@
 //! Differences that are planted: calls by which two kernels with wide words come to differ in one thing alone.
-use crate::layout::ROOT;
+use crate::stores::layout::ROOT;
 use cap_core::{Message, Rights};
 use kernel_core::{Call, Op};
 
