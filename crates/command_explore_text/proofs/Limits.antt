@@ -7,7 +7,7 @@ use Rattle.cap_core.specs.declared.profile.ProfileName.{ProfileName}
 use Rattle.kernel_abstract.specs.declared.call.Call.{Call}
 use Rattle.kernel_abstract.specs.Boot.{boot}
 use Rattle.setup_format.specs.Views.{CallView, SetupView}
-use Rattle.kernel_kinds.specs.Kinds.{firsts}
+use Rattle.kernel_lists.specs.Firsts.{firsts}
 use Rattle.query_orders.specs.World.{World}
 use Rattle.query_orders.specs.Orders.{below, orders}
 use Rattle.command_explore_text.proofs.NoLonger.{no_order_is_longer}

@@ -6,7 +6,7 @@ use Rattle.kernel_abstract.specs.Boot.{boot}
 use Rattle.setup_values.specs.Told.{profile_text}
 use Rattle.setup_format.specs.Views.{SetupView}
 use Rattle.setup_report.specs.Report.{terminated}
-use Rattle.kernel_kinds.specs.Kinds.{firsts}
+use Rattle.kernel_lists.specs.Firsts.{firsts}
 use Rattle.query_orders.specs.contracts.answer.AnswerPartialEq.TheImpl as answer_eq
 use Rattle.query_orders.specs.World.{start}
 use Rattle.query_orders.specs.Orders.{is_end, is_stuck}

@@ -1,2 +1,4 @@
 pub mod Counting
 pub mod Shares
+pub mod Merging
+pub mod Weights

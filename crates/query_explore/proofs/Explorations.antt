@@ -12,9 +12,9 @@ use Rattle.kernel_abstract.specs.declared.call.Call.{Call}
 use Rattle.kernel_abstract.specs.Shown.{Shown}
 use Rattle.kernel_abstract.specs.State.{State, shown}
 use Rattle.kernel_abstract.specs.Reached.{IsReached}
-use Rattle.kernel_kinds.specs.Kinds.{IsKindTest, firsts, with_firsts, with_counts_up_to, each_times, weight}
-use Rattle.kernel_kinds.proofs.Merging.{with_firsts-append}
-use Rattle.kernel_kinds.proofs.Counting.{up_to, key_of, all_up_to, keys_all, keys_followers, followers_up_to, flat_map_keys, weight-counted_followers, sum_by-followers}
+use Rattle.kernel_lists.specs.Firsts.{IsKindTest, firsts, with_firsts, with_counts_up_to, each_times, weight}
+use Rattle.kernel_lists.proofs.Merging.{with_firsts-append}
+use Rattle.kernel_lists.proofs.Weights.{up_to, key_of, all_up_to, keys_all, keys_followers, followers_up_to, flat_map_keys, weight-counted_followers, sum_by-followers}
 use Rattle.query_orders.specs.declared.answer.Answer.{Answer}
 use Rattle.query_orders.specs.declared.answer.WaitingCall.{WaitingCall}
 use Rattle.query_orders.specs.contracts.answer.AnswerPartialEq.TheImpl as answer_eq

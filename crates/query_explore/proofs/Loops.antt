@@ -5,9 +5,9 @@ use Rattle.std.proofs.lemmas.List.Concat.{flat_map-cons}
 use Rattle.std.proofs.lemmas.Grind.{flat_map-append}
 use Rattle.std.proofs.lemmas.List.Elements.{filter-append, All-from_recursion, All-get_or}
 use Rattle.std.specs.List.{flat_map, AllByRecursion as Each}
-use Rattle.kernel_kinds.specs.Kinds.{with_firsts, with_counts_up_to, each_times}
-use Rattle.kernel_kinds.proofs.Merging.{with_firsts-append}
-use Rattle.kernel_kinds.proofs.Counting.{counts_up_to-append}
+use Rattle.kernel_lists.specs.Firsts.{with_firsts, with_counts_up_to, each_times}
+use Rattle.kernel_lists.proofs.Merging.{with_firsts-append}
+use Rattle.kernel_lists.proofs.Weights.{counts_up_to-append}
 use Rattle.query_orders.specs.Orders.{below}
 
 module _ {X : Type 0} (same : X → X → Bool) where

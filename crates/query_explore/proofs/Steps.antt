@@ -12,8 +12,8 @@ use Rattle.kernel_abstract.specs.Reached.{IsReached}
 use Rattle.kernel_abstract.specs.Private.Effects.{effect_of}
 use Rattle.kernel_abstract.proofs.Reached.Simulation.{simulates, reached_is}
 use Rattle.kernel_abstract.proofs.Reached.Runs.{reached_after, state_after-nil, state_after-cons}
-use Rattle.kernel_kinds.specs.Kinds.{HasKinds, IsKindTest, firsts, with_firsts}
-use Rattle.kernel_kinds.proofs.Merging.{has_kinds-map, firsts_follow}
+use Rattle.kernel_lists.specs.Firsts.{HasKinds, IsKindTest, firsts, with_firsts}
+use Rattle.kernel_lists.proofs.Merging.{has_kinds-map, firsts_follow}
 use Rattle.query_orders.specs.declared.answer.WaitingCall.{WaitingCall}
 use Rattle.query_orders.specs.World.{World, next_call, one_more, place_of, can_be_made, may_call, waiting_call, waits_after, with_call, after_call, world_after}
 use Rattle.query_orders.specs.Orders.{clients, longer, orders, is_end, has_calls_left, is_stuck}

@@ -14,9 +14,9 @@ use Rattle.kernel_abstract.specs.Shown.{Shown}
 use Rattle.kernel_abstract.specs.State.{shown}
 use Rattle.kernel_abstract.specs.Step.{step}
 use Rattle.kernel_abstract.specs.Reached.{StepsTo}
-use Rattle.kernel_kinds.specs.Kinds.{has_kind_of, with_first, with_firsts, with_count_up_to, with_counts_up_to, each_times}
-use Rattle.kernel_kinds.proofs.Merging.{with_firsts-append}
-use Rattle.kernel_kinds.proofs.Counting.{counts_up_to-append}
+use Rattle.kernel_lists.specs.Firsts.{has_kind_of, with_first, with_firsts, with_count_up_to, with_counts_up_to, each_times}
+use Rattle.kernel_lists.proofs.Merging.{with_firsts-append}
+use Rattle.kernel_lists.proofs.Weights.{counts_up_to-append}
 use Rattle.query_orders.specs.declared.answer.Answer.{Answer}
 use Rattle.query_orders.specs.declared.answer.Answer.TheVariants.{Waits}
 use Rattle.query_orders.specs.declared.answer.WaitingCall.{WaitingCall}

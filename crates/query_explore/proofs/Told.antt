@@ -12,8 +12,8 @@ use Rattle.kernel_abstract.specs.Shown.{Shown}
 use Rattle.kernel_abstract.specs.State.{shown}
 use Rattle.kernel_abstract.specs.Step.{step}
 use Rattle.kernel_abstract.specs.Reached.{IsReached}
-use Rattle.kernel_kinds.specs.Kinds.{HasKinds, IsKindTest, has_kind_of, with_firsts}
-use Rattle.kernel_kinds.proofs.Merging.{has_kinds-map, each_append, has_kind_of-front, has_kind_of-back}
+use Rattle.kernel_lists.specs.Firsts.{HasKinds, IsKindTest, has_kind_of, with_firsts}
+use Rattle.kernel_lists.proofs.Merging.{has_kinds-map, each_append, has_kind_of-front, has_kind_of-back}
 use Rattle.query_orders.specs.declared.answer.Answer.{Answer}
 use Rattle.query_orders.specs.declared.answer.Answer.TheVariants.{Replied, Waits, NotMade}
 use Rattle.query_orders.specs.declared.answer.WaitingCall.{WaitingCall}

@@ -3,7 +3,7 @@ use Rattle.std.specs.Prelude.{ℕ, zero, suc, ◌+◌, ◌-◌, ◌^◌, min, Li
 use Rattle.std.specs.List.{flat_map}
 use Rattle.cap_core.specs.declared.profile.ProfileName.{ProfileName}
 use Rattle.kernel_abstract.specs.declared.call.Call.{Call}
-use Rattle.kernel_kinds.specs.Kinds.{with_counts, each_times}
+use Rattle.kernel_lists.specs.Firsts.{with_counts, each_times}
 use Rattle.query_orders.specs.World.{World, world_after}
 use Rattle.query_orders.specs.Orders.{longer, is_end}
 use Rattle.query_explore.specs.Nodes.{lead_alike, layer}

@@ -3,7 +3,7 @@ use Rattle.std.specs.Prelude.{◌≡◌, ℕ, zero, suc, ◌+◌, ◌==◌, ◌|
 use Rattle.cap_core.specs.declared.profile.ProfileName.{ProfileName}
 use Rattle.kernel_abstract.specs.declared.call.Call.{Call}
 use Rattle.kernel_abstract.specs.State.{State}
-use Rattle.kernel_kinds.specs.Kinds.{with_firsts, firsts}
+use Rattle.kernel_lists.specs.Firsts.{with_firsts, firsts}
 use Rattle.query_orders.specs.declared.answer.Answer.{Answer}
 use Rattle.query_orders.specs.World.{World, start}
 use Rattle.query_orders.specs.Orders.{is_end, is_stuck}

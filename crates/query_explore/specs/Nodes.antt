@@ -7,7 +7,7 @@ use Rattle.cap_core.specs.declared.profile.ProfileName.{ProfileName}
 use Rattle.kernel_abstract.specs.declared.call.Call.{Call}
 use Rattle.kernel_abstract.specs.Shown.{Shown}
 use Rattle.kernel_abstract.specs.State.{shown}
-use Rattle.kernel_kinds.specs.Kinds.{firsts}
+use Rattle.kernel_lists.specs.Firsts.{firsts}
 use Rattle.query_words.specs.Words.{listed, words_of}
 use Rattle.query_orders.specs.declared.answer.WaitingCall.{WaitingCall}
 use Rattle.query_orders.specs.World.{World, may_call, world_after}

@@ -1,6 +1,6 @@
 //! What calls come to.
 ghost use Rattle.std.specs.Prelude.{◌≡◌, ◌==◌, ◌++◌, OnOk, map};
-ghost use Rattle.kernel_kinds.specs.Kinds.{with_first, with_firsts};
+ghost use Rattle.kernel_lists.specs.Firsts.{with_first, with_firsts};
 ghost use Rattle.query_orders.specs.Answers.{answered, same_answer, wait_ended, waits_ended, replied};
 ghost use Rattle.query_orders.specs.declared.answer.WaitingCall.{WaitingCall as WaitingCallOf};
 ghost use Rattle.query_explore.specs.Found.{answers_of};

@@ -1,7 +1,7 @@
 //! How orders end.
 ghost use Rattle.std.specs.Prelude.{◌≡◌, ◌-◌, [], OnOk, cond, length, map, not, slice_get, unwrap_or};
 ghost use Rattle.std.specs.List.{flat_map, list_any};
-ghost use Rattle.kernel_kinds.specs.Kinds.{with_firsts};
+ghost use Rattle.kernel_lists.specs.Firsts.{with_firsts};
 ghost use Rattle.query_orders.specs.World.{next_call as next_call_of, can_be_made};
 ghost use Rattle.query_orders.specs.Orders.{below};
 ghost use Rattle.query_orders.specs.Answers.{answered, same_answer, numbers_from};

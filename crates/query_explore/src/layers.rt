@@ -3,7 +3,7 @@ ghost use Rattle.std.specs.Prelude.{◌≡◌, ◌∷◌, ◌+◌, ◌≤◌, []
 ghost use Rattle.kernel_abstract.specs.declared.call.Call.{Call as CallOf};
 ghost use Rattle.kernel_abstract.specs.State.{shown};
 ghost use Rattle.kernel_abstract.specs.Reached.{IsReached, StepsTo};
-ghost use Rattle.kernel_kinds.specs.Kinds.{each_times};
+ghost use Rattle.kernel_lists.specs.Firsts.{each_times};
 ghost use Rattle.query_orders.specs.World.{World, next_call as next_call_of, one_more, waiting_call, place_of, waits_after, world_after};
 ghost use Rattle.query_orders.specs.Orders.{longer};
 ghost use Rattle.query_explore.specs.Nodes.{own_calls, state_words, one_longer, IsNode, AreNodes, entry_of, entries_of};

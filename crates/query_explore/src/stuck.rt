@@ -2,7 +2,7 @@
 ghost use Rattle.std.specs.Prelude.{◌≡◌, ◌+◌, ◌<◌, ◌&&◌, [], IfOk, OnOk, cond, length, nat_lt};
 ghost use Rattle.std.specs.List.{list_any};
 ghost use Rattle.std.specs.Cmp.Lexicographic.{pointwise};
-ghost use Rattle.kernel_kinds.specs.Kinds.{with_first, with_firsts};
+ghost use Rattle.kernel_lists.specs.Firsts.{with_first, with_firsts};
 ghost use Rattle.query_orders.specs.Ends.{stuck_end, same_stuck, left_calls};
 ghost use Rattle.query_explore.specs.Nodes.{own_calls};
 ghost use Rattle.query_explore.specs.Found.{stuck_of, same_left, stuck_told};

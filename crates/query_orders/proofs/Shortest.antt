@@ -3,8 +3,8 @@ use Rattle.std.proofs.Common.{◌≡◌, ◌⊎◌, ◌==◌, ◌||◌, ℕ, zer
 use Rattle.std.specs.List.{Contains, flat_map, AllByRecursion as Each}
 use Rattle.std.proofs.lemmas.List.Elements.{Contains-push_cases}
 use Rattle.std.proofs.lemmas.Bool.Decides.{nat_tests}
-use Rattle.kernel_kinds.specs.Kinds.{has_kind_of, with_first, with_firsts, HasKinds, IsKindTest}
-use Rattle.kernel_kinds.proofs.Merging.{with_first-keeps, with_firsts-keeps, with_firsts-has, through}
+use Rattle.kernel_lists.specs.Firsts.{has_kind_of, with_first, with_firsts, HasKinds, IsKindTest}
+use Rattle.kernel_lists.proofs.Merging.{with_first-keeps, with_firsts-keeps, with_firsts-has, through}
 use Rattle.query_orders.proofs.Contained.{each_append, contains-nil, contains-head, contains-tail, each-contained, contains-flat_map, each-flat_map, each-filter_map}
 use Rattle.cap_core.specs.declared.profile.ProfileName.{ProfileName}
 use Rattle.kernel_abstract.specs.declared.call.Call.{Call}

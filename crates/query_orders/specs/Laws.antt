@@ -3,7 +3,7 @@ use Rattle.std.specs.Prelude.{◌≡◌, ◌≤◌, ◌==◌, ◌&&◌, ℕ, Boo
 use Rattle.cap_core.specs.declared.profile.ProfileName.{ProfileName}
 use Rattle.kernel_abstract.specs.declared.call.Call.{Call}
 use Rattle.kernel_abstract.specs.State.{State}
-use Rattle.kernel_kinds.specs.Kinds.{IsKindTest}
+use Rattle.kernel_lists.specs.Firsts.{IsKindTest}
 use Rattle.query_orders.specs.declared.answer.Answer.{Answer}
 use Rattle.query_orders.specs.declared.left.LeftCall.{LeftCall}
 use Rattle.query_orders.specs.World.{World, start, call_at, next_call, may_call, after_call, world_after}

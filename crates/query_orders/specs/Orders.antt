@@ -3,7 +3,7 @@ use Rattle.std.specs.Prelude.{ℕ, zero, suc, Bool, ◌&&◌, not, List, [], ◌
 use Rattle.std.specs.List.{flat_map, list_any}
 use Rattle.cap_core.specs.declared.profile.ProfileName.{ProfileName}
 use Rattle.kernel_abstract.specs.declared.call.Call.{Call}
-use Rattle.kernel_kinds.specs.Kinds.{with_firsts}
+use Rattle.kernel_lists.specs.Firsts.{with_firsts}
 use Rattle.query_orders.specs.World.{World, next_call, may_call, world_after}
 
 -- the numbers below one

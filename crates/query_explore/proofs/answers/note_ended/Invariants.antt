@@ -1,5 +1,5 @@
 use Rattle.std.proofs.Common.{◌≡◌, length}
-use Rattle.kernel_kinds.specs.Kinds.{with_firsts}
+use Rattle.kernel_lists.specs.Firsts.{with_firsts}
 use Rattle.query_orders.specs.Answers.{same_answer, waits_ended}
 use Rattle.query_orders.specs.contracts.answer.AnswerPartialEq.TheImpl as answer_eq
 use Rattle.query_explore.specs.Found.{answers_of}

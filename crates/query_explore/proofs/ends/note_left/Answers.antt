@@ -1,6 +1,6 @@
 use Rattle.std.proofs.Common.{◌≡◌, ◌-◌, ℕ, List, length, map, ap, ◌∙◌, arith}
 use Rattle.std.specs.List.{flat_map}
-use Rattle.kernel_kinds.specs.Kinds.{with_firsts}
+use Rattle.kernel_lists.specs.Firsts.{with_firsts}
 use Rattle.query_orders.specs.declared.answer.Answer.TheVariants.{NotMade}
 use Rattle.query_orders.specs.World.{place_of}
 use Rattle.query_orders.specs.Orders.{below}

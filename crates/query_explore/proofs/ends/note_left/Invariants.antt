@@ -1,6 +1,6 @@
 use Rattle.std.proofs.Common.{◌≡◌}
 use Rattle.std.specs.List.{flat_map}
-use Rattle.kernel_kinds.specs.Kinds.{with_firsts}
+use Rattle.kernel_lists.specs.Firsts.{with_firsts}
 use Rattle.query_orders.specs.Orders.{below}
 use Rattle.query_orders.specs.Answers.{same_answer}
 use Rattle.query_orders.specs.contracts.answer.AnswerPartialEq.TheImpl as answer_eq

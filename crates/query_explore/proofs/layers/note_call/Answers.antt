@@ -1,5 +1,5 @@
 use Rattle.std.proofs.Common.{List, ℕ, ◌++◌, ap, ◌∙◌}
-use Rattle.kernel_kinds.specs.Kinds.{with_firsts}
+use Rattle.kernel_lists.specs.Firsts.{with_firsts}
 use Rattle.query_orders.specs.declared.answer.WaitingCall.{WaitingCall}
 use Rattle.query_orders.specs.World.{place_of}
 use Rattle.query_orders.specs.Answers.{same_answer, replied, waits_ended}

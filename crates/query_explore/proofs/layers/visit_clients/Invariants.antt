@@ -1,7 +1,7 @@
 use Rattle.std.proofs.Common.{◌++◌, ◌∷◌, [], map, filter}
 use Rattle.std.specs.List.{flat_map}
 use Rattle.kernel_abstract.specs.Reached.{IsReached}
-use Rattle.kernel_kinds.specs.Kinds.{each_times}
+use Rattle.kernel_lists.specs.Firsts.{each_times}
 use Rattle.query_orders.specs.World.{World, next_call, may_call, world_after}
 use Rattle.query_orders.specs.Orders.{below}
 use Rattle.query_orders.specs.Answers.{call_answers}

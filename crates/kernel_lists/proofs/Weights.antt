@@ -4,7 +4,7 @@ use Rattle.std.proofs.lemmas.List.{map-append}
 use Rattle.std.proofs.lemmas.List.Sums.{sum_by-append, sum_by-cons}
 use Rattle.std.proofs.lemmas.List.Concat.{flat_map-cons}
 use Rattle.std.specs.List.{flat_map, list_any, sum_by}
-use Rattle.kernel_kinds.specs.Kinds.{with_first, with_firsts, with_count, with_counts, with_count_up_to, with_counts_up_to, each_times, weight}
+use Rattle.kernel_lists.specs.Firsts.{with_first, with_firsts, with_count, with_counts, with_count_up_to, with_counts_up_to, each_times, weight}
 
 weight-cons : {X : Type 0} (f : X → ℕ) (x : X × ℕ) (xs : List (X × ℕ)) → weight f (x ∷ xs) ≡ x.1 * f x.0 + weight f xs
 weight-cons f x xs = sum_by-cons (λ y. y.1 * f y.0) x xs

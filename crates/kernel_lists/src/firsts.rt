@@ -1,9 +1,7 @@
-//! The theory of lists of which the first of each kind is kept, alone or with a count for each kind.
-#![tactic(auto)]
-
+//! Lists of which the first of each kind is kept, alone or with a count for each kind.
 ghost use Rattle.std.specs.Prelude.{◌≡◌, ℕ, Bool, List, [], true, find};
 ghost use Rattle.std.specs.List.{flat_map, sum_by, AllByRecursion as Each};
-ghost use Rattle.kernel_kinds.specs.Kinds.{with_firsts, firsts, IsKindTest, KeepsKinds, with_counts, each_times, weight};
+ghost use Rattle.kernel_lists.specs.Firsts.{with_firsts, firsts, IsKindTest, KeepsKinds, with_counts, each_times, weight};
 
 /// Where elements of one kind have followers of the same kinds, the first of each kind among all followers are those among
 /// the followers of the first of each kind; and what a test finds that elements of one kind pass alike is the same in a list

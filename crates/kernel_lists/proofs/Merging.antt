@@ -5,7 +5,7 @@ use Rattle.std.proofs.lemmas.List.Folds.{list_any-append}
 use Rattle.std.proofs.lemmas.List.Concat.{flat_map-cons}
 use Rattle.std.proofs.lemmas.Grind.{flat_map-append}
 use Rattle.std.specs.List.{list_any, flat_map, AllByRecursion as Each}
-use Rattle.kernel_kinds.specs.Kinds.{has_kind_of, with_first, with_firsts, firsts, HasKinds, IsKindTest, KeepsKinds}
+use Rattle.kernel_lists.specs.Firsts.{has_kind_of, with_first, with_firsts, firsts, HasKinds, IsKindTest, KeepsKinds}
 
 or_left : (s t : Bool) → s ≡ true → (s || t) ≡ true
 or_left true t h = refl

@@ -1,5 +1,0 @@
-use Rattle.kernel_kinds.proofs.Counting.{weight-counted_followers}
-use Rattle.kernel_kinds.proofs.weights_of_followers.Goals as goal
-
-pub returns : goal.returns
-returns g c = λ same f next xs respects. weight-counted_followers same f next xs respects
