@@ -4,9 +4,9 @@ use Rattle.std.proofs.lemmas.List.{append-nil, map-append, take_more}
 use Rattle.std.proofs.lemmas.Option.{get_or_from_slice_get, slice_get-map}
 use Rattle.kernel_abstract.specs.declared.call.Call.{Call}
 use Rattle.kernel_abstract.specs.declared.call.Reply.{Reply}
-use Rattle.kernel_book.specs.declared.entry.Entry.{Entry}
-use Rattle.kernel_book.specs.Laws.{count_of, entry, is_numbered, replies_in}
-use Rattle.kernel_book.proofs.Grows.{numbered-snoc}
+use Rattle.kernel_shared.specs.declared.entry.Entry.{Entry}
+use Rattle.kernel_shared.specs.Laws.{count_of, entry, is_numbered, replies_in}
+use Rattle.kernel_shared.proofs.Grows.{numbered-snoc}
 use Rattle.setup_format.specs.Views.{CallView}
 use Rattle.command_threads.specs.Private.Begun.{AreBehind, AreEntriesOf}
 use Rattle.command_threads.specs.SharedRuns.{call_asked, call_made}

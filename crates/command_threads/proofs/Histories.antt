@@ -6,8 +6,8 @@ use Rattle.std.proofs.lemmas.Option.{slice_get-get_or, slice_get_within, slice_g
 use Rattle.std.specs.List.{sum_by}
 use mathlib.Core.Logic.{◌⊎◌, inl, inr}
 use Rattle.kernel_abstract.specs.declared.call.Call.{Call}
-use Rattle.kernel_book.specs.declared.entry.Entry.{Entry}
-use Rattle.kernel_book.specs.Laws.{calls_of}
+use Rattle.kernel_shared.specs.declared.entry.Entry.{Entry}
+use Rattle.kernel_shared.specs.Laws.{calls_of}
 use Rattle.kernel_shared.specs.ClientStates.{ClientState, client_state, is_below, calls_made, lost_calls, newly_lost, made}
 use Rattle.kernel_shared.specs.declared.driving.Stop.{Stop}
 use Rattle.kernel_shared.specs.declared.driving.Stop.TheVariants.{Gate, Fault}

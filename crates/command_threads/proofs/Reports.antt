@@ -10,10 +10,10 @@ use Rattle.kernel_abstract.specs.Reached.{IsReached}
 use Rattle.kernel_abstract.specs.Shown.{Shown}
 use Rattle.kernel_abstract.specs.State.{State, shown}
 use Rattle.kernel_abstract.specs.Step.{replies_of, state_after}
-use Rattle.kernel_book.specs.declared.entry.Entry.{Entry}
+use Rattle.kernel_shared.specs.declared.entry.Entry.{Entry}
 use Rattle.kernel_shared.specs.declared.driving.Stop.{Stop}
 use Rattle.kernel_shared.specs.Driving.{EachThree, IsDriven}
-use Rattle.kernel_book.specs.Laws.{Lawful, StandsAfter, calls_of, replies_in}
+use Rattle.kernel_shared.specs.Laws.{Lawful, StandsAfter, calls_of, replies_in}
 use Rattle.kernel_shared.specs.ClientStates.{ClientState, client_state}
 use Rattle.setup_format.specs.Views.{CallView}
 use Rattle.setup_threads.specs.SharedReport.{shared_report_of}

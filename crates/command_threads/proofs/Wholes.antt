@@ -8,8 +8,8 @@ use Rattle.kernel_abstract.specs.declared.call.Reply.{Reply}
 use Rattle.kernel_abstract.specs.Boot.{boot}
 use Rattle.kernel_abstract.specs.Step.{replies_of, state_after}
 use Rattle.kernel_abstract.proofs.Reached.Runs.{replies_of-append, state_after-append}
-use Rattle.kernel_book.specs.declared.entry.Entry.{Entry}
-use Rattle.kernel_book.specs.Laws.{calls_of, replies_in}
+use Rattle.kernel_shared.specs.declared.entry.Entry.{Entry}
+use Rattle.kernel_shared.specs.Laws.{calls_of, replies_in}
 use Rattle.setup_format.specs.Views.{CallView, SetupView}
 use Rattle.command_threads.specs.Private.Begun.{IsRunFrom, IsWhole, calls_in, state_begun}
 use Rattle.command_threads.specs.SharedRuns.{IsBeginning, IsSharedRun, calls_by, client_calls, count_first, first_calls, state_of}

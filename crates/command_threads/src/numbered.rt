@@ -1,7 +1,7 @@
 //! A history that grows by a call at a time.
 ghost use Rattle.std.specs.Prelude.{◌≡◌, ◌<◌, ◌+◌, ◌^◌, ◌++◌, ◌∷◌, [], ◌==◌, true, ℕ, IfOk, OnOk, OnErr, cond, slice_index, vec_len};
 ghost use Rattle.cap_core.specs.declared.limits.TheConstants.{MAX_CLIENTS};
-ghost use Rattle.kernel_book.specs.Laws.{AreCounts, count_of, entry, is_numbered};
+ghost use Rattle.kernel_shared.specs.Laws.{AreCounts, count_of, entry, is_numbered};
 
 use cap_core::limits::MAX_CLIENTS;
 use kernel_core::{Call, Reply};

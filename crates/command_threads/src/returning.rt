@@ -3,7 +3,7 @@ ghost use Rattle.std.specs.Prelude.{◌≡◌, All, None, Err, IfOk, false, map}
 ghost use Rattle.command_threads.specs.declared.returning.ReturnFault.TheVariants.{Ended};
 ghost use Rattle.command_threads.specs.Private.Settled.{HadMemory, IsFinished, IsReturnable};
 
-use kernel_book::Naming;
+use kernel_shared::Naming;
 use kernel_shared::client::Client;
 use kernel_shared::driving::{Driven, Stop};
 use kernel_shared::fault::SharedFault;

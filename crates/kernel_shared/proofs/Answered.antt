@@ -7,9 +7,9 @@ use Rattle.cap_core.specs.declared.profile.ProfileName.{ProfileName}
 use Rattle.kernel_abstract.specs.declared.call.Call.{Call}
 use Rattle.kernel_abstract.specs.declared.call.Reply.{Reply}
 use Rattle.kernel_abstract.specs.Shown.{Shown}
-use Rattle.kernel_book.specs.declared.entry.Entry.{Entry}
-use Rattle.kernel_book.specs.Laws.{Lawful, entry, calls_of, count_of, is_numbered}
-use Rattle.kernel_book.proofs.Grows.{count_append}
+use Rattle.kernel_shared.specs.declared.entry.Entry.{Entry}
+use Rattle.kernel_shared.specs.Laws.{Lawful, entry, calls_of, count_of, is_numbered}
+use Rattle.kernel_shared.proofs.Grows.{count_append}
 use Rattle.kernel_shared.specs.Fronts.{StartsWith}
 use Rattle.kernel_shared.specs.ClientStates.{ClientState, client_state, lost_calls, calls_made, is_below, holds_not, IsAnswered}
 use Rattle.kernel_shared.proofs.Keeping.{starts_snoc, starts_trans, longer}

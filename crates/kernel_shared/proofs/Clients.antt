@@ -6,9 +6,9 @@ use Rattle.cap_core.specs.declared.profile.ProfileName.{ProfileName}
 use Rattle.kernel_abstract.specs.declared.call.Call.{Call}
 use Rattle.kernel_abstract.specs.declared.call.Reply.{Reply}
 use Rattle.kernel_abstract.specs.Shown.{Shown}
-use Rattle.kernel_book.specs.declared.entry.Entry.{Entry}
-use Rattle.kernel_book.specs.Laws.{Lawful, entry, count_of}
-use Rattle.kernel_book.proofs.Grows.{lawful_open, count_append}
+use Rattle.kernel_shared.specs.declared.entry.Entry.{Entry}
+use Rattle.kernel_shared.specs.Laws.{Lawful, entry, count_of}
+use Rattle.kernel_shared.proofs.Grows.{lawful_open, count_append}
 use Rattle.std.proofs.lemmas.Option.{slice_get_within, get_or_from_slice_get}
 use Rattle.std.proofs.lemmas.Bool.Decides.{nat_tests}
 use Rattle.kernel_shared.specs.declared.client.Stray.{Stray}

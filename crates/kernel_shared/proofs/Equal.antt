@@ -27,8 +27,8 @@ use Rattle.cap_core.specs.contracts.refusal.RefusalPartialEq.TheImpl as refusal_
 use Rattle.kernel_abstract.specs.contracts.call.OpPartialEq.TheImpl as op_eq
 use Rattle.kernel_abstract.specs.contracts.call.CallPartialEq.TheImpl as call_eq
 use Rattle.kernel_abstract.specs.contracts.call.ReplyPartialEq.TheImpl as reply_eq
-use Rattle.kernel_book.specs.declared.entry.Entry.{Entry}
-use Rattle.kernel_book.specs.contracts.entry.EntryPartialEq.TheImpl as entry_eq
+use Rattle.kernel_shared.specs.declared.entry.Entry.{Entry}
+use Rattle.kernel_shared.specs.contracts.entry.EntryPartialEq.TheImpl as entry_eq
 
 -- a test that passes no two values
 pub record Exact (A : Type 0) : Type 0 where

@@ -4,7 +4,7 @@ use Rattle.std.proofs.lemmas.List.{append-nil, take-append-le}
 use mathlib.Core.Option.{some}
 use lib.ListN.{get_elem?}
 use Rattle.kernel_shared.proofs.Seats.{at_set, at_snoc}
-use Rattle.kernel_book.specs.declared.entry.Entry.{Entry}
+use Rattle.kernel_shared.specs.declared.entry.Entry.{Entry}
 use Rattle.kernel_shared.specs.Fronts.{StartsWith, Keeps, Sees}
 
 pub starts_refl : (log : List Entry) → StartsWith log log

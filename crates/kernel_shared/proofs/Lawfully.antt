@@ -10,8 +10,8 @@ use Rattle.kernel_abstract.specs.State.{State}
 use Rattle.kernel_abstract.specs.Shown.{Shown}
 use Rattle.kernel_abstract.specs.Step.{step, state_after, replies_of}
 use Rattle.kernel_abstract.proofs.Reached.Runs.{replies_of-nil, replies_of-cons, replies_of-append}
-use Rattle.kernel_book.specs.declared.entry.Entry.{Entry}
-use Rattle.kernel_book.specs.Laws.{Lawful, calls_of, replies_in}
+use Rattle.kernel_shared.specs.declared.entry.Entry.{Entry}
+use Rattle.kernel_shared.specs.Laws.{Lawful, calls_of, replies_in}
 use Rattle.kernel_shared.proofs.Numbered.{numbered_parts}
 
 replies_length : (p : ProfileName) (A : State) (cs : List Call) → length (replies_of p A cs) ≡ length cs

@@ -12,3 +12,4 @@ pub mod Places
 pub mod Threes
 pub mod Drives
 pub mod Equal
+pub mod Grows

@@ -5,9 +5,9 @@ use Rattle.std.proofs.lemmas.List.Sums.{length-filter}
 use Rattle.std.proofs.lemmas.List.Elements.{filter-append}
 use Rattle.std.proofs.lemmas.Bool.Decides.{nat_tests}
 use Rattle.std.specs.Cmp.Derive.{both_true}
-use Rattle.kernel_book.specs.declared.entry.Entry.{Entry}
-use Rattle.kernel_book.specs.Laws.{count_of, is_numbered}
-use Rattle.kernel_book.proofs.Grows.{and_parts, count_append}
+use Rattle.kernel_shared.specs.declared.entry.Entry.{Entry}
+use Rattle.kernel_shared.specs.Laws.{count_of, is_numbered}
+use Rattle.kernel_shared.proofs.Grows.{and_parts, count_append}
 use Rattle.kernel_shared.specs.ClientStates.{is_below, is_numbered_as}
 
 abbrev is_of : ℕ → Entry → Bool

@@ -3,8 +3,8 @@ use Rattle.std.proofs.Common.{◌≡◌, ◌≢◌, ℕ, ◌+◌, ◌==◌, Bool
 use Rattle.std.specs.Result.{is_err}
 use Rattle.kernel_abstract.specs.State.{State}
 use Rattle.cap_core.specs.declared.profile.ProfileName.{ProfileName}
-use Rattle.kernel_book.specs.declared.entry.Entry.{Entry}
-use Rattle.kernel_book.specs.Laws.{count_of}
+use Rattle.kernel_shared.specs.declared.entry.Entry.{Entry}
+use Rattle.kernel_shared.specs.Laws.{count_of}
 use Rattle.kernel_shared.specs.declared.request.Request.{Request}
 use Rattle.kernel_shared.specs.Taking.{entry_of, taken}
 use Rattle.kernel_shared.specs.Fronts.{StartsWith}

@@ -10,8 +10,8 @@ use Rattle.kernel_abstract.specs.State.{State, shown}
 use Rattle.kernel_abstract.specs.Shown.{Shown}
 use Rattle.kernel_abstract.specs.Step.{state_after}
 use Rattle.kernel_abstract.specs.Reached.{IsReached}
-use Rattle.kernel_book.specs.declared.entry.Entry.{Entry}
-use Rattle.kernel_book.specs.Laws.{calls_of, StandsAfter}
+use Rattle.kernel_shared.specs.declared.entry.Entry.{Entry}
+use Rattle.kernel_shared.specs.Laws.{calls_of, StandsAfter}
 
 -- what is read of the kernel is read of each state that the history leads to
 pub read_is : {X : Type 0} (set : (x y : X) → IsProp (x ≡ y)) (read : Shown → X) (p : ProfileName) (o k : Shown) (h : List Entry) (x : X) → ∥ StandsAfter p o h k ∥₁ → x ≡ read k

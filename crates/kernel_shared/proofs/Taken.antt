@@ -10,10 +10,10 @@ use Rattle.kernel_abstract.specs.Shown.{Shown}
 use Rattle.kernel_abstract.specs.Step.{step, state_after}
 use Rattle.kernel_abstract.specs.Reached.{IsReached}
 use Rattle.kernel_abstract.proofs.Reached.Runs.{reached_after}
-use Rattle.kernel_book.specs.declared.entry.Entry.{Entry}
-use Rattle.kernel_book.specs.declared.book.BookFault.{BookFault}
-use Rattle.kernel_book.specs.declared.book.BookFault.TheVariants.{Full, NameTaken}
-use Rattle.kernel_book.specs.Laws.{entry, calls_of, count_of, StandsAfter, Begins}
+use Rattle.kernel_shared.specs.declared.entry.Entry.{Entry}
+use Rattle.kernel_shared.specs.declared.book.BookFault.{BookFault}
+use Rattle.kernel_shared.specs.declared.book.BookFault.TheVariants.{Full, NameTaken}
+use Rattle.kernel_shared.specs.Laws.{entry, calls_of, count_of, StandsAfter, Begins}
 use Rattle.kernel_shared.specs.declared.request.Request.{Request}
 use Rattle.kernel_shared.specs.Taking.{entry_of, taken}
 

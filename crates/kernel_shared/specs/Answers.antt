@@ -7,8 +7,8 @@ use Rattle.kernel_abstract.specs.Shown.{Shown, state_at, inbox_at}
 use Rattle.kernel_abstract.specs.Step.{state_after}
 use Rattle.kernel_abstract.specs.Waiting.{thread_waiting}
 use Rattle.kernel_abstract.specs.Reached.{IsReached}
-use Rattle.kernel_book.specs.declared.entry.Entry.{Entry}
-use Rattle.kernel_book.specs.Laws.{calls_of}
+use Rattle.kernel_shared.specs.declared.entry.Entry.{Entry}
+use Rattle.kernel_shared.specs.Laws.{calls_of}
 use Rattle.kernel_shared.specs.declared.query.Query.{Query}
 use Rattle.kernel_shared.specs.declared.query.Query.TheVariants as q
 use Rattle.kernel_shared.specs.declared.query.Answer.{Answer}

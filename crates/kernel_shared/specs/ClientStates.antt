@@ -4,8 +4,8 @@ use Rattle.cap_core.specs.declared.profile.ProfileName.{ProfileName}
 use Rattle.kernel_abstract.specs.declared.call.Call.{Call}
 use Rattle.kernel_abstract.specs.declared.call.Reply.{Reply}
 use Rattle.kernel_abstract.specs.Shown.{Shown}
-use Rattle.kernel_book.specs.declared.entry.Entry.{Entry}
-use Rattle.kernel_book.specs.Laws.{Lawful, entry, calls_of, count_of}
+use Rattle.kernel_shared.specs.declared.entry.Entry.{Entry}
+use Rattle.kernel_shared.specs.Laws.{Lawful, entry, calls_of, count_of}
 use Rattle.kernel_shared.specs.declared.client.Stray.{Stray}
 use Rattle.kernel_shared.specs.Fronts.{StartsWith}
 

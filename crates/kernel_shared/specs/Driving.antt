@@ -1,7 +1,7 @@
 -- What the threads of a drive leave.
 use Rattle.std.specs.Prelude.{◌≡◌, ◌↔◌, ◌<◌, ◌≤◌, ◌+◌, ℕ, List, ◌++◌, length, take, slice_get, Option, None, Some}
 use Rattle.kernel_abstract.specs.declared.call.Call.{Call}
-use Rattle.kernel_book.specs.Laws.{count_of}
+use Rattle.kernel_shared.specs.Laws.{count_of}
 use Rattle.kernel_shared.specs.declared.end.End.{End}
 use Rattle.kernel_shared.specs.declared.end.End.TheVariants as E
 use Rattle.kernel_shared.specs.declared.driving.Stop.{Stop}

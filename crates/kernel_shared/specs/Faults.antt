@@ -1,7 +1,7 @@
 -- What a fault tells of the client.
 use Rattle.std.specs.Prelude.{◌≡◌, ℕ, ◌<◌, length, Some, None}
 use Rattle.kernel_abstract.specs.declared.call.Call.{Call}
-use Rattle.kernel_book.specs.Laws.{count_of}
+use Rattle.kernel_shared.specs.Laws.{count_of}
 use Rattle.kernel_shared.specs.declared.fault.SharedFault.{SharedFault}
 use Rattle.kernel_shared.specs.declared.fault.SharedFault.TheVariants.{Full, Stray, NameTaken, Memory, NoEntry}
 use Rattle.kernel_shared.specs.ClientStates.{ClientState, lost, holds_not}

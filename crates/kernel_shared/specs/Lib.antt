@@ -1,5 +1,5 @@
 -- What contracts cite: lawful histories, fronts, what is read after one, what contracts see of a client, and what a drive leaves.
-pub use Rattle.kernel_book.specs.Laws
+pub mod Laws
 pub mod Taking
 pub mod Fronts
 pub mod Readers

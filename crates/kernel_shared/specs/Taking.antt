@@ -3,8 +3,8 @@ use Rattle.std.specs.Prelude.{ℕ, ◌==◌, cond, List, [], ◌∷◌, ◌++◌
 use Rattle.cap_core.specs.declared.profile.ProfileName.{ProfileName}
 use Rattle.kernel_abstract.specs.State.{State}
 use Rattle.kernel_abstract.specs.Step.{step, state_after}
-use Rattle.kernel_book.specs.declared.entry.Entry.{Entry}
-use Rattle.kernel_book.specs.Laws.{entry, calls_of, count_of}
+use Rattle.kernel_shared.specs.declared.entry.Entry.{Entry}
+use Rattle.kernel_shared.specs.Laws.{entry, calls_of, count_of}
 use Rattle.kernel_shared.specs.declared.request.Request.{Request}
 
 -- the entry that a request adds: the reply is the step's, in the state after the history

@@ -1,14 +1,14 @@
 //! One of the two copies of a book.
 ghost use Rattle.std.specs.Prelude.{◌≡◌, refl};
-ghost use Rattle.kernel_book.specs.Laws.{Begins};
+ghost use Rattle.kernel_shared.specs.Laws.{Begins};
 ghost use Rattle.kernel_shared.specs.Taking.{taken};
 
 use crate::history_copy::HistoryCopy;
 use crate::query::{Answer, Query};
 use crate::request::Request;
+use crate::{Book, Entry, Naming};
 use cap_core::Profile;
 use ipc_core::Waiters;
-use kernel_book::{Book, Entry, Naming};
 use left_right::Absorb;
 use slot_core::CapStore;
 use std::alloc::AllocError;
@@ -23,8 +23,8 @@ pub struct BookCopy<N: Naming, P: Profile, S: CapStore<P> + Drop, W: Waiters<P> 
 impl<N: Naming, P: Profile, S: CapStore<P> + Drop, W: Waiters<P> + Drop> Model
     for BookCopy<N, P, S, W> {
     ghost use Rattle.std.specs.Prelude.{◌≡◌, List};
-    ghost use Rattle.kernel_book.specs.declared.entry.Entry.{Entry};
-    ghost use Rattle.kernel_book.specs.Laws.{Begins};
+    ghost use Rattle.kernel_shared.specs.declared.entry.Entry.{Entry};
+    ghost use Rattle.kernel_shared.specs.Laws.{Begins};
 
     ghost Value = { List Entry };
 

@@ -1,6 +1,6 @@
 //! A client: its calls are numbered, and it looks without waiting.
 ghost use Rattle.std.specs.Prelude.{◌≡◌, ◌+◌, ◌≤◌, ◌<◌, ◌↔◌, ◌++◌, ◌∷◌, [], length, Some, None, slice_get, IfSome, IfNone, OnOk, IfErr, OnErr, IsTrue, ◌^◌, take};
-ghost use Rattle.kernel_book.specs.Laws.{Lawful, count_of, entry};
+ghost use Rattle.kernel_shared.specs.Laws.{Lawful, count_of, entry};
 ghost use Rattle.kernel_shared.specs.Fronts.{StartsWith};
 ghost use Rattle.kernel_shared.specs.Answers.{IsAnswer};
 ghost use Rattle.kernel_shared.specs.ClientStates.{lost, made, client_state};
@@ -15,8 +15,8 @@ use crate::query::{Answer, Query};
 use crate::request::Request;
 use crate::rule::{Published, SeesBook, View};
 use crate::writer_state::{NotPublished, WriterState};
+use crate::{Entry, Naming};
 use kernel_abstract::{Call, Reply};
-use kernel_book::{Entry, Naming};
 use left_right::reader::Reader;
 use std::marker::Model;
 use std::sync::Wait;

@@ -1,7 +1,7 @@
 //! How many clients a shared kernel has.
 ghost use Rattle.std.specs.Prelude.{◌≡◌};
 
-use kernel_book::Naming;
+use crate::Naming;
 use std::marker::PhantomData;
 
 /// The number of clients, which is that of the ledger's parts.

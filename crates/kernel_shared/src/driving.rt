@@ -5,13 +5,13 @@ ghost use Rattle.kernel_shared.specs.ClientStates.{ClientState};
 ghost use Rattle.kernel_shared.specs.Faults.{Told};
 ghost use Rattle.kernel_shared.specs.Driving.{EachThree, IsDriven, IsThreadResult, IsFinish, Ended, Stopped};
 
+use crate::Naming;
 use crate::client::Client;
 use crate::end::End;
 use crate::fault::SharedFault;
 use crate::history_copy::HistoryCopy;
 use crate::shared::Shared;
 use kernel_abstract::Call;
-use kernel_book::Naming;
 use std::alloc::Global;
 use std::marker::PhantomData;
 use std::snapshot::Snapshot;

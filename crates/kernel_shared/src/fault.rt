@@ -1,7 +1,7 @@
 //! Why a call was not answered.
+use crate::Naming;
 use crate::front::Front;
 use crate::history_copy::HistoryCopy;
-use kernel_book::Naming;
 
 /// Why a call was not answered. All but `Stray` take no step.
 #[derive(Drop)]

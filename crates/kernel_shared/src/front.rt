@@ -1,11 +1,11 @@
 //! A beginning of the history.
 ghost use Rattle.std.specs.Prelude.{◌≡◌, ◌≤◌, length, take};
-ghost use Rattle.kernel_book.specs.Laws.{Lawful};
+ghost use Rattle.kernel_shared.specs.Laws.{Lawful};
 ghost use Rattle.kernel_shared.specs.Readers.{seen_of};
 
+use crate::Naming;
 use crate::history_copy::HistoryCopy;
 use crate::rule::{Published, View};
-use kernel_book::Naming;
 use left_right::reader::Reader;
 use std::marker::{Model, PhantomData};
 use std::snapshot::Snapshot;
@@ -20,8 +20,8 @@ pub struct Front<N: Naming, T: HistoryCopy<N>> {
 
 impl<N: Naming, T: HistoryCopy<N>> Model for Front<N, T> {
     ghost use Rattle.std.specs.Prelude.{List, take, length, ◌≤◌};
-    ghost use Rattle.kernel_book.specs.declared.entry.Entry.{Entry};
-    ghost use Rattle.kernel_book.specs.Laws.{Lawful};
+    ghost use Rattle.kernel_shared.specs.declared.entry.Entry.{Entry};
+    ghost use Rattle.kernel_shared.specs.Laws.{Lawful};
     ghost use Rattle.kernel_shared.specs.Readers.{seen_of};
 
     ghost Value = { List Entry };

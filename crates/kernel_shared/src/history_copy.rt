@@ -1,15 +1,15 @@
 //! What both copies of a book do, whatever store and waiters they stand over.
 use crate::query::{Answer, Query};
 use crate::request::Request;
-use kernel_book::{Entry, Naming};
+use crate::{Entry, Naming};
 use left_right::Absorb;
 
 /// A copy of a book: its state is the history, and a request is taken as a book takes a call. None of its calls takes
 /// memory.
 pub trait HistoryCopy<N: Naming>: Absorb<Request, State = [Entry; 0]> + Drop {
     ghost use Rattle.std.specs.Prelude.{◌≡◌, ◌↔◌, IsTrue, List, length, slice_get};
-    ghost use Rattle.kernel_book.specs.declared.entry.Entry.{Entry};
-    ghost use Rattle.kernel_book.specs.Laws.{Lawful, count_of};
+    ghost use Rattle.kernel_shared.specs.declared.entry.Entry.{Entry};
+    ghost use Rattle.kernel_shared.specs.Laws.{Lawful, count_of};
     ghost use Rattle.kernel_shared.specs.declared.request.Request.{Request};
     ghost use Rattle.kernel_shared.specs.Answers.{IsAnswer};
     ghost use Rattle.kernel_shared.specs.Taking.{taken};

@@ -1,16 +1,21 @@
-//! One kernel for many client threads. A book is a kernel with the history of the calls that led to it. Two copies of one
-//! stand side by side: a client's call is written to both, one after the other, under a lock, and a client's look reads the
-//! copy that is not being written, and waits for nobody.
+//! One kernel for many client threads: their calls stand in one history, and each may look at the kernel without waiting.
+//!
+//! A book is a kernel with the history of the calls that led to it. Two copies of one stand side by side: a client's call is
+//! written to both, one after the other, under a lock, and a client's look reads the copy that is not being written, and waits
+//! for nobody.
 #![tactic(auto)]
 
+pub mod book;
 pub mod book_copy;
 pub mod client;
 pub mod client_count;
 pub mod driving;
 pub mod end;
+pub mod entry;
 pub mod fault;
 pub mod front;
 pub mod history_copy;
+pub mod naming;
 pub mod query;
 pub mod request;
 pub mod rule;
@@ -19,8 +24,10 @@ pub mod shared;
 pub mod start;
 pub mod writer_state;
 
+pub use book::{Book, BookFault};
 pub use driving::{DriveFault, Gate, drive};
-pub use kernel_book::{Book, BookFault, Entry, Naming};
+pub use entry::Entry;
+pub use naming::Naming;
 pub use query::{Answer, Query};
 pub use settling::{SettleFault, settle};
 pub use start::StartFault;

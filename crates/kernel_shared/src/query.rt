@@ -1,7 +1,7 @@
 //! What a client asks of the history and of the kernel, and what it is answered.
+use crate::Entry;
 use cap_core::Cap;
 use kernel_abstract::{Inbox, ThreadState};
-use kernel_book::Entry;
 
 /// What a look asks for.
 #[derive(Clone, Copy)]

@@ -2,9 +2,9 @@
 ghost use Rattle.std.specs.Prelude.{[]};
 ghost use Rattle.kernel_shared.specs.Fronts.{Keeps, Sees};
 
+use crate::Entry;
 use crate::request::Request;
 use crossbeam_utils::rule::{Outcome, Protocol};
-use kernel_book::Entry;
 use left_right::Absorb;
 use std::collections::LinkedList;
 

@@ -8,9 +8,9 @@ use crate::client::Client;
 use crate::history_copy::HistoryCopy;
 use crate::shared::Shared;
 use crate::writer_state::WriterState;
+use crate::{Book, Naming};
 use cap_core::Profile;
 use ipc_core::Waiters;
-use kernel_book::{Book, Naming};
 use slot_core::CapStore;
 use std::sync::Wait;
 

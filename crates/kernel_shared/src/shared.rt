@@ -1,18 +1,18 @@
 //! One kernel for many clients: calls.
 ghost use Rattle.std.specs.Prelude.{◌≡◌, ◌++◌, ◌∷◌, [], Some, None, IfOk, Err, OnOk, OnErr, IfErr, ◌⊎◌};
-ghost use Rattle.kernel_book.specs.Laws.{count_of};
+ghost use Rattle.kernel_shared.specs.Laws.{count_of};
 ghost use Rattle.kernel_shared.specs.declared.fault.SharedFault.TheVariants as Fault;
 ghost use Rattle.kernel_shared.specs.Fronts.{StartsWith};
 ghost use Rattle.kernel_shared.specs.Faults.{Told};
 ghost use Rattle.kernel_shared.specs.ClientStates.{Lost, IsAnswered, calls_made, lost, lost_calls};
 
+use crate::Naming;
 use crate::client::Client;
 use crate::client_count::ClientCount;
 use crate::fault::SharedFault;
 use crate::history_copy::HistoryCopy;
 use crate::writer_state::WriterState;
 use kernel_abstract::{Call, Reply};
-use kernel_book::Naming;
 use std::sync::{Mutex, MutexGuard, Wait};
 
 /// A kernel that client threads share: two copies of its book, of which one is read while the other is written, and one

@@ -1,6 +1,6 @@
 //! How a kernel comes to be shared.
 ghost use Rattle.std.specs.Prelude.{ℕ, ◌≡◌, ◌<◌, [], None, Some, slice_get, IfOk, vec_len};
-ghost use Rattle.kernel_book.specs.Laws.{Begins};
+ghost use Rattle.kernel_shared.specs.Laws.{Begins};
 ghost use Rattle.kernel_shared.specs.ClientStates.{client_state};
 
 use crate::book_copy::BookCopy;
@@ -9,9 +9,9 @@ use crate::client_count::ClientCount;
 use crate::history_copy::HistoryCopy;
 use crate::shared::Shared;
 use crate::writer_state::WriterState;
+use crate::{Book, Naming};
 use cap_core::Profile;
 use ipc_core::MakeWaiters;
-use kernel_book::{Book, Naming};
 use kernel_core::Kernel;
 use left_right::writer::Writer;
 use slot_core::MakeStore;

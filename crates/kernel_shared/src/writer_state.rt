@@ -1,10 +1,10 @@
 //! What lies under the lock: the writer of both copies, and how many calls were made.
 ghost use Rattle.std.specs.Prelude.{◌≡◌, ◌+◌, ◌<◌, ◌^◌, [], drop, length, OnOk, OnErr};
 
+use crate::Naming;
 use crate::history_copy::HistoryCopy;
 use crate::request::Request;
 use crate::rule::{Published, SeesBook, View};
-use kernel_book::Naming;
 use left_right::writer::Writer;
 use std::sync::ledger::Share;
 use std::sync::{Wait, ledger};

@@ -3,7 +3,7 @@ use Rattle.std.specs.Prelude.{codes, ℕ, ◌+◌, List, [], ◌∷◌, ◌++◌
 use Rattle.std.specs.Fmt.{decimal}
 use Rattle.cap_core.specs.declared.profile.ProfileName.{ProfileName}
 use Rattle.kernel_abstract.specs.Shown.{Shown}
-use Rattle.kernel_book.specs.declared.entry.Entry.{Entry}
+use Rattle.kernel_shared.specs.declared.entry.Entry.{Entry}
 use Rattle.setup_report.specs.Text.{answered_text}
 use Rattle.setup_report.specs.Report.{terminated, state_lines}
 

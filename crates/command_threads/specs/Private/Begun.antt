@@ -8,8 +8,8 @@ use Rattle.kernel_abstract.specs.Boot.{boot}
 use Rattle.kernel_abstract.specs.Shown.{Shown}
 use Rattle.kernel_abstract.specs.State.{State, shown}
 use Rattle.kernel_abstract.specs.Step.{replies_of, state_after}
-use Rattle.kernel_book.specs.declared.entry.Entry.{Entry}
-use Rattle.kernel_book.specs.Laws.{calls_of, replies_in, is_numbered}
+use Rattle.kernel_shared.specs.declared.entry.Entry.{Entry}
+use Rattle.kernel_shared.specs.Laws.{calls_of, replies_in, is_numbered}
 use Rattle.setup_format.specs.Views.{SetupView, CallView}
 use Rattle.command_threads.specs.SharedRuns.{IsBeginning, call_asked, call_made, calls_by, client_calls, first_calls}
 

@@ -1,6 +1,6 @@
 -- What is known of a history that was settled with the clients that made it.
 use Rattle.std.specs.Prelude.{◌≡◌, ◌≢◌, List, All, Option, Some, None, length, sum_by}
-use Rattle.kernel_book.specs.declared.entry.Entry.{Entry}
+use Rattle.kernel_shared.specs.declared.entry.Entry.{Entry}
 use Rattle.kernel_shared.specs.declared.driving.Driven.{Driven}
 use Rattle.kernel_shared.specs.declared.driving.Stop.{Stop}
 use Rattle.kernel_shared.specs.declared.driving.Stop.TheVariants.{Gate, Fault}

@@ -1,6 +1,6 @@
 use Rattle.std.proofs.Common.{[], ◌∷◌, ◌++◌, ap, ◌∙◌}
-use Rattle.kernel_book.specs.Laws.{entry}
-use Rattle.kernel_book.proofs.Grows.{counts_grow}
+use Rattle.kernel_shared.specs.Laws.{entry}
+use Rattle.kernel_shared.proofs.Grows.{counts_grow}
 use Rattle.command_threads.proofs.Growing.{numbered_more}
 use Rattle.command_threads.proofs.numbered.Numbered.push.Goals as goal
 

@@ -1,5 +1,5 @@
 use Rattle.std.proofs.Common.{[], ap}
-use Rattle.kernel_book.specs.Laws.{is_numbered}
+use Rattle.kernel_shared.specs.Laws.{is_numbered}
 use Rattle.command_threads.proofs.numbered.Numbered.with_capacity.Goals as goal
 
 pub invariant_of-result-clause-numbered : goal.invariant_of-result-clause-numbered

@@ -2,7 +2,7 @@ use Rattle.std.proofs.Common.{rules, ◌≡◌, List, sym, subst}
 use Rattle.cap_core.specs.declared.profile.ProfileName.{ProfileName}
 use Rattle.kernel_forest.specs.Entries.{cap_at}
 use Rattle.kernel_abstract.specs.Shown.{Shown, state_at, inbox_at}
-use Rattle.kernel_book.specs.declared.entry.Entry.{Entry}
+use Rattle.kernel_shared.specs.declared.entry.Entry.{Entry}
 use Rattle.kernel_shared.specs.declared.query.Query.{Query}
 use Rattle.kernel_shared.specs.declared.query.Query.TheVariants as q
 use Rattle.kernel_shared.specs.declared.query.Answer.TheVariants as a

@@ -1,5 +1,5 @@
 use Rattle.std.proofs.Common.{rules, ◌≡◌, Some, refl, sym, subst}
-use Rattle.kernel_book.specs.Laws.{count_of}
+use Rattle.kernel_shared.specs.Laws.{count_of}
 use Rattle.kernel_shared.specs.ClientStates.{ClientState, lost}
 use Rattle.kernel_shared.proofs.client.Client.ask.Goals as goal
 

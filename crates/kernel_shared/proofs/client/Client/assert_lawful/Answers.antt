@@ -1,6 +1,6 @@
 use Rattle.std.proofs.Common.{List, subst, ap}
-use Rattle.kernel_book.specs.declared.entry.Entry.{Entry}
-use Rattle.kernel_book.specs.Laws.{Lawful}
+use Rattle.kernel_shared.specs.declared.entry.Entry.{Entry}
+use Rattle.kernel_shared.specs.Laws.{Lawful}
 use Rattle.kernel_shared.specs.ClientStates.{ClientState}
 use Rattle.kernel_shared.proofs.Lawfully.{lawful_take}
 use Rattle.kernel_shared.proofs.client.Client.assert_lawful.Goals as goal

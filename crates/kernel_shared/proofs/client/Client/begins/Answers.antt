@@ -1,6 +1,6 @@
 use Rattle.std.proofs.Common.{rules, ◌≡◌, ◌∙◌, ap, sym}
 use Rattle.left_right.specs.Sides.{view}
-use Rattle.kernel_book.specs.Laws.{Lawful}
+use Rattle.kernel_shared.specs.Laws.{Lawful}
 use Rattle.kernel_shared.specs.Readers.{seen_of}
 use Rattle.kernel_shared.specs.ClientStates.{ClientState}
 use Rattle.kernel_shared.proofs.Keeping.{turns, starts_refl, starts_by}

@@ -1,7 +1,7 @@
 use Rattle.std.proofs.Common.{List, Some, sym, ◌∙◌, ap, subst}
 use Rattle.kernel_shared.specs.ClientStates.{ClientState, lost, lost_of}
-use Rattle.kernel_book.specs.declared.entry.Entry.{Entry}
-use Rattle.kernel_book.specs.Laws.{Lawful}
+use Rattle.kernel_shared.specs.declared.entry.Entry.{Entry}
+use Rattle.kernel_shared.specs.Laws.{Lawful}
 use Rattle.kernel_shared.proofs.Lawfully.{lawful_take}
 use Rattle.kernel_shared.specs.Readers.{seen_of}
 use Rattle.kernel_shared.proofs.client.Client.stray.Goals as goal

@@ -1,5 +1,5 @@
 use Rattle.std.proofs.Common.{rules, ◌≡◌, ◌++◌, List, Some, None, ap, sym, ◌∙◌, subst}
-use Rattle.kernel_book.specs.declared.entry.Entry.{Entry}
+use Rattle.kernel_shared.specs.declared.entry.Entry.{Entry}
 use Rattle.kernel_shared.specs.ClientStates.{ClientState, lost, holds_not, calls_made, lost_calls}
 use Rattle.kernel_shared.proofs.Answered.{not_held, unmade, finished}
 use Rattle.kernel_shared.proofs.shared.Shared.call.Goals as goal

@@ -1,6 +1,6 @@
 use Rattle.std.proofs.Common.{rules, ◌≡◌, ◌≢◌, ◌+◌, List, [], ◌∷◌, length, drop, ap, sym, ◌∙◌}
-use Rattle.kernel_book.specs.declared.entry.Entry.{Entry}
-use Rattle.kernel_book.specs.Laws.{count_of}
+use Rattle.kernel_shared.specs.declared.entry.Entry.{Entry}
+use Rattle.kernel_shared.specs.Laws.{count_of}
 use Rattle.kernel_shared.proofs.Keeping.{turns}
 use Rattle.kernel_shared.proofs.Publishing.{folded, starts_after, one_longer, pending_is}
 use Rattle.kernel_shared.proofs.writer_state.WriterState.make.Goals as goal

@@ -15,8 +15,8 @@ use Rattle.kernel_abstract.specs.Shown.{Shown}
 use Rattle.kernel_abstract.specs.Step.{state_after, replies_of}
 use Rattle.kernel_abstract.specs.Reached.{IsReached, StepsTo}
 use Rattle.kernel_abstract.proofs.Reached.Runs.{state_after-nil, state_after-snoc, replies_of-nil, replies_of-snoc, reached_after}
-use Rattle.kernel_book.specs.declared.entry.Entry.{Entry}
-use Rattle.kernel_book.specs.Laws.{entry, calls_of, count_of, is_numbered, Lawful, StandsAfter, AreCounts}
+use Rattle.kernel_shared.specs.declared.entry.Entry.{Entry}
+use Rattle.kernel_shared.specs.Laws.{entry, calls_of, count_of, is_numbered, Lawful, StandsAfter, AreCounts}
 
 pub lawful_open : (p : ProfileName) (o : Shown) → Lawful p o []
 unfolding is_numbered

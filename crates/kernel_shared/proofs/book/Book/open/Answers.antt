@@ -1,5 +1,5 @@
-use Rattle.kernel_book.proofs.Grows.{lawful_open_at, stands_open_at}
-use Rattle.kernel_book.proofs.book.Book.open.Goals as goal
+use Rattle.kernel_shared.proofs.Grows.{lawful_open_at, stands_open_at}
+use Rattle.kernel_shared.proofs.book.Book.open.Goals as goal
 
 pub invariant_of-result-clause-lawful : goal.invariant_of-result-clause-lawful
 invariant_of-result-clause-lawful g c = lawful_open_at _ _ _ (c.in_ok-history.ensures.items)

@@ -8,7 +8,7 @@ use Rattle.kernel_abstract.specs.State.{State, shown}
 use Rattle.kernel_abstract.specs.Shown.{Shown}
 use Rattle.kernel_abstract.specs.Step.{state_after, replies_of}
 use Rattle.kernel_abstract.specs.Reached.{IsReached}
-use Rattle.kernel_book.specs.declared.entry.Entry.{Entry}
+use Rattle.kernel_shared.specs.declared.entry.Entry.{Entry}
 
 abbrev pub entry : ℕ → ℕ → Call → Reply → Entry
 entry client number call reply = record { client = client; number = number; call = call; reply = reply }

@@ -4,7 +4,7 @@ ghost use Rattle.cap_core.specs.declared.limits.TheConstants.{MAX_CLIENTS};
 ghost use Rattle.kernel_abstract.specs.State.{State, shown};
 ghost use Rattle.kernel_abstract.specs.Step.{step};
 ghost use Rattle.kernel_abstract.specs.Reached.{IsReached};
-ghost use Rattle.kernel_book.specs.Laws.{Lawful, StandsAfter, AreCounts, entry, count_of};
+ghost use Rattle.kernel_shared.specs.Laws.{Lawful, StandsAfter, AreCounts, entry, count_of};
 
 use crate::entry::Entry;
 use crate::naming::Naming;

@@ -1,7 +1,7 @@
 use Rattle.std.proofs.Common.{rules, ◌≡◌}
-use Rattle.kernel_book.specs.Laws.{count_of}
-use Rattle.kernel_book.proofs.Grows.{lawful_grows_at, stands_grows_at, counts_grow}
-use Rattle.kernel_book.proofs.book.Book.take.Goals as goal
+use Rattle.kernel_shared.specs.Laws.{count_of}
+use Rattle.kernel_shared.proofs.Grows.{lawful_grows_at, stands_grows_at, counts_grow}
+use Rattle.kernel_shared.proofs.book.Book.take.Goals as goal
 
 pub invariant_of-self-2-clause-lawful : goal.invariant_of-self-2-clause-lawful
 invariant_of-self-2-clause-lawful g c =

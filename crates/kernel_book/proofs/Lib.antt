@@ -1,2 +1,0 @@
--- Lemmas on a book that takes one more call.
-pub mod Grows

@@ -1,2 +1,0 @@
--- What contracts cite of a book.
-pub mod Laws
