@@ -15,7 +15,7 @@ use cap_core::Profile;
 use command_trace_lines::{add_changes_between, add_names};
 use ipc_core::MakeWaiters;
 use kernel_core::Kernel;
-use query_slots::kernel_slots;
+use query_reach::kernel_slots;
 use setup_format::Setup;
 use setup_report::state_rows;
 use setup_values::Name;

@@ -8,8 +8,8 @@ use Rattle.kernel_forest.specs.Forest.{Forest}
 use Rattle.kernel_forest.specs.Entries.{Entry}
 use Rattle.kernel_abstract.specs.Shown.{Shown}
 use Rattle.query_reach.specs.declared.filled.FullSlot.{FullSlot}
-use Rattle.query_chains.specs.declared.chain.Target.{Target}
-use Rattle.query_chains.specs.Chain.{IsShortest}
+use Rattle.query_reach.specs.declared.chains.chain.Target.{Target}
+use Rattle.query_reach.specs.Chain.{IsShortest}
 use Rattle.query_parts.specs.declared.listed.PartMemory.{PartMemory}
 use Rattle.query_parts.specs.declared.listed.PartUse.{PartUse}
 use Rattle.query_parts.specs.Listed.{part_at}

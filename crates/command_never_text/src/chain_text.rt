@@ -11,9 +11,8 @@ ghost use Rattle.command_never_text.specs.Chains as spec;
 
 use crate::never::{Between, Layout, endpoint_size, endpoints_met, has_bytes, is_open};
 use cap_core::Profile;
-use query_chains::{Target, shortest_chain};
 use query_parts::PartMemory;
-use query_reach::FullSlot;
+use query_reach::{FullSlot, Target, shortest_chain};
 use setup_report::CapText;
 use setup_values::{Name, thread_name};
 use std::alloc::{AllocError, Global};

@@ -12,3 +12,4 @@ pub mod Laws
 pub mod Listed
 pub mod OneCall
 pub mod Private
+pub mod Chain

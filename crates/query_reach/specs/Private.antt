@@ -6,3 +6,4 @@ pub mod Search
 pub mod Paths
 pub mod Entries
 pub mod Exploring
+pub mod Layers

@@ -11,9 +11,8 @@ use ipc_core::LinkedWaiters;
 use kernel_core::{BootPlan, Call, Kernel, Op};
 use query_reach::{
     Channel, EndpointWord, FullSlot, Held, Reached, channels, endpoint_words, held_slots,
-    reached_slots, receivers_without_sender,
+    kernel_slots, reached_slots, receivers_without_sender,
 };
-use query_slots::kernel_slots;
 use slot_core::LinkedStore;
 use std::alloc::{AllocError, Global};
 use std::test::Fail;

@@ -1,7 +1,7 @@
 -- The proof of `chains_within`: the goals that a search leaves open.
 use Rattle.std.proofs.Common.{rules, string_bytes, subst}
 use Rattle.setup_values.specs.Names.{names_view}
-use Rattle.query_chains.specs.declared.chain.Target.{Target}
+use Rattle.query_reach.specs.declared.chains.chain.Target.{Target}
 use Rattle.command_never_text.specs.Chains.{IsChainText}
 use Rattle.command_never_text.proofs.chain_text.chains_within.Goals as goal
 

@@ -1,5 +1,0 @@
-mod Filtered
-mod Laid
-mod Back
-pub mod Walked
-pub mod Wide
