@@ -7,8 +7,8 @@ use Rattle.std.specs.Global.{Vec}
 use Rattle.std.specs.Prelude.{slice_set}
 use Rattle.setup_format.specs.Views.{CallView}
 use Rattle.query_orders.specs.Answers.{Answered}
-use Rattle.query_explore.specs.declared.found.FoundAnswer.{FoundAnswer}
-use Rattle.query_explore.specs.Found.{answers_of}
+use Rattle.query_orders.specs.declared.exploring.found.FoundAnswer.{FoundAnswer}
+use Rattle.query_orders.specs.Found.{answers_of}
 use Rattle.command_explore_text.specs.Text.{is_of, meets, answer_line, answer_lines, some_met, some_missed, mark_text, expectation_text, one_met, call_head, call_block}
 use Rattle.command_explore_text.specs.Rows.{AreEmpty, HasMore}
 

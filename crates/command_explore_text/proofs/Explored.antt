@@ -12,12 +12,12 @@ use Rattle.query_orders.specs.World.{start}
 use Rattle.query_orders.specs.Orders.{is_end, is_stuck}
 use Rattle.query_orders.specs.Answers.{Answered, same_answer, first_answers, answers_before}
 use Rattle.query_orders.specs.Ends.{StuckEnd, stuck_before, orders_before}
-use Rattle.query_explore.specs.declared.exploration.Explored.{Explored}
-use Rattle.query_explore.specs.declared.node.Node.{Node}
-use Rattle.query_explore.specs.Nodes.{layer}
-use Rattle.query_explore.specs.Counts.{saturated, states_before, ends_before}
-use Rattle.query_explore.specs.Found.{answers_of, stuck_of, same_left}
-use Rattle.query_explore.specs.Explorations.{depth, IsExplored}
+use Rattle.query_orders.specs.declared.exploring.exploration.Explored.{Explored}
+use Rattle.query_orders.specs.declared.exploring.node.Node.{Node}
+use Rattle.query_orders.specs.Nodes.{layer}
+use Rattle.query_orders.specs.Counts.{saturated, states_before, ends_before}
+use Rattle.query_orders.specs.Found.{answers_of, stuck_of, same_left}
+use Rattle.query_orders.specs.Explorations.{depth, IsExplored}
 use Rattle.command_explore_text.specs.Clients.{own_calls, first_clients}
 use Rattle.command_explore_text.specs.Views.{ExploredView, explored_view}
 use Rattle.command_explore_text.specs.Report.{exploration}

@@ -11,9 +11,9 @@ use Rattle.kernel_lists.specs.Firsts.{firsts}
 use Rattle.query_orders.specs.World.{World}
 use Rattle.query_orders.specs.Orders.{below, orders}
 use Rattle.command_explore_text.proofs.NoLonger.{no_order_is_longer}
-use Rattle.query_explore.specs.Nodes.{lead_alike, layer}
-use Rattle.query_explore.specs.Explorations.{is_last_layer, depth_from, depth}
-use Rattle.query_explore.proofs.Explorations.{no_orders_behind}
+use Rattle.query_orders.specs.Nodes.{lead_alike, layer}
+use Rattle.query_orders.specs.Explorations.{is_last_layer, depth_from, depth}
+use Rattle.query_orders.proofs.Exploration.Explorations.{no_orders_behind}
 use Rattle.command_explore_text.specs.Clients.{client_calls, own_calls, first_clients}
 use Rattle.command_explore_text.specs.Report.{exploration}
 use Rattle.command_explore_text.specs.Laws.{begins, states_with_more, EndsAtItsLimit, IsOnAllOrders}

@@ -5,8 +5,8 @@ use Rattle.kernel_abstract.specs.Boot.{boot}
 use Rattle.setup_format.specs.Views.{SetupView}
 use Rattle.query_orders.specs.World.{World, start}
 use Rattle.query_orders.specs.Orders.{orders}
-use Rattle.query_explore.specs.Nodes.{layer}
-use Rattle.query_explore.specs.Counts.{saturated, states_before}
+use Rattle.query_orders.specs.Nodes.{layer}
+use Rattle.query_orders.specs.Counts.{saturated, states_before}
 use Rattle.command_explore_text.specs.Clients.{own_calls, first_clients}
 use Rattle.command_explore_text.specs.Report.{exploration}
 

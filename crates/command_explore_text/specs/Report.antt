@@ -12,10 +12,10 @@ use Rattle.query_orders.specs.World.{start}
 use Rattle.query_orders.specs.Orders.{is_end, is_stuck}
 use Rattle.query_orders.specs.Answers.{same_answer, first_answers, answers_before}
 use Rattle.query_orders.specs.Ends.{stuck_before, orders_before}
-use Rattle.query_explore.specs.Nodes.{layer}
-use Rattle.query_explore.specs.Counts.{saturated, states_before, ends_before}
-use Rattle.query_explore.specs.Found.{same_left}
-use Rattle.query_explore.specs.Explorations.{depth}
+use Rattle.query_orders.specs.Nodes.{layer}
+use Rattle.query_orders.specs.Counts.{saturated, states_before, ends_before}
+use Rattle.query_orders.specs.Found.{same_left}
+use Rattle.query_orders.specs.Explorations.{depth}
 use Rattle.command_explore_text.specs.Clients.{own_calls, first_clients}
 use Rattle.command_explore_text.specs.Numbers.{numbers_of}
 use Rattle.command_explore_text.specs.Text.{met_count, expectation_count, call_blocks, stuck_blocks, count_text}

@@ -2,8 +2,8 @@
 use Rattle.std.specs.Prelude.{◌≡◌, ℕ, List, [], ◌++◌, filter, Option, None, Some, IfSome, slice_get}
 use Rattle.std.specs.Global.{Vec}
 use Rattle.query_orders.specs.Answers.{Answered}
-use Rattle.query_explore.specs.declared.found.FoundAnswer.{FoundAnswer}
-use Rattle.query_explore.specs.Found.{answers_of}
+use Rattle.query_orders.specs.declared.exploring.found.FoundAnswer.{FoundAnswer}
+use Rattle.query_orders.specs.Found.{answers_of}
 use Rattle.command_explore_text.specs.Text.{is_of}
 
 -- rows with nothing in them

@@ -2,8 +2,8 @@
 use Rattle.std.specs.Prelude.{ℕ, ◌==◌, Bool, List, length}
 use Rattle.query_orders.specs.Answers.{Answered}
 use Rattle.query_orders.specs.Ends.{StuckEnd}
-use Rattle.query_explore.specs.declared.exploration.Explored.{Explored}
-use Rattle.query_explore.specs.Found.{answers_of, stuck_of}
+use Rattle.query_orders.specs.declared.exploring.exploration.Explored.{Explored}
+use Rattle.query_orders.specs.Found.{answers_of, stuck_of}
 
 -- whether all orders are explored, and those of fewer calls than how many behind the first ones; the answers, the ways to end
 -- stuck, and how many states, ends and orders there are

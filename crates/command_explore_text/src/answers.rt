@@ -1,14 +1,13 @@
 //! What a call comes to, as text, and whether that meets an expectation.
 ghost use Rattle.std.specs.Prelude.{◌≡◌, ◌++◌, ◌||◌, Some, IfOk, OnOk, option_copied, string_bytes};
 ghost use Rattle.setup_report.specs.Text.{begins_as};
-ghost use Rattle.query_explore.specs.Found.{answer_of, answers_of};
+ghost use Rattle.query_orders.specs.Found.{answer_of, answers_of};
 ghost use Rattle.command_explore_text.specs.Numbers.{numbers_in};
 ghost use Rattle.command_explore_text.specs.Text as spec;
 
 use crate::numbers::{add_order, number_at};
 use kernel_core::Reply;
-use query_explore::FoundAnswer;
-use query_orders::Answer;
+use query_orders::{Answer, FoundAnswer};
 use setup_report::ReplyText;
 use std::alloc::{AllocError, Global};
 use std::fmt::{self, Write};

@@ -1,6 +1,6 @@
 //! The calls of a set-up, each with what it comes to in the orders.
 ghost use Rattle.std.specs.Prelude.{◌≡◌, ◌++◌, ◌<◌, IfOk, OnOk, Some, length, option_copied, slice_get, string_bytes};
-ghost use Rattle.query_explore.specs.Found.{answers_of};
+ghost use Rattle.query_orders.specs.Found.{answers_of};
 ghost use Rattle.setup_format.specs.Views.{CallView};
 ghost use Rattle.command_explore_text.specs.Numbers.{numbers_in};
 ghost use Rattle.command_explore_text.specs.Text as spec;
@@ -9,7 +9,7 @@ use crate::answers::{add_answers, judge};
 use crate::marks::MarkText;
 use crate::rows::{answer_rows, row_of};
 use kernel_core::Call;
-use query_explore::FoundAnswer;
+use query_orders::FoundAnswer;
 use setup_format::{Setup, op_name};
 use setup_report::ExpectationCount;
 use std::alloc::{AllocError, Global};

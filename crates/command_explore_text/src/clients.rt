@@ -1,6 +1,6 @@
 //! The calls of a set-up by the clients that make them.
 ghost use Rattle.std.specs.Prelude.{◌≡◌, IfOk};
-ghost use Rattle.query_explore.specs.Nodes.{own_calls as items_of};
+ghost use Rattle.query_orders.specs.Nodes.{own_calls as items_of};
 ghost use Rattle.command_explore_text.specs.Clients.{client_calls, own_calls, first_clients};
 
 use kernel_core::Call;

@@ -2,14 +2,13 @@
 ghost use Rattle.std.specs.Prelude.{◌≡◌, ◌++◌, Some, OnOk, string_bytes};
 ghost use Rattle.std.specs.List.{flat_map};
 ghost use Rattle.query_orders.specs.Ends.{stuck_end};
-ghost use Rattle.query_explore.specs.Found.{stuck_of};
+ghost use Rattle.query_orders.specs.Found.{stuck_of};
 ghost use Rattle.command_explore_text.specs.Numbers.{numbers_in};
 ghost use Rattle.command_explore_text.specs.Text as spec;
 
 use crate::numbers::{add_order, number_at};
 use kernel_core::ThreadState;
-use query_explore::FoundStuck;
-use query_orders::LeftCall;
+use query_orders::{FoundStuck, LeftCall};
 use setup_report::StateText;
 use std::alloc::{AllocError, Global};
 use std::fmt::{self, Write};

@@ -11,7 +11,7 @@ use crate::tables::keep_calls;
 use crate::witness::{Witness, expecting, named_order};
 use cap_core::Profile;
 use ipc_core::MakeWaiters;
-use query_explore::Explored;
+use query_orders::Explored;
 use setup_format::Setup;
 use slot_core::{DerivationStore, MakeStore};
 use std::alloc::{AllocError, Global};

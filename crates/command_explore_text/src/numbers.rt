@@ -2,7 +2,7 @@
 ghost use Rattle.std.specs.Prelude.{◌≡◌, ◌++◌, ◌==◌, ℕ, IfOk, OnOk, [], count_by, string_bytes};
 ghost use Rattle.command_explore_text.specs.Numbers.{client_numbers, numbers_of, numbers_in, number_in, order_numbers as numbers_of_order, order_text};
 
-use query_explore::Order;
+use query_orders::Order;
 use setup_format::Setup;
 use std::alloc::{AllocError, Global};
 use std::fmt::Write;

@@ -1,12 +1,12 @@
 //! The answers of each call, found by the call's number.
 ghost use Rattle.std.specs.Prelude.{◌≡◌, ℕ, ◌++◌, ◌∷◌, [], ◌==◌, IfOk, OnOk, cond, filter, slice_get};
-ghost use Rattle.query_explore.specs.Found.{answer_of, answers_of};
+ghost use Rattle.query_orders.specs.Found.{answer_of, answers_of};
 ghost use Rattle.command_explore_text.specs.Numbers.{numbers_in};
 ghost use Rattle.command_explore_text.specs.Rows.{AreEmpty, AreRows, HasMore};
 ghost use Rattle.command_explore_text.specs.Text.{is_of};
 
 use crate::numbers::number_at;
-use query_explore::FoundAnswer;
+use query_orders::FoundAnswer;
 use std::alloc::{AllocError, Global};
 
 /// So many rows with nothing in them.

@@ -1,7 +1,7 @@
 //! The exploration of a set-up, and its report.
 ghost use Rattle.std.specs.Prelude.{◌≡◌, ◌++◌, ◌==◌, ◌&&◌, IfOk, OnOk, length, string_bytes};
 ghost use Rattle.kernel_abstract.specs.Plan.{IsPlan};
-ghost use Rattle.query_explore.specs.Found.{stuck_of};
+ghost use Rattle.query_orders.specs.Found.{stuck_of};
 ghost use Rattle.command_explore_text.specs.Report as spec;
 ghost use Rattle.command_explore_text.specs.Views.{explored_view};
 
@@ -15,7 +15,7 @@ use cap_core::Profile;
 use command_core::CallNote;
 use ipc_core::MakeWaiters;
 use kernel_core::Kernel;
-use query_explore::{Explored, FoundStuck, explore};
+use query_orders::{Explored, FoundStuck, explore};
 use setup_format::Setup;
 use setup_report::ExpectationCount;
 use setup_values::profile_text;

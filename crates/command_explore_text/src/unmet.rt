@@ -2,7 +2,7 @@
 use crate::answers::{AnswerText, misses};
 use crate::numbers::{add_order, number_at};
 use command_core::CallNote;
-use query_explore::FoundAnswer;
+use query_orders::FoundAnswer;
 use setup_format::Setup;
 use std::alloc::{AllocError, Global};
 

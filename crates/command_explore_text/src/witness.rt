@@ -1,13 +1,13 @@
 //! Witnesses: the orders that a report tells.
 ghost use Rattle.std.specs.Prelude.{◌≡◌, option_copied, option_map};
-ghost use Rattle.query_explore.specs.Found.{answer_of, answers_of, stuck_of};
+ghost use Rattle.query_orders.specs.Found.{answer_of, answers_of, stuck_of};
 ghost use Rattle.query_orders.specs.Ends.{stuck_end};
 ghost use Rattle.command_explore_text.specs.Numbers.{numbers_in};
 ghost use Rattle.command_explore_text.specs.Views.{explored_view};
 ghost use Rattle.command_explore_text.specs.Witnesses as spec;
 
 use crate::answers::is_of;
-use query_explore::{Explored, FoundAnswer, FoundStuck, Order};
+use query_orders::{Explored, FoundAnswer, FoundStuck, Order};
 
 /// What an order is a witness of.
 #[derive(Clone, Copy, Drop)]

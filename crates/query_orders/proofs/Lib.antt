@@ -7,3 +7,5 @@ pub mod NoLonger
 pub mod Behind
 pub mod Shortest
 pub mod Tests
+pub mod KernelWords
+pub mod Exploration

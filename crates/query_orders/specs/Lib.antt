@@ -3,3 +3,13 @@ pub mod Orders
 pub mod Answers
 pub mod Ends
 pub mod Laws
+pub mod Words
+pub mod SameWords
+pub mod Nodes
+pub mod States
+pub mod Counts
+pub mod Found
+pub mod Known
+pub mod Links
+pub mod Explorations
+pub mod Private

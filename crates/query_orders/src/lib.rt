@@ -1,11 +1,20 @@
-//! The orders in which clients can make their calls of one kernel, over the abstract kernel: which orders there are, where
-//! one ends, and what each call comes to in it. There is next to no code here: this is what the contracts of an exploration
-//! cite.
+//! The orders in which clients can make their calls of one kernel, what each call comes to in them, and the exploration of all of
+//! these orders.
+//!
+//! Which orders there are and where one ends are definitions and laws over the abstract kernel. The exploration (`exploring`) goes
+//! over any store and waiting threads, and tells states apart by what a kernel shows, as words (`words`).
 #![tactic(auto)]
 
 pub mod answer;
+pub mod exploring;
 pub mod laws;
 pub mod left;
+pub mod words;
 
 pub use answer::{Answer, WaitingCall};
+pub use exploring::{
+    Explored, FoundAnswer, FoundAnswers, FoundStuck, Node, Order, empty_layers_are_the_last,
+    explore, orders_to_the_same_state_are_taken_together,
+};
 pub use left::LeftCall;
+pub use words::words_of;

@@ -2,8 +2,7 @@
 use cap_core::{Badge, Message, Wide};
 use ipc_core::RowWaiters;
 use kernel_core::{BootPlan, Call, Kernel, Op, Reply};
-use query_explore::{Explored, explore};
-use query_orders::Answer;
+use query_orders::{Answer, Explored, explore};
 use slot_core::RowStore;
 use std::alloc::{AllocError, Global};
 use std::process::Abort;

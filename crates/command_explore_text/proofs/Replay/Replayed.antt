@@ -21,8 +21,8 @@ use Rattle.query_orders.specs.Orders.{is_end, is_stuck}
 use Rattle.query_orders.specs.Answers.{Answered}
 use Rattle.query_orders.specs.Ends.{StuckEnd, left_calls}
 use Rattle.query_orders.specs.Laws.{calls_made}
-use Rattle.query_explore.specs.Explorations.{depth}
-use Rattle.query_explore.specs.Found.{same_left}
+use Rattle.query_orders.specs.Explorations.{depth}
+use Rattle.query_orders.specs.Found.{same_left}
 use Rattle.command_explore_text.specs.declared.witness.Witness.{Witness}
 use Rattle.command_explore_text.specs.declared.witness.Witness.TheVariants as witnesses
 use Rattle.command_explore_text.specs.Clients.{client_calls, own_calls, first_clients}

@@ -1,5 +1,5 @@
 use Rattle.std.proofs.Common.{◌≡◌, ◌++◌, ◌+◌, ◌≤◌, drop, option_copied, string_bytes}
-use Rattle.query_explore.specs.Found.{answers_of}
+use Rattle.query_orders.specs.Found.{answers_of}
 use Rattle.command_explore_text.specs.Numbers.{numbers_in}
 use Rattle.command_explore_text.specs.Text.{answer_lines}
 use Rattle.command_explore_text.proofs.answers.add_answers.Given as goal

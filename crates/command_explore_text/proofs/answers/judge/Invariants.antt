@@ -1,5 +1,5 @@
 use Rattle.std.proofs.Common.{◌≡◌, ◌||◌, length}
-use Rattle.query_explore.specs.Found.{answers_of}
+use Rattle.query_orders.specs.Found.{answers_of}
 use Rattle.command_explore_text.specs.Numbers.{numbers_in}
 use Rattle.command_explore_text.specs.Text.{some_met, some_missed}
 use Rattle.command_explore_text.proofs.answers.judge.Given as goal

@@ -1,7 +1,7 @@
 use Rattle.std.proofs.Common.{◌≡◌, ◌+◌, ◌++◌, length, ap, sym, subst, ◌∙◌, string_bytes, arith}
 use Rattle.std.proofs.lemmas.List.{length-map}
 use Rattle.setup_format.specs.Views.{CallView}
-use Rattle.query_explore.specs.Found.{answers_of}
+use Rattle.query_orders.specs.Found.{answers_of}
 use Rattle.command_explore_text.specs.Numbers.{numbers_in}
 use Rattle.command_explore_text.specs.Rows.{AreRows}
 use Rattle.command_explore_text.proofs.Places.{is_at}

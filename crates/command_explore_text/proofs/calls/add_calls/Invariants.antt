@@ -1,5 +1,5 @@
 use Rattle.std.proofs.Common.{◌≡◌, ◌++◌, ◌+◌, ◌≤◌, drop, string_bytes}
-use Rattle.query_explore.specs.Found.{answers_of}
+use Rattle.query_orders.specs.Found.{answers_of}
 use Rattle.command_explore_text.specs.Numbers.{numbers_in}
 use Rattle.command_explore_text.specs.Text.{call_blocks, met_count, expectation_count}
 use Rattle.command_explore_text.proofs.calls.add_calls.Given as goal

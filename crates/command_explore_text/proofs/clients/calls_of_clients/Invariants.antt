@@ -1,6 +1,6 @@
 use Rattle.std.proofs.Common.{◌≡◌, map}
 use Rattle.query_orders.specs.Orders.{below}
-use Rattle.query_explore.specs.Nodes.{own_calls}
+use Rattle.query_orders.specs.Nodes.{own_calls}
 use Rattle.command_explore_text.specs.Clients.{client_calls}
 use Rattle.command_explore_text.proofs.clients.calls_of_clients.Given as goal
 

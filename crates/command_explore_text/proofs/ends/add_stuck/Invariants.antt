@@ -1,5 +1,5 @@
 use Rattle.std.proofs.Common.{◌≡◌, ◌++◌, ◌+◌, drop, string_bytes}
-use Rattle.query_explore.specs.Found.{stuck_of}
+use Rattle.query_orders.specs.Found.{stuck_of}
 use Rattle.command_explore_text.specs.Numbers.{numbers_in}
 use Rattle.command_explore_text.specs.Text.{stuck_blocks}
 use Rattle.command_explore_text.proofs.ends.add_stuck.Given as goal

@@ -2,7 +2,7 @@ use Rattle.std.proofs.Common.{◌≡◌, ◌<◌, ◌≤◌, Some, length, slice
 use Rattle.std.specs.Prelude.{nat_lt}
 use Rattle.std.proofs.lemmas.Bool.Decides.{nat_tests}
 use Rattle.std.proofs.lemmas.Option.{slice_get_read, slice_get_past}
-use Rattle.query_explore.specs.Found.{answer_of}
+use Rattle.query_orders.specs.Found.{answer_of}
 use Rattle.command_explore_text.proofs.CallAnswers.{row_written, row_missing}
 use Rattle.command_explore_text.proofs.rows.add_to_row.Goals as goal
 

@@ -1,6 +1,6 @@
 use Rattle.std.proofs.Common.{List, ◌++◌, filter, slice_get, ap}
-use Rattle.query_explore.specs.declared.found.FoundAnswer.{FoundAnswer}
-use Rattle.query_explore.specs.Found.{answers_of}
+use Rattle.query_orders.specs.declared.exploring.found.FoundAnswer.{FoundAnswer}
+use Rattle.query_orders.specs.Found.{answers_of}
 use Rattle.command_explore_text.specs.Numbers.{numbers_in}
 use Rattle.command_explore_text.specs.Text.{is_of}
 use Rattle.command_explore_text.proofs.CallAnswers.{if_some}

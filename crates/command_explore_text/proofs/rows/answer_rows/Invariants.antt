@@ -1,7 +1,7 @@
 use Rattle.std.proofs.Common.{◌≡◌, ℕ, ◌++◌, IfSome, filter, length, slice_get}
 use Rattle.std.specs.Global.{Vec}
-use Rattle.query_explore.specs.declared.found.FoundAnswer.{FoundAnswer}
-use Rattle.query_explore.specs.Found.{answers_of}
+use Rattle.query_orders.specs.declared.exploring.found.FoundAnswer.{FoundAnswer}
+use Rattle.query_orders.specs.Found.{answers_of}
 use Rattle.command_explore_text.specs.Numbers.{numbers_in}
 use Rattle.command_explore_text.specs.Text.{is_of}
 use Rattle.command_explore_text.proofs.rows.answer_rows.Given as goal

@@ -3,8 +3,8 @@ use Rattle.std.specs.Prelude.{nat_lt}
 use Rattle.std.proofs.lemmas.Bool.Decides.{nat_tests}
 use Rattle.std.proofs.lemmas.Option.{slice_get_read}
 use Rattle.std.specs.Global.{Vec}
-use Rattle.query_explore.specs.declared.found.FoundAnswer.{FoundAnswer}
-use Rattle.query_explore.specs.Found.{answers_of}
+use Rattle.query_orders.specs.declared.exploring.found.FoundAnswer.{FoundAnswer}
+use Rattle.query_orders.specs.Found.{answers_of}
 use Rattle.command_explore_text.specs.Text.{is_of}
 use Rattle.command_explore_text.proofs.CallAnswers.{twice}
 use Rattle.command_explore_text.proofs.rows.row_of.Goals as goal

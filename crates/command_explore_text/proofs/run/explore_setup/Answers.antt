@@ -3,8 +3,8 @@ use Rattle.std.proofs.lemmas.List.{length-map}
 use Rattle.kernel_abstract.specs.Boot.{boot}
 use Rattle.kernel_abstract.specs.State.{shown}
 use Rattle.query_orders.specs.contracts.answer.AnswerPartialEq.TheImpl as answer_eq
-use Rattle.query_explore.specs.Nodes.{own_calls as items_of}
-use Rattle.query_explore.specs.Explorations.{IsExplored}
+use Rattle.query_orders.specs.Nodes.{own_calls as items_of}
+use Rattle.query_orders.specs.Explorations.{IsExplored}
 use Rattle.setup_format.specs.Views.{CallView}
 use Rattle.command_explore_text.specs.Clients.{own_calls, first_clients}
 use Rattle.setup_report.proofs.Runs.{boot_reached}

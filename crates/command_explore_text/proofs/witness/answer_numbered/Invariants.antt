@@ -1,5 +1,5 @@
 use Rattle.std.proofs.Common.{◌≡◌, ◌+◌, ◌≤◌, drop}
-use Rattle.query_explore.specs.Found.{answers_of}
+use Rattle.query_orders.specs.Found.{answers_of}
 use Rattle.command_explore_text.specs.Numbers.{numbers_in}
 use Rattle.command_explore_text.specs.Witnesses as spec
 use Rattle.command_explore_text.proofs.witness.answer_numbered.Given as goal

@@ -1,5 +1,5 @@
 use Rattle.std.proofs.Common.{◌≡◌, ◌+◌, drop}
-use Rattle.query_explore.specs.Found.{stuck_of}
+use Rattle.query_orders.specs.Found.{stuck_of}
 use Rattle.command_explore_text.specs.Witnesses as spec
 use Rattle.command_explore_text.proofs.witness.stuck_numbered.Given as goal
 

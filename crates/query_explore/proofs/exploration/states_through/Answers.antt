@@ -1,5 +1,0 @@
-use Rattle.std.proofs.Common.{arith}
-use Rattle.query_explore.proofs.exploration.states_through.Goals as goal
-
-pub returns : goal.returns
-returns c = omega (arith, c.saturating_add.ensures)

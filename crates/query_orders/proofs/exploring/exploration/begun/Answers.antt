@@ -1,0 +1,27 @@
+use Rattle.std.proofs.Common.{◌≡◌, List, [], ◌∷◌, ◌++◌, refl, ap, sym, subst, ◌∙◌}
+use Rattle.kernel_abstract.specs.Shown.{Shown}
+use Rattle.query_orders.specs.World.{start}
+use Rattle.query_orders.specs.declared.exploring.node.Node.{Node}
+use Rattle.query_orders.specs.Nodes.{own_calls}
+use Rattle.query_orders.specs.declared.exploring.exploration.Explored.{Explored}
+use Rattle.query_orders.specs.Private.Kernels.{AreKernels}
+use Rattle.query_orders.specs.Private.Tables.{with_node}
+use Rattle.query_orders.proofs.Exploration.Explorations.{progress_none}
+use Rattle.query_orders.proofs.exploring.exploration.begun.Goals as goal
+
+pub returns : goal.returns
+returns g c A r k =
+    let p = g.P.Profile.profile in
+    let own = own_calls c.args.calls.now in
+    let e : Explored = record { layer = c.note.new.self; found = record { answers = c.begin.new.found; stuck = c.new-found.result.stuck; ends = c.new-found.result.ends; orders = c.new-found.result.orders; stuck_orders = c.new-found.result.stuck_orders }; states = c.states_through-states.result; calls = 0 } in
+    let begun = c.in_ok-node.ensures A r (c.in_ok-at.ensures ∙ k) in
+    let one : c.note.new.self ≡ with_node [] c.in_ok-node.node = c.in_ok-note.ensures ∙ ap (λ l. with_node l c.in_ok-node.node) c.new-layer.ensures in
+    let kernels = c.in_ok-push_back.ensures.items ∙ ap (λ (l : List Shown). l ++ c.begin.new.at ∷ []) c.requires in (
+      progress_none p own A c.args.first.now e c.in_ok-node.node c.new-found.result.answers begun.0 c.new-found.ensures.answers
+          one c.new-found.ensures.stuck c.new-found.ensures.ends c.new-found.ensures.orders c.new-found.ensures.stuck_orders c.states_through-states.ensures refl,
+      (
+        refl,
+        subst (λ (l : List Node). AreKernels p own (start own A) c.push_back.new.self.items l) (sym one)
+            (subst (λ (l : List Shown). AreKernels p own (start own A) l (c.in_ok-node.node ∷ [])) (sym kernels) (begun.1, tt)),
+      ),
+    )

@@ -1,0 +1,4 @@
+pub mod Tables
+pub mod Kernels
+pub mod Progress
+pub mod Waiting

@@ -1,0 +1,239 @@
+//! The exploration of all orders of the clients' calls, as far as a limit on states lets it go.
+ghost use Rattle.std.specs.Prelude.{◌≡◌, ◌+◌, ◌<◌, ◌&&◌, [], ◌∷◌, ◌++◌, ℕ, IfOk, OnOk, List, length, nat_lt, not};
+ghost use Rattle.cap_core.specs.declared.profile.ProfileName.{ProfileName};
+ghost use Rattle.kernel_abstract.specs.declared.call.Call.{Call as CallOf};
+ghost use Rattle.kernel_abstract.specs.State.{State, shown};
+ghost use Rattle.kernel_abstract.specs.Reached.{IsReached};
+ghost use Rattle.query_orders.specs.World.{World, start};
+ghost use Rattle.query_orders.specs.Orders.{orders};
+ghost use Rattle.query_orders.specs.Nodes.{own_calls, layer, IsNode};
+ghost use Rattle.query_orders.specs.States.{AreTakenTogether};
+ghost use Rattle.query_orders.specs.Found.{IsMade};
+ghost use Rattle.query_orders.specs.Counts.{saturated};
+ghost use Rattle.query_orders.specs.Explorations.{IsExplored, IsBegun, is_last};
+ghost use Rattle.query_orders.specs.Private.Kernels.{IsKernelOf, AreKernels};
+ghost use Rattle.query_orders.specs.Private.Progress.{IsProgress};
+
+use crate::Answer;
+use crate::exploring::found::FoundAnswers;
+use crate::exploring::kernels::KeptLayer;
+use crate::exploring::layer::Layer;
+use crate::exploring::layers::{next_layer, note_call};
+use crate::exploring::node::{Node, next_call};
+use crate::exploring::order::Order;
+use crate::exploring::stuck::Findings;
+use crate::exploring::words::state_words;
+use cap_core::Profile;
+use ipc_core::MakeWaiters;
+use kernel_core::{Call, Kernel};
+use slot_core::{DerivationStore, MakeStore};
+use std::alloc::{AllocError, Global};
+use std::collections::VecDeque;
+
+/// What the orders give that begin in one way and have fewer calls more than `calls`: what stands behind them, how many states
+/// they lead to, with those that the first calls lead through, up to 2^64 - 1; and the states that orders of just `calls` more
+/// lead to.
+#[derive(Drop)]
+pub struct Explored {
+    pub layer: Layer,
+    pub found: Findings,
+    pub states: u64,
+    pub calls: usize,
+}
+
+/// The node of a start: of so many clients, none has made a call.
+fn first_node<P: Profile, S: MakeStore<P> + DerivationStore<P>, W: MakeWaiters<P>>(
+    alloc: Global,
+    clients: usize,
+    kernel: &Kernel<P, S, W>,
+) -> Result<Node, AllocError>
+    ensures node { IfOk result (λ node. (own : List (List CallOf)) (A : State) → kernel.now ≡ shown A → length own ≡ clients
+        → IsNode P.profile own (start own A) node) }
+    ensures order { IfOk result (λ node. node.order ≡ []) }
+    ensures weight { IfOk result (λ node. node.weight ≡ 1) }
+{
+    let made = vec![in alloc; 0; clients]?;
+    let waits = Vec::new(alloc);
+    let words = state_words(alloc, made.as_slice(), waits.as_slice(), kernel)?;
+    Ok(Node {
+        order: Order::new(),
+        made,
+        waits,
+        words,
+        weight: 1,
+    })
+}
+
+/// The node behind a client that has no call left.
+fn uncalled(alloc: Global, node: Node, client: usize) -> Result<Node, AllocError>
+    ensures rest { IfOk result (λ new. (new.order ≡ node.order ++ client ∷ []) × ((new.made.items ≡ node.made.items)
+        × ((new.waits.items ≡ node.waits.items) × (new.words.items ≡ node.words.items)))) }
+    ensures weight { IfOk result (λ new. new.weight ≡ node.weight) }
+{
+    let mut node = node;
+    node.order = node.order.longer(alloc, client)?;
+    Ok(node)
+}
+
+/// Makes the next call of a client, be its thread ready or not, and notes what it tells. Where the client has none, nothing is
+/// made. `at` is the kernel of the node, and then that of the new one.
+fn first_call<P: Profile, S: MakeStore<P> + DerivationStore<P>, W: MakeWaiters<P>>(
+    alloc: Global,
+    calls: &[Vec<Call>],
+    at: &mut Kernel<P, S, W>,
+    node: Node,
+    client: usize,
+    found: &mut FoundAnswers,
+) -> Result<Node, AllocError>
+    ensures made { IfOk result (λ new. (w : World) → IsReached P.profile w.kernel → IsNode P.profile (own_calls calls.now) w node
+        → IsKernelOf P.profile (own_calls calls.now) w node at.old
+        → IsMade P.profile (own_calls calls.now) w node new client ⟦<Answer as PartialEq>⟧.eq found.old found.new
+        × IsKernelOf P.profile (own_calls calls.now) w new at.new) }
+    ensures weight { IfOk result (λ new. new.weight ≡ node.weight) }
+{
+    match next_call(calls, node.made.as_slice(), client) {
+        Some(call) => {
+            let reply = at.step(call);
+            note_call(alloc, &node, client, call, at, reply, found)
+        }
+        None => uncalled(alloc, node, client),
+    }
+}
+
+/// Makes the calls by which all orders begin, each the next one of a client, and notes what they tell. `at` is the kernel that
+/// makes them.
+fn begin<P: Profile, S: MakeStore<P> + DerivationStore<P>, W: MakeWaiters<P>>(
+    alloc: Global,
+    calls: &[Vec<Call>],
+    at: &mut Kernel<P, S, W>,
+    first: &[usize],
+    found: &mut FoundAnswers,
+) -> Result<Node, AllocError>
+    ensures { IfOk result (λ node. (A : State) → IsReached P.profile A → at.old ≡ shown A
+        → IsBegun P.profile (own_calls calls.now) A first.now node ⟦<Answer as PartialEq>⟧.eq found.old found.new
+        × IsKernelOf P.profile (own_calls calls.now) (start (own_calls calls.now) A) node at.new) }
+{
+    let mut node = first_node(alloc, calls.len(), at)?;
+    for i in 0..first.len() {
+        node = first_call(alloc, calls, at, node, first[i], found)?;
+    }
+    Ok(node)
+}
+
+/// How many states the first calls lead through: one before each, since they are made in one order.
+fn states_through(first: &[usize]) -> u64
+    ensures { result ≡ saturated (length first.now) }
+{
+    0u64.saturating_add(first.len() as u64)
+}
+
+/// What is known before any call behind the first ones. The kernel after these is kept.
+fn begun<P: Profile, S: MakeStore<P> + DerivationStore<P>, W: MakeWaiters<P>>(
+    alloc: Global,
+    calls: &[Vec<Call>],
+    kernel: &Kernel<P, S, W>,
+    first: &[usize],
+    kept: &mut VecDeque<Kernel<P, S, W>>,
+) -> Result<Explored, AllocError>
+    requires { kept.old.items ≡ [] }
+    ensures { IfOk result (λ e. (A : State) → IsReached P.profile A → kernel.now ≡ shown A
+        → IsProgress P.profile (own_calls calls.now) A first.now ⟦<Answer as PartialEq>⟧.eq e × ((e.calls ≡ 0)
+        × AreKernels P.profile (own_calls calls.now) (start (own_calls calls.now) A) kept.new.items e.layer)) }
+{
+    let mut found = Findings::new(alloc);
+    let mut at = kernel.copy(alloc)?;
+    let node = begin(alloc, calls, &mut at, first, &mut found.answers)?;
+    let mut layer = Layer::new(alloc);
+    layer.note(node)?;
+    kept.push_back(at)?;
+    let states = states_through(first);
+    Ok(Explored {
+        layer,
+        found,
+        states,
+        calls: 0,
+    })
+}
+
+/// How many states there are with those of the next layer.
+fn states_after(explored: &Explored) -> u64
+    ensures { result ≡ saturated (explored.now.states + length explored.now.layer) }
+{
+    let more = explored.layer.nodes().len();
+    explored.states.saturating_add(more as u64)
+}
+
+/// Whether the exploration goes on: some order does, the states of the next layer are not too many, and neither are the calls.
+fn goes_on(explored: &Explored, limit: u64, count: usize) -> bool
+    ensures { result ≡ (nat_lt explored.now.calls count && not (is_last limit explored.now.states (length explored.now.layer))) }
+{
+    let is_last = explored.layer.nodes().is_empty() || limit < states_after(explored);
+    explored.calls < count && !is_last
+}
+
+/// Explores the orders that have one call more. `kept` has the kernels of the layer's first nodes.
+fn advance<P: Profile, S: MakeStore<P> + DerivationStore<P>, W: MakeWaiters<P>>(
+    alloc: Global,
+    calls: &[Vec<Call>],
+    kernel: &Kernel<P, S, W>,
+    explored: &mut Explored,
+    kept: &mut VecDeque<Kernel<P, S, W>>,
+) -> Result<(), AllocError>
+    requires { explored.old.calls < usize.MAX }
+    ensures progress { OnOk result ((A : State) (first : List ℕ) → IsReached P.profile A → kernel.now ≡ shown A
+        → IsProgress P.profile (own_calls calls.now) A first ⟦<Answer as PartialEq>⟧.eq explored.old
+        → AreKernels P.profile (own_calls calls.now) (start (own_calls calls.now) A) kept.old.items explored.old.layer
+        → IsProgress P.profile (own_calls calls.now) A first ⟦<Answer as PartialEq>⟧.eq explored.new
+        × AreKernels P.profile (own_calls calls.now) (start (own_calls calls.now) A) kept.new.items explored.new.layer) }
+    ensures calls { OnOk result (explored.new.calls ≡ explored.old.calls + 1) }
+{
+    let states = states_after(explored);
+    let nodes = explored.layer.nodes();
+    let next = next_layer(alloc, calls, kernel, nodes, kept, &mut explored.found)?;
+    let KeptLayer { layer, kernels } = next;
+    explored.layer = layer;
+    *kept = kernels;
+    explored.states = states;
+    explored.calls += 1;
+    Ok(())
+}
+
+/// Explores all orders of the clients' calls, from a kernel on. Each client's own calls are a list, in order. An order begins
+/// with the next calls of the clients of `first`; behind them, each call is made while its thread is ready. Orders that lead
+/// to the same state are taken together there, and nothing is lost by it. Where no order goes on, or the states of the next
+/// layer are more than the limit leaves, or `count` calls are behind the first ones, the exploration ends.
+///
+/// # Errors
+///
+/// Memory was refused.
+pub fn explore<P: Profile, S: MakeStore<P> + DerivationStore<P>, W: MakeWaiters<P>>(
+    alloc: Global,
+    calls: &[Vec<Call>],
+    kernel: &Kernel<P, S, W>,
+    first: &[usize],
+    limit: u64,
+    count: usize,
+) -> Result<Explored, AllocError>
+    ensures { IfOk result (λ e. (A : State) → IsReached P.profile A → kernel.now ≡ shown A
+        → IsExplored P.profile (own_calls calls.now) A first.now ⟦<Answer as PartialEq>⟧.eq limit count e) }
+{
+    let mut kept = VecDeque::new(alloc);
+    let mut explored = begun(alloc, calls, kernel, first, &mut kept)?;
+    while goes_on(&explored, limit, count) {
+        advance(alloc, calls, kernel, &mut explored, &mut kept)?;
+    }
+    Ok(explored)
+}
+
+/// Where no order of so many calls more leads to a state, there are no orders of so many calls more, or of more than these.
+/// Nothing is done.
+pub fn empty_layers_are_the_last()
+    ensures { (p : ProfileName) (own : List (List CallOf)) (w : World) (first : List ℕ) (count more : ℕ)
+        → layer p own w first count ≡ [] → orders p own w first (count + more) ≡ [] }
+{}
+
+/// Orders are taken together exactly where they lead to the same state: each client has made as many calls, the same calls
+/// wait, and the kernel shows the same. Nothing is done.
+pub fn orders_to_the_same_state_are_taken_together()
+    ensures { (p : ProfileName) (own : List (List CallOf)) (w : World) (order order' : List ℕ) → IsReached p w.kernel → AreTakenTogether p own w order order' }
+{}

@@ -1,0 +1,189 @@
+//! From layer to layer: for each number of calls, the states that orders of so many calls lead to.
+ghost use Rattle.std.specs.Prelude.{◌≡◌, ◌∷◌, ◌+◌, ◌≤◌, [], ℕ, List, Some, IfOk, IfSome, OnOk, length, replicate, slice_get};
+ghost use Rattle.kernel_abstract.specs.declared.call.Call.{Call as CallOf};
+ghost use Rattle.kernel_abstract.specs.State.{shown};
+ghost use Rattle.kernel_abstract.specs.Reached.{IsReached, StepsTo};
+ghost use Rattle.kernel_lists.specs.Firsts.{each_times};
+ghost use Rattle.query_orders.specs.World.{World, next_call as next_call_of, one_more, waiting_call, place_of, waits_after, world_after};
+ghost use Rattle.query_orders.specs.Orders.{longer};
+ghost use Rattle.query_orders.specs.Nodes.{own_calls, state_words, one_longer, IsNode, AreNodes, entry_of, entries_of};
+ghost use Rattle.query_orders.specs.Found.{IsMade, IsVisited, IsExpanded, one_told, calls_told};
+ghost use Rattle.query_orders.specs.Private.Kernels.{IsKernelOf, AreKernels};
+
+use crate::exploring::answers::note_outcome;
+use crate::exploring::ends::{is_end, note_end};
+use crate::exploring::found::FoundAnswers;
+use crate::exploring::kernels::{KeptLayer, kernel_of, note_node};
+use crate::exploring::layer::Layer;
+use crate::exploring::node::{Node, Stepped, callable, counted, place_of, step_copy};
+use crate::exploring::order::Order;
+use crate::exploring::stuck::{Findings, note_stuck_end};
+use crate::exploring::waits::waits_after;
+use crate::exploring::words::state_words;
+use crate::{Answer, WaitingCall};
+use cap_core::Profile;
+use ipc_core::MakeWaiters;
+use kernel_core::{Call, Kernel, Reply};
+use slot_core::{DerivationStore, MakeStore};
+use std::alloc::{AllocError, Global};
+use std::collections::VecDeque;
+
+/// The node after a client's call, by its order, and by the kernel after the call and its reply.
+fn followed<P: Profile, S: MakeStore<P> + DerivationStore<P>, W: MakeWaiters<P>>(
+    alloc: Global,
+    node: &Node,
+    order: Order,
+    client: usize,
+    call: Call,
+    after: &Kernel<P, S, W>,
+    reply: Reply,
+) -> Result<Node, AllocError>
+    requires { IfSome (slice_get node.now.made.items client) (λ (n : ℕ). n + 1 ≤ usize.MAX) }
+    ensures order { IfOk result (λ n. n.order ≡ order) }
+    ensures made { IfOk result (λ n. n.made.items ≡ one_more client (slice_get node.now.made.items client) node.now.made.items) }
+    ensures waits { IfOk result (λ n. n.waits.items
+        ≡ waits_after after.now node.now.waits.items (waiting_call call.thread client (place_of node.now.made.items client)) reply) }
+    ensures words { IfOk result (λ n. n.words.items ≡ state_words n.made.items n.waits.items after.now) }
+    ensures weight { IfOk result (λ n. n.weight ≡ node.now.weight) }
+{
+    let place = place_of(node.made.as_slice(), client);
+    let new = WaitingCall {
+        thread: call.thread,
+        client,
+        place,
+    };
+    let made = counted(alloc, node.made.as_slice(), client)?;
+    let waits = waits_after(alloc, after, node.waits.as_slice(), new, reply)?;
+    let words = state_words(alloc, made.as_slice(), waits.as_slice(), after)?;
+    Ok(Node {
+        order,
+        made,
+        waits,
+        words,
+        weight: node.weight,
+    })
+}
+
+/// The node after the next call of a client, by the kernel after the call and its reply. What the call tells is noted.
+pub fn note_call<P: Profile, S: MakeStore<P> + DerivationStore<P>, W: MakeWaiters<P>>(
+    alloc: Global,
+    node: &Node,
+    client: usize,
+    call: Call,
+    after: &Kernel<P, S, W>,
+    reply: Reply,
+    found: &mut FoundAnswers,
+) -> Result<Node, AllocError>
+    requires { IfSome (slice_get node.now.made.items client) (λ (n : ℕ). n + 1 ≤ usize.MAX) }
+    ensures made { IfOk result (λ new. (own : List (List CallOf)) (w : World) → IsReached P.profile w.kernel → IsNode P.profile own w node.now
+        → StepsTo P.profile (world_after P.profile own w node.now.order).kernel call reply after.now → next_call_of own node.now.made.items client ≡ Some call
+        → IsMade P.profile own w node.now new client ⟦<Answer as PartialEq>⟧.eq found.old found.new × IsKernelOf P.profile own w new after.now) }
+    ensures weight { IfOk result (λ new. new.weight ≡ node.now.weight) }
+{
+    let order = node.order.longer(alloc, client)?;
+    let place = place_of(node.made.as_slice(), client);
+    let waits = node.waits.as_slice();
+    note_outcome(found, after, waits, &order, client, place, reply)?;
+    let new = followed(alloc, node, order, client, call, after, reply)?;
+    Ok(new)
+}
+
+/// Notes the state after the next call of a client and what it tells, where it can make one. `at` is the kernel of the node.
+fn visit<P: Profile, S: MakeStore<P> + DerivationStore<P>, W: MakeWaiters<P>>(
+    alloc: Global,
+    calls: &[Vec<Call>],
+    at: &Kernel<P, S, W>,
+    node: &Node,
+    client: usize,
+    nodes: &mut KeptLayer<P, S, W>,
+    found: &mut FoundAnswers,
+) -> Result<(), AllocError>
+    ensures visited { OnOk result ((w : World) → IsReached P.profile w.kernel → IsNode P.profile (own_calls calls.now) w node.now
+        → IsKernelOf P.profile (own_calls calls.now) w node.now at.now → AreNodes P.profile (own_calls calls.now) w nodes.old.layer
+        → IsVisited P.profile (own_calls calls.now) w nodes.old.layer nodes.new.layer
+        (each_times node.now.weight (one_longer P.profile (own_calls calls.now) w node.now.order client))
+        ⟦<Answer as PartialEq>⟧.eq found.old found.new (one_told P.profile (own_calls calls.now) w node.now.order client)) }
+    ensures kernels { OnOk result ((w : World) → IsReached P.profile w.kernel → IsNode P.profile (own_calls calls.now) w node.now
+        → IsKernelOf P.profile (own_calls calls.now) w node.now at.now → AreKernels P.profile (own_calls calls.now) w nodes.old.kernels.items nodes.old.layer
+        → AreKernels P.profile (own_calls calls.now) w nodes.new.kernels.items nodes.new.layer) }
+{
+    if let Some(call) = callable(calls, at, node, client) {
+        let Stepped { kernel, reply } = step_copy(alloc, at, call)?;
+        let new = note_call(alloc, node, client, call, &kernel, reply, found)?;
+        note_node(nodes, new, kernel)?;
+    }
+    Ok(())
+}
+
+/// Notes the states after the next call of each client that can make one, and what these calls tell.
+fn visit_clients<P: Profile, S: MakeStore<P> + DerivationStore<P>, W: MakeWaiters<P>>(
+    alloc: Global,
+    calls: &[Vec<Call>],
+    at: &Kernel<P, S, W>,
+    node: &Node,
+    nodes: &mut KeptLayer<P, S, W>,
+    found: &mut FoundAnswers,
+) -> Result<(), AllocError>
+    ensures visited { OnOk result ((w : World) → IsReached P.profile w.kernel → IsNode P.profile (own_calls calls.now) w node.now
+        → IsKernelOf P.profile (own_calls calls.now) w node.now at.now → AreNodes P.profile (own_calls calls.now) w nodes.old.layer
+        → IsVisited P.profile (own_calls calls.now) w nodes.old.layer nodes.new.layer
+        (each_times node.now.weight (longer P.profile (own_calls calls.now) w node.now.order))
+        ⟦<Answer as PartialEq>⟧.eq found.old found.new (calls_told P.profile (own_calls calls.now) w node.now.order)) }
+    ensures kernels { OnOk result ((w : World) → IsReached P.profile w.kernel → IsNode P.profile (own_calls calls.now) w node.now
+        → IsKernelOf P.profile (own_calls calls.now) w node.now at.now → AreKernels P.profile (own_calls calls.now) w nodes.old.kernels.items nodes.old.layer
+        → AreKernels P.profile (own_calls calls.now) w nodes.new.kernels.items nodes.new.layer) }
+{
+    for client in 0..calls.len() {
+        visit(alloc, calls, at, node, client, nodes, found)?;
+    }
+    Ok(())
+}
+
+/// Notes the states that one call more leads to from a node, and what stands behind its order. `at` is the kernel of the node.
+fn expand<P: Profile, S: MakeStore<P> + DerivationStore<P>, W: MakeWaiters<P>>(
+    alloc: Global,
+    calls: &[Vec<Call>],
+    at: &Kernel<P, S, W>,
+    node: &Node,
+    nodes: &mut KeptLayer<P, S, W>,
+    found: &mut Findings,
+) -> Result<(), AllocError>
+    ensures expanded { OnOk result ((w : World) → IsReached P.profile w.kernel → IsNode P.profile (own_calls calls.now) w node.now
+        → IsKernelOf P.profile (own_calls calls.now) w node.now at.now → AreNodes P.profile (own_calls calls.now) w nodes.old.layer
+        → IsExpanded P.profile (own_calls calls.now) w nodes.old.layer nodes.new.layer ⟦<Answer as PartialEq>⟧.eq found.old found.new (entry_of node.now ∷ [])) }
+    ensures kernels { OnOk result ((w : World) → IsReached P.profile w.kernel → IsNode P.profile (own_calls calls.now) w node.now
+        → IsKernelOf P.profile (own_calls calls.now) w node.now at.now → AreKernels P.profile (own_calls calls.now) w nodes.old.kernels.items nodes.old.layer
+        → AreKernels P.profile (own_calls calls.now) w nodes.new.kernels.items nodes.new.layer) }
+{
+    visit_clients(alloc, calls, at, node, nodes, &mut found.answers)?;
+    let ends = is_end(calls, at, node);
+    note_end(calls, node, ends, &mut found.answers)?;
+    note_stuck_end(alloc, calls, at, node, ends, found)?;
+    Ok(())
+}
+
+/// The states that one call more leads to, with the kernels of the first of them; `kept` has those of the layer's first nodes.
+/// What stands behind the orders of the layer is noted.
+pub fn next_layer<P: Profile, S: MakeStore<P> + DerivationStore<P>, W: MakeWaiters<P>>(
+    alloc: Global,
+    calls: &[Vec<Call>],
+    kernel: &Kernel<P, S, W>,
+    layer: &[Node],
+    kept: &mut VecDeque<Kernel<P, S, W>>,
+    found: &mut Findings,
+) -> Result<KeptLayer<P, S, W>, AllocError>
+    ensures { IfOk result (λ next. (w : World) → IsReached P.profile w.kernel → kernel.now ≡ shown w.kernel → w.made ≡ replicate (length calls.now) 0 → AreNodes P.profile (own_calls calls.now) w layer.now
+        → AreKernels P.profile (own_calls calls.now) w kept.old.items layer.now
+        → IsExpanded P.profile (own_calls calls.now) w [] next.layer ⟦<Answer as PartialEq>⟧.eq found.old found.new (entries_of layer.now)
+        × AreKernels P.profile (own_calls calls.now) w next.kernels.items next.layer) }
+{
+    let mut next = KeptLayer {
+        layer: Layer::new(alloc),
+        kernels: VecDeque::new(alloc),
+    };
+    for node in layer {
+        let at = kernel_of(alloc, calls, kernel, kept.pop_front(), node)?;
+        expand(alloc, calls, &at, node, &mut next, found)?;
+    }
+    Ok(next)
+}
