@@ -13,7 +13,7 @@ from pathlib import Path
 
 IMPORT = re.compile(r"use Rattle\.(\w+)\.specs\.([\w.]+?)(?:\.\{([^}]*)\}| as (\w+))?;?$")
 MODULE = re.compile(r"pub mod (\w+);")
-EXPORT = re.compile(r"pub use (\w+)::(?:\{([^}]*)\}|(\w+));")
+EXPORT = re.compile(r"pub use (?:self::)?(\w+)::(?:\{([^}]*)\}|(\w+));")
 FUNCTION = re.compile(r"(pub )?(?:const )?fn (\w+)")
 TRAIT = re.compile(r"pub trait (\w+)")
 LABEL = re.compile(r"\b(requires|ensures) \w+ \{")
@@ -94,24 +94,32 @@ def public_clauses(lines, is_public):
             yield f"{inside[0]}, {text.split()[1]}", member(lines, number)
 
 
-def exported(library):
-    """The modules of a crate that are public as a whole, and the names that are handed on from others."""
-    names = {}
+def names_in(members):
+    return {name.strip() for name in members.split(",") if name.strip()}
+
+
+def public_files(file, source, public=None):
+    """Each file of a crate from one on, with the names that are public in it, or None where all that are `pub` are."""
+    yield file, public
+    library = file.read_text()
+    whole = set(MODULE.findall(library)) if public is None else set()
+    handed_on = {}
     for module, members, one in EXPORT.findall(library):
-        names.setdefault(module, set()).update(name.strip() for name in (members or one).split(","))
-    return set(MODULE.findall(library)) | {"lib"}, names
+        names = names_in(members or one)
+        handed_on.setdefault(module, set()).update(names if public is None else names & public)
+    for inner in sorted((source if file.stem == "lib" else file.with_suffix("")).glob("*.rt")):
+        if inner != file:
+            yield from public_files(inner, source, None if inner.stem in whole else handed_on.get(inner.stem, set()))
 
 
 def citations(crate, crates):
     """Each public function or ghost member of a crate, with the definitions that it cites."""
-    modules, names = exported((crate / "src/lib.rt").read_text())
-    for file in sorted((crate / "src").rglob("*.rt")):
+    for file, public in public_files(crate / "src/lib.rt", crate / "src"):
         lines = file.read_text().split("\n")
         known = {}
         for line in lines:
             known.update(imported(line, crates))
-        handed_on = names.get(file.stem, set())
-        for name, text in public_clauses(lines, lambda item: file.stem in modules or item in handed_on):
+        for name, text in public_clauses(lines, lambda item: public is None or item in public):
             yield f"{crate.name}, {name}", set(cited(text, known))
 
 
