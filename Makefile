@@ -70,6 +70,7 @@ rows-python:
 	python3 tools/test_build.py
 	python3 tools/completions_test.py
 	python3 tools/completions.py --check $(program)
+	python3 tools/architecture.py --check
 	python3 tests/private_definitions.py crates docs/definitions.md
 	python3 tests/exercises.py $(setups)
 	python3 tests/run.py $(program) $(setups)
