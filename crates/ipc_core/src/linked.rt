@@ -137,4 +137,20 @@ impl<P: Profile> MakeWaiters<P> for LinkedWaiters<P> {
             profile: PhantomData,
         })
     }
+
+    fn copy_into(&self, spare: Self) -> Result<Self, AllocError> {
+        let Tables {
+            mut threads,
+            mut endpoints,
+        } = spare.tables;
+        threads.clear();
+        threads.extend_from_slice(&self.tables.threads)?;
+        endpoints.clear();
+        endpoints.extend_from_slice(&self.tables.endpoints)?;
+        Ok(LinkedWaiters {
+            tables: Tables { threads, endpoints },
+            memory_bits: self.memory_bits,
+            profile: PhantomData,
+        })
+    }
 }

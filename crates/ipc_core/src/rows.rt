@@ -129,4 +129,16 @@ impl<P: Profile> MakeWaiters<P> for RowWaiters<P> {
             profile: PhantomData,
         })
     }
+
+    fn copy_into(&self, spare: Self) -> Result<Self, AllocError> {
+        let mut rows = spare.rows;
+        rows.clear();
+        rows.reserve_exact(self.rows.capacity())?;
+        rows.extend_from_slice(self.rows.as_slice())?;
+        Ok(RowWaiters {
+            rows,
+            memory_bits: self.memory_bits,
+            profile: PhantomData,
+        })
+    }
 }

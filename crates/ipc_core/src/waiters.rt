@@ -112,4 +112,9 @@ pub trait MakeWaiters<P: Profile>: Waiters<P> + Drop {
     fn copy(&self, alloc: Global) -> Result<Self, AllocError>
         ensures waits { IfOk result (λ w. Self.waits w ≡ Self.waits self.now) }
         ensures memory { IfOk result (λ w. Self.memory_bits w ≡ Self.memory_bits self.now) };
+
+    /// The same, in the room of others that are given up. It takes memory only where they have too little room.
+    fn copy_into(&self, spare: Self) -> Result<Self, AllocError>
+        ensures waits { IfOk result (λ w. Self.waits w ≡ Self.waits self.now) }
+        ensures memory { IfOk result (λ w. Self.memory_bits w ≡ Self.memory_bits self.now) };
 }

@@ -224,6 +224,22 @@ impl<P: Profile> MakeStore<P> for LinkedStore<P> {
             profile: PhantomData,
         })
     }
+
+    fn copy_into(&self, spare: LinkedStore<P>) -> Result<LinkedStore<P>, AllocError>
+        ensures list { IfOk result (λ s. s ≡ self.now) }
+        ensures forest { IfOk result (λ s. forest_of P.profile s.0 ≡ forest_of P.profile self.now.0) }
+        ensures memory { IfOk result (λ s. s.1 ≡ self.now.1) }
+    {
+        let mut links = spare.links;
+        links.clear();
+        links.extend_from_slice(&self.links)?;
+        Ok(LinkedStore {
+            links,
+            first: self.first,
+            last: self.last,
+            profile: PhantomData,
+        })
+    }
 }
 
 impl<P: Profile> LinkedStore<P> {

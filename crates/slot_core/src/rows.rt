@@ -201,6 +201,18 @@ impl<P: Profile> MakeStore<P> for RowStore<P> {
             profile: PhantomData,
         })
     }
+
+    fn copy_into(&self, spare: RowStore<P>) -> Result<RowStore<P>, AllocError> {
+        let mut rows = spare.rows;
+        rows.clear();
+        rows.reserve_exact(self.rows.capacity())?;
+        rows.extend_from_slice(self.rows.as_slice())?;
+        Ok(RowStore {
+            rows,
+            memory_bits: self.memory_bits,
+            profile: PhantomData,
+        })
+    }
 }
 
 // Takes the rows off a stack that a row of this depth does not stand below, from the last on.

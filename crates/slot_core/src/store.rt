@@ -119,4 +119,9 @@ pub trait MakeStore<P: Profile>: CapStore<P> + Drop {
     fn copy(&self, alloc: Global) -> Result<Self, AllocError>
         ensures forest { IfOk result (λ s. Self.forest s ≡ Self.forest self.now) }
         ensures memory { IfOk result (λ s. Self.memory_bits s ≡ Self.memory_bits self.now) };
+
+    /// The same, in the room of a store that is given up. It takes memory only where that has too little room.
+    fn copy_into(&self, spare: Self) -> Result<Self, AllocError>
+        ensures forest { IfOk result (λ s. Self.forest s ≡ Self.forest self.now) }
+        ensures memory { IfOk result (λ s. Self.memory_bits s ≡ Self.memory_bits self.now) };
 }

@@ -190,7 +190,7 @@ fn advance<P: Profile, S: MakeStore<P> + DerivationStore<P>, W: MakeWaiters<P>>(
     let states = states_after(explored);
     let nodes = explored.layer.nodes();
     let next = next_layer(alloc, calls, kernel, nodes, kept, &mut explored.found)?;
-    let KeptLayer { layer, kernels } = next;
+    let KeptLayer { layer, kernels, .. } = next;
     explored.layer = layer;
     *kept = kernels;
     explored.states = states;

@@ -10,7 +10,7 @@ ghost use Rattle.query_orders.specs.Private.Tables.{with_node};
 ghost use Rattle.query_orders.specs.Private.Kernels.{IsKernelOf, AreKernels};
 
 use crate::exploring::layer::Layer;
-use crate::exploring::node::{Node, count, next_call};
+use crate::exploring::node::{Node, copied, count, next_call};
 use cap_core::Profile;
 use ipc_core::{MakeWaiters, Waiters};
 use kernel_core::{Call, Kernel};
@@ -23,11 +23,13 @@ use std::collections::VecDeque;
 /// 2^16 bytes, and 70 MB at 2^20.
 const KEPT_KERNELS: usize = 64;
 
-/// A layer that grows, and the kernels of its first nodes.
+/// A layer that grows, and the kernels of its first nodes. Of those that were given up one is in hand, so that the next copy
+/// takes no memory.
 #[derive(Drop)]
 pub struct KeptLayer<P: Profile, S: CapStore<P> + Drop, W: Waiters<P> + Drop> {
     pub layer: Layer,
     pub kernels: VecDeque<Kernel<P, S, W>>,
+    pub spare: Option<Kernel<P, S, W>>,
 }
 
 /// Makes the next call of a client, where it has one, be its thread ready or not. `made` counts the calls of each client.
@@ -51,12 +53,13 @@ fn kernel_after<P: Profile, S: MakeStore<P>, W: MakeWaiters<P>>(
     alloc: Global,
     calls: &[Vec<Call>],
     kernel: &Kernel<P, S, W>,
+    spare: Option<Kernel<P, S, W>>,
     order: &[usize],
 ) -> Result<Kernel<P, S, W>, AllocError>
     ensures { IfOk result (λ at. (w : World) → IsReached P.profile w.kernel → kernel.now ≡ shown w.kernel → w.made ≡ replicate (length calls.now) 0
         → at ≡ shown (world_after P.profile (own_calls calls.now) w order.now).kernel) }
 {
-    let mut at = kernel.copy(alloc)?;
+    let mut at = copied(alloc, kernel, spare)?;
     let mut made = vec![in alloc; 0; calls.len()]?;
     for i in 0..order.len() {
         make_next(calls, &mut at, &mut made, order[i]);
@@ -70,6 +73,7 @@ pub fn kernel_of<P: Profile, S: MakeStore<P>, W: MakeWaiters<P>>(
     calls: &[Vec<Call>],
     kernel: &Kernel<P, S, W>,
     kept: Option<Kernel<P, S, W>>,
+    spare: &mut Option<Kernel<P, S, W>>,
     node: &Node,
 ) -> Result<Kernel<P, S, W>, AllocError>
     ensures { IfOk result (λ at. (w : World) → IsReached P.profile w.kernel → kernel.now ≡ shown w.kernel → w.made ≡ replicate (length calls.now) 0
@@ -79,7 +83,7 @@ pub fn kernel_of<P: Profile, S: MakeStore<P>, W: MakeWaiters<P>>(
         Some(at) => Ok(at),
         None => {
             let order = node.order.clients(alloc)?;
-            kernel_after(alloc, calls, kernel, order.as_slice())
+            kernel_after(alloc, calls, kernel, spare.take(), order.as_slice())
         }
     }
 }
@@ -95,7 +99,7 @@ fn has_room<P: Profile, S: CapStore<P> + Drop, W: Waiters<P> + Drop>(
 }
 
 /// Puts a node into a layer, whose kernel is `at`. Where the layer has no node of its state, and the kernels of all nodes
-/// before it are kept, the kernel is kept too.
+/// before it are kept, the kernel is kept too; else it is in hand for the next copy.
 pub fn note_node<P: Profile, S: CapStore<P> + Drop, W: Waiters<P> + Drop>(
     nodes: &mut KeptLayer<P, S, W>,
     node: Node,
@@ -110,6 +114,8 @@ pub fn note_node<P: Profile, S: CapStore<P> + Drop, W: Waiters<P> + Drop>(
     nodes.layer.note(node)?;
     if keeps && count < nodes.layer.nodes().len() {
         nodes.kernels.push_back(at)?;
+    } else {
+        nodes.spare = Some(at);
     }
     Ok(())
 }

@@ -108,7 +108,7 @@ fn visit<P: Profile, S: MakeStore<P> + DerivationStore<P>, W: MakeWaiters<P>>(
         → AreKernels P.profile (own_calls calls.now) w nodes.new.kernels.items nodes.new.layer) }
 {
     if let Some(call) = callable(calls, at, node, client) {
-        let Stepped { kernel, reply } = step_copy(alloc, at, call)?;
+        let Stepped { kernel, reply } = step_copy(alloc, at, nodes.spare.take(), call)?;
         let new = note_call(alloc, node, client, call, &kernel, reply, found)?;
         note_node(nodes, new, kernel)?;
     }
@@ -180,10 +180,13 @@ pub fn next_layer<P: Profile, S: MakeStore<P> + DerivationStore<P>, W: MakeWaite
     let mut next = KeptLayer {
         layer: Layer::new(alloc),
         kernels: VecDeque::new(alloc),
+        spare: None,
     };
     for node in layer {
-        let at = kernel_of(alloc, calls, kernel, kept.pop_front(), node)?;
+        let first = kept.pop_front();
+        let at = kernel_of(alloc, calls, kernel, first, &mut next.spare, node)?;
         expand(alloc, calls, &at, node, &mut next, found)?;
+        next.spare = Some(at);
     }
     Ok(next)
 }

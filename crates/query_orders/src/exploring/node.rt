@@ -70,15 +70,30 @@ pub struct Stepped<P: Profile, S: CapStore<P> + Drop, W: Waiters<P> + Drop> {
     pub reply: Reply,
 }
 
-/// A kernel after one more call, with the reply; the one that it is of stays.
+/// A copy of a kernel, in the room of one that was given up, where there is one.
+pub fn copied<P: Profile, S: MakeStore<P>, W: MakeWaiters<P>>(
+    alloc: Global,
+    kernel: &Kernel<P, S, W>,
+    spare: Option<Kernel<P, S, W>>,
+) -> Result<Kernel<P, S, W>, AllocError>
+    ensures { IfOk result (λ copy. copy ≡ kernel.now) }
+{
+    match spare {
+        Some(spare) => kernel.copy_into(alloc, spare),
+        None => kernel.copy(alloc),
+    }
+}
+
+/// A kernel after one more call, with the reply, in the room of one that was given up; the one that it is of stays.
 pub fn step_copy<P: Profile, S: MakeStore<P>, W: MakeWaiters<P>>(
     alloc: Global,
     kernel: &Kernel<P, S, W>,
+    spare: Option<Kernel<P, S, W>>,
     call: Call,
 ) -> Result<Stepped<P, S, W>, AllocError>
     ensures { IfOk result (λ next. (A : State) → IsReached P.profile A → kernel.now ≡ shown A → StepsTo P.profile A call next.reply next.kernel) }
 {
-    let mut kernel = kernel.copy(alloc)?;
+    let mut kernel = copied(alloc, kernel, spare)?;
     let reply = kernel.step(call);
     Ok(Stepped { kernel, reply })
 }

@@ -31,8 +31,8 @@ loop-node-preserved g c w r k zero all kernels =
     let one = each_at (IsNode p own w) layer i x lt c.node-item.is all in
     let before = c.loop-node.invariant w r k zero all kernels in
     let rest : drop i layer ≡ x ∷ drop (i + 1) layer = drop_more layer i x lt ∙ ap (λ (y : Node). y ∷ drop (i + 1) layer) (sym c.node-item.is) in
-    let taken = kernel_taken p own w c.pop_front.result c.loop-node.kept.items c.pop_front.new.self.items x (drop (i + 1) layer)
-    (subst (λ (l : List Node). AreKernels p own w c.loop-node.kept.items l) rest (before.1).1) c.pop_front.ensures.items c.pop_front.ensures.rest in
+    let taken = kernel_taken p own w c.pop_front-first.result c.loop-node.kept.items c.pop_front-first.new.self.items x (drop (i + 1) layer)
+    (subst (λ (l : List Node). AreKernels p own w c.loop-node.kept.items l) rest (before.1).1) c.pop_front-first.ensures.items c.pop_front-first.ensures.rest in
     let at = c.in_ok-at.ensures w r k zero taken.0 in (
       layer_more p own w answer_eq.ghosts.eq layer i x c.loop-node.next.layer c.expand.new.nodes.layer c.args.found.now c.loop-node.found c.expand.new.found lt c.node-item.is
           before.0 (c.in_ok-expand.ensures.expanded w r one at (before.0).are),
