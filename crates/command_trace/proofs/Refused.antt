@@ -7,9 +7,10 @@ use Rattle.kernel_abstract.specs.declared.call.Reply.{Reply}
 use Rattle.kernel_abstract.specs.declared.call.Reply.TheVariants.{Done, Delivered, Waiting, Dropped, Empty, Refused}
 use Rattle.kernel_abstract.specs.State.{State, shown}
 use Rattle.kernel_abstract.specs.Step.{step}
-use Rattle.kernel_reasons.specs.Calls.{reason_of, refusal_in}
-use Rattle.kernel_reasons.specs.Reasons.{refusal_of}
-use Rattle.kernel_reasons.proofs.Calls.{reason_is}
+use Rattle.kernel_abstract.specs.Decode.{reason_of}
+use Rattle.kernel_abstract.specs.Step.{refusal_in}
+use Rattle.kernel_abstract.specs.Reasons.{refusal_of}
+use Rattle.kernel_checks.proofs.Calls.{reason_is}
 use Rattle.command_why_words.specs.Reasons.{reason_lines}
 use Rattle.command_why.specs.Tables.{call_table}
 use Rattle.command_why.specs.Why.{is_refused}

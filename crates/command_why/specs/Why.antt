@@ -13,7 +13,7 @@ use Rattle.kernel_abstract.specs.Step.{step}
 use Rattle.setup_format.specs.Views.{SetupView, CallView}
 use Rattle.setup_report.specs.Report.{terminated, call_text, met_count, expectation_count, count_line}
 pub use Rattle.command_check.specs.Program.{replies_to}
-use Rattle.kernel_reasons.specs.Calls.{reason_of}
+use Rattle.kernel_abstract.specs.Decode.{reason_of}
 use Rattle.command_why_words.specs.Text.{told}
 use Rattle.command_why_words.specs.Asked.{AskedView}
 use Rattle.command_why_words.specs.Reasons.{reason_lines}

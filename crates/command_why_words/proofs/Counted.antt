@@ -10,16 +10,16 @@ use Rattle.cap_core.specs.declared.capability.Kind.{Kind}
 use Rattle.kernel_forest.proofs.Trees.Forests.{each-append}
 use Rattle.kernel_abstract.specs.Shown.{Shown}
 use Rattle.kernel_abstract.specs.declared.call.ThreadState.{ThreadState}
-use Rattle.kernel_reasons.specs.declared.hints.Hint.{Hint}
-use Rattle.kernel_reasons.specs.declared.hints.Hint.TheVariants.{Depth, Number}
-use Rattle.kernel_reasons.specs.declared.reason.Held.{Held}
-use Rattle.kernel_reasons.specs.declared.reason.Miss.{Miss}
-use Rattle.kernel_reasons.specs.declared.reason.Miss.TheVariants as miss
-use Rattle.kernel_reasons.specs.declared.reason.Right.{Right}
-use Rattle.kernel_reasons.specs.declared.reason.Reason.{Reason}
-use Rattle.kernel_reasons.specs.declared.reason.Reason.TheVariants.{NoThread, NotReady, NotFound, NoDepth, NoCapability, OtherKind, NoRight, IsFull, IsEmpty, HasBadge, LongGuard, HasChildren, NotAllRights, NoSpace, NoKind, NoSize, TooLarge, TooSmall, NoNode, NoOffset, NoCount, FewSlots, SomeFull, NoRoom}
-use Rattle.kernel_reasons.specs.declared.reason.Word.{Word}
-use Rattle.kernel_reasons.specs.declared.reason.Word.TheVariants.{Invoked, Root, Index, SourceIndex}
+use Rattle.kernel_checks.specs.declared.hints.Hint.{Hint}
+use Rattle.kernel_checks.specs.declared.hints.Hint.TheVariants.{Depth, Number}
+use Rattle.kernel_abstract.specs.declared.reason.Held.{Held}
+use Rattle.kernel_abstract.specs.declared.reason.Miss.{Miss}
+use Rattle.kernel_abstract.specs.declared.reason.Miss.TheVariants as miss
+use Rattle.kernel_abstract.specs.declared.reason.Right.{Right}
+use Rattle.kernel_abstract.specs.declared.reason.Reason.{Reason}
+use Rattle.kernel_abstract.specs.declared.reason.Reason.TheVariants.{NoThread, NotReady, NotFound, NoDepth, NoCapability, OtherKind, NoRight, IsFull, IsEmpty, HasBadge, LongGuard, HasChildren, NotAllRights, NoSpace, NoKind, NoSize, TooLarge, TooSmall, NoNode, NoOffset, NoCount, FewSlots, SomeFull, NoRoom}
+use Rattle.kernel_abstract.specs.declared.reason.Word.{Word}
+use Rattle.kernel_abstract.specs.declared.reason.Word.TheVariants.{Invoked, Root, Index, SourceIndex}
 use Rattle.setup_report.specs.State.{threads}
 use Rattle.setup_report.specs.Text.{numbers_text}
 use Rattle.setup_report_laws.specs.Laws.{IsOneLine}

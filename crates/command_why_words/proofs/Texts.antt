@@ -11,15 +11,15 @@ use Rattle.kernel_abstract.specs.declared.call.Op.{Op}
 use Rattle.kernel_abstract.specs.declared.call.Op.TheVariants.{NbSend, CapMutate}
 use Rattle.kernel_abstract.specs.declared.call.ThreadState.{ThreadState}
 use Rattle.kernel_abstract.specs.declared.call.ThreadState.TheVariants.{Ready, Inactive, Sending, Receiving}
-use Rattle.kernel_reasons.specs.declared.reason.Held.{Held}
-use Rattle.kernel_reasons.specs.declared.reason.Miss.{Miss}
-use Rattle.kernel_reasons.specs.declared.reason.Miss.TheVariants.{NoRoot, OtherGuard, TooFewBits, BitsLeft}
-use Rattle.kernel_reasons.specs.declared.reason.Right.{Right}
-use Rattle.kernel_reasons.specs.declared.reason.Right.TheVariants.{Write, Read}
-use Rattle.kernel_reasons.specs.declared.reason.Reason.{Reason}
-use Rattle.kernel_reasons.specs.declared.reason.Reason.TheVariants.{NoKind, NoSize, TooLarge, TooSmall, NoNode, NoOffset, NoCount, FewSlots, SomeFull, NoRoom}
-use Rattle.kernel_reasons.specs.declared.reason.Word.{Word}
-use Rattle.kernel_reasons.specs.declared.reason.Word.TheVariants.{Invoked}
+use Rattle.kernel_abstract.specs.declared.reason.Held.{Held}
+use Rattle.kernel_abstract.specs.declared.reason.Miss.{Miss}
+use Rattle.kernel_abstract.specs.declared.reason.Miss.TheVariants.{NoRoot, OtherGuard, TooFewBits, BitsLeft}
+use Rattle.kernel_abstract.specs.declared.reason.Right.{Right}
+use Rattle.kernel_abstract.specs.declared.reason.Right.TheVariants.{Write, Read}
+use Rattle.kernel_abstract.specs.declared.reason.Reason.{Reason}
+use Rattle.kernel_abstract.specs.declared.reason.Reason.TheVariants.{NoKind, NoSize, TooLarge, TooSmall, NoNode, NoOffset, NoCount, FewSlots, SomeFull, NoRoom}
+use Rattle.kernel_abstract.specs.declared.reason.Word.{Word}
+use Rattle.kernel_abstract.specs.declared.reason.Word.TheVariants.{Invoked}
 use Rattle.setup_report.specs.Text.{numbers_text}
 use Rattle.setup_report_laws.specs.Laws.{IsOneLine}
 use Rattle.setup_report_laws.proofs.OneLine.{both_lines, number_line, number_and, capability_line}

@@ -3,8 +3,8 @@ use Rattle.std.specs.Prelude.{codes, ℕ, List, Option, option_map}
 use Rattle.toml.specs.Data.{Members}
 use Rattle.toml.specs.View.{table_view}
 use Rattle.kernel_abstract.specs.declared.call.Call.{Call}
-use Rattle.kernel_reasons.specs.declared.reason.Held.{Held}
-use Rattle.kernel_reasons.specs.declared.reason.Word.{Word}
+use Rattle.kernel_abstract.specs.declared.reason.Held.{Held}
+use Rattle.kernel_abstract.specs.declared.reason.Word.{Word}
 use Rattle.command_why_words.specs.declared.asked.Asked.{Asked}
 use Rattle.command_why_words.specs.Names.{name_at}
 use Rattle.command_why_words.specs.Keys.{key_words, word_of}

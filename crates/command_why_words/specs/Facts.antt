@@ -5,11 +5,11 @@ use Rattle.cap_core.specs.declared.capability.Cap.TheVariants.{Null}
 use Rattle.cap_core.specs.declared.capability.Kind.{Kind}
 use Rattle.kernel_abstract.specs.declared.call.Op.{Op}
 use Rattle.kernel_abstract.specs.declared.call.Op.TheVariants.{CapMutate}
-use Rattle.kernel_reasons.specs.declared.reason.Held.{Held}
-use Rattle.kernel_reasons.specs.declared.reason.Right.{Right}
-use Rattle.kernel_reasons.specs.declared.reason.Right.TheVariants.{Write, Read}
-use Rattle.kernel_reasons.specs.declared.reason.Word.{Word}
-use Rattle.kernel_reasons.specs.declared.reason.Word.TheVariants.{Invoked, SourceIndex}
+use Rattle.kernel_abstract.specs.declared.reason.Held.{Held}
+use Rattle.kernel_abstract.specs.declared.reason.Right.{Right}
+use Rattle.kernel_abstract.specs.declared.reason.Right.TheVariants.{Write, Read}
+use Rattle.kernel_abstract.specs.declared.reason.Word.{Word}
+use Rattle.kernel_abstract.specs.declared.reason.Word.TheVariants.{Invoked, SourceIndex}
 use Rattle.command_why_words.specs.Text.{told, an_op, kind_text}
 use Rattle.command_why_words.specs.Asked.{AskedView, data_said, led_said}
 

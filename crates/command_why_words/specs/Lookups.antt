@@ -8,14 +8,14 @@ use Rattle.cap_core.specs.Numbers.{word_bits}
 use Rattle.kernel_forest.specs.Entries.{cap_at}
 use Rattle.cspace_core.specs.Bits.{low_bits}
 use Rattle.kernel_abstract.specs.Shown.{Shown}
-use Rattle.kernel_reasons.specs.declared.hints.Hint.{Hint}
-use Rattle.kernel_reasons.specs.declared.hints.Hint.TheVariants.{Depth, Number}
-use Rattle.kernel_reasons.specs.declared.reason.Held.{Held}
-use Rattle.kernel_reasons.specs.declared.reason.Miss.{Miss}
-use Rattle.kernel_reasons.specs.declared.reason.Miss.TheVariants.{NoRoot, OtherGuard, TooFewBits, BitsLeft}
-use Rattle.kernel_reasons.specs.declared.reason.Word.{Word}
-use Rattle.kernel_reasons.specs.Hints.{word_hint, index_hint}
-use Rattle.kernel_reasons.specs.Paths.{path}
+use Rattle.kernel_checks.specs.declared.hints.Hint.{Hint}
+use Rattle.kernel_checks.specs.declared.hints.Hint.TheVariants.{Depth, Number}
+use Rattle.kernel_abstract.specs.declared.reason.Held.{Held}
+use Rattle.kernel_abstract.specs.declared.reason.Miss.{Miss}
+use Rattle.kernel_abstract.specs.declared.reason.Miss.TheVariants.{NoRoot, OtherGuard, TooFewBits, BitsLeft}
+use Rattle.kernel_abstract.specs.declared.reason.Word.{Word}
+use Rattle.kernel_checks.specs.Hints.{word_hint, index_hint}
+use Rattle.kernel_checks.specs.Paths.{path}
 use Rattle.command_why_words.specs.Keys.{KeyWords, key_words}
 use Rattle.command_why_words.specs.Words.{key_of, value_of, depth_key, depth_of, is_whole, root_of}
 use Rattle.command_why_words.specs.Text.{told, slot_text, guard_of, radix_of}

@@ -7,9 +7,9 @@ use Rattle.kernel_abstract.specs.declared.call.ThreadState.TheVariants.{Ready, I
 use Rattle.kernel_abstract.specs.Shown.{Shown}
 use Rattle.setup_report.specs.State.{threads}
 use Rattle.setup_report.specs.Text.{numbers_text}
-use Rattle.kernel_reasons.specs.declared.reason.Word.TheVariants.{Root, Index, SourceIndex}
-use Rattle.kernel_reasons.specs.declared.reason.Reason.{Reason}
-use Rattle.kernel_reasons.specs.declared.reason.Reason.TheVariants.{NoThread, NotReady, NotFound, NoDepth, NoCapability, OtherKind, NoRight, IsFull, IsEmpty, HasBadge, LongGuard, HasChildren, NotAllRights, NoSpace}
+use Rattle.kernel_abstract.specs.declared.reason.Word.TheVariants.{Root, Index, SourceIndex}
+use Rattle.kernel_abstract.specs.declared.reason.Reason.{Reason}
+use Rattle.kernel_abstract.specs.declared.reason.Reason.TheVariants.{NoThread, NotReady, NotFound, NoDepth, NoCapability, OtherKind, NoRight, IsFull, IsEmpty, HasBadge, LongGuard, HasChildren, NotAllRights, NoSpace}
 use Rattle.command_why_words.specs.Limits.{threads_told}
 use Rattle.command_why_words.specs.Text.{told, name_text, radix_of}
 use Rattle.command_why_words.specs.Asked.{AskedView, thread_name}

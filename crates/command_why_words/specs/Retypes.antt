@@ -3,10 +3,10 @@ use Rattle.std.specs.Prelude.{codes, ℕ, List, ◌++◌, Bool, true, false}
 use Rattle.std.specs.Fmt.{decimal}
 use Rattle.cap_core.specs.declared.capability.Cap.{Cap}
 use Rattle.cap_core.specs.declared.capability.Cap.TheVariants.{Untyped}
-use Rattle.kernel_reasons.specs.declared.reason.Held.{Held}
-use Rattle.kernel_reasons.specs.declared.reason.Word.TheVariants.{Invoked}
-use Rattle.kernel_reasons.specs.declared.reason.Reason.{Reason}
-use Rattle.kernel_reasons.specs.declared.reason.Reason.TheVariants.{NoKind, NoSize, TooLarge, TooSmall, NoNode, NoOffset, NoCount, FewSlots, SomeFull, NoRoom}
+use Rattle.kernel_abstract.specs.declared.reason.Held.{Held}
+use Rattle.kernel_abstract.specs.declared.reason.Word.TheVariants.{Invoked}
+use Rattle.kernel_abstract.specs.declared.reason.Reason.{Reason}
+use Rattle.kernel_abstract.specs.declared.reason.Reason.TheVariants.{NoKind, NoSize, TooLarge, TooSmall, NoNode, NoOffset, NoCount, FewSlots, SomeFull, NoRoom}
 use Rattle.command_why_words.specs.Text.{told, content_text, object_text, radix_of, power_text, last_text}
 use Rattle.command_why_words.specs.Asked.{AskedView, key_said}
 use Rattle.command_why_words.specs.Facts.{fact_lines}

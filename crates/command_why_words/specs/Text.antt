@@ -11,8 +11,8 @@ use Rattle.kernel_abstract.specs.declared.call.Op.TheVariants.{NbSend, NbRecv}
 use Rattle.setup_values.specs.Operations.{op_text}
 use Rattle.setup_format.specs.Operations.{op_name}
 use Rattle.setup_report.specs.Text.{cap_text}
-use Rattle.kernel_reasons.specs.declared.reason.Held.{Held}
-use Rattle.kernel_reasons.specs.declared.reason.Word.{Word}
+use Rattle.kernel_abstract.specs.declared.reason.Held.{Held}
+use Rattle.kernel_abstract.specs.declared.reason.Word.{Word}
 use Rattle.command_why_words.specs.Words.{is_whole}
 
 -- a line below that of the call

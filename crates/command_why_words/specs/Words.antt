@@ -1,7 +1,7 @@
 -- The words that checks are about.
 use Rattle.std.specs.Prelude.{codes, ℕ, List, Bool, true, false}
-use Rattle.kernel_reasons.specs.declared.reason.Word.{Word}
-use Rattle.kernel_reasons.specs.declared.reason.Word.TheVariants.{Invoked, Root, SourceRoot, Index, SourceIndex}
+use Rattle.kernel_abstract.specs.declared.reason.Word.{Word}
+use Rattle.kernel_abstract.specs.declared.reason.Word.TheVariants.{Invoked, Root, SourceRoot, Index, SourceIndex}
 use Rattle.command_why_words.specs.Keys.{KeyWords, word_of}
 
 abbrev pub key_of : Word → List ℕ

@@ -1,7 +1,7 @@
 //! A law of the text of reasons, over the definitions alone. Nothing is done.
 ghost use Rattle.cap_core.specs.declared.profile.ProfileName.{ProfileName};
 ghost use Rattle.kernel_abstract.specs.Shown.{Shown};
-ghost use Rattle.kernel_reasons.specs.declared.reason.Reason.{Reason};
+ghost use Rattle.kernel_abstract.specs.declared.reason.Reason.{Reason};
 ghost use Rattle.command_why_words.specs.Asked.{AskedView};
 ghost use Rattle.command_why_words.specs.Reasons.{reason_lines};
 ghost use Rattle.command_why_words.specs.Laws.{HasLines};

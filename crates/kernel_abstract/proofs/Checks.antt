@@ -1,4 +1,5 @@
 -- What checks that passed show of a call.
+pub mod Walked
 pub mod FoundSlots
 pub mod FilledSlots
 pub mod LiveEndpoints

@@ -1,7 +1,8 @@
--- The abstract kernel: what is seen of it is in Shown, its state in State, a call's checks in Decode, a call in Step.
+-- The abstract kernel: what is seen of it is in Shown, its state in State, a call's checks in Decode, why one fails in Reasons, a call in Step.
 pub mod Plan
 pub mod Shown
 pub mod State
+pub mod Reasons
 pub mod Lookups
 pub mod Retyping
 pub mod CNodes

@@ -1,68 +1,108 @@
 -- What a retype checks, and the capabilities that it puts (seL4 Reference Manual, on `seL4_Untyped_Retype`).
-use Rattle.std.specs.Prelude.{ℕ, ◌-◌, ◌^◌, Bool, not, cond, ◌==◌, ◌&&◌, nat_le, nat_lt, List, [], ◌∷◌, map, Option, Result, Ok, Err}
-use Rattle.std.specs.List.{list_any, range_with_len, filter_map}
+use Rattle.std.specs.Prelude.{ℕ, ◌+◌, ◌-◌, ◌^◌, Bool, not, cond, ◌==◌, ◌&&◌, nat_le, nat_lt, List, [], ◌∷◌, map, Option, Some, None, Result, Ok, Err}
+use Rattle.std.specs.List.{find, range_with_len, filter_map}
 use Rattle.cap_core.specs.Limits.{max_retype_count}
 use Rattle.cap_core.specs.declared.profile.ProfileName.{ProfileName}
 use Rattle.cap_core.specs.declared.capability.Cap.{Cap}
-use Rattle.cap_core.specs.declared.capability.Cap.TheVariants.{CNode}
-use Rattle.cap_core.specs.declared.refusal.LookupFault.TheVariants.{MissingCapability}
+use Rattle.cap_core.specs.declared.capability.Cap.TheVariants.{Untyped, CNode}
+use Rattle.cap_core.specs.declared.capability.Kind.{Kind}
 use Rattle.cap_core.specs.declared.capability.Kind.TheVariants as kind
-use Rattle.cap_core.specs.declared.refusal.Refusal.{Refusal}
-use Rattle.cap_core.specs.declared.refusal.Refusal.TheVariants.{RangeError, FailedLookup, DeleteFirst}
+use Rattle.cap_core.specs.Numbers.{word_bits, min_untyped_bits, max_object_bits}
 use Rattle.cap_core.specs.Objects.{is_null}
-use Rattle.cap_core.specs.Kinds.{new_cap}
+use Rattle.cap_core.specs.Kinds.{kind_numbered, size_of, new_cap}
+use Rattle.cap_core.specs.Checks.{◌>>=◌}
 use Rattle.mem_core.specs.declared.objects.Shape.{Shape}
 use Rattle.mem_core.specs.Shapes.{shape_of}
-use Rattle.mem_core.specs.Plans.{placed_in, object_at}
+use Rattle.mem_core.specs.Plans.{start_of, room_of, placed_in, object_at}
 use Rattle.kernel_forest.specs.Forest.{Forest}
 use Rattle.kernel_forest.specs.Entries.{Entry, cap_at}
 use Rattle.kernel_forest.specs.Derivation.{retyped, freed}
 use Rattle.cspace_core.specs.Resolution.{slot_of}
-use Rattle.cspace_core.specs.Target.{target_slot}
 use Rattle.kernel_abstract.specs.declared.invocation.NewObjects.{NewObjects}
 use Rattle.kernel_abstract.specs.declared.invocation.RetypeArguments.{RetypeArguments}
-use Rattle.cap_core.specs.Checks.{◌>>=◌}
-use Rattle.kernel_abstract.specs.Lookups.{held_in, extra_cap, ensure_kind}
+use Rattle.kernel_abstract.specs.declared.reason.Held.{Held}
+use Rattle.kernel_abstract.specs.declared.reason.Word.{Word}
+use Rattle.kernel_abstract.specs.declared.reason.Word.TheVariants.{Root, Index}
+use Rattle.kernel_abstract.specs.declared.reason.Reason.{Reason}
+use Rattle.kernel_abstract.specs.declared.reason.Reason.TheVariants.{NoKind, NoSize, TooLarge, TooSmall, NoNode, NoOffset, NoCount, FewSlots, SomeFull, NoRoom}
+use Rattle.kernel_abstract.specs.Reasons.{because, held_at}
+use Rattle.kernel_abstract.specs.Lookups.{slot_by_word, slot_by_index, of_kind}
 use Rattle.kernel_abstract.specs.Shown.{has_child}
 
--- the capability of the CNode whose slots are filled: the root itself at depth 0, else what the slot holds that is named
-abbrev pub node_cap : ProfileName → Forest Entry → Cap → ℕ → ℕ → Result Cap Refusal
-node_cap p f root index depth = cond (depth == 0) (Ok root) (held_in f (target_slot p (cap_at f) root index depth))
+-- the least size of a kind that may be asked for
+abbrev pub least_of : ProfileName → Kind → ℕ
+least_of p kind.Untyped = min_untyped_bits p
+least_of p kind.Tcb = 0
+least_of p kind.Endpoint = 0
+least_of p kind.CNode = 1
 
--- from one to the most objects, in slots that a CNode of this radix has
-abbrev pub are_slots : ℕ → ℕ → ℕ → Bool
-are_slots radix offset count =
-    nat_lt offset (2 ^ radix) && (nat_le 1 count && (nat_le count max_retype_count && nat_le count (2 ^ radix - offset)))
+-- why objects of a kind have no shape: the size is no size of a word, the object is too large, or it is too small
+abbrev pub no_size : ProfileName → Kind → ℕ → Reason
+no_size p k size_bits =
+    cond (nat_lt size_bits (word_bits p))
+    (cond (nat_le (size_of p k size_bits) (max_object_bits p)) (TooSmall k (least_of p k))
+    (TooLarge k (size_of p k size_bits) (max_object_bits p)))
+    (NoSize (word_bits p))
 
--- a slot among those from the first one on is full
-abbrev pub some_full : ProfileName → Forest Entry → ℕ → ℕ → Bool
-some_full p f first count = list_any (λ i. not (is_null (cap_at f (slot_of p first i)))) (range_with_len 0 count)
+abbrev pub no_shape : ProfileName → ℕ → Option Kind → Reason
+no_shape p size_bits None = NoKind
+no_shape p size_bits (Some k) = no_size p k size_bits
 
--- the first of the slots that are filled, where all of them are empty
-abbrev pub ensure_all_empty : ProfileName → Forest Entry → ℕ → ℕ → Result ℕ Refusal
-ensure_all_empty p f first count = cond (some_full p f first count) (Err DeleteFirst) (Ok first)
+abbrev pub checked_shape : ProfileName → ℕ → ℕ → Result Shape Reason
+checked_shape p number size_bits = because (no_shape p size_bits (kind_numbered number)) (shape_of p number size_bits)
 
-abbrev pub first_slot : ProfileName → Forest Entry → ℕ → ℕ → Cap → Result ℕ Refusal
-first_slot p f offset count (CNode base radix guard) =
-    cond (are_slots radix offset count) (ensure_all_empty p f (slot_of p base offset) count) (Err RangeError)
-first_slot p f offset count cap = Err (FailedLookup MissingCapability)
+-- the slot of the CNode that is filled, and the word that names it: the root's at depth 0, else the one that is named
+abbrev pub node_slot : ProfileName → Forest Entry → ℕ → ℕ → ℕ → Result ℕ Reason
+node_slot p f root index depth = cond (depth == 0) (Ok root) (slot_by_index p (cap_at f) Index root index depth)
 
--- the rest of the checks of a retype, of the objects' slots and of the room for them
-abbrev pub decoded_objects :
-    ProfileName → Forest Entry → ℕ → Cap → Cap → Shape → RetypeArguments → Result NewObjects Refusal
-decoded_objects p f slot untyped root shape asked =
-    node_cap p f root asked.index asked.depth >>= λ node.
-    first_slot p f asked.offset asked.count node >>= λ first.
-    placed_in (has_child slot f) shape.bits asked.count untyped >>= λ placed.
-    Ok (record { untyped = slot; shape = shape; placed = placed; first_slot = first; count = asked.count })
+abbrev pub node_word : ℕ → Word
+node_word depth = cond (depth == 0) Root Index
+
+-- the CNode has the slots, and one retype may fill so many
+abbrev pub within_node : Word → Held → ℕ → ℕ → ℕ → ℕ → Result ℕ Reason
+within_node word node radix offset count first =
+    cond (nat_lt offset (2 ^ radix))
+    (cond (nat_le 1 count && nat_le count max_retype_count)
+    (cond (nat_le count (2 ^ radix - offset)) (Ok first) (Err (FewSlots word node)))
+    (Err (NoCount max_retype_count)))
+    (Err (NoOffset word node))
+
+-- the first full slot among those from one on, by its place among them
+abbrev pub first_full : ProfileName → Forest Entry → ℕ → ℕ → Option ℕ
+first_full p f first count = find (λ i. not (is_null (cap_at f (slot_of p first i)))) (range_with_len 0 count)
+
+abbrev pub ensure_none_full : ProfileName → Forest Entry → Word → Held → ℕ → ℕ → Option ℕ → Result ℕ Reason
+ensure_none_full p f word node offset first None = Ok first
+ensure_none_full p f word node offset first (Some i) =
+    Err (SomeFull word node (offset + i) (held_at (cap_at f) (slot_of p first i)))
+
+abbrev pub first_slot : ProfileName → Forest Entry → Word → ℕ → ℕ → ℕ → Cap → Result ℕ Reason
+first_slot p f word offset count slot (CNode base radix guard) =
+    within_node word (record { slot = slot; cap = CNode base radix guard }) radix offset count (slot_of p base offset) >>= λ first.
+    ensure_none_full p f word (record { slot = slot; cap = CNode base radix guard }) offset first (first_full p f first count)
+first_slot p f word offset count slot cap = Err (NoNode word (record { slot = slot; cap = cap }))
+
+-- why an untyped region has no room for objects of 2^b bytes: what counts as used, and how many of them fit
+abbrev pub no_room : ℕ → Bool → ℕ → Cap → Reason
+no_room slot has_children b (Untyped base bits free) =
+    NoRoom (record { slot = slot; cap = Untyped base bits free }) has_children (start_of has_children free) b
+    (room_of bits (start_of has_children free) b)
+no_room slot has_children b cap = NoRoom (record { slot = slot; cap = cap }) has_children 0 b 0
+
+abbrev pub checked_objects : ProfileName → Forest Entry → ℕ → Cap → ℕ → Shape → RetypeArguments → Result NewObjects Reason
+checked_objects p f at untyped root shape asked =
+    node_slot p f root asked.index asked.depth >>= λ node.
+    first_slot p f (node_word asked.depth) asked.offset asked.count node (cap_at f node) >>= λ first.
+    because (no_room at (has_child at f) shape.bits untyped) (placed_in (has_child at f) shape.bits asked.count untyped) >>= λ placed.
+    Ok (record { untyped = at; shape = shape; placed = placed; first_slot = first; count = asked.count })
 
 -- the checks in their order, of a retype by the untyped capability in a slot
-abbrev pub decoded_retype : ProfileName → Forest Entry → ℕ → ℕ → Cap → RetypeArguments → Result NewObjects Refusal
-decoded_retype p f thread slot invoked asked =
-    ensure_kind kind.Untyped invoked >>= λ untyped.
-    extra_cap p f thread asked.root >>= λ root.
-    shape_of p asked.kind asked.size_bits >>= λ shape.
-    decoded_objects p f slot untyped root shape asked
+abbrev pub checked_retype : ProfileName → Forest Entry → ℕ → ℕ → RetypeArguments → Result NewObjects Reason
+checked_retype p f thread at asked =
+    of_kind kind.Untyped (held_at (cap_at f) at) >>= λ untyped.
+    slot_by_word p f Root thread asked.root >>= λ root.
+    checked_shape p asked.kind asked.size_bits >>= λ shape.
+    checked_objects p f at untyped root shape asked
 
 -- the capabilities of the new objects, each with the slot that it goes into
 abbrev pub new_caps : ProfileName → NewObjects → List (ℕ × Cap)

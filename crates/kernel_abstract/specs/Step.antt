@@ -143,6 +143,11 @@ outcome p A thread (Ok invocation) = performed p A thread invocation
 unfoldable pub step : ProfileName → State → Call → Outcome
 step p A call = outcome p A call.thread (decoded_call p (shown A) call)
 
+-- the refusal that a reply is; None where it is none
+abbrev pub refusal_in : Reply → Option Refusal
+refusal_in (Refused refusal) = Some refusal
+refusal_in reply = None
+
 -- the replies to a list of calls, and the state after them
 unfoldable pub replies_of : ProfileName → State → List Call → List Reply
 replies_of p A [] = []

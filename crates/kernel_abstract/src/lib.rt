@@ -6,6 +6,8 @@ pub mod call;
 pub mod invocation;
 pub mod laws;
 pub mod plan;
+pub mod reason;
 
 pub use call::{Call, Inbox, Op, Reply, ThreadState};
 pub use plan::PlanDefect;
+pub use reason::{Held, Miss, Reason, Right, Word};

@@ -31,7 +31,7 @@ use cap_core::{Cap, Kind, Message, Profile, Refusal};
 use ipc_core::{Offer, Received, Sent, Waiters};
 use kernel_abstract::call::{Call, Inbox, Reply, ThreadState};
 use kernel_abstract::invocation::{CapPlacement, Invocation, NewObjects, Service};
-use kernel_decode::decode_op;
+use kernel_checks::decode_op;
 use kernel_delete::SlotChain;
 use slot_core::{CapStore, Derivation, DerivationStore, Slot};
 use std::alloc::{AllocError, Global};

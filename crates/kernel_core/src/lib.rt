@@ -14,6 +14,7 @@ mod revoking;
 mod rows;
 
 pub use kernel::Kernel;
+pub use kernel_abstract::reason::{Held, Miss, Reason, Right, Word};
 pub use kernel_abstract::{Call, Inbox, Op, Reply, ThreadState, call, invocation};
 pub use kernel_boot::{BootPlan, PlanDefect, plan};
-pub use kernel_reasons::{Held, Hint, Miss, Reason, Right, Word};
+pub use kernel_checks::Hint;

@@ -4,12 +4,12 @@ ghost use Rattle.cap_core.specs.Numbers.{word_bits};
 ghost use Rattle.kernel_forest.specs.Entries.{cap_at as cap_held};
 ghost use Rattle.cspace_core.specs.Bits.{low_bits};
 ghost use Rattle.kernel_abstract.specs.State.{State, shown};
-ghost use Rattle.kernel_abstract.specs.Step.{step};
-ghost use Rattle.kernel_reasons.specs.Reasons.{refusal_of};
-ghost use Rattle.kernel_reasons.specs.Facts.{told_by, AreThere};
-ghost use Rattle.kernel_reasons.specs.Calls.{explained_call, reason_of, refusal_in};
-ghost use Rattle.kernel_reasons.specs.Paths.{path as path_of};
-ghost use Rattle.kernel_reasons.specs.Hints.{word_hint as word_hint_of, index_hint as index_hint_of};
+ghost use Rattle.kernel_abstract.specs.Step.{step, refusal_in};
+ghost use Rattle.kernel_abstract.specs.Reasons.{refusal_of};
+ghost use Rattle.kernel_checks.specs.Facts.{told_by, AreThere};
+ghost use Rattle.kernel_abstract.specs.Decode.{checked_call, reason_of};
+ghost use Rattle.kernel_checks.specs.Paths.{path as path_of};
+ghost use Rattle.kernel_checks.specs.Hints.{word_hint as word_hint_of, index_hint as index_hint_of};
 
 use crate::addresses::slot_within;
 use crate::kernel::Kernel;
@@ -17,7 +17,8 @@ use cap_core::{Cap, Profile};
 use ipc_core::Waiters;
 use kernel_abstract::call::{Call, ThreadState};
 use kernel_abstract::invocation::Invocation;
-use kernel_reasons::{Held, Hint, Reason, index_hint, path, reason_in, reason_op, word_hint};
+use kernel_abstract::reason::{Held, Reason};
+use kernel_checks::{Hint, index_hint, path, reason_in, reason_op, word_hint};
 use slot_core::CapStore;
 use std::alloc::{AllocError, Global};
 
@@ -79,7 +80,7 @@ impl<P: Profile, S: CapStore<P>, W: Waiters<P>> Kernel<P, S, W> {
 
     /// The first check that fails, with its reason, or what the call does.
     fn explain_call(&self, call: &Call) -> Result<Invocation, Reason>
-        ensures { result ≡ explained_call P.profile self.now call.now }
+        ensures { result ≡ checked_call P.profile self.now call.now }
     {
         let Some(state) = self.thread_state(call.thread) else {
             return Err(Reason::NoThread);

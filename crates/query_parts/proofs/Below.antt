@@ -35,7 +35,7 @@ use Rattle.kernel_abstract.specs.declared.invocation.CapPlacement.{CapPlacement}
 use Rattle.kernel_abstract.specs.Retyping.{new_caps, with_new, with_objects}
 use Rattle.kernel_abstract.specs.CNodes.{with_derived, with_moved}
 use Rattle.kernel_abstract.specs.Threads.{with_space}
-use Rattle.kernel_abstract.specs.Decode.{decoded_call, decoded_op}
+use Rattle.kernel_abstract.specs.Decode.{decoded_call}
 use Rattle.kernel_abstract.specs.State.{State, shown, endpoint_at}
 use Rattle.kernel_abstract.specs.Step.{Outcome, outcome, performed, where_awaited, is_send_awaited, is_receive_awaited, send_accepted, receive_accepted, step, state_after}
 use Rattle.kernel_abstract.specs.Private.Invocations.{IsRetype, IsDerivation, IsMove, IsSpace}
@@ -43,7 +43,7 @@ use Rattle.kernel_abstract.specs.Private.Stores.{IsKernelStore}
 use Rattle.kernel_abstract.specs.Reached.{IsReached}
 use Rattle.kernel_abstract.proofs.Capabilities.Descendants.{each-descendants_below, each-descendants_after, bare-below, bare-after}
 use Rattle.kernel_abstract.proofs.Capabilities.SpacesSet.{space_kept}
-use Rattle.kernel_abstract.proofs.Checks.PassedInvocations.{IsEdit}
+use Rattle.kernel_abstract.proofs.Checks.PassedInvocations.{IsEdit, call_passed}
 use Rattle.kernel_abstract.proofs.Reached.Stores.{checked_edit}
 use Rattle.kernel_abstract.proofs.Reached.Simulation.{reached_is}
 use Rattle.kernel_abstract.proofs.Reached.Runs.{reached_after}
@@ -53,7 +53,7 @@ use Rattle.query_parts.specs.Parts.{Parts, IsClosed}
 use Rattle.query_parts.specs.Laws.{AreClosed, IsAllowed}
 use Rattle.query_parts.proofs.Passed.{IsPlacedIn, IsMadeIn, IsSpaceIn, StaysIn, op_stays}
 use Rattle.query_parts.proofs.Messages.{IsMessage, MayBeMessage, call_passes}
-use Rattle.query_parts.proofs.Runs.{live_found, some_is, step_allowed}
+use Rattle.query_parts.proofs.Runs.{some_is, step_allowed}
 
 -- what stands below a slot stands below an entry there
 pub above : (s : ℕ) (f : Forest Entry) (d : Entry) → Contains (descendants (is_at s) f) d → (a : Entry) × Contains (preorder f) a × (a.slot ≡ s)
@@ -303,7 +303,7 @@ module _ (p : ProfileName) (parts : Parts) (i : ℕ) (P : ℕ → Type 0)
   outcome_fits memory k A call (Ok done) store closed mine h fits =
       performed_fits memory k A store call.thread done (checked_edit p memory A call done store h)
       (op_stays p parts k A.derivations closed call.thread mine call.op done
-      (live_found _ (decoded_op p A.derivations call.thread call.op) done h)) fits
+      (call_passed p (shown A) call done h)) fits
 
   -- a message changes no slot
   performed_passes : (A : State) (thread : ℕ) (done : Invocation) → IsMessage done → FitBelow A.derivations →

@@ -18,7 +18,7 @@ use Rattle.kernel_abstract.specs.declared.call.Reply.TheVariants.{Done, Delivere
 use Rattle.kernel_abstract.specs.declared.invocation.Service.{Service}
 use Rattle.kernel_abstract.specs.declared.invocation.Invocation.{Invocation}
 use Rattle.kernel_abstract.specs.declared.invocation.Invocation.TheVariants.{Send, Receive, Retype, Derive, Move, Delete, Revoke, CancelBadged, SetSpace, Suspend, Resume}
-use Rattle.kernel_abstract.specs.Decode.{decoded_call, decoded_op}
+use Rattle.kernel_abstract.specs.Decode.{decoded_call}
 use Rattle.kernel_abstract.specs.Threads.{with_space}
 use Rattle.kernel_abstract.specs.Shown.{waiting_at}
 use Rattle.kernel_abstract.specs.State.{State, shown, endpoint_at, thread_at, sends_to, receives_of, waiting_sends, waiting_receives, waiters}
@@ -39,7 +39,8 @@ use Rattle.query_parts.specs.Laws.{AreClosed, IsAllowed, OnlyPasses, MayUse}
 use Rattle.query_parts.specs.Delivered.{WaitsOrIsSentWithin, WaitsOrIsReceivedWithin, TellsOnlyWithin, DeliverWithin, WaitsOrMaySend, WaitsOrMayReceive, TellsOnlyOfThose, TellWithin}
 use Rattle.query_parts.proofs.Passed.{IsServed, StaysIn, op_stays}
 use Rattle.query_parts.proofs.Messages.{IsMessage, MayBeMessage, call_passes}
-use Rattle.query_parts.proofs.Runs.{live_found, some_is, step_allowed}
+use Rattle.kernel_abstract.proofs.Checks.PassedInvocations.{call_passed}
+use Rattle.query_parts.proofs.Runs.{some_is, step_allowed}
 
 module _ (p : ProfileName) (parts : Parts) (A : State) where
   abbrev Sent : SendRecord → Type 0
@@ -267,7 +268,7 @@ module _ (p : ProfileName) (parts : Parts) (A : State) where
   outcome_goes i B call (Ok done) inv wait closed own h =
       performed_goes B inv wait i call.thread own done
       (op_stays p parts i B.derivations closed call.thread own call.op done
-      (live_found _ (decoded_op p B.derivations call.thread call.op) done h))
+      (call_passed p (shown B) call done h))
 
   step_goes : (i : ℕ) (B : State) (call : Call) → IsReached p B → Wait B → IsClosed p parts i B.derivations →
       parts.part_of call.thread ≡ Some i → IsGoing (step p B call)

@@ -7,7 +7,6 @@ use Rattle.std.specs.Int.Digits.{AllBelowBase, number_from_digits}
 use Rattle.cap_core.specs.declared.profile.ProfileName.{ProfileName}
 use Rattle.cap_core.specs.declared.capability.Cap.{Cap}
 use Rattle.cap_core.specs.declared.capability.Cap.TheVariants.{Null, Untyped, Endpoint, CNode, Tcb}
-use Rattle.cap_core.specs.declared.refusal.Refusal.{Refusal}
 use Rattle.cap_core.specs.declared.refusal.Refusal.TheVariants.{RangeError, FailedLookup}
 use Rattle.cap_core.specs.declared.refusal.LookupFault.{LookupFault}
 use Rattle.cap_core.specs.declared.refusal.LookupFault.TheVariants.{InvalidRoot, DepthMismatch}
@@ -19,7 +18,8 @@ use Rattle.cspace_core.specs.Resolution.{Choice, Found, is_cnode, slot_of, guard
 use Rattle.cspace_core.specs.Target.{target_slot}
 use Rattle.cspace_core.specs.Inside.{IsSlotOf}
 use Rattle.cspace_core.proofs.Inside.{low_bits-below}
-use Rattle.kernel_abstract.specs.Lookups.{looked_up, slot_found, invoked_slot, held_in, extra_cap, ensure_empty, ensure_full}
+use Rattle.kernel_abstract.specs.declared.reason.Reason.{Reason}
+use Rattle.kernel_abstract.specs.Lookups.{slot_found, slot_named, ensure_empty, ensure_full}
 use Rattle.kernel_abstract.proofs.Checks.FoundSlots.{cond_passed, cond_failed, ok_same, whole_passed}
 use Rattle.query_parts.specs.Parts.{Parts, IsWithin, IsClosed}
 use Rattle.query_parts.proofs.Within.{slot_owned}
@@ -79,20 +79,16 @@ chosen_slot p (CNode base radix guard) bits c h e =
     (found.index, found.below)
 chosen_slot p (Tcb base) bits c h e = cc
 
-named_found : (r : Result Found LookupFault) (slot : ℕ) → looked_up (slot_found r) ≡ Ok slot → (found : Found) × ((r ≡ Ok found) × (found.slot ≡ slot))
+named_found : (r : Result Found LookupFault) (slot : ℕ) → slot_found r ≡ Ok slot → (found : Found) × ((r ≡ Ok found) × (found.slot ≡ slot))
 named_found (Err fault) slot h = cc
 named_found (Ok found) slot h = (found, (refl, ok_same found.slot slot h))
 
-held_found : (f : Forest Entry) (r : Result ℕ Refusal) (cap : Cap) → held_in f r ≡ Ok cap → (slot : ℕ) × ((r ≡ Ok slot) × (cap_at f slot ≡ cap))
-held_found f (Err refusal) cap h = cc
-held_found f (Ok slot) cap h = (slot, (refl, ok_same (cap_at f slot) cap h))
-
-pub empty_found : (f : Forest Entry) (r : Result ℕ Refusal) (slot : ℕ) → ensure_empty f r ≡ Ok slot → r ≡ Ok slot
-empty_found f (Err refusal) slot h = cc
+pub empty_found : (f : Forest Entry) (r : Result ℕ Reason) (slot : ℕ) → ensure_empty f r ≡ Ok slot → r ≡ Ok slot
+empty_found f (Err reason) slot h = cc
 empty_found f (Ok found) slot h = (cond_passed _ (Ok found) _ slot h).1
 
-pub full_found : (f : Forest Entry) (r : Result ℕ Refusal) (slot : ℕ) → ensure_full f r ≡ Ok slot → r ≡ Ok slot
-full_found f (Err refusal) slot h = cc
+pub full_found : (f : Forest Entry) (r : Result ℕ Reason) (slot : ℕ) → ensure_full f r ≡ Ok slot → r ≡ Ok slot
+full_found f (Err reason) slot h = cc
 full_found f (Ok found) slot h = (cond_failed _ (Ok found) _ slot h).1
 
 module _ (p : ProfileName) (parts : Parts) (i : ℕ) (f : Forest Entry) (closed : IsClosed p parts i f) where
@@ -133,19 +129,12 @@ module _ (p : ProfileName) (parts : Parts) (i : ℕ) (f : Forest Entry) (closed 
   resolved root n word found w e = owned_within (suc (length (low_bits n word))) root (low_bits n word) found (low_bits-below n word) w e
 
   -- the slot that a word names in the thread's capability space
-  pub invoked_owned : (thread word slot : ℕ) → parts.part_of thread ≡ Some i → invoked_slot p f thread word ≡ Ok slot →
+  pub invoked_owned : (thread word slot : ℕ) → parts.part_of thread ≡ Some i → slot_named p f (cap_at f thread) word ≡ Ok slot →
       parts.part_of slot ≡ Some i
   invoked_owned thread word slot own h =
       let found = named_found (resolution p (cap_at f) (cap_at f thread) (low_bits (word_bits p) word)) slot h in
       subst (λ n. parts.part_of n ≡ Some i) found.1.1
       (resolved (cap_at f thread) (word_bits p) word found.0 (closed thread own) found.1.0)
-
-  -- the capability that an extra word names
-  pub extra_within : (thread word : ℕ) (cap : Cap) → parts.part_of thread ≡ Some i → extra_cap p f thread word ≡ Ok cap →
-      IsWithin p parts i cap
-  extra_within thread word cap own h =
-      let held = held_found f (invoked_slot p f thread word) cap h in
-      subst (IsWithin p parts i) held.1.1 (closed held.0 (invoked_owned thread word held.0 own held.1.0))
 
   -- the slot that is named by an index and a depth from a CNode of the part
   pub target_owned : (root : Cap) (index depth slot : ℕ) → IsWithin p parts i root → target_slot p (cap_at f) root index depth ≡ Ok slot →
@@ -155,9 +144,3 @@ module _ (p : ProfileName) (parts : Parts) (i : ℕ) (f : Forest Entry) (closed 
       let range = cond_passed (nat_le 1 depth && nat_le depth (word_bits p)) _ RangeError slot node.1 in
       let whole = whole_passed (resolution p (cap_at f) root (low_bits depth index)) slot range.1 in
       subst (λ n. parts.part_of n ≡ Some i) whole.1.1 (resolved root depth index whole.0 w whole.1.0)
-
-  pub held_within : (root : Cap) (index depth : ℕ) (cap : Cap) → IsWithin p parts i root →
-      held_in f (target_slot p (cap_at f) root index depth) ≡ Ok cap → IsWithin p parts i cap
-  held_within root index depth cap w h =
-      let held = held_found f (target_slot p (cap_at f) root index depth) cap h in
-      subst (IsWithin p parts i) held.1.1 (closed held.0 (target_owned root index depth held.0 w held.1.0))

@@ -1,5 +1,5 @@
 -- Confinement by each call, and by runs.
-use Rattle.std.proofs.Common.{◌≡◌, ℕ, ◌⊎◌, inl, inr, Bool, true, false, List, [], ◌∷◌, ◌++◌, Option, Some, None, Result, Ok, Err, refl, sym, ap, subst, ◌∙◌, append_assoc, append-nil, eq-eqb, ◌==◌}
+use Rattle.std.proofs.Common.{◌≡◌, ℕ, ◌⊎◌, inl, inr, Bool, true, false, List, [], ◌∷◌, ◌++◌, Some, None, Result, Ok, Err, refl, sym, ap, subst, ◌∙◌, append_assoc, append-nil, eq-eqb, ◌==◌}
 use Rattle.std.proofs.lemmas.Bool.{eqb-true, false≢true}
 use Rattle.std.specs.List.{AllByRecursion as Each}
 use Rattle.cap_core.specs.declared.profile.ProfileName.{ProfileName}
@@ -11,18 +11,15 @@ use Rattle.kernel_forest.specs.Entries.{cap_at}
 use Rattle.kernel_forest.proofs.Trees.Forests.{each-append}
 use Rattle.kernel_abstract.specs.declared.call.Call.{Call}
 use Rattle.kernel_abstract.specs.declared.call.Reply.{Reply}
-use Rattle.kernel_abstract.specs.declared.call.ThreadState.{ThreadState}
-use Rattle.kernel_abstract.specs.declared.call.ThreadState.TheVariants.{Ready, Inactive, Sending, Receiving}
 use Rattle.kernel_abstract.specs.declared.invocation.Service.{Service}
 use Rattle.kernel_abstract.specs.declared.invocation.Invocation.{Invocation}
 use Rattle.kernel_abstract.specs.declared.invocation.Invocation.TheVariants.{Send, Receive, Retype, Derive, Move, Delete, Revoke, CancelBadged, SetSpace, Suspend, Resume}
-use Rattle.kernel_abstract.specs.Shown.{ThreadView}
-use Rattle.kernel_abstract.specs.Decode.{decoded_call, decoded_op, ensure_live, ensure_ready}
+use Rattle.kernel_abstract.specs.Decode.{decoded_call}
 use Rattle.kernel_abstract.specs.State.{State, shown, endpoint_at}
 use Rattle.kernel_abstract.specs.Step.{Outcome, outcome, performed, where_awaited, is_send_awaited, is_receive_awaited, send_accepted, receive_accepted, send_record, receive_record, step, state_after}
 use Rattle.kernel_abstract.specs.Private.Stores.{IsKernelStore}
 use Rattle.kernel_abstract.specs.Reached.{IsReached}
-use Rattle.kernel_abstract.proofs.Checks.PassedInvocations.{IsEdit}
+use Rattle.kernel_abstract.proofs.Checks.PassedInvocations.{IsEdit, call_passed}
 use Rattle.kernel_abstract.proofs.Reached.Stores.{checked_edit}
 use Rattle.kernel_abstract.proofs.Reached.Simulation.{reached_is}
 use Rattle.kernel_abstract.proofs.Reached.Runs.{reached_after}
@@ -32,16 +29,6 @@ use Rattle.query_parts.specs.Laws.{StaysClosed, LeavesOthers, TakesOnlyNear, Are
 use Rattle.query_parts.proofs.Passed.{IsServed, StaysIn, op_stays}
 use Rattle.query_parts.proofs.Messages.{IsMessage, MayBeMessage, call_passes}
 use Rattle.query_parts.proofs.Changes.{IsChange, change_closed, change_untouched, unchanged, change-clear, change-revoke, change-with_derived, change-with_moved, change-with_space, change-with_objects}
-
-ready_found : (s : ThreadState) (found : Result Invocation Refusal) (done : Invocation) → ensure_ready s found ≡ Ok done → found ≡ Ok done
-ready_found Ready found done h = h
-ready_found Inactive found done h = cc
-ready_found (Sending e) found done h = cc
-ready_found (Receiving e) found done h = cc
-
-pub live_found : (o : Option ThreadView) (found : Result Invocation Refusal) (done : Invocation) → ensure_live o found ≡ Ok done → found ≡ Ok done
-live_found None found done h = cc
-live_found (Some thread) found done h = ready_found thread.state found done h
 
 pub some_is : (a b : ℕ) → Some a ≡ Some b → a ≡ b
 some_is a b h = cc
@@ -142,7 +129,7 @@ module _ (p : ProfileName) (parts : Parts) where
   outcome_kept memory i A call (Ok done) store closed own h =
       performed_kept memory i A store closed call.thread own done (checked_edit p memory A call done store h)
       (op_stays p parts i A.derivations closed call.thread own call.op done
-      (live_found _ (decoded_op p A.derivations call.thread call.op) done h))
+      (call_passed p (shown A) call done h))
 
   step_kept : (i : ℕ) (A : State) (call : Call) → IsReached p A → IsClosed p parts i A.derivations →
       parts.part_of call.thread ≡ Some i → IsKept i A (step p A call).state

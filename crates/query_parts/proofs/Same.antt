@@ -4,7 +4,7 @@ use Rattle.std.proofs.lemmas.Bool.{false≢true}
 use Rattle.cap_core.specs.declared.profile.ProfileName.{ProfileName}
 use Rattle.cap_core.specs.declared.capability.Cap.TheVariants.{Tcb}
 use Rattle.kernel_forest.specs.Forest.{Forest}
-use Rattle.kernel_forest.specs.Entries.{Entry}
+use Rattle.kernel_forest.specs.Entries.{Entry, cap_at}
 use Rattle.kernel_delete.proofs.Members.{all_in}
 use Rattle.kernel_delete.proofs.Clearable.{contains_in}
 use Rattle.kernel_abstract.specs.Shown.{Shown}
@@ -18,13 +18,13 @@ use Rattle.query_parts.specs.Listed.{part_at, parts_listed}
 use Rattle.query_parts.specs.Order.{owns_block, has_block}
 use Rattle.query_parts.specs.Laws.{AreClosed, NamesItsOwn}
 use Rattle.query_parts.specs.Least.{AreClosedAround, AreLeastAround, LieInEachOther}
-use Rattle.query_parts.proofs.Found.{invoked_owned, extra_within, target_owned}
+use Rattle.query_parts.proofs.Found.{invoked_owned, target_owned}
 use Rattle.query_parts.proofs.Tested.{range_owned}
 
 pub names_its_own : (p : ProfileName) (parts : Parts) (i : ℕ) (f : Forest Entry) (thread : ℕ) → NamesItsOwn p parts i f thread
 names_its_own p parts i f thread closed own slot (inl (word, leads)) = invoked_owned p parts i f closed thread word slot own leads
 names_its_own p parts i f thread closed own slot (inr (word, (root, (held, (index, (depth, named)))))) =
-    target_owned p parts i f closed root index depth slot (extra_within p parts i f closed thread word root own held) named
+    target_owned p parts i f closed (cap_at f root) index depth slot (closed root (invoked_owned p parts i f closed thread word root own held)) named
 
 module _ (p : ProfileName) (threads : List ℕ) (v : Shown) (memory : List PartMemory) (uses : List PartUse) (L : AreLeastAround p threads v memory uses)
     (A : State) (reached : IsReached p A) (is : v ≡ shown A) where

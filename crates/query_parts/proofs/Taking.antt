@@ -19,7 +19,7 @@ use Rattle.kernel_abstract.specs.declared.invocation.Invocation.{Invocation}
 use Rattle.kernel_abstract.specs.declared.invocation.Invocation.TheVariants.{Send, Receive, Retype, Derive, Move, Delete, Revoke, CancelBadged, SetSpace, Suspend, Resume}
 use Rattle.kernel_abstract.specs.declared.invocation.NewSpace.{NewSpace}
 use Rattle.kernel_abstract.specs.Threads.{with_space}
-use Rattle.kernel_abstract.specs.Decode.{decoded_call, decoded_op}
+use Rattle.kernel_abstract.specs.Decode.{decoded_call}
 use Rattle.kernel_abstract.specs.State.{State, shown, endpoint_at}
 use Rattle.kernel_abstract.specs.Step.{Outcome, outcome, performed, where_awaited, is_send_awaited, is_receive_awaited, send_accepted, receive_accepted, step, state_after}
 use Rattle.kernel_abstract.specs.Private.Invocations.{IsSpace}
@@ -27,7 +27,7 @@ use Rattle.kernel_abstract.specs.Private.Stores.{IsKernelStore}
 use Rattle.kernel_abstract.specs.Reached.{IsReached}
 use Rattle.kernel_abstract.proofs.Capabilities.StoresCleared.{store-clear}
 use Rattle.kernel_abstract.proofs.Capabilities.SpacesSet.{space_kept}
-use Rattle.kernel_abstract.proofs.Checks.PassedInvocations.{IsEdit}
+use Rattle.kernel_abstract.proofs.Checks.PassedInvocations.{IsEdit, call_passed}
 use Rattle.kernel_abstract.proofs.Reached.Stores.{checked_edit}
 use Rattle.kernel_abstract.proofs.Reached.Simulation.{reached_is}
 use Rattle.query_parts.specs.Parts.{Parts, IsNear, IsClosed}
@@ -36,7 +36,7 @@ use Rattle.query_parts.specs.Below.{TakesNothing, TakesNothingOutside, StayNoneB
 use Rattle.query_parts.proofs.Changes.{IsChange, change_closed, unchanged, change-clear}
 use Rattle.query_parts.proofs.Passed.{IsSpaceIn, StaysIn, op_stays}
 use Rattle.query_parts.proofs.Spared.{within_near, kept-clear, child_below, child_near, same-derived, same-moved, same-objects}
-use Rattle.query_parts.proofs.Runs.{live_found, some_is}
+use Rattle.query_parts.proofs.Runs.{some_is}
 use Rattle.query_parts.proofs.Below.{FitBelow, fits-clear, run_fits}
 
 module _ (p : ProfileName) (parts : Parts) (i : ℕ) (P : ℕ → Type 0)
@@ -129,7 +129,7 @@ module _ (p : ProfileName) (parts : Parts) (i : ℕ) (P : ℕ → Type 0)
   outcome_takes memory A call (Ok done) store closed fits mine h =
       performed_takes memory A store closed fits call.thread done (checked_edit p memory A call done store h)
       (op_stays p parts i A.derivations closed call.thread mine call.op done
-      (live_found _ (decoded_op p A.derivations call.thread call.op) done h))
+      (call_passed p (shown A) call done h))
 
   step_takes : (A : State) (call : Call) → IsReached p A → IsClosed p parts i A.derivations → parts.part_of call.thread ≡ Some i →
       FitBelow p parts i P own beside A.derivations → AreKept A.derivations (step p A call).state.derivations

@@ -20,10 +20,11 @@ use Rattle.cspace_core.specs.Resolution.{is_cnode}
 use Rattle.cspace_core.specs.Inside.{IsSlotOf}
 use Rattle.kernel_abstract.specs.declared.invocation.Change.TheVariants.{Copy, Mint, Move, Mutate}
 use Rattle.kernel_abstract.specs.declared.invocation.Change.{Change}
-use Rattle.kernel_abstract.specs.CNodes.{ensure_set, ensure_derivable, changed_cap}
+use Rattle.kernel_abstract.specs.declared.reason.Word.TheVariants.{Root, SourceIndex}
+use Rattle.kernel_abstract.specs.CNodes.{no_data, ensure_set, ensure_derivable, changed_cap}
 use Rattle.kernel_abstract.specs.Threads.{space_cap}
-use Rattle.kernel_abstract.proofs.Checks.FoundSlots.{passed, cond_passed, cond_failed, ok_same}
-use Rattle.kernel_abstract.proofs.Checks.PassedCNodeChecks.{where_some, set_passed}
+use Rattle.kernel_abstract.proofs.Checks.FoundSlots.{passed, cond_passed, ok_same}
+use Rattle.kernel_abstract.proofs.Checks.PassedCNodeChecks.{where_some, set_passed, derivable_passed}
 use Rattle.query_parts.specs.Parts.{Parts, IsWithin}
 
 module _ (p : ProfileName) (parts : Parts) (i : ℕ) where
@@ -121,30 +122,28 @@ module _ (p : ProfileName) (parts : Parts) (i : ℕ) where
 
   within-derivable : (f : Forest Entry) (source : ℕ) (cap made : Cap) → IsWithin p parts i cap → ensure_derivable f source cap ≡ Ok made →
       IsWithin p parts i made
-  within-derivable f source cap made w h =
-      let free = cond_failed _ (Ok cap) _ made h in
-      subst (IsWithin p parts i) (ok_same cap made free.1) w
+  within-derivable f source cap made w h = subst (IsWithin p parts i) (derivable_passed f source cap made h).0 w
 
   -- what a copy, a mint, a move and a mutate make
   pub within-changed : (f : Forest Entry) (source : ℕ) (change : Change) (cap made : Cap) → IsWithin p parts i cap →
       changed_cap p f source change cap ≡ Ok made → IsWithin p parts i made
   within-changed f source (Copy rights) cap made w h = within-derivable f source (masked rights cap) made (within-masked rights cap w) h
   within-changed f source (Mint rights word) cap made w h =
-      let set = passed (ensure_set (with_data p false word (masked rights cap))) (ensure_derivable f source) made h in
+      let set = passed (ensure_set (no_data p SourceIndex word source cap) (with_data p false word (masked rights cap))) (ensure_derivable f source) made h in
       within-derivable f source set.0 made
-      (within-data false word (masked rights cap) set.0 (within-masked rights cap w) (set_passed _ set.0 set.1.0)) set.1.1
+      (within-data false word (masked rights cap) set.0 (within-masked rights cap w) (set_passed _ _ set.0 set.1.0)) set.1.1
   within-changed f source Move cap made w h = subst (IsWithin p parts i) (ok_same cap made h) w
-  within-changed f source (Mutate word) cap made w h = within-data true word cap made w (set_passed _ made h)
+  within-changed f source (Mutate word) cap made w h = within-data true word cap made w (set_passed _ _ made h)
 
   -- the root of a capability space
-  pub within-space : (word : ℕ) (cap made : Cap) → IsWithin p parts i cap → space_cap p word cap ≡ Ok made → IsWithin p parts i made
-  within-space word cap made w h =
+  pub within-space : (word source : ℕ) (cap made : Cap) → IsWithin p parts i cap → space_cap p word source cap ≡ Ok made → IsWithin p parts i made
+  within-space word source cap made w h =
       let node = cond_passed (is_cnode cap) _ _ made h in
       by (word == 0) node.1
     where
-      by : (none : Bool) → cond none (Ok cap) (ensure_set (with_data p false word cap)) ≡ Ok made → IsWithin p parts i made
+      by : (none : Bool) → cond none (Ok cap) (ensure_set (no_data p Root word source cap) (with_data p false word cap)) ≡ Ok made → IsWithin p parts i made
       by true e = subst (IsWithin p parts i) (ok_same cap made e) w
-      by false e = within-data false word cap made w (set_passed _ made e)
+      by false e = within-data false word cap made w (set_passed _ _ made e)
 
   -- an object within a region of the part
   pub owned_within : (base bits free : ℕ) (cap : Cap) → IsWithin p parts i (Untyped base bits free) → base ≤ base_of cap →

@@ -3,7 +3,6 @@ use Rattle.std.specs.Prelude.{◌≡◌, ◌⊎◌, ⊤, ℕ, true, Some, None, 
 use Rattle.std.specs.List.{list_all, AllByRecursion as Each}
 use Rattle.cap_core.specs.declared.profile.ProfileName.{ProfileName}
 use Rattle.cap_core.specs.declared.capability.Badge.{Badge}
-use Rattle.cap_core.specs.declared.capability.Cap.{Cap}
 use Rattle.cap_core.specs.declared.capability.Cap.TheVariants.{Endpoint}
 use Rattle.cap_core.specs.declared.rights.Rights.{Rights}
 use Rattle.cap_core.specs.Rights.{write_bit, read_bit}
@@ -14,7 +13,7 @@ use Rattle.kernel_abstract.specs.declared.call.Op.TheVariants.{Send, NbSend, Rec
 use Rattle.kernel_forest.specs.Forest.{Forest}
 use Rattle.kernel_forest.specs.Entries.{Entry, cap_at}
 use Rattle.cspace_core.specs.Target.{target_slot}
-use Rattle.kernel_abstract.specs.Lookups.{invoked_slot, extra_cap}
+use Rattle.kernel_abstract.specs.Lookups.{slot_named}
 use Rattle.kernel_abstract.specs.Decode.{has_right}
 use Rattle.kernel_abstract.specs.Memory.{IsInMemory}
 use Rattle.kernel_abstract.specs.Shown.{Shown, threads_of}
@@ -45,8 +44,8 @@ TakesOnlyNear p parts i A call =
 -- a thread names a slot: by a word, or by an index and a depth from the capability that a word leads to
 abbrev pub Names : ProfileName → Forest Entry → ℕ → ℕ → Type 0
 Names p f thread slot =
-    ((word : ℕ) × (invoked_slot p f thread word ≡ Ok slot))
-    ⊎ ((word : ℕ) × ((root : Cap) × ((extra_cap p f thread word ≡ Ok root) × ((index : ℕ) × ((depth : ℕ) × (target_slot p (cap_at f) root index depth ≡ Ok slot))))))
+    ((word : ℕ) × (slot_named p f (cap_at f thread) word ≡ Ok slot))
+    ⊎ ((word : ℕ) × ((root : ℕ) × ((slot_named p f (cap_at f thread) word ≡ Ok root) × ((index : ℕ) × ((depth : ℕ) × (target_slot p (cap_at f) (cap_at f root) index depth ≡ Ok slot))))))
 
 -- a thread of a closed part names no slot outside the part
 abbrev pub NamesItsOwn : ProfileName → Parts → ℕ → Forest Entry → ℕ → Type 0

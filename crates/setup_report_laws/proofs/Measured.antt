@@ -1,6 +1,6 @@
 -- In each state that a run reaches, the badges of endpoint capabilities have at most 64 bits, and their rights are among the
 -- four; and so each number of a capability has at most 64 bits.
-use Rattle.std.proofs.Common.{◌≡◌, ℕ, ◌+◌, ◌≤◌, ◌<◌, ◌%◌, ◌^◌, ◌==◌, ◌&&◌, Bool, true, false, cond, not, List, [], ◌∷◌, ◌++◌, map, All, Option, None, Some, Result, Ok, Err, refl, sym, subst, arith}
+use Rattle.std.proofs.Common.{◌≡◌, ℕ, ◌+◌, ◌≤◌, ◌<◌, ◌%◌, ◌^◌, ◌==◌, ◌&&◌, Bool, true, false, cond, not, List, [], ◌∷◌, ◌++◌, map, All, Some, Result, Ok, Err, refl, sym, subst, arith}
 use Rattle.std.specs.List.{AllByRecursion as Each, range_with_len}
 use Rattle.std.proofs.Math.Pow.{pow_mono}
 use Rattle.std.proofs.lemmas.Nat.{and_le_l, mod_below, pow_pos}
@@ -34,8 +34,6 @@ use Rattle.kernel_abstract.specs.declared.call.Call.{Call}
 use Rattle.kernel_abstract.specs.declared.call.Op.{Op}
 use Rattle.kernel_abstract.specs.declared.call.Op.TheVariants as op
 use Rattle.kernel_abstract.specs.declared.call.Reply.{Reply}
-use Rattle.kernel_abstract.specs.declared.call.ThreadState.{ThreadState}
-use Rattle.kernel_abstract.specs.declared.call.ThreadState.TheVariants.{Ready, Inactive, Sending, Receiving}
 use Rattle.kernel_abstract.specs.declared.invocation.CapPlacement.{CapPlacement}
 use Rattle.kernel_abstract.specs.declared.invocation.Change.{Change}
 use Rattle.kernel_abstract.specs.declared.invocation.Change.TheVariants.{Copy, Mint, Move, Mutate}
@@ -45,18 +43,20 @@ use Rattle.kernel_abstract.specs.declared.invocation.NewObjects.{NewObjects}
 use Rattle.kernel_abstract.specs.declared.invocation.NewSpace.{NewSpace}
 use Rattle.kernel_abstract.specs.declared.invocation.SlotArguments.{SlotArguments}
 use Rattle.kernel_abstract.specs.Boot.{boot, boot_caps, boot_tcbs, root_cap, tcb_caps, endpoint_caps, untyped_caps, whole_endpoint, with_roots, with_spaces}
-use Rattle.kernel_abstract.specs.CNodes.{changed_cap, decoded_placement, ensure_derivable, ensure_set, with_derived}
-use Rattle.kernel_abstract.specs.Decode.{decoded_call, decoded_invocation, decoded_op, ensure_live, ensure_ready, service_word, slots_named}
-use Rattle.kernel_abstract.specs.Lookups.{dest_slot, ensure_kind, extra_cap, invoked_slot, source_slot}
+use Rattle.kernel_abstract.specs.declared.reason.Word.TheVariants.{Invoked, Root, SourceRoot, Index, SourceIndex}
+use Rattle.kernel_abstract.specs.Reasons.{held_at}
+use Rattle.kernel_abstract.specs.CNodes.{changed_cap, checked_placement, ensure_derivable, ensure_set, no_data, with_derived}
+use Rattle.kernel_abstract.specs.Decode.{checked_invocation, checked_op, decoded_call, service_word, slots_named}
+use Rattle.kernel_abstract.specs.Lookups.{ensure_empty, ensure_full, of_kind, slot_by_index, slot_by_word}
 use Rattle.kernel_abstract.specs.Plan.{Plan, tcb_place, endpoint_place}
 use Rattle.kernel_abstract.specs.Reached.{IsReached}
 use Rattle.kernel_abstract.specs.Retyping.{new_caps, with_objects}
-use Rattle.kernel_abstract.specs.Shown.{ThreadView}
 use Rattle.kernel_abstract.specs.State.{State, shown, endpoint_at}
 use Rattle.kernel_abstract.specs.Step.{Outcome, is_receive_awaited, is_send_awaited, outcome, performed, receive_accepted, send_accepted, state_after, step, where_awaited}
-use Rattle.kernel_abstract.specs.Threads.{decoded_space, decoded_tcb, space_cap, with_space}
-use Rattle.kernel_abstract.proofs.Checks.FoundSlots.{passed, made_passed, cond_passed, cond_failed, ok_same}
-use Rattle.kernel_abstract.proofs.Checks.PassedCNodeChecks.{set_passed, where_some}
+use Rattle.kernel_abstract.specs.Threads.{checked_space, checked_tcb, space_cap, with_space}
+use Rattle.kernel_abstract.proofs.Checks.FoundSlots.{passed, made_passed, cond_passed, ok_same}
+use Rattle.kernel_abstract.proofs.Checks.PassedCNodeChecks.{derivable_passed, set_passed, where_some}
+use Rattle.kernel_abstract.proofs.Checks.PassedInvocations.{call_passed}
 use Rattle.kernel_abstract.proofs.Reached.Simulation.{reached_is}
 use Rattle.kernel_abstract.proofs.Retype.PutInOrder.{each-with_new}
 use Rattle.setup_report_laws.specs.Laws.{IsWithinWords}
@@ -99,27 +99,25 @@ data_measured p preserve word (CNode base radix guard) made h set = node_measure
 data_measured p preserve word (Tcb base) made h set = subst IsMeasured (some_same (Tcb base) made set) tt
 
 derivable_measured : (f : Forest Entry) (source : ℕ) (cap made : Cap) → IsMeasured cap → ensure_derivable f source cap ≡ Ok made → IsMeasured made
-derivable_measured f source cap made h is =
-    let free = cond_failed _ (Ok cap) _ made is in
-    subst IsMeasured (ok_same cap made free.1) h
+derivable_measured f source cap made h is = subst IsMeasured (derivable_passed f source cap made is).0 h
 
 changed_measured : (p : ProfileName) (f : Forest Entry) (source : ℕ) (change : Change) (cap made : Cap) → IsMeasured cap → changed_cap p f source change cap ≡ Ok made → IsMeasured made
 changed_measured p f source (Copy rights) cap made h is = derivable_measured f source (masked rights cap) made (masked_measured rights cap h) is
 changed_measured p f source (Mint rights word) cap made h is =
-    let set = passed (ensure_set (with_data p false word (masked rights cap))) (ensure_derivable f source) made is in
+    let set = passed (ensure_set (no_data p SourceIndex word source cap) (with_data p false word (masked rights cap))) (ensure_derivable f source) made is in
     derivable_measured f source set.0 made
-    (data_measured p false word (masked rights cap) set.0 (masked_measured rights cap h) (set_passed _ set.0 set.1.0)) set.1.1
+    (data_measured p false word (masked rights cap) set.0 (masked_measured rights cap h) (set_passed _ _ set.0 set.1.0)) set.1.1
 changed_measured p f source Move cap made h is = subst IsMeasured (ok_same cap made is) h
-changed_measured p f source (Mutate word) cap made h is = data_measured p true word cap made h (set_passed _ made is)
+changed_measured p f source (Mutate word) cap made h is = data_measured p true word cap made h (set_passed _ _ made is)
 
-space_measured : (p : ProfileName) (word : ℕ) (cap made : Cap) → IsMeasured cap → space_cap p word cap ≡ Ok made → IsMeasured made
-space_measured p word cap made h is =
+space_measured : (p : ProfileName) (word source : ℕ) (cap made : Cap) → IsMeasured cap → space_cap p word source cap ≡ Ok made → IsMeasured made
+space_measured p word source cap made h is =
     let node = cond_passed (is_cnode cap) _ _ made is in
     by (word == 0) node.1
   where
-    by : (none : Bool) → cond none (Ok cap) (ensure_set (with_data p false word cap)) ≡ Ok made → IsMeasured made
+    by : (none : Bool) → cond none (Ok cap) (ensure_set (no_data p Root word source cap) (with_data p false word cap)) ≡ Ok made → IsMeasured made
     by true e = subst IsMeasured (ok_same cap made e) h
-    by false e = data_measured p false word cap made h (set_passed _ made e)
+    by false e = data_measured p false word cap made h (set_passed _ _ made e)
 
 new_measured : (k : Kind) (base bits : ℕ) → IsMeasured (new_cap k base bits)
 new_measured kind.Untyped base bits = tt
@@ -199,43 +197,43 @@ MakesMeasured (invocation.Suspend tcb) = Unit {0}
 MakesMeasured (invocation.Resume tcb) = Unit {0}
 
 module _ (p : ProfileName) (f : Forest Entry) (h : AreMeasured f) (thread : ℕ) where
-  placement_measured : (invoked : Cap) (asked : SlotArguments) (change : Change) (placement : CapPlacement) → decoded_placement p f thread invoked asked change ≡ Ok placement → IsMeasured placement.cap
-  placement_measured invoked asked change placement is =
-      let node = passed (ensure_kind kind.CNode invoked) _ placement is in
-      let root = passed (extra_cap p f thread asked.src_root) _ placement node.1.1 in
-      let target = passed (dest_slot p f node.0 asked.index asked.depth) _ placement root.1.1 in
-      let source = passed (source_slot p f root.0 asked.src_index asked.src_depth) _ placement target.1.1 in
+  placement_measured : (at : ℕ) (asked : SlotArguments) (change : Change) (placement : CapPlacement) → checked_placement p f thread at asked change ≡ Ok placement → IsMeasured placement.cap
+  placement_measured at asked change placement is =
+      let node = passed (of_kind kind.CNode (held_at (cap_at f) at)) _ placement is in
+      let root = passed (slot_by_word p f SourceRoot thread asked.src_root) _ placement node.1.1 in
+      let target = passed (ensure_empty f (slot_by_index p (cap_at f) Index at asked.index asked.depth)) _ placement root.1.1 in
+      let source = passed (ensure_full f (slot_by_index p (cap_at f) SourceIndex root.0 asked.src_index asked.src_depth)) _ placement target.1.1 in
       let made = passed (changed_cap p f source.0 change (cap_at f source.0)) _ placement source.1.1 in
       let found : CapPlacement = record { source = source.0; slot = target.0; cap = made.0 } in
       let same : found ≡ placement = ok_same found placement made.1.1 in
       subst (λ (x : CapPlacement). IsMeasured x.cap) same
       (changed_measured p f source.0 change (cap_at f source.0) made.0 (held_measured source.0 (preorder f) h) made.1.0)
 
-  new_space_measured : (slot root word : ℕ) (invoked : Cap) (new : NewSpace) → decoded_space p f thread slot invoked root word ≡ Ok new → IsMeasured new.cap
-  new_space_measured slot root word invoked new is =
-      let tcb = passed (decoded_tcb invoked) _ new is in
-      let source = passed (invoked_slot p f thread root) _ new tcb.1.1 in
-      let cap = passed (space_cap p word (cap_at f source.0)) _ new source.1.1 in
+  new_space_measured : (slot root word : ℕ) (new : NewSpace) → checked_space p f thread slot root word ≡ Ok new → IsMeasured new.cap
+  new_space_measured slot root word new is =
+      let tcb = passed (checked_tcb slot (cap_at f slot)) _ new is in
+      let source = passed (slot_by_word p f Root thread root) _ new tcb.1.1 in
+      let cap = passed (space_cap p word source.0 (cap_at f source.0)) _ new source.1.1 in
       let found : NewSpace = record { tcb = tcb.0; invoked = slot; source = source.0; cap = cap.0 } in
       let same : found ≡ new = ok_same found new cap.1.1 in
       subst (λ (x : NewSpace). IsMeasured x.cap) same
-      (space_measured p word (cap_at f source.0) cap.0 (held_measured source.0 (preorder f) h) cap.1.0)
+      (space_measured p word source.0 (cap_at f source.0) cap.0 (held_measured source.0 (preorder f) h) cap.1.0)
 
-  invocation_measured : (o : Op) (slot : ℕ) (done : Invocation) → decoded_invocation p f thread o slot ≡ Ok done → MakesMeasured done
+  invocation_measured : (o : Op) (slot : ℕ) (done : Invocation) → checked_invocation p f thread o slot ≡ Ok done → MakesMeasured done
   invocation_measured (op.Retype cap kind size_bits root index depth offset count) slot done is =
       made_passed MakesMeasured invocation.Retype _ done (λ new e. tt) is
   invocation_measured (op.CapCopy cap index depth src_root src_index src_depth rights) slot done is =
       made_passed MakesMeasured invocation.Derive _ done
-      (λ placement e. placement_measured (cap_at f slot) (slots_named index depth src_root src_index src_depth) (Copy rights) placement e) is
+      (λ placement e. placement_measured slot (slots_named index depth src_root src_index src_depth) (Copy rights) placement e) is
   invocation_measured (op.CapMint cap index depth src_root src_index src_depth rights word) slot done is =
       made_passed MakesMeasured invocation.Derive _ done
-      (λ placement e. placement_measured (cap_at f slot) (slots_named index depth src_root src_index src_depth) (Mint rights word) placement e) is
+      (λ placement e. placement_measured slot (slots_named index depth src_root src_index src_depth) (Mint rights word) placement e) is
   invocation_measured (op.CapMove cap index depth src_root src_index src_depth) slot done is =
       made_passed MakesMeasured invocation.Move _ done
-      (λ placement e. placement_measured (cap_at f slot) (slots_named index depth src_root src_index src_depth) Move placement e) is
+      (λ placement e. placement_measured slot (slots_named index depth src_root src_index src_depth) Move placement e) is
   invocation_measured (op.CapMutate cap index depth src_root src_index src_depth word) slot done is =
       made_passed MakesMeasured invocation.Move _ done
-      (λ placement e. placement_measured (cap_at f slot) (slots_named index depth src_root src_index src_depth) (Mutate word) placement e) is
+      (λ placement e. placement_measured slot (slots_named index depth src_root src_index src_depth) (Mutate word) placement e) is
   invocation_measured (op.CapDelete cap index depth) slot done is = made_passed MakesMeasured invocation.Delete _ done (λ target e. tt) is
   invocation_measured (op.CapRevoke cap index depth) slot done is = made_passed MakesMeasured invocation.Revoke _ done (λ target e. tt) is
   invocation_measured (op.CancelBadged cap index depth) slot done is = made_passed MakesMeasured invocation.CancelBadged _ done (λ service e. tt) is
@@ -244,13 +242,13 @@ module _ (p : ProfileName) (f : Forest Entry) (h : AreMeasured f) (thread : ℕ)
   invocation_measured (op.Recv cap) slot done is = made_passed MakesMeasured (λ service. invocation.Receive service true) _ done (λ service e. tt) is
   invocation_measured (op.NbRecv cap) slot done is = made_passed MakesMeasured (λ service. invocation.Receive service false) _ done (λ service e. tt) is
   invocation_measured (op.SetSpace cap root word) slot done is =
-      made_passed MakesMeasured invocation.SetSpace _ done (λ new e. new_space_measured slot root word (cap_at f slot) new e) is
+      made_passed MakesMeasured invocation.SetSpace _ done (λ new e. new_space_measured slot root word new e) is
   invocation_measured (op.Suspend cap) slot done is = made_passed MakesMeasured invocation.Suspend _ done (λ tcb e. tt) is
   invocation_measured (op.Resume cap) slot done is = made_passed MakesMeasured invocation.Resume _ done (λ tcb e. tt) is
 
-  op_measured : (o : Op) (done : Invocation) → decoded_op p f thread o ≡ Ok done → MakesMeasured done
+  op_measured : (o : Op) (done : Invocation) → checked_op p f thread o ≡ Ok done → MakesMeasured done
   op_measured o done is =
-      let slot = passed (invoked_slot p f thread (service_word o)) (decoded_invocation p f thread o) done is in
+      let slot = passed (slot_by_word p f Invoked thread (service_word o)) (checked_invocation p f thread o) done is in
       invocation_measured o slot.0 done slot.1.1
 
 -- ---- calls
@@ -277,20 +275,10 @@ performed_measured p A t (invocation.SetSpace new) makes h = after_space p new A
 performed_measured p A t (invocation.Suspend tcb) makes h = h
 performed_measured p A t (invocation.Resume tcb) makes h = h
 
-ready_found : (s : ThreadState) (found : Result Invocation Refusal) (done : Invocation) → ensure_ready s found ≡ Ok done → found ≡ Ok done
-ready_found Ready found done h = h
-ready_found Inactive found done h = cc
-ready_found (Sending e) found done h = cc
-ready_found (Receiving e) found done h = cc
-
-live_found : (o : Option ThreadView) (found : Result Invocation Refusal) (done : Invocation) → ensure_live o found ≡ Ok done → found ≡ Ok done
-live_found None found done h = cc
-live_found (Some thread) found done h = ready_found thread.state found done h
-
 call_makes : (p : ProfileName) (A : State) (call : Call) (done : Invocation) → decoded_call p (shown A) call ≡ Ok done → AreMeasured A.derivations → MakesMeasured done
 unfolding shown
 call_makes p A call done is h =
-    op_measured p A.derivations h call.thread call.op done (live_found _ (decoded_op p A.derivations call.thread call.op) done is)
+    op_measured p A.derivations h call.thread call.op done (call_passed p (shown A) call done is)
 
 outcome_measured : (p : ProfileName) (A : State) (call : Call) (r : Result Invocation Refusal) → decoded_call p (shown A) call ≡ r → AreMeasured A.derivations → AreMeasured (outcome p A call.thread r).state.derivations
 outcome_measured p A call (Err refusal) is h = h

@@ -84,7 +84,7 @@ export function drawRows(into, rows) {
 }
 
 /** Draws a report into an element; `go` is told the number of a call that is chosen. What is known besides is drawn too: the
-    `kernel_reasons` of refused calls by their numbers, and the `names` of threads by their addresses. */
+    `reasons` of refused calls by their numbers, and the `names` of threads by their addresses. */
 export function drawReport(into, report, go, known) {
   drawRows(into, rowsOf(report, go, known));
 }

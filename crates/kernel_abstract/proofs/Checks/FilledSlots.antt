@@ -1,5 +1,5 @@
 -- The slots that a retype fills are slots of a CNode.
-use Rattle.std.proofs.Common.{◌≡◌, ℕ, ◌+◌, ◌-◌, ◌*◌, ◌%◌, ◌^◌, ◌<◌, ◌≤◌, inl, inr, true, nat_lt, nat_le, ◌∙◌, arith}
+use Rattle.std.proofs.Common.{◌≡◌, ℕ, ◌+◌, ◌-◌, ◌*◌, ◌%◌, ◌^◌, ◌<◌, ◌≤◌, inl, inr, nat_lt, nat_le, ◌&&◌, Ok, ◌∙◌, arith}
 use Rattle.std.proofs.Math.Nat.{add-mul-mod_self_right}
 use Rattle.std.proofs.lemmas.Nat.{pow_below}
 use Rattle.std.proofs.lemmas.Bool.{and_parts, leb-true, ltb-true, cases_lt}
@@ -13,7 +13,10 @@ use Rattle.cap_core.specs.Objects.{IsLawful}
 use Rattle.cspace_core.specs.Resolution.{slot_of}
 use Rattle.cspace_core.proofs.Nodes.{slot_aligned, slot_within, starts_within}
 use Rattle.kernel_abstract.specs.Memory.{IsSlotAddress}
-use Rattle.kernel_abstract.specs.Retyping.{are_slots}
+use Rattle.kernel_abstract.specs.declared.reason.Word.{Word}
+use Rattle.kernel_abstract.specs.declared.reason.Held.{Held}
+use Rattle.kernel_abstract.specs.Retyping.{within_node}
+use Rattle.kernel_abstract.proofs.Checks.FoundSlots.{cond_passed, ok_same}
 
 words_most : (p : ProfileName) → word_bits p ≤ 64
 words_most Wide = omega arith
@@ -38,14 +41,16 @@ pub record AreSlots (radix offset count : ℕ) : Type 0 where
   pub most : count ≤ MAX_RETYPE_COUNT
   pub within : offset + count ≤ 2 ^ radix
 
-pub slots_there : (radix offset count : ℕ) → are_slots radix offset count ≡ true → AreSlots radix offset count
-slots_there radix offset count h =
-    let first = and_parts (nat_lt offset (2 ^ radix)) _ h in
-    let second = and_parts (nat_le 1 count) _ first.1 in
-    let third = and_parts (nat_le count MAX_RETYPE_COUNT) _ second.1 in
-    let low : offset < 2 ^ radix = ltb-true _ _ first.0 in
-    let room : count ≤ 2 ^ radix - offset = leb-true _ _ third.1 in
-    record { some = leb-true _ _ second.0; most = leb-true _ _ third.0; within = omega arith }
+pub slots_there : (word : Word) (node : Held) (radix offset count first there : ℕ) → within_node word node radix offset count first ≡ Ok there →
+    AreSlots radix offset count × (first ≡ there)
+slots_there word node radix offset count first there h =
+    let low = cond_passed (nat_lt offset (2 ^ radix)) _ _ there h in
+    let range = cond_passed (nat_le 1 count && nat_le count MAX_RETYPE_COUNT) _ _ there low.1 in
+    let ends = cond_passed (nat_le count (2 ^ radix - offset)) (Ok first) _ there range.1 in
+    let both = and_parts (nat_le 1 count) _ range.0 in
+    let begins : offset < 2 ^ radix = ltb-true _ _ low.0 in
+    let room : count ≤ 2 ^ radix - offset = leb-true _ _ ends.0 in
+    (record { some = leb-true _ _ both.0; most = leb-true _ _ both.1; within = omega arith }, ok_same first there ends.1)
 
 -- the slots from one of a CNode's on, by the first one's address
 pub along : (p : ProfileName) (base offset i : ℕ) → slot_of p (slot_of p base offset) i ≡ slot_of p base (offset + i)

@@ -7,8 +7,7 @@ use Rattle.cap_core.specs.declared.capability.Cap.{Cap}
 use Rattle.cap_core.specs.declared.capability.Cap.TheVariants.{Null}
 use Rattle.cap_core.specs.declared.refusal.LookupFault.{LookupFault}
 use Rattle.cap_core.specs.declared.refusal.LookupFault.TheVariants.{InvalidRoot, DepthMismatch}
-use Rattle.cap_core.specs.declared.refusal.Refusal.{Refusal}
-use Rattle.cap_core.specs.declared.refusal.Refusal.TheVariants.{RangeError, FailedLookup, InvalidCapability, IllegalOperation}
+use Rattle.cap_core.specs.declared.refusal.Refusal.TheVariants.{RangeError, FailedLookup}
 use Rattle.cap_core.specs.Numbers.{word_bits}
 use Rattle.cap_core.specs.Objects.{is_null, IsLawful}
 use Rattle.kernel_forest.specs.Forest.{Forest, preorder}
@@ -21,30 +20,33 @@ use Rattle.cap_core.specs.declared.capability.Kind.{Kind}
 use Rattle.kernel_abstract.specs.declared.invocation.Invocation.{Invocation}
 use Rattle.cap_core.specs.Checks.{◌>>=◌}
 use Rattle.kernel_abstract.specs.Memory.{IsSlotAddress}
-use Rattle.kernel_abstract.specs.Lookups.{is_of_kind, ensure_kind, ensure_empty, ensure_full, held_in}
+use Rattle.kernel_abstract.specs.declared.reason.Held.{Held}
+use Rattle.kernel_abstract.specs.declared.reason.Reason.{Reason}
+use Rattle.kernel_abstract.specs.declared.reason.Reason.TheVariants.{NoCapability, OtherKind}
+use Rattle.kernel_abstract.specs.Lookups.{is_of_kind, of_kind, ensure_empty, ensure_full}
 
 -- where a check passes, so did those before it
-pub passed : {X Y : Type 0} (r : Result X Refusal) (next : X → Result Y Refusal) (y : Y) → (r >>= next) ≡ Ok y → (x : X) × ((r ≡ Ok x) × (next x ≡ Ok y))
+pub passed : {X Y E : Type 0} (r : Result X E) (next : X → Result Y E) (y : Y) → (r >>= next) ≡ Ok y → (x : X) × ((r ≡ Ok x) × (next x ≡ Ok y))
 passed (Ok x) next y h = (x, (refl, h))
-passed (Err refusal) next y h = cc
+passed (Err failure) next y h = cc
 
-pub cond_passed : {X : Type 0} (b : Bool) (r : Result X Refusal) (refusal : Refusal) (x : X) → cond b r (Err refusal) ≡ Ok x → (b ≡ true) × (r ≡ Ok x)
-cond_passed true r refusal x h = (refl, h)
-cond_passed false r refusal x h = cc
+pub cond_passed : {X E : Type 0} (b : Bool) (r : Result X E) (failure : E) (x : X) → cond b r (Err failure) ≡ Ok x → (b ≡ true) × (r ≡ Ok x)
+cond_passed true r failure x h = (refl, h)
+cond_passed false r failure x h = cc
 
-pub cond_failed : {X : Type 0} (b : Bool) (r : Result X Refusal) (refusal : Refusal) (x : X) → cond b (Err refusal) r ≡ Ok x → (b ≡ false) × (r ≡ Ok x)
-cond_failed true r refusal x h = cc
-cond_failed false r refusal x h = (refl, h)
+pub cond_failed : {X E : Type 0} (b : Bool) (r : Result X E) (failure : E) (x : X) → cond b (Err failure) r ≡ Ok x → (b ≡ false) × (r ≡ Ok x)
+cond_failed true r failure x h = cc
+cond_failed false r failure x h = (refl, h)
 
-pub ok_same : {X : Type 0} (x y : X) → ◌≡◌ {A = Result X Refusal} (Ok x) (Ok y) → x ≡ y
+pub ok_same : {X E : Type 0} (x y : X) → ◌≡◌ {A = Result X E} (Ok x) (Ok y) → x ≡ y
 ok_same x y h = cc
 
 -- what holds of each invocation that comes of what passed
-pub made_passed : {X : Type 0} (P : Invocation → Type 0) (make : X → Invocation) (r : Result X Refusal)
+pub made_passed : {X : Type 0} (P : Invocation → Type 0) (make : X → Invocation) (r : Result X Reason)
     (invocation : Invocation) →
     ((x : X) → r ≡ Ok x → P (make x)) → (r >>= λ x. Ok (make x)) ≡ Ok invocation → P invocation
 made_passed P make (Ok x) invocation shows h = subst P (ok_same (make x) invocation h) (shows x refl)
-made_passed P make (Err refusal) invocation shows h = cc
+made_passed P make (Err reason) invocation shows h = cc
 
 -- what holds anyway
 pub whatever : {X Y : Type 0} (H : Type 0) (r : Result X Y) → H → IfOk r (λ x. H)
@@ -52,11 +54,11 @@ whatever H (Ok x) h = h
 whatever H (Err y) h = tt
 
 -- the invoked capability is of the kind that is asked for
-pub kind_passed : (kind : Kind) (cap found : Cap) → ensure_kind kind cap ≡ Ok found → (is_of_kind kind cap ≡ true) × (cap ≡ found)
-kind_passed kind cap found h =
-    let full = cond_failed (is_null cap) (cond (is_of_kind kind cap) (Ok cap) (Err IllegalOperation)) InvalidCapability found h in
-    let is = cond_passed (is_of_kind kind cap) (Ok cap) IllegalOperation found full.1 in
-    (is.0, ok_same cap found is.1)
+pub kind_passed : (kind : Kind) (held : Held) (found : Cap) → of_kind kind held ≡ Ok found → (is_of_kind kind held.cap ≡ true) × (held.cap ≡ found)
+kind_passed kind held found h =
+    let full = cond_failed (is_null held.cap) (cond (is_of_kind kind held.cap) (Ok held.cap) (Err (OtherKind held kind))) (NoCapability held.slot kind) found h in
+    let is = cond_passed (is_of_kind kind held.cap) (Ok held.cap) (OtherKind held kind) found full.1 in
+    (is.0, ok_same held.cap found is.1)
 
 -- what a slot holds, where all capabilities are lawful
 lawful_in : (P : Cap → Type 0) (slot : ℕ) (es : List Entry) → All P (map (λ (e : Entry). e.cap) es) → (cap_in slot es ≡ Null) ⊎ P (cap_in slot es)
@@ -97,23 +99,19 @@ pub full_at : (f : Forest Entry) (slot : ℕ) → is_null (cap_at f slot) ≡ fa
 full_at f slot full = full_in slot (preorder f) full
 
 -- a slot that was found, and is empty or full
-pub empty_passed : (f : Forest Entry) (r : Result ℕ Refusal) (slot : ℕ) → ensure_empty f r ≡ Ok slot → (is_null (cap_at f slot) ≡ true) × (r ≡ Ok slot)
-empty_passed f (Err refusal) slot h = cc
+pub empty_passed : (f : Forest Entry) (r : Result ℕ Reason) (slot : ℕ) → ensure_empty f r ≡ Ok slot → (is_null (cap_at f slot) ≡ true) × (r ≡ Ok slot)
+empty_passed f (Err reason) slot h = cc
 empty_passed f (Ok found) slot h =
     let null = cond_passed (is_null (cap_at f found)) (Ok found) _ slot h in
     let same : found ≡ slot = ok_same found slot null.1 in
     (subst (λ s. is_null (cap_at f s) ≡ true) same null.0, ap Ok same)
 
-pub full_passed : (f : Forest Entry) (r : Result ℕ Refusal) (slot : ℕ) → ensure_full f r ≡ Ok slot → is_null (cap_at f slot) ≡ false
-full_passed f (Err refusal) slot h = cc
+pub full_passed : (f : Forest Entry) (r : Result ℕ Reason) (slot : ℕ) → ensure_full f r ≡ Ok slot → is_null (cap_at f slot) ≡ false
+full_passed f (Err reason) slot h = cc
 full_passed f (Ok found) slot h =
     let full = cond_failed (is_null (cap_at f found)) (Ok found) _ slot h in
     let same : found ≡ slot = ok_same found slot full.1 in
     subst (λ s. is_null (cap_at f s) ≡ false) same full.0
-
-pub held_passed : (f : Forest Entry) (r : Result ℕ Refusal) (cap : Cap) → held_in f r ≡ Ok cap → (slot : ℕ) × (cap_at f slot ≡ cap)
-held_passed f (Err refusal) cap h = cc
-held_passed f (Ok slot) cap h = (slot, ok_same (cap_at f slot) cap h)
 
 pub whole_passed : (r : Result Found LookupFault) (slot : ℕ) → found_whole r ≡ Ok slot →
     (found : Found) × ((r ≡ Ok found) × (found.slot ≡ slot))

@@ -4,12 +4,10 @@ use Rattle.std.specs.List.{list_any, filter_map, cons_option}
 use Rattle.cap_core.specs.declared.capability.Badge.{Badge}
 use Rattle.cap_core.specs.declared.capability.Cap.{Cap}
 use Rattle.cap_core.specs.declared.capability.Cap.TheVariants.{Null, Untyped, Endpoint, CNode, Tcb}
-use Rattle.cap_core.specs.declared.refusal.Refusal.{Refusal}
-use Rattle.cap_core.specs.declared.refusal.Refusal.TheVariants.{InvalidCapability, IllegalOperation}
 use Rattle.kernel_forest.specs.Forest.{Forest, preorder}
 use Rattle.kernel_forest.specs.Entries.{Entry, cap_at, cap_in}
 use Rattle.cap_core.specs.declared.profile.ProfileName.{ProfileName}
-use Rattle.cap_core.specs.Rights.{write_bit, read_bit, all_rights}
+use Rattle.cap_core.specs.Rights.{all_rights}
 use Rattle.cap_core.specs.Checks.{◌>>=◌}
 use Rattle.kernel_abstract.specs.declared.call.Op.{Op}
 use Rattle.kernel_abstract.specs.declared.call.Op.TheVariants as op
@@ -17,38 +15,41 @@ use Rattle.kernel_abstract.specs.declared.invocation.Service.{Service}
 use Rattle.kernel_abstract.specs.declared.invocation.Invocation.{Invocation}
 use Rattle.kernel_abstract.specs.declared.invocation.Invocation.TheVariants.{Send, Receive, Retype, Derive, Move, Delete, Revoke, CancelBadged, SetSpace, Suspend, Resume}
 use Rattle.kernel_abstract.specs.Shown.{tcb_base, endpoint_base, threads_of, endpoints_of}
-use Rattle.kernel_abstract.specs.Decode.{service_of, has_right, decoded_invocation}
-use Rattle.kernel_abstract.specs.Deletion.{decoded_slot, ensure_all_rights, decoded_badge}
+use Rattle.kernel_abstract.specs.declared.reason.Right.{Right}
+use Rattle.kernel_abstract.specs.declared.reason.Right.TheVariants.{Write, Read}
+use Rattle.kernel_abstract.specs.declared.reason.Reason.{Reason}
+use Rattle.kernel_abstract.specs.Decode.{service_in, right_bit, has_right, checked_invocation}
+use Rattle.kernel_abstract.specs.Deletion.{checked_slot, ensure_all_rights, checked_badge}
 use Rattle.kernel_abstract.proofs.Checks.FoundSlots.{passed, made_passed}
 
-service_at : (b : Bool) (base : ℕ) (badge : Badge) (service : Service) (refusal : Refusal) →
-    ◌≡◌ {A = Result Service Refusal} (cond b (Ok (record { endpoint = base; badge = badge })) (Err refusal))
+service_at : (b : Bool) (base : ℕ) (badge : Badge) (service : Service) (reason : Reason) →
+    ◌≡◌ {A = Result Service Reason} (cond b (Ok (record { endpoint = base; badge = badge })) (Err reason))
     (Ok service) → Some base ≡ Some service.endpoint
-service_at true base badge service refusal h =
+service_at true base badge service reason h =
     let same : Service → Option ℕ = λ s. Some s.endpoint in
     let e : record_of base badge ≡ service = cc in
     ap same e
   where
     record_of : ℕ → Badge → Service
     record_of a b = record { endpoint = a; badge = b }
-service_at false base badge service refusal h = cc
+service_at false base badge service reason h = cc
 
-pub service_endpoint : (right : ℕ) (cap : Cap) (service : Service) → service_of right cap ≡ Ok service → endpoint_base cap ≡ Some service.endpoint
-service_endpoint right Null service h = cc
-service_endpoint right (Untyped base bits free) service h = cc
-service_endpoint right (Endpoint base badge rights) service h =
-    service_at (has_right right rights) base badge service InvalidCapability h
-service_endpoint right (CNode base radix guard) service h = cc
-service_endpoint right (Tcb base) service h = cc
+pub service_endpoint : (needed : Right) (slot : ℕ) (cap : Cap) (service : Service) → service_in needed slot cap ≡ Ok service → endpoint_base cap ≡ Some service.endpoint
+service_endpoint needed slot Null service h = cc
+service_endpoint needed slot (Untyped base bits free) service h = cc
+service_endpoint needed slot (Endpoint base badge rights) service h =
+    service_at (has_right (right_bit needed) rights) base badge service _ h
+service_endpoint needed slot (CNode base radix guard) service h = cc
+service_endpoint needed slot (Tcb base) service h = cc
 
-badged_endpoint : (cap : Cap) (service : Service) → ensure_all_rights cap ≡ Ok service →
+badged_endpoint : (slot : ℕ) (cap : Cap) (service : Service) → ensure_all_rights slot cap ≡ Ok service →
     endpoint_base cap ≡ Some service.endpoint
-badged_endpoint Null service h = cc
-badged_endpoint (Untyped base bits free) service h = cc
-badged_endpoint (Endpoint base badge rights) service h =
-    service_at (rights.0 == all_rights.0) base badge service IllegalOperation h
-badged_endpoint (CNode base radix guard) service h = cc
-badged_endpoint (Tcb base) service h = cc
+badged_endpoint slot Null service h = cc
+badged_endpoint slot (Untyped base bits free) service h = cc
+badged_endpoint slot (Endpoint base badge rights) service h =
+    service_at (rights.0 == all_rights.0) base badge service _ h
+badged_endpoint slot (CNode base radix guard) service h = cc
+badged_endpoint slot (Tcb base) service h = cc
 
 one_more : (e : ℕ) (o : Option ℕ) (ks : List ℕ) → list_any (λ k. e == k) ks ≡ true → list_any (λ k. e == k) (cons_option o ks) ≡ true
 one_more e None ks h = h
@@ -88,13 +89,13 @@ HasLiveEndpoint f (Suspend tcb) = Unit {0}
 HasLiveEndpoint f (Resume tcb) = Unit {0}
 
 badged_live : (p : ProfileName) (f : Forest Entry) (slot index depth : ℕ) (service : Service) →
-    decoded_badge p f (cap_at f slot) index depth ≡ Ok service →
+    checked_badge p f slot index depth ≡ Ok service →
     list_any (λ k. service.endpoint == k) (endpoints_of f) ≡ true
 badged_live p f slot index depth service h =
-    let named = passed (decoded_slot p f (cap_at f slot) index depth) (λ s. ensure_all_rights (cap_at f s)) service h in
-    live_at f named.0 service.endpoint (badged_endpoint (cap_at f named.0) service named.1.1)
+    let named = passed (checked_slot p f slot index depth) (λ s. ensure_all_rights s (cap_at f s)) service h in
+    live_at f named.0 service.endpoint (badged_endpoint named.0 (cap_at f named.0) service named.1.1)
 
-invocation_live : (p : ProfileName) (f : Forest Entry) (thread : ℕ) (op : Op) (slot : ℕ) (invocation : Invocation) → decoded_invocation p f thread op slot ≡ Ok invocation → HasLiveEndpoint f invocation
+invocation_live : (p : ProfileName) (f : Forest Entry) (thread : ℕ) (op : Op) (slot : ℕ) (invocation : Invocation) → checked_invocation p f thread op slot ≡ Ok invocation → HasLiveEndpoint f invocation
 invocation_live p f thread (op.Retype cap kind size_bits root index depth offset count) slot invocation h =
     made_passed (HasLiveEndpoint f) Retype _ invocation (λ new is. tt) h
 invocation_live p f thread (op.CapCopy cap index depth src_root src_index src_depth rights) slot invocation h =
@@ -113,16 +114,16 @@ invocation_live p f thread (op.CancelBadged cap index depth) slot invocation h =
     made_passed (HasLiveEndpoint f) CancelBadged _ invocation (badged_live p f slot index depth) h
 invocation_live p f thread (op.Send cap message) slot invocation h =
     made_passed (HasLiveEndpoint f) (λ service. Send service message true) _ invocation
-    (λ service is. live_at f slot service.endpoint (service_endpoint write_bit (cap_at f slot) service is)) h
+    (λ service is. live_at f slot service.endpoint (service_endpoint Write slot (cap_at f slot) service is)) h
 invocation_live p f thread (op.NbSend cap message) slot invocation h =
     made_passed (HasLiveEndpoint f) (λ service. Send service message false) _ invocation
-    (λ service is. live_at f slot service.endpoint (service_endpoint write_bit (cap_at f slot) service is)) h
+    (λ service is. live_at f slot service.endpoint (service_endpoint Write slot (cap_at f slot) service is)) h
 invocation_live p f thread (op.Recv cap) slot invocation h =
     made_passed (HasLiveEndpoint f) (λ service. Receive service true) _ invocation
-    (λ service is. live_at f slot service.endpoint (service_endpoint read_bit (cap_at f slot) service is)) h
+    (λ service is. live_at f slot service.endpoint (service_endpoint Read slot (cap_at f slot) service is)) h
 invocation_live p f thread (op.NbRecv cap) slot invocation h =
     made_passed (HasLiveEndpoint f) (λ service. Receive service false) _ invocation
-    (λ service is. live_at f slot service.endpoint (service_endpoint read_bit (cap_at f slot) service is)) h
+    (λ service is. live_at f slot service.endpoint (service_endpoint Read slot (cap_at f slot) service is)) h
 invocation_live p f thread (op.SetSpace cap root word) slot invocation h =
     made_passed (HasLiveEndpoint f) SetSpace _ invocation (λ new is. tt) h
 invocation_live p f thread (op.Suspend cap) slot invocation h =
@@ -131,6 +132,6 @@ invocation_live p f thread (op.Resume cap) slot invocation h =
     made_passed (HasLiveEndpoint f) Resume _ invocation (λ tcb is. tt) h
 
 -- the endpoint that a call uses is live
-pub found_live : (p : ProfileName) (f : Forest Entry) (thread : ℕ) (op : Op) (r : Result ℕ Refusal) (invocation : Invocation) → (r >>= decoded_invocation p f thread op) ≡ Ok invocation → HasLiveEndpoint f invocation
-found_live p f thread op (Err refusal) invocation h = cc
+pub found_live : (p : ProfileName) (f : Forest Entry) (thread : ℕ) (op : Op) (r : Result ℕ Reason) (invocation : Invocation) → (r >>= checked_invocation p f thread op) ≡ Ok invocation → HasLiveEndpoint f invocation
+found_live p f thread op (Err reason) invocation h = cc
 found_live p f thread op (Ok slot) invocation h = invocation_live p f thread op slot invocation h

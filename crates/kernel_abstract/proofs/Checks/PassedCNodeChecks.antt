@@ -1,5 +1,5 @@
 -- What a copy, a mint, a move and a mutate do that passed their checks.
-use Rattle.std.proofs.Common.{◌≡◌, ℕ, ◌+◌, ◌/◌, ◌^◌, ◌⊎◌, inl, inr, Bool, true, false, cond, nat_le, ◌==◌, ◌&&◌, Option, Some, None, is_some, Ok, All, refl, sym, ap, subst, ◌∙◌, eq-eqb}
+use Rattle.std.proofs.Common.{◌≡◌, ℕ, ◌+◌, ◌/◌, ◌^◌, ◌⊎◌, inl, inr, Bool, true, false, cond, nat_le, ◌==◌, Option, Some, None, Ok, All, refl, sym, ap, subst, ◌∙◌, eq-eqb}
 use Rattle.std.proofs.lemmas.Bool.{false≢true, and_from, leb-true, eqb-true}
 use Rattle.std.proofs.lemmas.Nat.{mod_below, pow_pos}
 use Rattle.cap_core.specs.declared.profile.ProfileName.{ProfileName}
@@ -7,7 +7,6 @@ use Rattle.cap_core.specs.declared.rights.Rights.{Rights}
 use Rattle.cap_core.specs.declared.capability.Guard.{Guard}
 use Rattle.cap_core.specs.declared.capability.Cap.{Cap}
 use Rattle.cap_core.specs.declared.capability.Cap.TheVariants.{Null, Untyped, Endpoint, CNode, Tcb}
-use Rattle.cap_core.specs.declared.refusal.Refusal.TheVariants.{RevokeFirst}
 use Rattle.cap_core.specs.Numbers.{word_bits, guard_size_bits}
 use Rattle.cap_core.specs.Objects.{is_null, is_untyped, badge_of, IsLawful}
 use Rattle.cap_core.specs.Minting.{masked, guard_held, guarded, with_data}
@@ -21,12 +20,15 @@ use Rattle.kernel_abstract.specs.declared.invocation.CapPlacement.{CapPlacement}
 use Rattle.kernel_abstract.specs.declared.invocation.SlotArguments.{SlotArguments}
 use Rattle.kernel_abstract.specs.Regions.{free_of}
 use Rattle.kernel_abstract.specs.Memory.{IsSlotAddress}
-use Rattle.kernel_abstract.specs.Shown.{has_child}
-use Rattle.kernel_abstract.specs.Lookups.{extra_cap, ensure_kind, dest_slot, source_slot}
-use Rattle.kernel_abstract.specs.CNodes.{ensure_set, ensure_derivable, changed_cap, decoded_placement}
+use Rattle.kernel_abstract.specs.declared.reason.Word.TheVariants.{SourceRoot, Index, SourceIndex}
+use Rattle.kernel_abstract.specs.declared.reason.Reason.{Reason}
+use Rattle.kernel_abstract.specs.Reasons.{held_at}
+use Rattle.kernel_abstract.specs.Lookups.{slot_by_word, slot_by_index, of_kind, ensure_empty, ensure_full}
+use Rattle.kernel_abstract.specs.CNodes.{no_data, ensure_set, ensure_childless, ensure_derivable, changed_cap, checked_placement}
 use Rattle.kernel_abstract.specs.Private.Invocations.{IsPlacement, IsDerivation, IsMove}
 use Rattle.kernel_delete.specs.Housed.{is_housed}
-use Rattle.kernel_abstract.proofs.Checks.FoundSlots.{passed, cond_failed, ok_same, kind_passed, lawful_at, lawful_full, empty_at, full_at, empty_passed, full_passed, target_passed}
+use Rattle.kernel_abstract.proofs.Checks.Walked.{index_passed}
+use Rattle.kernel_abstract.proofs.Checks.FoundSlots.{passed, ok_same, lawful_at, lawful_full, empty_at, full_at, empty_passed, full_passed, target_passed}
 use Rattle.kernel_abstract.proofs.Housed.FoundSlots.{target_housed}
 
 -- a new capability of the object that another names, as lawful as that one
@@ -132,25 +134,23 @@ mutated p word (Tcb base) made full h =
     let same = some_same (Tcb base) made h in
     (subst (IsRemade p (Tcb base)) same (itself_remade p (Tcb base) refl), kept_same (Tcb base) made same)
 
-pub set_passed : (o : Option Cap) (cap : Cap) → ensure_set o ≡ Ok cap → o ≡ Some cap
-set_passed (Some made) cap h = ap Some (ok_same made cap h)
-set_passed None cap h = cc
-
-no_child : (o : Option ℕ) → is_some o ≡ false → o ≡ None
-no_child None h = refl
-no_child (Some n) h = absurd (false≢true (sym h))
-
-both_false : (a b : Bool) → (a && b) ≡ false → a ≡ true → b ≡ false
-both_false true b h e = h
-both_false false b h e = absurd (false≢true e)
+pub set_passed : (reason : Reason) (o : Option Cap) (cap : Cap) → ensure_set reason o ≡ Ok cap → o ≡ Some cap
+set_passed reason (Some made) cap h = ap Some (ok_same made cap h)
+set_passed reason None cap h = cc
 
 -- an untyped capability is derived from one that has no children
-derivable_passed : (f : Forest Entry) (source : ℕ) (cap made : Cap) → ensure_derivable f source cap ≡ Ok made →
+pub derivable_passed : (f : Forest Entry) (source : ℕ) (cap made : Cap) → ensure_derivable f source cap ≡ Ok made →
     (cap ≡ made) × (is_untyped made ≡ true → first_child source f ≡ None)
-derivable_passed f source cap made h =
-    let free = cond_failed (is_untyped cap && has_child source f) (Ok cap) RevokeFirst made h in
-    let same = ok_same cap made free.1 in
-    (same, λ untyped. no_child (first_child source f) (both_false (is_untyped cap) _ free.0 (ap is_untyped same ∙ untyped)))
+derivable_passed f source cap made h = by (is_untyped cap) (first_child source f) refl h
+  where
+    by : (untyped : Bool) (child : Option ℕ) → is_untyped cap ≡ untyped →
+        cond untyped (ensure_childless (held_at (cap_at f) source) cap child) (Ok cap) ≡ Ok made →
+        (cap ≡ made) × (is_untyped made ≡ true → child ≡ None)
+    by true None is h = (ok_same cap made h, λ untyped. refl)
+    by true (Some child) is h = cc
+    by false child is h =
+        let same = ok_same cap made h in
+        (same, λ untyped. absurd (false≢true (sym is ∙ ap is_untyped same ∙ untyped)))
 
 -- what comes of a change that derives, and of one that moves
 record IsChanged (p : ProfileName) (f : Forest Entry) (source : ℕ) (cap made : Cap) : Type 0 where
@@ -171,9 +171,9 @@ copied p f source rights cap made full h =
 minted_changed : (p : ProfileName) (f : Forest Entry) (source : ℕ) (rights : Rights) (word : ℕ) (cap made : Cap) → is_null cap ≡ false →
     changed_cap p f source (Mint rights word) cap ≡ Ok made → IsChanged p f source cap made
 minted_changed p f source rights word cap made full h =
-    let set = passed (ensure_set (with_data p false word (masked rights cap))) (ensure_derivable f source) made h in
+    let set = passed (ensure_set (no_data p SourceIndex word source cap) (with_data p false word (masked rights cap))) (ensure_derivable f source) made h in
     let derivable = derivable_passed f source set.0 made set.1.1 in
-    let is : with_data p false word (masked rights cap) ≡ Some made = set_passed _ set.0 set.1.0 ∙ ap Some derivable.0 in
+    let is : with_data p false word (masked rights cap) ≡ Some made = set_passed _ _ set.0 set.1.0 ∙ ap Some derivable.0 in
     let new = minted p word rights cap made full is in
     record { remade = new.0; badge = new.1; childless = derivable.1 }
 
@@ -186,24 +186,23 @@ record IsFound (p : ProfileName) (f : Forest Entry) (change : Change) (placement
   changed : changed_cap p f placement.source change (cap_at f placement.source) ≡ Ok placement.cap
 
 placement_found : (p : ProfileName) (f : Forest Entry) (thread slot : ℕ) (asked : SlotArguments) (change : Change) (placement : CapPlacement) →
-    decoded_placement p f thread (cap_at f slot) asked change ≡ Ok placement → IsFound p f change placement
+    checked_placement p f thread slot asked change ≡ Ok placement → IsFound p f change placement
 placement_found p f thread slot asked change placement h =
-    let node = passed (ensure_kind kind.CNode (cap_at f slot)) _ placement h in
-    let root = passed (extra_cap p f thread asked.src_root) _ placement node.1.1 in
-    let target = passed (dest_slot p f node.0 asked.index asked.depth) _ placement root.1.1 in
-    let source = passed (source_slot p f root.0 asked.src_index asked.src_depth) _ placement target.1.1 in
+    let node = passed (of_kind kind.CNode (held_at (cap_at f) slot)) _ placement h in
+    let root = passed (slot_by_word p f SourceRoot thread asked.src_root) _ placement node.1.1 in
+    let target = passed (ensure_empty f (slot_by_index p (cap_at f) Index slot asked.index asked.depth)) _ placement root.1.1 in
+    let source = passed (ensure_full f (slot_by_index p (cap_at f) SourceIndex root.0 asked.src_index asked.src_depth)) _ placement target.1.1 in
     let made = passed (changed_cap p f source.0 change (cap_at f source.0)) _ placement source.1.1 in
     let found : CapPlacement = record { source = source.0; slot = target.0; cap = made.0 } in
     let same : found ≡ placement = ok_same found placement made.1.1 in
     let empty = empty_passed f _ target.0 target.1.0 in
-    let invoked = (kind_passed kind.CNode (cap_at f slot) node.0 node.1.0).1 in
+    let named = index_passed p (cap_at f) Index slot asked.index asked.depth target.0 empty.1 in
     subst (IsFound p f change) same
     (record {
       full = full_passed f _ source.0 source.1.0;
       empty = empty.0;
-      placed = λ memory all. target_passed p memory f node.0 asked.index asked.depth target.0 all
-          (subst (λ cap. (cap ≡ Null) ⊎ IsLawful p memory cap) invoked (lawful_at p memory f all slot)) empty.1;
-      housed = target_housed p f slot node.0 asked.index asked.depth target.0 (sym invoked) empty.1;
+      placed = λ memory all. target_passed p memory f (cap_at f slot) asked.index asked.depth target.0 all (lawful_at p memory f all slot) named;
+      housed = target_housed p f slot (cap_at f slot) asked.index asked.depth target.0 refl named;
       changed = made.1.0;
     })
 
@@ -225,17 +224,17 @@ derivation_found p memory f change placement all found is =
     record { ends = placement_passed p memory f change placement all found is.remade; badge = is.badge; childless = is.childless }
 
 module _ (p : ProfileName) (memory : ℕ) (f : Forest Entry) (all : All (IsLawful p memory) (caps f)) (thread slot : ℕ) (asked : SlotArguments) (placement : CapPlacement) where
-  pub copy_derives : (rights : Rights) → decoded_placement p f thread (cap_at f slot) asked (Copy rights) ≡ Ok placement → IsDerivation p f placement
+  pub copy_derives : (rights : Rights) → checked_placement p f thread slot asked (Copy rights) ≡ Ok placement → IsDerivation p f placement
   copy_derives rights h =
       let found = placement_found p f thread slot asked (Copy rights) placement h in
       derivation_found p memory f (Copy rights) placement all found (copied p f placement.source rights _ placement.cap found.full found.changed)
 
-  pub mint_derives : (rights : Rights) (word : ℕ) → decoded_placement p f thread (cap_at f slot) asked (Mint rights word) ≡ Ok placement → IsDerivation p f placement
+  pub mint_derives : (rights : Rights) (word : ℕ) → checked_placement p f thread slot asked (Mint rights word) ≡ Ok placement → IsDerivation p f placement
   mint_derives rights word h =
       let found = placement_found p f thread slot asked (Mint rights word) placement h in
       derivation_found p memory f (Mint rights word) placement all found (minted_changed p f placement.source rights word _ placement.cap found.full found.changed)
 
-  pub move_moves : decoded_placement p f thread (cap_at f slot) asked Move ≡ Ok placement → IsMove p f placement
+  pub move_moves : checked_placement p f thread slot asked Move ≡ Ok placement → IsMove p f placement
   move_moves h =
       let found = placement_found p f thread slot asked Move placement h in
       let same : cap_at f placement.source ≡ placement.cap = ok_same _ placement.cap found.changed in
@@ -245,8 +244,8 @@ module _ (p : ProfileName) (memory : ℕ) (f : Forest Entry) (all : All (IsLawfu
         free = sym (ap free_of same);
       }
 
-  pub mutate_moves : (word : ℕ) → decoded_placement p f thread (cap_at f slot) asked (Mutate word) ≡ Ok placement → IsMove p f placement
+  pub mutate_moves : (word : ℕ) → checked_placement p f thread slot asked (Mutate word) ≡ Ok placement → IsMove p f placement
   mutate_moves word h =
       let found = placement_found p f thread slot asked (Mutate word) placement h in
-      let new = mutated p word (cap_at f placement.source) placement.cap found.full (set_passed _ placement.cap found.changed) in
+      let new = mutated p word (cap_at f placement.source) placement.cap found.full (set_passed _ _ placement.cap found.changed) in
       record { ends = placement_passed p memory f (Mutate word) placement all found new.0; badge = new.1.badge; free = new.1.free }

@@ -16,34 +16,36 @@ use Rattle.cspace_core.specs.Resolution.{is_cnode}
 use Rattle.kernel_abstract.specs.declared.invocation.NewSpace.{NewSpace}
 use Rattle.kernel_abstract.specs.Memory.{IsSlotAddress}
 use Rattle.kernel_abstract.specs.Shown.{tcb_base}
-use Rattle.kernel_abstract.specs.Lookups.{invoked_slot, ensure_kind}
-use Rattle.kernel_abstract.specs.CNodes.{ensure_set}
-use Rattle.kernel_abstract.specs.Deletion.{decoded_slot}
-use Rattle.kernel_abstract.specs.Threads.{decoded_tcb, space_cap, decoded_space}
+use Rattle.kernel_abstract.specs.declared.reason.Word.TheVariants.{Root, Index}
+use Rattle.kernel_abstract.specs.Reasons.{held_at}
+use Rattle.kernel_abstract.specs.Lookups.{slot_by_word, of_kind}
+use Rattle.kernel_abstract.specs.CNodes.{no_data, ensure_set}
+use Rattle.kernel_abstract.specs.Deletion.{checked_slot}
+use Rattle.kernel_abstract.specs.Threads.{checked_tcb, space_cap, checked_space}
 use Rattle.kernel_abstract.specs.Private.Invocations.{IsNamedSlot, IsLiveThread, IsSpace}
-use Rattle.kernel_abstract.proofs.Checks.FoundSlots.{passed, ok_same, kind_passed, lawful_at, lawful_full, full_at, target_passed}
+use Rattle.kernel_abstract.proofs.Checks.Walked.{index_passed}
+use Rattle.kernel_abstract.proofs.Checks.FoundSlots.{passed, ok_same, lawful_at, lawful_full, full_at, target_passed}
 use Rattle.kernel_abstract.proofs.Checks.LiveEndpoints.{thread_live_at}
 use Rattle.kernel_abstract.proofs.Checks.PassedCNodeChecks.{IsRemade, itself_remade, where_some, guarded_remade, set_passed}
 
 -- the slot that is named from a CNode stands in the memory
 pub slot_shows : (p : ProfileName) (f : Forest Entry) (slot index depth target : ℕ) →
-    decoded_slot p f (cap_at f slot) index depth ≡ Ok target → IsNamedSlot p f target
+    checked_slot p f slot index depth ≡ Ok target → IsNamedSlot p f target
 slot_shows p f slot index depth target h memory all =
-    let node = passed (ensure_kind kind.CNode (cap_at f slot)) _ target h in
-    let found = kind_passed kind.CNode (cap_at f slot) node.0 node.1.0 in
-    target_passed p memory f node.0 index depth target all
-    (subst (λ cap. (cap ≡ Null) ⊎ IsLawful p memory cap) found.1 (lawful_at p memory f all slot)) node.1.1
+    let node = passed (of_kind kind.CNode (held_at (cap_at f) slot)) _ target h in
+    target_passed p memory f (cap_at f slot) index depth target all (lawful_at p memory f all slot)
+    (index_passed p (cap_at f) Index slot index depth target node.1.1)
 
 -- the capability of a thread
-pub tcb_named : (cap : Cap) (t : ℕ) → decoded_tcb cap ≡ Ok t → cap ≡ Tcb t
-tcb_named Null t h = cc
-tcb_named (Untyped base bits free) t h = cc
-tcb_named (Endpoint base badge rights) t h = cc
-tcb_named (CNode base radix guard) t h = cc
-tcb_named (Tcb base) t h = ap Tcb (ok_same base t h)
+pub tcb_named : (slot : ℕ) (cap : Cap) (t : ℕ) → checked_tcb slot cap ≡ Ok t → cap ≡ Tcb t
+tcb_named slot Null t h = cc
+tcb_named slot (Untyped base bits free) t h = cc
+tcb_named slot (Endpoint base badge rights) t h = cc
+tcb_named slot (CNode base radix guard) t h = cc
+tcb_named slot (Tcb base) t h = ap Tcb (ok_same base t h)
 
-pub tcb_shows : (f : Forest Entry) (slot t : ℕ) → decoded_tcb (cap_at f slot) ≡ Ok t → IsLiveThread f t
-tcb_shows f slot t h = thread_live_at f slot t (ap tcb_base (tcb_named (cap_at f slot) t h))
+pub tcb_shows : (f : Forest Entry) (slot t : ℕ) → checked_tcb slot (cap_at f slot) ≡ Ok t → IsLiveThread f t
+tcb_shows f slot t h = thread_live_at f slot t (ap tcb_base (tcb_named slot (cap_at f slot) t h))
 
 -- a thread's root slot stands where its control block does
 pub thread_slot : (p : ProfileName) (memory base : ℕ) → IsLawful p memory (Tcb base) → IsSlotAddress p memory base
@@ -70,14 +72,14 @@ record IsSpaceCap (p : ProfileName) (cap made : Cap) : Type 0 where
   remade : IsRemade p cap made
   node : is_cnode made ≡ true
 
-space_made : (p : ProfileName) (word : ℕ) (cap made : Cap) → space_cap p word cap ≡ Ok made → IsSpaceCap p cap made
-space_made p word Null made h = cc
-space_made p word (Untyped base bits free) made h = cc
-space_made p word (Endpoint base badge rights) made h = cc
-space_made p word (CNode base radix guard) made h = by (word == 0) h
+space_made : (p : ProfileName) (word source : ℕ) (cap made : Cap) → space_cap p word source cap ≡ Ok made → IsSpaceCap p cap made
+space_made p word source Null made h = cc
+space_made p word source (Untyped base bits free) made h = cc
+space_made p word source (Endpoint base badge rights) made h = cc
+space_made p word source (CNode base radix guard) made h = by (word == 0) h
   where
     by : (none : Bool) →
-        cond none (Ok (CNode base radix guard)) (ensure_set (guarded p base radix (guard_held p word))) ≡ Ok made →
+        cond none (Ok (CNode base radix guard)) (ensure_set (no_data p Root word source (CNode base radix guard)) (guarded p base radix (guard_held p word))) ≡ Ok made →
         IsSpaceCap p (CNode base radix guard) made
     by true h =
         let same = ok_same (CNode base radix guard) made h in
@@ -89,20 +91,20 @@ space_made p word (CNode base radix guard) made h = by (word == 0) h
         }
     by false h =
         let held = guard_held p word in
-        let set = set_passed (guarded p base radix held) made h in
+        let set = set_passed _ (guarded p base radix held) made h in
         let same = (where_some (nat_le (held.size + radix) (word_bits p)) (CNode base radix held) made set).1 in
         record { full = refl; remade = guarded_remade p base radix word guard made set; node = sym (ap is_cnode same) }
-space_made p word (Tcb base) made h = cc
+space_made p word source (Tcb base) made h = cc
 
 pub space_shows : (p : ProfileName) (f : Forest Entry) (thread slot root word : ℕ) (new : NewSpace) →
-    decoded_space p f thread slot (cap_at f slot) root word ≡ Ok new → IsSpace p f new
+    checked_space p f thread slot root word ≡ Ok new → IsSpace p f new
 space_shows p f thread slot root word new h =
-    let tcb = passed (decoded_tcb (cap_at f slot)) _ new h in
-    let source = passed (invoked_slot p f thread root) _ new tcb.1.1 in
-    let cap = passed (space_cap p word (cap_at f source.0)) _ new source.1.1 in
+    let tcb = passed (checked_tcb slot (cap_at f slot)) _ new h in
+    let source = passed (slot_by_word p f Root thread root) _ new tcb.1.1 in
+    let cap = passed (space_cap p word source.0 (cap_at f source.0)) _ new source.1.1 in
     let found : NewSpace = record { tcb = tcb.0; invoked = slot; source = source.0; cap = cap.0 } in
-    let names = tcb_named (cap_at f slot) tcb.0 tcb.1.0 in
-    let is = space_made p word (cap_at f source.0) cap.0 cap.1.0 in
+    let names = tcb_named slot (cap_at f slot) tcb.0 tcb.1.0 in
+    let is = space_made p word source.0 (cap_at f source.0) cap.0 cap.1.0 in
     subst (IsSpace p f) (ok_same found new cap.1.1)
     (record {
       live = tcb_shows f slot tcb.0 tcb.1.0;

@@ -15,15 +15,17 @@ use Rattle.ipc_core.specs.Records.{ReceiveRecord, Instance, SendRecord}
 use Rattle.cap_core.specs.declared.profile.ProfileName.{ProfileName}
 use Rattle.kernel_abstract.specs.Private.Effects.{Effect}
 use Rattle.kernel_abstract.specs.Plan.{Plan}
-use Rattle.cap_core.specs.declared.refusal.Refusal.{Refusal}
 use Rattle.kernel_abstract.specs.Shown.{ThreadView, endpoints_of, inbox_at, threads_of, waiting_at}
 use Rattle.kernel_abstract.specs.State.{State, endpoint_at, inbox_of, shown, state_of, thread_at, thread_view, waiters, waiting_receives, waiting_sends}
 use Rattle.ipc_core.specs.declared.waiter.Waiter.{Waiter}
 use Rattle.kernel_abstract.specs.Step.{Outcome, next_call}
 use Rattle.kernel_abstract.specs.Boot.{boot}
 use Rattle.kernel_abstract.specs.Decode.{service_word}
-use Rattle.kernel_abstract.specs.Lookups.{invoked_slot}
-use Rattle.kernel_abstract.specs.Decode.{decoded_call, decoded_op, ensure_live, ensure_ready}
+use Rattle.kernel_abstract.specs.declared.reason.Word.TheVariants.{Invoked}
+use Rattle.kernel_abstract.specs.declared.reason.Reason.{Reason}
+use Rattle.kernel_abstract.specs.Lookups.{slot_by_word}
+use Rattle.kernel_abstract.specs.Decode.{decoded_call, checked_op, checked_call, ensure_live, ensure_ready}
+use Rattle.kernel_abstract.proofs.Checks.Walked.{unrefused}
 
 -- no send and no receive have a number in common
 abbrev pub Unshared : State → Type 0
@@ -68,26 +70,26 @@ pub record Passes (A : State) (thread : ℕ) (invocation : Invocation) : Type 0 
   pub thread_live : list_any (λ k. thread == k) (threads_of A.derivations) ≡ true
   pub endpoint_live : HasLiveEndpoint A.derivations invocation
 
-allowed : (s : ThreadState) (found : Result Invocation Refusal) (invocation : Invocation) → ensure_ready s found ≡ Ok invocation → (s ≡ Ready) × (found ≡ Ok invocation)
+allowed : (s : ThreadState) (found : Result Invocation Reason) (invocation : Invocation) → ensure_ready s found ≡ Ok invocation → (s ≡ Ready) × (found ≡ Ok invocation)
 allowed Ready found invocation h = (refl, h)
 allowed Inactive found invocation h = cc
 allowed (Sending e) found invocation h = cc
 allowed (Receiving e) found invocation h = cc
 
-ready_passes : (b : Bool) (row : ThreadView) (found : Result Invocation Refusal) (invocation : Invocation) → ensure_live (cond b (Some row) None) found ≡ Ok invocation → (b ≡ true) × (row.state ≡ Ready) × (found ≡ Ok invocation)
+ready_passes : (b : Bool) (row : ThreadView) (found : Result Invocation Reason) (invocation : Invocation) → ensure_live (cond b (Some row) None) found ≡ Ok invocation → (b ≡ true) × (row.state ≡ Ready) × (found ≡ Ok invocation)
 ready_passes true row found invocation h = let w = allowed row.state found invocation h in (refl, w.0, w.1)
 ready_passes false row found invocation h = cc
 
 pub passes : (p : ProfileName) (A : State) (call : Call) (invocation : Invocation) → decoded_call p (shown A) call ≡ Ok invocation → Passes A call.thread invocation
 unfolding shown
 passes p A call invocation h =
-    let found : Result Invocation Refusal = decoded_op p A.derivations call.thread call.op in
+    let found : Result Invocation Reason = checked_op p A.derivations call.thread call.op in
     let w = ready_passes (list_any (λ k. call.thread == k) (threads_of A.derivations)) (thread_view A call.thread) found invocation
-    (sym (ap (λ (o : Option ThreadView). ensure_live o found) (get_table (threads_of A.derivations) (thread_view A) call.thread)) ∙ h) in
+    (sym (ap (λ (o : Option ThreadView). ensure_live o found) (get_table (threads_of A.derivations) (thread_view A) call.thread)) ∙ unrefused (checked_call p (shown A) call) invocation h) in
     record {
       ready = w.1;
       thread_live = w.0;
-      endpoint_live = found_live p A.derivations call.thread call.op (invoked_slot p A.derivations call.thread (service_word call.op)) invocation w.2;
+      endpoint_live = found_live p A.derivations call.thread call.op (slot_by_word p A.derivations Invoked call.thread (service_word call.op)) invocation w.2;
     }
 
 pub list_shown : (A : State) (e : ℕ) → list_any (λ k. e == k) (endpoints_of A.derivations) ≡ true → waiting_at (shown A) e ≡ waiters A (endpoint_at A e)

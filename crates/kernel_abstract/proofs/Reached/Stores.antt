@@ -1,20 +1,17 @@
 -- What holds of the capabilities of each state that runs reach.
-use Rattle.std.proofs.Common.{◌≡◌, ℕ, Bool, true, false, Option, None, Some, Result, Ok, Err}
+use Rattle.std.proofs.Common.{◌≡◌, ℕ, Bool, true, false, Result, Ok, Err}
 use Rattle.cap_core.specs.declared.profile.ProfileName.{ProfileName}
 use Rattle.cap_core.specs.declared.refusal.Refusal.{Refusal}
 use Rattle.kernel_forest.specs.Forest.{Forest}
 use Rattle.kernel_forest.specs.Entries.{Entry}
 use Rattle.kernel_abstract.specs.declared.call.Call.{Call}
 use Rattle.kernel_abstract.specs.declared.call.Reply.{Reply}
-use Rattle.kernel_abstract.specs.declared.call.ThreadState.{ThreadState}
-use Rattle.kernel_abstract.specs.declared.call.ThreadState.TheVariants.{Ready, Inactive, Sending, Receiving}
 use Rattle.kernel_abstract.specs.declared.invocation.Invocation.{Invocation}
 use Rattle.kernel_abstract.specs.declared.invocation.Invocation.TheVariants.{Send, Receive, Retype, Derive, Move, Delete, Revoke, CancelBadged, SetSpace, Suspend, Resume}
 use Rattle.kernel_abstract.specs.declared.invocation.NewObjects.{NewObjects}
-use Rattle.kernel_abstract.specs.Decode.{decoded_call, decoded_op, ensure_live, ensure_ready}
+use Rattle.kernel_abstract.specs.Decode.{decoded_call}
 use Rattle.kernel_abstract.specs.Retyping.{with_objects}
 use Rattle.kernel_abstract.specs.Private.Stores.{IsKernelStore}
-use Rattle.kernel_abstract.specs.Shown.{ThreadView}
 use Rattle.kernel_abstract.specs.State.{State, shown, endpoint_at}
 use Rattle.kernel_abstract.specs.Step.{Outcome, outcome, performed, where_awaited, is_send_awaited, is_receive_awaited, send_accepted, receive_accepted}
 use Rattle.kernel_abstract.specs.Private.Invocations.{IsRetype}
@@ -22,7 +19,7 @@ use Rattle.kernel_abstract.proofs.Capabilities.StoresKept.{store-derived, store-
 use Rattle.kernel_abstract.proofs.Capabilities.StoresCleared.{store-clear, store-revoke}
 use Rattle.kernel_abstract.proofs.Capabilities.SpacesSet.{store-space}
 use Rattle.kernel_abstract.proofs.Retype.RetypedForest.{made, made_lawful, made_placed}
-use Rattle.kernel_abstract.proofs.Checks.PassedInvocations.{IsEdit, invoked_edit}
+use Rattle.kernel_abstract.proofs.Checks.PassedInvocations.{IsEdit, invoked_edit, call_passed}
 use Rattle.kernel_delete.specs.Housed.{IsHoused}
 use Rattle.kernel_delete.proofs.Kept.{housed-clear, housed-revoke}
 use Rattle.kernel_abstract.proofs.Housed.Edits.{housed-with_objects, housed-with_derived, housed-with_moved, housed-with_space}
@@ -90,21 +87,10 @@ performed_housed p memory A t (SetSpace new) edit store h =
 performed_housed p memory A t (Suspend tcb) edit store h = h
 performed_housed p memory A t (Resume tcb) edit store h = h
 
--- what passed the checks passed those of its operation
-ready_found : (s : ThreadState) (found : Result Invocation Refusal) (invocation : Invocation) → ensure_ready s found ≡ Ok invocation → found ≡ Ok invocation
-ready_found Ready found invocation h = h
-ready_found Inactive found invocation h = cc
-ready_found (Sending e) found invocation h = cc
-ready_found (Receiving e) found invocation h = cc
-
-live_found : (o : Option ThreadView) (found : Result Invocation Refusal) (invocation : Invocation) → ensure_live o found ≡ Ok invocation → found ≡ Ok invocation
-live_found None found invocation h = cc
-live_found (Some thread) found invocation h = ready_found thread.state found invocation h
-
 pub checked_edit : (p : ProfileName) (memory : ℕ) (A : State) (call : Call) (invocation : Invocation) → IsKernelStore p memory A.derivations → decoded_call p (shown A) call ≡ Ok invocation → IsEdit p A.derivations invocation
 unfolding shown
 checked_edit p memory A call invocation store h =
-    invoked_edit p memory A.derivations store.lawful call.thread call.op invocation (live_found _ (decoded_op p A.derivations call.thread call.op) invocation h)
+    invoked_edit p memory A.derivations store.lawful call.thread call.op invocation (call_passed p (shown A) call invocation h)
 
 -- by each call
 pub outcome_store : (p : ProfileName) (memory : ℕ) (A : State) (call : Call) (r : Result Invocation Refusal) → decoded_call p (shown A) call ≡ r → IsKernelStore p memory A.derivations → IsKernelStore p memory (outcome p A call.thread r).state.derivations

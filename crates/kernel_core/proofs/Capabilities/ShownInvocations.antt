@@ -20,8 +20,10 @@ use Rattle.kernel_core.specs.declared.rows.ThreadRow.{ThreadRow}
 use Rattle.ipc_core.specs.Waits.{Waits}
 use Rattle.kernel_abstract.specs.Shown.{Shown, endpoints_of, table}
 use Rattle.kernel_abstract.specs.Decode.{service_word}
-use Rattle.kernel_abstract.specs.Lookups.{invoked_slot}
-use Rattle.kernel_abstract.specs.Decode.{decoded_op}
+use Rattle.kernel_abstract.specs.declared.reason.Word.TheVariants.{Invoked}
+use Rattle.kernel_abstract.specs.Lookups.{slot_by_word}
+use Rattle.kernel_abstract.specs.Decode.{decoded_op, checked_op}
+use Rattle.kernel_abstract.proofs.Checks.Walked.{unrefused}
 use Rattle.kernel_abstract.specs.Private.Invocations.{IsInvocation}
 use Rattle.kernel_abstract.proofs.Checks.LiveEndpoints.{HasLiveEndpoint, found_live}
 use Rattle.kernel_abstract.proofs.Lists.Tables.{get_table}
@@ -50,7 +52,8 @@ pub invocation_passed : (p : ProfileName) (memory : ℕ) (f : Forest Entry) (row
 invocation_passed p memory f rows w v thread o (Err refusal) all view is = tt
 invocation_passed p memory f rows w v thread o (Ok invocation) all view is =
     subst (λ (u : Shown). IsInvocation p u invocation) view
-    (invocation_shown p f rows w invocation (found_live p f thread o (invoked_slot p f thread (service_word o)) invocation (sym is)) (invoked_edit p memory f all thread o invocation (sym is)))
+    (let passed = unrefused (checked_op p f thread o) invocation (sym is) in
+    invocation_shown p f rows w invocation (found_live p f thread o (slot_by_word p f Invoked thread (service_word o)) invocation passed) (invoked_edit p memory f all thread o invocation passed))
 
 -- an invocation is performed, which is known by its case
 pub record IsPerformed (p : ProfileName) (v w : Shown) (t : ℕ) (done : Invocation) (reply : Reply) : Type 0 where

@@ -6,8 +6,8 @@ use Rattle.cspace_core.specs.Bits.{low_bits}
 use Rattle.kernel_abstract.specs.Shown.{Shown}
 use Rattle.kernel_abstract.specs.Memory.{IsSlotAddress}
 use Rattle.kernel_core.proofs.Threads.Addresses.{no_cap}
-use Rattle.kernel_reasons.specs.declared.reason.Held.{Held}
-use Rattle.kernel_reasons.proofs.Nowhere.{path_nowhere}
+use Rattle.kernel_abstract.specs.declared.reason.Held.{Held}
+use Rattle.kernel_checks.proofs.Nowhere.{path_nowhere}
 use Rattle.kernel_core.proofs.kernel.Kernel.lookup_path.Goals as goal
 
 pub returns-in-None : goal.returns-in-None

@@ -5,7 +5,7 @@ use Rattle.kernel_forest.specs.Entries.{cap_at}
 use Rattle.kernel_abstract.specs.Shown.{Shown}
 use Rattle.kernel_abstract.specs.Memory.{IsSlotAddress}
 use Rattle.kernel_core.proofs.Threads.Addresses.{no_cap}
-use Rattle.kernel_reasons.proofs.Nowhere.{word_hint_nowhere}
+use Rattle.kernel_checks.proofs.Nowhere.{word_hint_nowhere}
 use Rattle.kernel_core.proofs.kernel.Kernel.word_hint.Goals as goal
 
 pub returns-in-None : goal.returns-in-None

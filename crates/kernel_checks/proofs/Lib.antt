@@ -1,0 +1,11 @@
+pub mod Answering
+pub mod Choices
+pub mod Walks
+pub mod Slots
+pub mod Truths
+pub mod Calls
+pub mod Ways
+pub mod Depths
+pub mod Nowhere
+pub mod Endings
+pub mod HintsTrue

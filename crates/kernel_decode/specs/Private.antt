@@ -1,2 +1,0 @@
--- These serve the proofs of private functions, no public contract cites them.
-pub mod Invoked
