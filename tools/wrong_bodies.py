@@ -11,7 +11,7 @@ The checkout is not touched: each crate is tried in a copy, over the crates belo
 by make run. Edits stand in one check only where each is in a function of its own and none of these
 functions calls another one. There an edit counts as refused only by a goal of its own function: callers are proved
 against contracts, so such a goal is false, or no longer proved, because of that edit alone. What has no such error is
-tried by itself, by the rule of `rt must-fail`: the crate is refused. docs/wrong-bodies.md says more."""
+tried by itself, by the rule of `rt must-fail`: the crate is refused. CONTRIBUTING.md says more."""
 import argparse
 import concurrent.futures
 import dataclasses

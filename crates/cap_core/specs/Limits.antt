@@ -5,6 +5,7 @@ use Rattle.std.specs.Prelude.{ℕ}
 abbrev pub min_memory_bits : ℕ
 min_memory_bits = 12
 
+-- the greatest memory has 2^20 bytes
 abbrev pub max_memory_bits : ℕ
 max_memory_bits = 20
 
@@ -12,6 +13,7 @@ max_memory_bits = 20
 abbrev pub min_root_radix : ℕ
 min_root_radix = 1
 
+-- the greatest root CNode has 2^12 slots
 abbrev pub max_root_radix : ℕ
 max_root_radix = 12
 
@@ -19,12 +21,15 @@ max_root_radix = 12
 abbrev pub min_boot_threads : ℕ
 min_boot_threads = 1
 
+-- the greatest number of threads at boot
 abbrev pub max_boot_threads : ℕ
 max_boot_threads = 64
 
+-- the greatest number of endpoints at boot
 abbrev pub max_boot_endpoints : ℕ
 max_boot_endpoints = 256
 
+-- the greatest number of untyped regions at boot
 abbrev pub max_boot_untypeds : ℕ
 max_boot_untypeds = 64
 
@@ -36,6 +41,7 @@ max_message_words = 4
 abbrev pub max_clients : ℕ
 max_clients = 8
 
+-- the greatest limit on the calls of a shared history
 abbrev pub max_history_limit : ℕ
 max_history_limit = 65536
 

@@ -6,10 +6,12 @@ use Rattle.cap_core.specs.declared.capability.Cap.{Cap}
 use Rattle.cap_core.specs.declared.capability.Cap.TheVariants.{Null, Untyped, Endpoint, CNode, Tcb}
 use Rattle.cap_core.specs.Numbers.{word_bits, slot_bits, tcb_bits, endpoint_bits, min_untyped_bits, max_object_bits}
 
+-- whether a capability is the null capability, which names no object
 abbrev pub is_null : Cap → Bool
 is_null Null = true
 is_null _ = false
 
+-- whether a capability is one of an untyped region
 abbrev pub is_untyped : Cap → Bool
 is_untyped (Untyped base bits free) = true
 is_untyped _ = false

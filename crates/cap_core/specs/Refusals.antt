@@ -5,6 +5,7 @@ use Rattle.cap_core.specs.declared.refusal.Refusal.TheVariants.{InvalidArgument,
 use Rattle.cap_core.specs.declared.refusal.LookupFault.{LookupFault}
 use Rattle.cap_core.specs.declared.refusal.LookupFault.TheVariants.{InvalidRoot, MissingCapability, DepthMismatch, GuardMismatch}
 
+-- the number of a refusal, as seL4 numbers its errors
 abbrev pub refusal_code : Refusal → ℕ
 refusal_code InvalidArgument = 1
 refusal_code InvalidCapability = 2

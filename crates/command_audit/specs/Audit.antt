@@ -34,6 +34,7 @@ pub record IsWholeAudit (p : ProfileName) (names : Names) (setup : SetupView) (m
 
 -- ---- one slot: what a revoke of it would do, and all that it would change
 
+-- the lines of a state that a revoke of a slot changes
 abbrev pub slot_changes : ProfileName → State → ℕ → List ℕ
 slot_changes p A slot = changes (state_lines p (shown A)) (state_lines p (revoked p A slot))
 

@@ -16,5 +16,6 @@ with_verdict report = (report.0, verdict_of report.1)
 unfoldable pub explored_in : ProfileName → ℕ → ℕ → SetupView → List ℕ × Verdict
 explored_in p first states setup = with_verdict (explored_report p setup first states)
 
+-- a text and a verdict are the report on every order of a set-up's calls
 abbrev pub IsExploration : ℕ → ℕ → ProfileName → ReadView → List ℕ → Verdict → Type 0
 IsExploration first states p read text verdict = (text, verdict) ≡ explored_in p first states read.setup

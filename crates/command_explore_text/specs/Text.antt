@@ -19,6 +19,7 @@ use Rattle.command_explore_text.specs.Numbers.{number_in, order_text}
 
 -- ---- answers
 
+-- what a call comes to, as text
 abbrev pub answer_text : Answer → List ℕ
 answer_text (Replied reply) = reply_text reply
 answer_text (Served reply) = codes "waiting then " ++ reply_text reply

@@ -78,6 +78,7 @@ status_alone (Some bytes) = verdict_status (program bytes).1
 abbrev pub count_with : ℕ → List (Option (List ℕ)) → ℕ
 count_with status files = count_by (λ contents. status_alone contents == status) files
 
+-- how many files have each exit status
 abbrev pub tally_of : List (Option (List ℕ)) → Tally
 tally_of files = record {
   met = count_with 0 files;
@@ -97,6 +98,7 @@ files_text names files = file_lines names files ++ tally_line (length names) (ta
 
 -- ---- the exit status
 
+-- the exit status of a run over several files, from the counts of theirs: the greatest
 abbrev pub tally_status : Tally → ℕ
 tally_status tally =
     if nat_lt 0 tally.unread then 3 else if nat_lt 0 tally.refused then 2 else if nat_lt 0 tally.unmet then 1 else 0

@@ -231,6 +231,7 @@ own_rows (Some met) = met.1
 abbrev pub job_asked : List Text → Option Job
 job_asked words = job_of (subcommand_of command words)
 
+-- the file that clap's matches for the words give
 abbrev pub file_asked : List Text → Option Text
 file_asked words = file_of (matches_of command words) (subcommand_of command words)
 

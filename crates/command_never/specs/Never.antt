@@ -21,6 +21,7 @@ pub record Asked : Type 0 where
   pub to : List ℕ
   pub by : List (List ℕ)
 
+-- a question, with its words as lists of characters
 abbrev pub asked_of : Question → Asked
 asked_of q = record {
   without = map (λ (w : Bor (List ℕ)). w.now) q.without.now;

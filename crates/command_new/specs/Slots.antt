@@ -10,9 +10,11 @@ use Rattle.kernel_abstract.specs.Boot.{boot_caps}
 abbrev pub tcb_slot : ℕ → ℕ
 tcb_slot i = 2 + i
 
+-- the slot of the root CNode that holds the capability of the endpoint j at boot
 abbrev pub endpoint_slot : Plan → ℕ → ℕ
 endpoint_slot plan j = 2 + plan.threads + j
 
+-- the slot of the root CNode that holds the capability of the region k at boot
 abbrev pub untyped_slot : Plan → ℕ → ℕ
 untyped_slot plan k = 2 + plan.threads + plan.endpoints + k
 

@@ -50,6 +50,7 @@ abbrev pub state_line : List ℕ → Option ThreadState → List ℕ
 state_line name None = []
 state_line name (Some state) = terminated (codes "  thread " ++ (name ++ (codes " " ++ state_word state)))
 
+-- a part is the one with a number
 abbrev pub is_part : ℕ → Option ℕ → Bool
 is_part part None = false
 is_part part (Some i) = i == part

@@ -33,6 +33,7 @@ may_give_by p memory uses i e = has_bytes p memory i e || list_any (is_giving i 
 abbrev pub gives_to : ProfileName → List PartMemory → List PartUse → Shown → ℕ → ℕ → ℕ → Bool
 gives_to p memory uses v i j e = may_give_by p memory uses i e && may_receive_on p memory uses (waits p v) j e
 
+-- part i may hand a capability to part j by an endpoint that is met: the one may send with Grant, the other receive
 abbrev pub are_given : ProfileName → List PartMemory → List PartUse → Shown → ℕ → ℕ → Bool
 are_given p memory uses v i j = list_any (gives_to p memory uses v i j) (endpoints_met uses (waits p v))
 
@@ -66,6 +67,7 @@ may_call_by p memory uses j e = has_bytes p memory j e || list_any (is_calling j
 abbrev pub answers_to : ProfileName → List PartMemory → List PartUse → ℕ → ℕ → ℕ → Bool
 answers_to p memory uses i j e = may_answer_by p memory uses i e && may_call_by p memory uses j e
 
+-- part i may answer a call of part j by an endpoint that is met
 abbrev pub are_answered : ProfileName → List PartMemory → List PartUse → Shown → ℕ → ℕ → Bool
 are_answered p memory uses v i j = list_any (answers_to p memory uses i j) (endpoints_met uses (waits p v))
 
@@ -76,6 +78,7 @@ IsKeptFromCallers p memory uses v j (Endpoint base badge rights) =
     may_call_by p memory uses j base ≡ false
 IsKeptFromCallers p memory uses v j cap = ⊤
 
+-- after any calls no slot of part i holds a capability by which part j could be answered
 abbrev pub AreAnswersKeptEver : ProfileName → List PartMemory → List PartUse → Shown → ℕ → ℕ → Type 0
 AreAnswersKeptEver p memory uses v i j =
     (A : State) → IsReached p A → v ≡ shown A → (calls : List Call) → Each (IsAllowed (parts_listed memory uses)) calls →

@@ -49,6 +49,7 @@ abbrev pub is_passage_let : ProfileName → List PartMemory → List PartUse →
 is_passage_let p memory uses v ways i j e =
     not (may_receive_on p memory uses (waits p v) j e) || are_sends_let p memory uses v ways i j e
 
+-- each way from part i to part j by an endpoint that is met is one that a policy lets pass
 abbrev pub are_passages_let : ProfileName → List PartMemory → List PartUse → Shown → List Way → ℕ → ℕ → Bool
 are_passages_let p memory uses v ways i j = list_all (is_passage_let p memory uses v ways i j) (endpoints_met uses (waits p v))
 

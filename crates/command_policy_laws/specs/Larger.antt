@@ -12,5 +12,6 @@ pub record HoldsNoLess (p : ProfileName) (parts : Parts) (i : ℕ) (others : Par
   pub holds : (cap : Cap) → IsWithin p parts i cap → IsWithin p others j cap
   pub uses : (right endpoint : ℕ) (badge : Badge) → MayUse p parts right i endpoint badge → MayUse p others right j endpoint badge
 
+-- a part that lies in another holds no more than that one
 abbrev pub HoldNoLess : ProfileName → Parts → ℕ → Parts → ℕ → Type 0
 HoldNoLess p parts i others j = LiesIn p parts i others j → HoldsNoLess p parts i others j

@@ -23,6 +23,7 @@ abbrev pub call_details : ProfileName → Members → ℕ → State → Call →
 call_details p table i A call =
     words_line call.op ++ (why_text (why_at p table i A call) ++ told_changes (told_lines p (shown A)) (told_lines p (shown (step p A call).state)))
 
+-- what a trace says of each call, below the report's line of it
 unfoldable pub details : ProfileName → Members → ℕ → State → List CallView → List (List ℕ)
 details p table i A [] = []
 details p table i A (call ∷ calls) =

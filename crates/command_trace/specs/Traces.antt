@@ -10,5 +10,6 @@ use Rattle.command_core.specs.declared.fault.Verdict.{Verdict}
 unfoldable pub traced_in : ProfileName → ReadView → List ℕ × Verdict
 traced_in p read = (trace_of p read.table read.names read.setup, verdict_of read.setup.calls (replies_to p read.setup))
 
+-- a text and a verdict are the trace of a set-up that was read
 abbrev pub IsTrace : ProfileName → ReadView → List ℕ → Verdict → Type 0
 IsTrace p read text verdict = (text, verdict) ≡ traced_in p read

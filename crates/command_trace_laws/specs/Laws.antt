@@ -87,6 +87,7 @@ pub record StateDifferences : Type 0 where
   pub slots : List Difference
   pub selfheld : List Difference
 
+-- how the lines of two states differ, for each sort of line
 abbrev pub state_differences : StateLines → StateLines → StateDifferences
 state_differences old new =
     record {
@@ -97,6 +98,7 @@ state_differences old new =
       selfheld = differences old.selfheld new.selfheld;
     }
 
+-- the text of the differences of two states
 abbrev pub state_told : StateDifferences → List ℕ
 state_told d =
     flat_map told d.threads
@@ -105,6 +107,7 @@ state_told d =
     ++ (flat_map told d.slots
     ++ flat_map told d.selfheld)))
 
+-- the lines of a state with the differences applied, for each sort of line
 abbrev pub state_applied : StateLines → StateDifferences → StateLines
 state_applied lines d =
     record {
@@ -115,6 +118,7 @@ state_applied lines d =
       selfheld = applied lines.selfheld d.selfheld;
     }
 
+-- the differences that lead back, for each sort of line
 abbrev pub state_flipped : StateDifferences → StateDifferences
 state_flipped d =
     record {
@@ -152,6 +156,7 @@ backwards (d ∷ ds) = backwards ds ++ state_flipped d ∷ []
 
 -- ---- the order of siblings
 
+-- the order of siblings in an abstract state
 abbrev pub order_in : State → Lines
 order_in A = sibling_lines (shown A).derivations
 
@@ -169,6 +174,7 @@ unfoldable pub run_order : ProfileName → State → List Call → List Differen
 run_order p A [] = []
 run_order p A (call ∷ calls) = differences (order_in A) (order_in (step p A call).state) ++ run_order p (step p A call).state calls
 
+-- how boot and the calls of a run change the order of siblings
 abbrev pub order_differences : ProfileName → Plan → List Call → List Difference
 order_differences p plan calls = differences [] (order_in (boot p plan)) ++ run_order p (boot p plan) calls
 
@@ -195,6 +201,7 @@ TellsTheThreads p v = flat_map (thread_line v) (addresses (thread_lines p v)) �
 abbrev pub TellsTheEndpoints : ProfileName → Shown → Type 0
 TellsTheEndpoints p v = lines_text (endpoint_lines p v) ≡ report.endpoint_lines p v
 
+-- a trace has the same lines as the report of CNodes that only their own slots name
 abbrev pub TellsTheSelfheld : ProfileName → Shown → Type 0
 TellsTheSelfheld p v = lines_text (selfheld_lines p (derivations_of v.derivations)) ≡ report.selfheld_lines p v
 
@@ -235,5 +242,6 @@ TellsTheSlotLines v =
 abbrev pub held_slot_line : Shown → ℕ → List ℕ
 held_slot_line v slot = terminated (report.slot_text slot (cap_at v.derivations slot) (has_child slot v.derivations))
 
+-- a trace's lines of full slots say which capability each holds, as the report's lines do
 abbrev pub TellsTheCapabilities : Shown → Type 0
 TellsTheCapabilities v = flat_map (held_slot_line v) (rising (full_slots v)) ≡ report.slot_lines v

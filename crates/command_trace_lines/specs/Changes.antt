@@ -36,6 +36,8 @@ addresses lines = map (λ (l : ℕ × List ℕ). l.0) lines
 abbrev pub change_at : Lines → Lines → ℕ → List ℕ
 change_at old new address = change (text_at address old) (text_at address new)
 
+-- how two lists of lines differ: for each address of either, in rising order, the old line if it is gone or another
+-- one, and the new line
 abbrev pub line_changes : Lines → Lines → List ℕ
 line_changes old new = flat_map (change_at old new) (rising (addresses old ++ addresses new))
 
@@ -47,6 +49,7 @@ pub record StateLines : Type 0 where
   pub slots : Lines
   pub selfheld : Lines
 
+-- the lines of a state, by address, for each sort of line
 abbrev pub state_lines : ProfileName → Shown → StateLines
 state_lines p v =
     record {
@@ -61,6 +64,7 @@ state_lines p v =
 abbrev pub no_lines : StateLines
 no_lines = record { threads = []; inboxes = []; endpoints = []; slots = []; selfheld = [] }
 
+-- how two states differ, as text, for each sort of line
 abbrev pub changes : StateLines → StateLines → List ℕ
 changes old new =
     line_changes old.threads new.threads

@@ -32,6 +32,7 @@ lines_at text addresses = flat_map (line_at text) (rising addresses)
 
 -- ---- threads: what each live thread does, and what it sends where it waits to send
 
+-- what a thread sends that waits to send: its badge and its message
 abbrev pub offer_text : Option Offer → List ℕ
 offer_text None = []
 offer_text (Some offer) = codes " badge " ++ (decimal offer.badge.0 ++ (codes " " ++ message_text offer.message))

@@ -9,5 +9,6 @@ use Rattle.setup_report.specs.Report.{terminated}
 abbrev pub name_line : List ℕ × ℕ → List ℕ
 name_line name = terminated (codes "name " ++ (name.0 ++ (codes " " ++ decimal name.1)))
 
+-- a line for each name of a set-up
 abbrev pub name_lines : Names → List ℕ
 name_lines names = flat_map name_line names

@@ -31,5 +31,6 @@ sibling_text slot before = codes "sibling " ++ (decimal slot ++ (codes " after "
 abbrev pub sibling_at : List Sibling → ℕ → Option (List ℕ)
 sibling_at list slot = option_map (sibling_text slot) (in_front list slot)
 
+-- a line for each full slot: after which sibling it comes
 abbrev pub sibling_lines : Forest Entry → Lines
 sibling_lines f = lines_at (sibling_at (siblings None f)) (slots f)

@@ -10,6 +10,7 @@ pub record ToldLines : Type 0 where
   pub state : StateLines
   pub siblings : Lines
 
+-- what a trace prints of a state: its lines, and the order of siblings
 abbrev pub told_lines : ProfileName → Shown → ToldLines
 told_lines p v = record { state = state_lines p v; siblings = sibling_lines v.derivations }
 
@@ -17,5 +18,6 @@ told_lines p v = record { state = state_lines p v; siblings = sibling_lines v.de
 abbrev pub nothing_told : ToldLines
 nothing_told = record { state = no_lines; siblings = [] }
 
+-- how what a trace prints of two states differs
 abbrev pub told_changes : ToldLines → ToldLines → List ℕ
 told_changes old new = changes old.state new.state ++ line_changes old.siblings new.siblings

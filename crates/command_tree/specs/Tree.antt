@@ -65,6 +65,7 @@ head_words profile memory_bits calls made =
 abbrev pub head_text : SetupView → ℕ → List ℕ
 head_text setup made = head_words (profile_text setup.profile) setup.plan.memory_bits (length setup.calls) made
 
+-- the text of a derivation forest: a first line, then a line for each full slot
 abbrev pub forest_text : Names → SetupView → ℕ → Forest Entry → List ℕ
 forest_text names setup made f = terminated (head_text setup made) ++ forest_lines names f
 

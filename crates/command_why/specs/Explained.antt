@@ -20,5 +20,6 @@ explained_in p call read = (why_of p read.table call read.setup, verdict_of read
 abbrev pub explained : ProfileName → Option ℕ → ReadView → List ℕ × Verdict
 explained p call read = if is_absent call (length read.setup.calls) then ([], Absent) else explained_in p call read
 
+-- a text and a verdict say why calls of a set-up are refused, of one call or of all
 abbrev pub IsWhy : Option ℕ → ProfileName → ReadView → List ℕ → Verdict → Type 0
 IsWhy call p read text verdict = (text, verdict) ≡ explained p call read

@@ -14,5 +14,6 @@ MeansWord names table k = (name : List ℕ) → name_at table k.0 ≡ Some name 
 abbrev pub said_words : Call → KeyWords
 said_words call = (codes "thread", call.thread) ∷ key_words call.op
 
+-- each name beside a word of a call has the value of that word
 abbrev pub MeanTheirWords : Names → Option Members → Call → Type 0
 MeanTheirWords names table call = All (MeansWord names table) (said_words call)

@@ -10,5 +10,6 @@ abbrev pub table_in : Result (List Data) Wrong → ℕ → Option Members
 table_in (Ok calls) i = option_and_then as_table (slice_get calls i)
 table_in (Err wrong) i = None
 
+-- the table of the call i of a set-up's text
 abbrev pub call_table : Members → ℕ → Option Members
 call_table setup i = option_and_then (λ calls. table_in (array_in 0 max_calls (as_array calls)) i) (get_member (codes "call") setup)

@@ -50,6 +50,7 @@ calls_lines p table chosen i A (call ∷ calls) =
 
 -- ---- how many calls are refused
 
+-- whether a reply is a refusal
 abbrev pub is_refused : Reply → Bool
 is_refused (Refused refusal) = true
 is_refused reply = false

@@ -16,6 +16,7 @@ pub record AskedView : Type 0 where
   pub call : Call
   pub table : Option Members
 
+-- a call that was asked about, with its table
 abbrev pub asked_view : Asked → AskedView
 asked_view a = record { call = a.call.now; table = option_map (λ t. table_view t.now) a.table }
 

@@ -14,6 +14,7 @@ most_words = 8
 abbrev pub KeyWords : Type 0
 KeyWords = List (List ℕ × ℕ)
 
+-- a key of a call with the word that it has
 abbrev pub key_word : KeyWord → List ℕ × ℕ
 key_word k = (k.key.now, k.word)
 

@@ -110,10 +110,12 @@ missed_lines p v a word from miss =
     ++ (told (miss_text miss)
     ++ hint_line word (hint_of p v (key_words a.call.op) word from)))
 
+-- the lines of a lookup that finds no slot
 abbrev pub not_found_lines : ProfileName → Shown → AskedView → Word → Held → Miss → List ℕ
 not_found_lines p v a word from NoRoot = no_root_lines a word from
 not_found_lines p v a word from miss = missed_lines p v a word from miss
 
+-- the lines of a depth that is out of range
 abbrev pub no_depth_lines : ProfileName → Shown → AskedView → Word → Held → ℕ → List ℕ
 no_depth_lines p v a word from most =
     told (depth_said a word ++ (codes " is not from 1 to " ++ decimal most))

@@ -26,11 +26,13 @@ thread_text a = decimal a.call.thread ++ name_text (thread_name a)
 abbrev pub more_text : ℕ → List ℕ
 more_text count = if nat_lt threads_told count then codes " and " ++ (decimal (count - threads_told) ++ codes " more") else codes ""
 
+-- which threads are live, the first few of them
 unfoldable pub live_line : List ℕ → List ℕ
 live_line [] = told (codes "no thread is live")
 live_line (first ∷ rest) =
     told (codes "live threads:" ++ (numbers_text (take threads_told (first ∷ rest)) ++ more_text (length (first ∷ rest))))
 
+-- no live thread is at the address that makes the call
 unfoldable pub no_thread_line : AskedView → List ℕ
 no_thread_line a = told (codes "no live thread is at " ++ thread_text a)
 
@@ -43,6 +45,7 @@ does_text Inactive = codes "is inactive"
 does_text (Sending endpoint) = codes "waits to send on endpoint " ++ decimal endpoint
 does_text (Receiving endpoint) = codes "waits to receive on endpoint " ++ decimal endpoint
 
+-- what the thread that makes the call does, if it is not ready
 abbrev pub not_ready_lines : AskedView → ThreadState → List ℕ
 not_ready_lines a state =
     told (codes "thread " ++ (thread_text a ++ (codes " " ++ does_text state)))
@@ -69,6 +72,7 @@ capability_lines a (LongGuard word node size most) = fact_lines a word node (gua
 capability_lines a (HasChildren source child) = children_lines a source child
 capability_lines a reason = named_lines a reason
 
+-- the lines of a reason why a call is refused
 abbrev pub reason_lines : ProfileName → Shown → AskedView → Reason → List ℕ
 reason_lines p v a NoThread = no_thread_lines p v a
 reason_lines p v a (NotReady state) = not_ready_lines a state

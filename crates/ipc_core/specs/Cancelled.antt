@@ -40,6 +40,7 @@ after_cancel e names w =
 abbrev pub after_cancel_badge : ℕ → Badge → Waits → Waits
 after_cancel_badge e badge w = after_cancel e (is_sender_with badge) w
 
+-- nobody waits on the endpoint any more
 abbrev pub after_cancel_endpoint : ℕ → Waits → Waits
 after_cancel_endpoint e w =
     record {
@@ -66,6 +67,7 @@ waiting_less of_sends of_receives sends receives = waiting_list (sends_less of_s
 abbrev pub is_sent_by : ℕ → SendRecord → Bool
 is_sent_by thread s = s.thread.base == thread
 
+-- a record of a receive is of this thread
 abbrev pub is_received_by : ℕ → ReceiveRecord → Bool
 is_received_by thread a = a.thread.base == thread
 

@@ -24,5 +24,6 @@ offer_as None t w = None
 offer_as (Some (Receiving e)) t w = None
 offer_as (Some (Sending e)) t w = offer_in t (w.queue e)
 
+-- what a thread sends that waits to send, and with which badge
 abbrev pub offer_of : Waits → ℕ → Option Offer
 offer_of w t = offer_as (w.role t) t w

@@ -28,6 +28,7 @@ pub record IsEndpointAddress (p : ProfileName) (memory address : ℕ) : Type 0 w
   pub aligned : address % endpoint_size p ≡ 0
   pub within : address < 2 ^ memory
 
+-- an address at which a thread control block can be: a multiple of its size, within the memory
 pub record IsThreadAddress (p : ProfileName) (memory address : ℕ) : Type 0 where
   pub aligned : address % tcb_size p ≡ 0
   pub within : address < 2 ^ memory
@@ -70,6 +71,7 @@ waits_sent_to None block e thread waiter w = cond block (queued e thread (Sendin
 abbrev pub sent : Bool → ℕ → Waits → Sent
 sent block e w = sent_to (first_receiver (w.queue e)) block
 
+-- who waits after a send: the first receiver waits no more; where none waits, the sender waits, if it blocks
 abbrev pub after_send : Bool → ℕ → ℕ → Badge → Message → Waits → Waits
 after_send block e thread badge message w =
     waits_sent_to (first_receiver (w.queue e)) block e thread (Sender thread badge message) w
@@ -87,6 +89,7 @@ waits_received_from None block e thread w = cond block (queued e thread (Receivi
 abbrev pub received : Bool → ℕ → Waits → Received
 received block e w = received_from (first_sender (w.queue e)) block
 
+-- who waits after a receive: the first sender waits no more; where none waits, the receiver waits, if it blocks
 abbrev pub after_receive : Bool → ℕ → ℕ → Waits → Waits
 after_receive block e thread w = waits_received_from (first_sender (w.queue e)) block e thread w
 

@@ -47,6 +47,7 @@ abbrev pub with_spaces : ProfileName → Cap → List ℕ → Forest Entry → F
 with_spaces p root [] f = f
 with_spaces p root (tcb ∷ tcbs) f = with_spaces p root tcbs (derived (slot_size p) tcb root f)
 
+-- the derivation forest after boot: the root CNode, the boot objects, and the capability spaces of the boot threads
 abbrev pub boot_forest : ProfileName → Plan → Forest Entry
 boot_forest p plan =
     with_spaces p (root_cap p plan) (boot_tcbs p plan) (with_roots p 1 (boot_caps p plan) none)

@@ -151,5 +151,6 @@ reason_of p v call = reason_in (checked_call p v call)
 abbrev pub decoded_op : ProfileName → Forest Entry → ℕ → Op → Result Invocation Refusal
 decoded_op p f thread op = with_refusal (checked_op p f thread op)
 
+-- what a call asks for, or the refusal for the first check that fails
 abbrev pub decoded_call : ProfileName → Shown → Call → Result Invocation Refusal
 decoded_call p v call = with_refusal (checked_call p v call)

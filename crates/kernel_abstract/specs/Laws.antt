@@ -19,6 +19,7 @@ abbrev pub StaysEnded : ProfileName → State → List Call → Instance → Typ
 StaysEnded p A calls e =
     IsReached p A → e.birth ≤ A.count → is_live A e ≡ false → is_live (state_after p A calls) e ≡ false
 
+-- an endpoint that is not live gains no pair of a send and a receive by further calls
 abbrev pub KeepsItsPairs : ProfileName → State → List Call → Instance → Type 0
 KeepsItsPairs p A calls e =
     IsReached p A → e.birth ≤ A.count → is_live A e ≡ false → pairs (state_after p A calls) e ≡ pairs A e
@@ -35,6 +36,7 @@ abbrev pub TellsItsSenders : ProfileName → State → Instance → Type 0
 TellsItsSenders p A e =
     IsReached p A → All (λ (s : SendRecord). state_of A s.thread ≡ Sending e.base) (waiting_sends A e)
 
+-- in a state that is reached, each thread whose receive waits at an endpoint is shown to wait there
 abbrev pub TellsItsReceivers : ProfileName → State → Instance → Type 0
 TellsItsReceivers p A e =
     IsReached p A → All (λ (a : ReceiveRecord). state_of A a.thread ≡ Receiving e.base) (waiting_receives A e)
@@ -44,6 +46,7 @@ abbrev pub HasLiveSenders : ProfileName → State → Instance → Type 0
 HasLiveSenders p A e =
     IsReached p A → All (λ (s : SendRecord). is_thread_live A A.derivations s.thread ≡ true) (waiting_sends A e)
 
+-- in a state that is reached, each receive that waits at an endpoint is of a live thread
 abbrev pub HasLiveReceivers : ProfileName → State → Instance → Type 0
 HasLiveReceivers p A e =
     IsReached p A → All (λ (a : ReceiveRecord). is_thread_live A A.derivations a.thread ≡ true) (waiting_receives A e)

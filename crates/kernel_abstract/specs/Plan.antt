@@ -19,6 +19,7 @@ pub record Plan : Type 0 where
   pub endpoints : ℕ
   pub untypeds : List (ℕ × ℕ)
 
+-- a plan with these sizes and untyped regions
 abbrev pub planned : ℕ → ℕ → ℕ → ℕ → List (ℕ × ℕ) → Plan
 planned memory_bits root_radix threads endpoints untypeds =
     record { memory_bits = memory_bits; root_radix = root_radix; threads = threads; endpoints = endpoints; untypeds = untypeds }
@@ -27,9 +28,11 @@ planned memory_bits root_radix threads endpoints untypeds =
 abbrev pub first_tcb : ProfileName → Plan → ℕ
 first_tcb p plan = least_multiple (tcb_size p) (2 ^ (slot_bits p + plan.root_radix))
 
+-- the address of the thread control block i at boot
 abbrev pub tcb_place : ProfileName → Plan → ℕ → ℕ
 tcb_place p plan i = first_tcb p plan + tcb_size p * i
 
+-- the address of the endpoint j at boot
 abbrev pub endpoint_place : ProfileName → Plan → ℕ → ℕ
 endpoint_place p plan j = tcb_place p plan plan.threads + endpoint_size p * j
 

@@ -45,6 +45,7 @@ endpoints_of f = filter_map endpoint_base (caps f)
 abbrev pub state_at : Shown → ℕ → Option ThreadState
 state_at v t = option_map (λ (thread : ThreadView). thread.state) (get v.threads t)
 
+-- what was delivered last to the thread at an address
 abbrev pub inbox_at : Shown → ℕ → Option Inbox
 inbox_at v t = option_and_then (λ (thread : ThreadView). thread.inbox) (get v.threads t)
 

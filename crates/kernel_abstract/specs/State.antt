@@ -10,6 +10,7 @@ use Rattle.kernel_abstract.specs.declared.call.ThreadState.TheVariants.{Ready, I
 use Rattle.kernel_abstract.specs.declared.call.Inbox.{Inbox}
 use Rattle.kernel_abstract.specs.Shown.{Shown, ThreadView, threads_of, endpoints_of, table}
 
+-- the abstract state of the kernel
 pub record State : Type 0 where
   -- the full slots with their capabilities
   pub derivations : Forest Entry

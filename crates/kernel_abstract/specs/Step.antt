@@ -153,6 +153,7 @@ unfoldable pub replies_of : ProfileName → State → List Call → List Reply
 replies_of p A [] = []
 replies_of p A (call ∷ calls) = (step p A call).reply ∷ replies_of p (step p A call).state calls
 
+-- the state after a list of calls
 unfoldable pub state_after : ProfileName → State → List Call → State
 state_after p A [] = A
 state_after p A (call ∷ calls) = state_after p (step p A call).state calls

@@ -32,6 +32,7 @@ abbrev pub offer_where : Option ThreadState → ℕ → Shown → Option Offer
 offer_where (Some (Sending e)) t v = offer_in t (waiting_at v e)
 offer_where other t v = None
 
+-- what the thread at an address sends, if it waits to send
 abbrev pub offer_at : Shown → ℕ → Option Offer
 offer_at v t = offer_where (state_at v t) t v
 

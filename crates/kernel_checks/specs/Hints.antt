@@ -30,6 +30,7 @@ depth_from p cap_in root index depth zero = None
 depth_from p cap_in root index depth (suc count) =
     depth_or depth (slot_at_depth p cap_in root index depth) (depth_from p cap_in root index (depth + 1) count)
 
+-- another depth by which the same index leads to a full slot, the least one
 abbrev pub depth_hint : ProfileName → (ℕ → Cap) → ℕ → ℕ → Option Hint
 depth_hint p cap_in root index = depth_from p cap_in root index 1 (word_bits p)
 
@@ -50,6 +51,7 @@ abbrev pub hint_or : Option Hint → Option Hint → Option Hint
 hint_or None other = other
 hint_or (Some hint) other = Some hint
 
+-- another depth or index that leads to a full slot
 abbrev pub index_hint : ProfileName → (ℕ → Cap) → ℕ → ℕ → ℕ → Option Hint
 index_hint p cap_in root index depth =
     hint_or (depth_hint p cap_in root index) (number_hint p index (slot_by_index p cap_in Index root (index / slot_size p) depth))

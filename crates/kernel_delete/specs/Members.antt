@@ -13,6 +13,7 @@ abbrev pub AreDistinct : List ℕ → Type 0
 AreDistinct [] = ⊤
 AreDistinct (n ∷ l) = (In n l → ⊥) × AreDistinct l
 
+-- each number of a list is below a bound
 abbrev pub AreBelow : ℕ → List ℕ → Type 0
 AreBelow size l = Each (λ n. n < size) l
 

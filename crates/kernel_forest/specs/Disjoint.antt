@@ -18,6 +18,7 @@ abbrev pub AreInLine : Forest Entry → Entry → Entry → Type 0
 AreInLine f u c =
     (c.slot ≡ u.slot) ⊎ (Contains (descendants (is_at u.slot) f) c ⊎ Contains (ancestors (is_at u.slot) f) c)
 
+-- live objects have no address in common, or one is an untyped region around the other
 pub record IsDisjoint (p : ProfileName) (f : Forest Entry) : Type 0 where
   pub objects : (a b : Entry) → Contains (preorder f) a → Contains (preorder f) b → IsTrue (are_disjoint p a.cap b.cap)
   pub lines : (u c : Entry) → Contains (preorder f) u → Contains (preorder f) c → IsTrue (is_untyped u.cap) →

@@ -5,6 +5,7 @@ use Rattle.cap_core.specs.declared.capability.Cap.{Cap}
 use Rattle.cap_core.specs.declared.capability.Cap.TheVariants.{Null}
 use Rattle.kernel_forest.specs.Forest.{Forest, preorder, children, parented}
 
+-- a full slot, its capability, and whether that is original
 pub record Entry : Type 0 where
   pub slot : ℕ
   pub cap : Cap
@@ -13,6 +14,7 @@ pub record Entry : Type 0 where
 abbrev pub entry : ℕ → Cap → Bool → Entry
 entry slot cap original = record { slot = slot; cap = cap; original = original }
 
+-- an entry is of this slot
 abbrev pub is_at : ℕ → Entry → Bool
 is_at slot e = e.slot == slot
 
@@ -51,6 +53,7 @@ first_slot (e ∷ es) = Some e.slot
 abbrev pub first_child : ℕ → Forest Entry → Option ℕ
 first_child slot f = first_slot (children (is_at slot) f)
 
+-- the slot of an entry
 abbrev pub slot_of : Entry → ℕ
 slot_of e = e.slot
 

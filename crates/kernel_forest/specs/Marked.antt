@@ -107,6 +107,7 @@ abbrev pub previous_in : ℕ → Option ℕ → List Marked → Option ℕ
 previous_in place before [] = None
 previous_in place before (r ∷ l) = cond (r.place == place) before (previous_in place (Some r.place) l)
 
+-- the place after a place in a marked list
 abbrev pub next_in : ℕ → List Marked → Option ℕ
 next_in place [] = None
 next_in place (r ∷ l) = cond (r.place == place) (first_place l) (next_in place l)

@@ -21,9 +21,11 @@ pub record ClientState : Type 0 where
   pub front : List Entry
   pub stray : Option Lost
 
+-- a call that was lost, with what its client had seen of the history
 abbrev pub lost : Call → List Entry → Lost
 lost call front = record { call = call; front = front }
 
+-- a client: its number, how many calls it has made, how much of the history it has seen, and a call that was lost
 abbrev pub client_state : ℕ → ℕ → List Entry → Option Lost → ClientState
 client_state id done front stray = record { id = id; done = done; front = front; stray = stray }
 
@@ -35,6 +37,7 @@ is_below id number e = e.client == id && nat_lt e.number number
 abbrev pub is_numbered_as : ℕ → ℕ → Entry → Bool
 is_numbered_as id number e = e.client == id && e.number == number
 
+-- the call that was lost, if any
 abbrev pub lost_calls : Option Lost → List Call
 lost_calls None = []
 lost_calls (Some l) = l.call ∷ []

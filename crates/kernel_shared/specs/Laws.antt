@@ -10,6 +10,7 @@ use Rattle.kernel_abstract.specs.Step.{state_after, replies_of}
 use Rattle.kernel_abstract.specs.Reached.{IsReached}
 use Rattle.kernel_shared.specs.declared.entry.Entry.{Entry}
 
+-- an entry of a history: a client's call with its number and its reply
 abbrev pub entry : ℕ → ℕ → Call → Reply → Entry
 entry client number call reply = record { client = client; number = number; call = call; reply = reply }
 

@@ -67,6 +67,7 @@ abbrev pub IsRegionPlan : ℕ → ℕ → ℕ → ℕ → ℕ → Result Placed 
 IsRegionPlan base bits start b count (Ok placed) = (count ≤ room_of bits start b) × ArePlacedFrom base bits start b count placed
 IsRegionPlan base bits start b count (Err refusal) = (room_of bits start b < count) × (refusal ≡ NotEnoughMemory)
 
+-- where a retype puts its objects in an untyped region, or why it is refused
 abbrev pub IsRetypePlan : Cap → Bool → ℕ → ℕ → Result Placed Refusal → Type 0
 IsRetypePlan (Untyped base bits free) has_children b count result =
     IsRegionPlan base bits (start_of has_children free) b count result
@@ -85,6 +86,7 @@ pub record LieInRegion (base bits start b count : ℕ) (placed : Placed) : Type 
   pub used : (i : ℕ) → i < count → object_at placed i + 2 ^ b ≤ base + placed.free
   pub within : base + placed.free ≤ base + 2 ^ bits
 
+-- new objects lie in an untyped region, above what was used of it
 abbrev pub LieInUntyped : Cap → Bool → ℕ → ℕ → Placed → Type 0
 LieInUntyped (Untyped base bits free) has_children b count placed =
     LieInRegion base bits (start_of has_children free) b count placed

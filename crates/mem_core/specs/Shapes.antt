@@ -28,6 +28,7 @@ abbrev pub shape_named : ProfileName → ℕ → Option Kind → Result Shape Re
 shape_named p size_bits None = Err InvalidArgument
 shape_named p size_bits (Some kind) = shape_sized p kind size_bits (size_within p kind size_bits)
 
+-- what a retype asks for by the number of a kind and a size, or why that is refused
 abbrev pub shape_of : ProfileName → ℕ → ℕ → Result Shape Refusal
 shape_of p number size_bits = shape_named p size_bits (kind_numbered number)
 

@@ -77,6 +77,7 @@ IsShared options = IsSharedProgram (λ _ _. ⊥) (first_of options)
 abbrev pub form_of : Options → Form
 form_of options = cond options.dot Dot Lines
 
+-- what each command writes for an input: its text and its verdict
 abbrev pub meaning : Job → Options → List ℕ → List ℕ → Verdict → Type 0
 meaning Check options = λ input text verdict. program input ≡ (text, verdict)
 meaning Trace options = IsAnswerTo IsTrace

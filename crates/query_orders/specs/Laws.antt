@@ -51,12 +51,14 @@ AnswersEachOnce p own A order =
 
 -- ---- of each thing that is found, the order that is told is one of the shortest that have it
 
+-- the first order that has an answer is no longer than any other order that has it
 abbrev pub AreShortest : ProfileName → List (List Call) → World → List ℕ → ℕ → Type 0
 AreShortest p own w first n =
     (same : Answer → Answer → Bool) → IsKindTest same → (a b : Answered) (m : ℕ) (order : List ℕ)
     → Contains (answers_before same [] p own w first n) a → Contains (orders p own w first m) order → Contains (answers_behind p own w order) b
     → b.client ≡ a.client → b.place ≡ a.place → b.answer ≡ a.answer → length a.order ≤ length b.order
 
+-- the first order that ends stuck in a way is no longer than any other order that does
 abbrev pub AreShortestStuck : ProfileName → List (List Call) → World → List ℕ → ℕ → Type 0
 AreShortestStuck p own w first n =
     (same : List LeftCall → List LeftCall → Bool) → IsKindTest same → (s t : StuckEnd) (m : ℕ) (order : List ℕ)
@@ -65,6 +67,7 @@ AreShortestStuck p own w first n =
 
 -- ---- orders that begin in one way
 
+-- an order goes on from a beginning by so many calls, each of which can be made where it comes
 abbrev pub IsBehind : ProfileName → List (List Call) → World → List ℕ → ℕ → List ℕ → Type 0
 IsBehind p own w first count order =
     (rest : List ℕ) × (order ≡ first ++ rest) × (length rest ≡ count) × EachCanBeMade p own (world_after p own w first) rest

@@ -41,6 +41,7 @@ StayNoneBelow p parts i j A calls =
     IsReached p A → AreClosed p parts A → Each (IsAllowed parts) calls → (i ≡ j → ⊥) →
     StandsNoneBelow parts i j A.derivations → StandsNoneBelow parts i j (state_after p A calls).derivations
 
+-- what stands below the slots of a part stays its own, whatever calls the threads of parts make
 abbrev pub StayOwnBelow : ProfileName → Parts → ℕ → State → List Call → Type 0
 StayOwnBelow p parts i A calls =
     IsReached p A → AreClosed p parts A → Each (IsAllowed parts) calls →

@@ -47,6 +47,7 @@ says_more u w = covers w u && not (covers u w)
 abbrev pub is_needed : ProfileName → List PartMemory → List PartUse → PartUse → Bool
 is_needed p memory uses u = not (owns_endpoint p memory u.part u.endpoint) && not (list_any (says_more u) uses)
 
+-- the stretches of memory and the uses of parts are sorted, and none is there twice
 pub record AreInOrder (p : ProfileName) (memory : List PartMemory) (uses : List PartUse) : Type 0 where
   -- the stretches rise and lie apart, and those of one part do not touch
   pub stretches : list_all is_stretch memory ≡ true

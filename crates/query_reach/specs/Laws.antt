@@ -57,6 +57,7 @@ SendsElsewhere p f thread e = ReachesNo p f thread (allows_to write_bit e) →
     (decoded_op p f thread (Send word message) ≡ Ok (invocation.Send service message true) → service.endpoint ≢ e)
     × (decoded_op p f thread (NbSend word message) ≡ Ok (invocation.Send service message false) → service.endpoint ≢ e)
 
+-- a thread that can name no capability to receive on an endpoint receives on no such endpoint
 abbrev pub ReceivesElsewhere : ProfileName → Forest Entry → ℕ → ℕ → Type 0
 ReceivesElsewhere p f thread e = ReachesNo p f thread (allows_to read_bit e) →
     (word : ℕ) (service : Service) →

@@ -9,6 +9,7 @@ use Rattle.query_reach.specs.declared.reached.Reached.{Reached}
 use Rattle.query_reach.specs.Lists.{AreReached}
 use Rattle.query_reach.specs.Laws.{ReachesNo}
 
+-- a list of slots that a thread can name is whole: what no slot of it has, the thread can name nowhere
 abbrev pub IsEnough : ProfileName → Forest Entry → ℕ → List Reached → (Cap → Bool) → Type 0
 IsEnough p f thread list test = AreReached p f thread list →
     ((r : Reached) → Contains list r → test (cap_at f r.slot) ≡ false) → ReachesNo p f thread test

@@ -24,6 +24,7 @@ use Rattle.setup_format.specs.Views.{CallView, SetupView, ReadView}
 
 -- ---- untyped tables
 
+-- the keys of an untyped region
 abbrev pub untyped_keys : List (List ℕ)
 untyped_keys = codes "base" ∷ codes "bits" ∷ []
 
@@ -59,6 +60,7 @@ table_keys = codes "untyped" ∷ codes "call" ∷ []
 abbrev pub first_keys : List (List ℕ)
 first_keys = size_keys ++ table_keys
 
+-- the keys of the top table, by the format
 abbrev pub top_keys : ℕ → List (List ℕ)
 top_keys format = if format == first_format then first_keys else size_keys ++ codes "names" ∷ table_keys
 
@@ -120,6 +122,7 @@ setup_up_to newest table = do
 abbrev pub setup_of : Members → Result SetupView Fault
 setup_of table = setup_up_to newest_format table
 
+-- the set-up that a table of format 1 is, or its first fault
 abbrev pub first_format_setup_of : Members → Result SetupView Fault
 first_format_setup_of table = setup_up_to first_format table
 
@@ -137,14 +140,18 @@ abbrev pub document_in : Option Members → Result Members Fault
 document_in None = Err text
 document_in (Some table) = Ok table
 
+-- the table of a TOML document, or that the text is none
 unfoldable pub document_of : List ℕ → Result Members Fault
 document_of bytes = document_in (if is_utf8 bytes then parse_document bytes else None)
 
+-- the set-up that a text is, or its first fault
 unfoldable pub setup_of_bytes : List ℕ → Result SetupView Fault
 setup_of_bytes bytes = document_of bytes >>= setup_of
 
+-- the set-up of format 1 that a text is, or its first fault
 unfoldable pub first_format_setup_of_bytes : List ℕ → Result SetupView Fault
 first_format_setup_of_bytes bytes = document_of bytes >>= first_format_setup_of
 
+-- a set-up as it is read from a text, or its first fault
 unfoldable pub read_of_bytes : List ℕ → Result ReadView Fault
 read_of_bytes bytes = document_of bytes >>= read_of

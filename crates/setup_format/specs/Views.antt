@@ -15,6 +15,7 @@ pub record CallView : Type 0 where
   pub client : ℕ
   pub expect : Option (List ℕ)
 
+-- what a set-up means: profile, plan, clients, limit of the history, calls
 pub record SetupView : Type 0 where
   pub profile : ProfileName
   pub plan : Plan
@@ -34,6 +35,7 @@ pub record ReadView : Type 0 where
 abbrev pub call_view : Call → Caller → CallView
 call_view call caller = record { call = call; client = caller.client; expect = option_map string_bytes caller.expect }
 
+-- calls, each with its client and what it expects
 abbrev pub call_views : List Call → List Caller → List CallView
 call_views [] callers = []
 call_views (call ∷ calls) [] = []

@@ -62,6 +62,7 @@ in_slot kind p plan v i =
 abbrev pub object_at : ObjectKind → ProfileName → Plan → Shown → ℕ → Option ℕ
 object_at kind p plan v n = cond (nat_lt n (2 ^ plan.root_radix)) (in_slot kind p plan v n) (Some n)
 
+-- the object of a sort that a word stands for in a state, or none
 abbrev pub object_meant : ObjectKind → ProfileName → Names → Plan → Shown → List ℕ → Option ℕ
 object_meant kind p names plan v text = option_and_then (object_at kind p plan v) (number_meant names text)
 

@@ -16,15 +16,18 @@ use Rattle.setup_format.specs.Views.{CallView}
 use Rattle.setup_report.specs.State.{Derived, slot_of, threads, endpoints, slot_rows, selfheld}
 use Rattle.setup_report.specs.Text.{cap_text, numbers_text, answered_text, reply_text, begins_as, expectation_text, state_text, inbox_text}
 
+-- a text and a line feed
 abbrev pub terminated : List ℕ → List ℕ
 terminated text = text ++ codes "\n"
 
 -- ---- calls: a line for each, with its number
 
+-- a call with its reply, and whether that is what was expected
 abbrev pub call_text : ℕ → Call → Reply → Option (List ℕ) → List ℕ
 call_text number call reply expected =
     decimal number ++ (codes " " ++ (answered_text call reply ++ expectation_text expected (reply_text reply)))
 
+-- a line for each call with its reply
 abbrev pub call_lines : ℕ → List CallView → List Reply → List ℕ
 call_lines number [] replies = []
 call_lines number (call ∷ calls) [] = []
@@ -37,17 +40,21 @@ abbrev pub is_met : Option (List ℕ) → List ℕ → Bool
 is_met None text = false
 is_met (Some expected) text = begins_as text expected
 
+-- 1 where a reply is what was expected, else 0
 abbrev pub one_met : Option (List ℕ) → List ℕ → ℕ
 one_met expected text = if is_met expected text then 1 else 0
 
+-- 1 where a call expects something, else 0
 abbrev pub one_expected : Option (List ℕ) → ℕ
 one_expected expected = if is_some expected then 1 else 0
 
+-- how many expectations are met
 abbrev pub met_count : List CallView → List Reply → ℕ
 met_count [] replies = 0
 met_count (call ∷ calls) [] = 0
 met_count (call ∷ calls) (reply ∷ replies) = one_met call.expect (reply_text reply) + met_count calls replies
 
+-- how many calls expect something
 abbrev pub expectation_count : List CallView → List Reply → ℕ
 expectation_count [] replies = 0
 expectation_count (call ∷ calls) [] = 0
@@ -57,11 +64,13 @@ expectation_count (call ∷ calls) (reply ∷ replies) = one_expected call.expec
 abbrev pub count_line : ℕ → ℕ → List ℕ
 count_line met expected = terminated (codes "expected " ++ (decimal met ++ (codes " of " ++ decimal expected)))
 
+-- the report's last line: how many expectations are met, of how many
 abbrev pub expectation_line : List CallView → List Reply → List ℕ
 expectation_line calls replies = count_line (met_count calls replies) (expectation_count calls replies)
 
 -- ---- slots: a line for each full slot, by rising address
 
+-- the line of a full slot: its capability, and whether it has children
 abbrev pub slot_text : ℕ → Cap → Bool → List ℕ
 slot_text address cap has_children =
     codes "slot " ++ (decimal address ++ (codes " " ++ (cap_text cap ++ (if has_children then codes " children" else []))))
@@ -74,6 +83,7 @@ slot_lines v = flat_map (slot_line v) (slot_rows v)
 
 -- ---- threads: a line for each live thread, by rising address
 
+-- the line of a thread: what it does, and what was delivered to it last
 abbrev pub thread_text : ℕ → ThreadState → Option Inbox → List ℕ
 thread_text address state inbox = codes "thread " ++ (decimal address ++ (codes " " ++ (state_text state ++ inbox_text inbox)))
 
@@ -96,6 +106,7 @@ waiting_text sending [] = codes " idle"
 waiting_text sending (thread ∷ threads) =
     (if sending then codes " sending" else codes " receiving") ++ numbers_text (thread ∷ threads)
 
+-- the line of an endpoint: who waits on it
 abbrev pub endpoint_text : ℕ → Bool → List ℕ → List ℕ
 endpoint_text address sending threads = codes "endpoint " ++ (decimal address ++ waiting_text sending threads)
 
@@ -124,10 +135,13 @@ selfheld_lines p v = flat_map selfheld_line (selfheld p v)
 
 -- ---- what a kernel shows of its memory
 
+-- the report's lines of a state: threads, endpoints, full slots, selfheld CNodes
 abbrev pub state_lines : ProfileName → Shown → List ℕ
 state_lines p v = thread_lines p v ++ (endpoint_lines p v ++ (slot_lines v ++ selfheld_lines p v))
 
 -- ---- the report of a run: of the calls of a set-up with their replies, and of what the kernel then shows
 
+-- the report's text: calls, then live threads, live endpoints, full slots and selfheld CNodes by rising address, then
+-- the expectations
 unfoldable pub report_of : ProfileName → List CallView → List Reply → Shown → List ℕ
 report_of p calls replies v = call_lines 1 calls replies ++ (state_lines p v ++ expectation_line calls replies)

@@ -14,6 +14,7 @@ use Rattle.setup_report.specs.declared.naming.NamedObject.{NamedObject}
 
 -- ---- addresses
 
+-- a number is in a list
 abbrev pub is_in : ℕ → List ℕ → Bool
 is_in address list = list_any (λ a. address == a) list
 
@@ -61,6 +62,7 @@ base_named p NamedObject.OtherNode slot cap = node_base (λ base radix. not (is_
 abbrev pub named_by : ProfileName → NamedObject → Derived → Option ℕ
 named_by p naming d = base_named p naming d.0.slot d.0.cap
 
+-- the objects of a sort that full slots name
 abbrev pub named : ProfileName → NamedObject → List Derived → List ℕ
 named p naming list = filter_map (named_by p naming) list
 
@@ -70,14 +72,18 @@ holding_themselves p list = filter (λ base. not (is_in base (named p NamedObjec
 
 -- ---- of a state
 
+-- the live threads of a state, by rising address
 abbrev pub threads : ProfileName → Shown → List ℕ
 threads p v = rising (named p NamedObject.Thread (derivations_of v.derivations))
 
+-- the live endpoints of a state, by rising address
 abbrev pub endpoints : ProfileName → Shown → List ℕ
 endpoints p v = rising (named p NamedObject.Endpoint (derivations_of v.derivations))
 
+-- the full slots of a state by rising address, each with the slot right above it
 abbrev pub slot_rows : Shown → List Derived
 slot_rows v = by_address (derivations_of v.derivations)
 
+-- the CNodes that only their own slots name, by rising address
 abbrev pub selfheld : ProfileName → Shown → List ℕ
 selfheld p v = rising (holding_themselves p (derivations_of v.derivations))

@@ -24,6 +24,7 @@ use Rattle.setup_format.specs.Operations.{op_name}
 abbrev pub right_text : Rights → ℕ → List ℕ → List ℕ
 right_text rights right letter = if bit_and rights.0 right == right then letter else codes "-"
 
+-- rights as text: a letter for each, w r g p
 abbrev pub rights_text : Rights → List ℕ
 rights_text rights =
     right_text rights 1 (codes "w") ++ (right_text rights 2 (codes "r") ++ (right_text rights 4 (codes "g") ++ right_text rights 8 (codes "p")))
@@ -32,9 +33,11 @@ rights_text rights =
 abbrev pub numbers_text : List ℕ → List ℕ
 numbers_text numbers = flat_map (λ n. codes " " ++ decimal n) numbers
 
+-- a message as text: its label and its words
 abbrev pub message_text : Message → List ℕ
 message_text m = codes "label " ++ (decimal m.label ++ (codes " words" ++ numbers_text (take m.count m.words)))
 
+-- a capability as text
 abbrev pub cap_text : Cap → List ℕ
 cap_text Null = codes "null"
 cap_text (Untyped base bits free) =
@@ -51,6 +54,7 @@ cap_text (Tcb base) = codes "tcb " ++ decimal base
 abbrev pub refusal_text : Refusal → List ℕ
 refusal_text r = decimal (refusal_code r) ++ (if refusal_kind r == 0 then [] else codes "/" ++ decimal (refusal_kind r))
 
+-- a reply as text
 abbrev pub reply_text : Reply → List ℕ
 reply_text Done = codes "done"
 reply_text Waiting = codes "waiting"
@@ -76,6 +80,7 @@ expectation_text (Some expected) text =
 
 -- ---- threads
 
+-- what a thread does, as text
 abbrev pub state_text : ThreadState → List ℕ
 state_text Ready = codes "ready"
 state_text Inactive = codes "inactive"

@@ -21,6 +21,7 @@ use Rattle.setup_values.specs.Operations.{op_named}
 
 -- ---- the number of what is wrong with a value or at its key
 
+-- the number of what is wrong at a key
 abbrev pub wrong_code : Wrong → ℕ
 wrong_code Unknown = 201
 wrong_code Missing = 202
@@ -49,6 +50,7 @@ number_in low high None = Err OtherType
 number_in low high (Some (negsuc n)) = Err OtherValue
 number_in low high (Some (pos n)) = if between low high n then Ok n else Err OtherValue
 
+-- a number within bounds
 abbrev pub number : ℕ → ℕ → Data → Result ℕ Wrong
 number low high d = number_in low high (as_integer d)
 
@@ -90,16 +92,19 @@ natural_in names None None = Err OtherType
 abbrev pub natural : Names → Data → Result ℕ Wrong
 natural names d = natural_in names (as_integer d) (as_str d)
 
+-- a word: a number, or a name that is one
 abbrev pub word : ProfileName → Names → Data → Result ℕ Wrong
 word p names d = natural names d >>= below (2 ^ word_bits p)
 
 -- ---- label: a word below 2^label bits; it takes no name
 
+-- the label of a message
 abbrev pub label : ProfileName → Data → Result ℕ Wrong
 label p d = word p [] d >>= below (2 ^ label_bits p)
 
 -- ---- rights: a number whose bits are rights
 
+-- rights, given as a number
 abbrev pub rights : Data → Result Rights Wrong
 rights d = number 0 all_rights.0 d >>= λ n. Ok (record { 0 = n })
 
@@ -113,6 +118,7 @@ abbrev pub item_list : Items → List Data
 item_list no_items = []
 item_list (item d ds) = d ∷ item_list ds
 
+-- the elements of an array of so many
 abbrev pub array_in : ℕ → ℕ → Option Items → Result (List Data) Wrong
 array_in low high None = Err OtherType
 array_in low high (Some ds) = if between low high (length (item_list ds)) then Ok (item_list ds) else Err OtherValue
@@ -121,6 +127,7 @@ array_in low high (Some ds) = if between low high (length (item_list ds)) then O
 abbrev pub filled : List ℕ → Words
 filled ws = record { words = ws ++ replicate (max_message_words - length ws) 0; count = length ws }
 
+-- the words of a message
 abbrev pub words : ProfileName → Names → Data → Result Words Wrong
 words p names d = array_in 0 max_message_words (as_array d) >>= each (λ _. word p names) 0 >>= λ ws. Ok (filled ws)
 
@@ -165,6 +172,7 @@ abbrev pub expect_in : Option (List ℕ) → Result (Option (List ℕ)) Wrong
 expect_in None = Err OtherType
 expect_in (Some t) = if between 1 max_expect_bytes (length t) && list_all (between 32 126) t then Ok (Some t) else Err OtherValue
 
+-- the text that a reply is expected to have
 abbrev pub expect : Data → Result (Option (List ℕ)) Wrong
 expect d = expect_in (as_str d)
 
@@ -176,6 +184,7 @@ profile_in (Some t) =
     else if bytes_eq t (codes "narrow") then Ok Narrow
     else Err OtherValue
 
+-- the profile that a text names
 abbrev pub profile : Data → Result ProfileName Wrong
 profile d = profile_in (as_str d)
 
@@ -184,5 +193,6 @@ abbrev pub op_in : Option (List ℕ) → Result OpName Wrong
 op_in None = Err OtherType
 op_in (Some t) = or_other (op_named t)
 
+-- the operation that a text names
 abbrev pub op : Data → Result OpName Wrong
 op d = op_in (as_str d)

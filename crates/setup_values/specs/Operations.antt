@@ -4,6 +4,7 @@ use Rattle.std.specs.Str.{bytes_eq}
 use Rattle.setup_values.specs.declared.operations.OpName.{OpName}
 use Rattle.setup_values.specs.declared.operations.OpName.TheVariants.{Retype, CapCopy, CapMint, CapMove, CapMutate, CapDelete, CapRevoke, CancelBadged, Send, NbSend, Recv, NbRecv, SetSpace, Suspend, Resume}
 
+-- the text that names an operation
 abbrev pub op_text : OpName → List ℕ
 op_text Retype = codes "retype"
 op_text CapCopy = codes "copy"

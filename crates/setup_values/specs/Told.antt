@@ -5,6 +5,7 @@ use Rattle.cap_core.specs.declared.profile.ProfileName.{ProfileName}
 use Rattle.cap_core.specs.declared.profile.ProfileName.TheVariants.{Wide, Narrow}
 use Rattle.setup_values.specs.Names.{Names}
 
+-- the name of a profile
 abbrev pub profile_text : ProfileName → List ℕ
 profile_text Wide = codes "wide"
 profile_text Narrow = codes "narrow"

@@ -22,21 +22,27 @@ is_filled p slot f = is_full (address_of p slot) f
 abbrev pub newest_child : ProfileName → Slot → Forest Entry → Option ℕ
 newest_child p slot f = first_child (address_of p slot) f
 
+-- the edit `rooted` of a forest, at the address of a slot
 abbrev pub rooted_at : ProfileName → Slot → Cap → Forest Entry → Forest Entry
 rooted_at p slot cap f = rooted (address_of p slot) cap f
 
+-- the edit `retyped` of a forest, at the addresses of slots
 abbrev pub retyped_at : ProfileName → Slot → Slot → Cap → Forest Entry → Forest Entry
 retyped_at p parent slot cap f = retyped (address_of p parent) (address_of p slot) cap f
 
+-- the edit `derived` of a forest, at the addresses of slots
 abbrev pub derived_at : ProfileName → Slot → Slot → Cap → Forest Entry → Forest Entry
 derived_at p source slot cap f = derived (address_of p source) (address_of p slot) cap f
 
+-- the edit `moved` of a forest, at the addresses of slots
 abbrev pub moved_at : ProfileName → Slot → Slot → Cap → Forest Entry → Forest Entry
 moved_at p source slot cap f = moved (address_of p source) (address_of p slot) cap f
 
+-- the edit `freed` of a forest, at the address of a slot
 abbrev pub freed_at : ProfileName → Slot → ℕ → Forest Entry → Forest Entry
 freed_at p slot free f = freed (address_of p slot) free f
 
+-- the edit `emptied` of a forest, at the address of a slot
 abbrev pub emptied_at : ProfileName → Slot → Forest Entry → Forest Entry
 emptied_at p slot f = emptied (address_of p slot) f
 

@@ -109,6 +109,7 @@ apart_at e (r ∷ rows) differ = either (r.endpoint == e) (lacks_at e (row_threa
     either true k h = (k, h)
     either false k h = h
 
+-- by the rows of waiting threads, roles and queues agree
 pub rows_agree : (rows : List WaitRow) → AreDistinct rows → AreAlike (waits_of rows) → AreRolesAndQueues (waits_of rows)
 rows_agree rows distinct alike = record {
   queued = λ e. queued_from rows e rows (found rows (differ rows distinct));

@@ -61,5 +61,6 @@ module _ (l : Links) where
     alike = alike;
   }
 
+-- by the linked tables of waiting threads, roles and queues agree
 pub tables_agree : (p : ProfileName) (tables : Tables) → IsLinked p tables → AreAlike (waits_in p tables) → AreRolesAndQueues (waits_in p tables)
 tables_agree p tables linked alike = linked_agree _ _ _ _ linked alike

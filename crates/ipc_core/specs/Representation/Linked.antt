@@ -106,6 +106,7 @@ pub record AreLinked (size n : ℕ) (l : Links) (orders : ℕ → List ℕ) : Ty
 abbrev pub orders_in : ProfileName → Tables → ℕ → List ℕ
 orders_in p tables = order_of (length tables.threads.items) (links_of p tables)
 
+-- who waits where, by the linked tables
 abbrev pub waits_in : ProfileName → Tables → Waits
 waits_in p tables = waits_by (links_of p tables) (orders_in p tables)
 

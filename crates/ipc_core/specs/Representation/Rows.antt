@@ -22,6 +22,7 @@ is_of thread row = row_thread row == thread
 abbrev pub waiting_at : List WaitRow → ℕ → List Waiter
 waiting_at rows e = map (λ (row : WaitRow). row.waiter) (filter (is_at e) rows)
 
+-- who waits where, by the rows
 abbrev pub waits_of : List WaitRow → Waits
 waits_of rows = record { queue = waiting_at rows; role = λ t. option_map row_role (find (is_of t) rows) }
 

@@ -42,5 +42,6 @@ pub unspelled-spelled : {A : Type 0} (f : Forest A) → unspelled (spelled f) �
 unspelled-spelled f =
     ap (λ l. top_of (piled l)) (sym (append-nil (spelled f))) ∙ ap top_of (piled-spelled f [] none [] refl) ∙ join-none f
 
+-- a forest as a code, by its preorder
 abbrev pub coded_forest : {A : Type 0} → Coded A → Coded (Forest A)
 coded_forest {A} c = code_by (List (Option A)) (coded_list (coded_option c)) spelled unspelled unspelled-spelled
