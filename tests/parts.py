@@ -1,11 +1,12 @@
 #!/usr/bin/env python3
 """parts.py PROGRAM FOLDER [COUNT]: random calls break nothing that `audit --never` calls excluded.
 
-Each layout NAME.toml of the FOLDER is asked, for each two of its threads, whether the one's part is kept from the other's, where the
-threads that its NAME.args trusts make no more calls. Then COUNT lists of random calls (20 where no number is given) are made behind
-it: of threads in parts by any operation, and sends and receives of the trusted threads, which change no slot. By the report of `check`
-no message of an excluded pair may have been delivered, and no slot of the one's part may hold a capability to an object that has a byte
-in the other's. Between pairs that are not excluded it has to happen somewhere.
+Each layout NAME.toml of the FOLDER is asked, for each two of its threads, whether the one's part is kept from the other's, once with
+the threads that its NAME.args trusts as `--without`, and once with the same threads as `--messages`. Then COUNT lists of random calls
+(20 where no number is given) are made behind it: of threads in parts by any operation, and with `--messages` also sends and receives
+of the trusted threads. By the report of `check` no message of an excluded pair may have been delivered, and no slot of the one's part
+may hold a capability to an object that has a byte in the other's. The first list is also looked at with a pair's answer turned round:
+somewhere that has to show.
 """
 import pathlib
 import random
@@ -92,32 +93,32 @@ def broken(report, made, memory, pair, narrow):
                 yield line
 
 
-def tried(program, layout, who, count):
+def tried(program, layout, how, who, count):
     """Looks at one layout with its trusted threads, and yields what is broken; also how much there was to look at."""
     text = layout.read_text()
-    trust = ["--without", who] if who else []
+    trust = [f"--{how}", who] if who else []
     ever = run(program, ["audit", "--ever", *trust, "-"], text)
     if not ever.startswith("ever "):
         return
     threads, memory = parts_of(ever)
     narrow = " narrow " in ever.splitlines()[0]
     made = int(re.search(r" after (\d+)", ever)[1])
-    free = [int(word) for word in re.findall(r"^without (\d+)", ever, re.M) if int(word) not in threads]
+    free = [int(word) for word in re.findall(rf"^{how} (\d+)", ever, re.M) if int(word) not in threads]
     answers = {}
     for one in threads:
         for other in threads:
             if one != other:
                 answers[threads[one], threads[other]] = " excluded" in run(program, ["audit", "--never", f"{one},{other}", *trust, "-"], text)
     for seed in range(count):
-        chance = random.Random(f"{layout.name} {seed}")
+        chance = random.Random(f"{layout.name} {how} {seed}")
         calls = ""
         for _ in range(CALLS):
-            passes = free and chance.random() < 0.3
+            passes = how == "messages" and free and chance.random() < 0.3
             calls += random_call(chance, chance.choice(free), MESSAGES) if passes else \
                 random_call(chance, chance.choice(list(threads)), MESSAGES if chance.random() < 0.5 else OTHERS)
         report = run(program, ["check", "-"], text + "\n" + calls)
         for pair, excluded in answers.items():
-            yield excluded, [f"{layout.name} {seed}: part {pair[0]} -> {pair[1]}: {line}" for line in broken(report, made, memory, pair, narrow)]
+            yield excluded, [f"{layout.name} --{how} {seed}: part {pair[0]} -> {pair[1]}: {line}" for line in broken(report, made, memory, pair, narrow)]
 
 
 def main():
@@ -130,10 +131,11 @@ def main():
         who, after = trusted_by(args)
         if after:
             continue
-        for excluded, wrong in tried(program, layout, who, count):
-            looked += excluded
-            seen += bool(wrong) and not excluded
-            faults += wrong if excluded else []
+        for how in ("without", "messages") if who else ("without",):
+            for excluded, wrong in tried(program, layout, how, who, count):
+                looked += excluded
+                seen += bool(wrong) and not excluded
+                faults += wrong if excluded else []
     for fault in faults[:20]:
         print(fault)
     print(f"{looked} excluded pairs behind random calls, {len(faults)} broken; {seen} pairs that are not excluded, in which it happened")

@@ -11,6 +11,7 @@ _sel4sim() {
         --after) COMPREPLY=($(compgen -W '' -- "$word")); return ;;
         --slot) COMPREPLY=($(compgen -W '' -- "$word")); return ;;
         --without) COMPREPLY=($(compgen -W '' -- "$word")); return ;;
+        --messages) COMPREPLY=($(compgen -W '' -- "$word")); return ;;
         --never) COMPREPLY=($(compgen -W '' -- "$word")); return ;;
         --by) COMPREPLY=($(compgen -W '' -- "$word")); return ;;
         --states) COMPREPLY=($(compgen -W '' -- "$word")); return ;;
@@ -46,7 +47,7 @@ _sel4sim() {
             [[ $word == -* ]] || mapfile -t -O "${#COMPREPLY[@]}" COMPREPLY < <(compgen -f -- "$word")
             ;;
         audit)
-            COMPREPLY=($(compgen -W '--after --slot --ever --without --never --by -h --help' -- "$word"))
+            COMPREPLY=($(compgen -W '--after --slot --ever --without --messages --never --by -h --help' -- "$word"))
             [[ $word == -* ]] || mapfile -t -O "${#COMPREPLY[@]}" COMPREPLY < <(compgen -f -- "$word")
             ;;
         explore)

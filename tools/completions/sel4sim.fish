@@ -25,6 +25,7 @@ complete -c sel4sim -n '__fish_seen_subcommand_from audit' -l after -x -a '' -d 
 complete -c sel4sim -n '__fish_seen_subcommand_from audit' -l slot -x -a '' -d 'Tell what a revoke of the slot at N would change'
 complete -c sel4sim -n '__fish_seen_subcommand_from audit' -l ever -d 'Tell what the threads can never get, whatever they call'
 complete -c sel4sim -n '__fish_seen_subcommand_from audit' -l without -x -a '' -d 'With --ever or --never: these threads, with commas between them, make no more calls'
+complete -c sel4sim -n '__fish_seen_subcommand_from audit' -l messages -x -a '' -d 'With --ever or --never: these threads go on to send and receive, and do nothing else'
 complete -c sel4sim -n '__fish_seen_subcommand_from audit' -l never -x -a '' -d 'Tell whether FROM'\''s part can never get what TO'\''s part has, nor send to it'
 complete -c sel4sim -n '__fish_seen_subcommand_from audit' -l by -x -a '' -d 'With --never: but by these endpoints, with commas between them'
 complete -c sel4sim -n '__fish_seen_subcommand_from audit' -s h -l help -d 'Print help'

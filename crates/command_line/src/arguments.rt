@@ -45,6 +45,9 @@ pub struct Options<'a> {
     /// `--without` of `audit --ever` and `audit --never`: the threads that are trusted to make no more calls, with commas
     /// between them.
     pub without: Option<&'a str>,
+    /// `--messages` of `audit --ever` and `audit --never`: the threads that are trusted to go on to send and receive, and to do
+    /// nothing else, with commas between them.
+    pub messages: Option<&'a str>,
     /// `--first` of `explore` and `threads`: how many calls are made before the clients begin.
     pub first: Option<u64>,
     /// `--states` of `explore`: the most states that are kept.

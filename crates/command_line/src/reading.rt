@@ -52,6 +52,8 @@ const SLOT_WITH_PARTS: &str = "--slot goes neither with --ever nor with --never"
 
 const WITHOUT_ALONE: &str = "--without goes with --ever or --never alone";
 
+const MESSAGES_ALONE: &str = "--messages goes with --ever or --never alone";
+
 const BY_ALONE: &str = "--by goes with --never alone";
 
 /// What is said where standard input is named twice.
@@ -167,13 +169,20 @@ fn why<'a>(alloc: Global) -> Result<Command<'a>, AllocError>
     and_argument(with_file(alloc, "why", about), call)
 }
 
-/// The options of `audit` by which one thread's part is asked to be kept from another's.
+/// The options of `audit` by which threads are trusted to pass messages, and one thread's part is asked to be kept from another's.
 fn and_never<'a>(
     alloc: Global,
     command: Result<Command<'a>, AllocError>,
 ) -> Result<Command<'a>, AllocError>
-    ensures { Extends (λ app. with_rule (with_rule app (text_rule (codes "never"))) (text_rule (codes "by"))) command.entry result }
+    ensures { Extends (λ app. with_rule (with_rule (with_rule app (text_rule (codes "messages"))) (text_rule (codes "never"))) (text_rule (codes "by"))) command.entry result }
 {
+    let messages = text(
+        alloc,
+        "messages",
+        "WHO",
+        "With --ever or --never: these threads go on to send and receive, and do nothing else",
+    );
+    let with_messages = and_argument(command, messages);
     let never = text(
         alloc,
         "never",
@@ -186,7 +195,7 @@ fn and_never<'a>(
         "E",
         "With --never: but by these endpoints, with commas between them",
     );
-    and_argument(and_argument(command, never), by)
+    and_argument(and_argument(with_messages, never), by)
 }
 
 /// The subcommand `audit`.
@@ -376,6 +385,7 @@ fn options_in<'a>(matches: &ArgMatches<'a>) -> Options<'a>
         never: text_given(matches, "never"),
         by: text_given(matches, "by"),
         without: text_given(matches, "without"),
+        messages: text_given(matches, "messages"),
         first: number_given(matches, "first"),
         states: number_given(matches, "states"),
         witness: text_given(matches, "witness"),
@@ -446,6 +456,7 @@ fn bare_line<'a>(alloc: Global, matches: &ArgMatches<'a>) -> Result<Line<'a>, Al
             never: None,
             by: None,
             without: None,
+            messages: None,
             first: None,
             states: None,
             witness: None,
@@ -527,6 +538,8 @@ fn conflict_of(options: &Options) -> Option<&'static str>
         Some(SLOT_WITH_PARTS)
     } else if !is_of_parts && options.without.is_some() {
         Some(WITHOUT_ALONE)
+    } else if !is_of_parts && options.messages.is_some() {
+        Some(MESSAGES_ALONE)
     } else if options.never.is_none() && options.by.is_some() {
         Some(BY_ALONE)
     } else {

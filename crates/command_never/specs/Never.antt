@@ -8,7 +8,11 @@ use Rattle.setup_values.specs.Names.{Names}
 use Rattle.setup_format.specs.Views.{SetupView}
 use Rattle.command_never_text.specs.declared.never.Never.{Never}
 use Rattle.command_never_text.specs.declared.never.Never.TheVariants.{Excluded, Possible}
-use Rattle.command_parts.specs.Threads.{thread_meant, are_meant, trusted}
+use Rattle.kernel_abstract.specs.Plan.{Plan}
+use Rattle.setup_objects.specs.declared.meant.ObjectKind.TheVariants.{Thread, Endpoint}
+use Rattle.setup_objects.specs.Meant.{object_meant, are_meant}
+use Rattle.command_parts.specs.Behind.{refused_behind}
+use Rattle.command_parts.specs.Threads.{Trusted, trusted_by, are_trusted, named}
 use Rattle.command_never_text.specs.Open.{IsNeverOf}
 use Rattle.command_core.specs.declared.fault.Verdict.{Verdict}
 use Rattle.command_core.specs.declared.fault.Verdict.TheVariants.{AllMet, NotMet, Absent}
@@ -16,7 +20,7 @@ use Rattle.command_never.specs.declared.asking.Question.{Question}
 
 -- what is asked: which threads are trusted, of which two threads, and but by which endpoints
 pub record Asked : Type 0 where
-  pub without : List (List ℕ)
+  pub trust : Trusted
   pub from : List ℕ
   pub to : List ℕ
   pub by : List (List ℕ)
@@ -24,7 +28,7 @@ pub record Asked : Type 0 where
 -- a question, with its words as lists of characters
 abbrev pub asked_of : Question → Asked
 asked_of q = record {
-  without = map (λ (w : Bor (List ℕ)). w.now) q.without.now;
+  trust = trusted_by q.trust;
   from = q.from.now;
   to = q.to.now;
   by = map (λ (w : Bor (List ℕ)). w.now) q.by.now;
@@ -43,26 +47,31 @@ abbrev pub are_live : Shown → ℕ → ℕ → Bool
 are_live v from to = is_some (state_at v from) && is_some (state_at v to)
 
 -- the text of an answer of what is shown, and its verdict
-abbrev pub IsAnsweredOf : ProfileName → Names → List ℕ → Shown → List ℕ → ℕ → ℕ → List ℕ → Verdict → Type 0
-IsAnsweredOf p names without v by from to text verdict =
+abbrev pub IsAnsweredOf : ProfileName → Names → SetupView → ℕ → ℕ → List ℕ → List ℕ → Shown → List ℕ → ℕ → ℕ → List ℕ → Verdict → Type 0
+IsAnsweredOf p names setup made refused without messages v by from to text verdict =
     MatchBool (are_live v from to)
-    ((answer : Never) × (IsNeverOf p names without v by from to text answer × (verdict ≡ verdict_of answer)))
+    ((answer : Never) × (IsNeverOf p names setup made refused without messages v by from to text answer × (verdict ≡ verdict_of answer)))
     (IsAbsent text verdict)
 
--- of two threads, where each text means one
-abbrev pub IsAnswered : ProfileName → Names → Shown → Asked → Option ℕ → Option ℕ → List ℕ → Verdict → Type 0
-IsAnswered p names v asked None to text verdict = IsAbsent text verdict
-IsAnswered p names v asked (Some from) None text verdict = IsAbsent text verdict
-IsAnswered p names v asked (Some from) (Some to) text verdict =
-    IsAnsweredOf p names (trusted names asked.without) v (trusted names asked.by) from to text verdict
+-- of two threads, where each text stands for one
+abbrev pub IsAnswered : ProfileName → Names → SetupView → ℕ → ℕ → Shown → Asked → Option ℕ → Option ℕ → List ℕ → Verdict → Type 0
+IsAnswered p names setup made refused v asked None to text verdict = IsAbsent text verdict
+IsAnswered p names setup made refused v asked (Some from) None text verdict = IsAbsent text verdict
+IsAnswered p names setup made refused v asked (Some from) (Some to) text verdict =
+    IsAnsweredOf p names setup made refused (named Thread p names setup.plan v asked.trust.without) (named Thread p names setup.plan v asked.trust.messages) v
+    (named Endpoint p names setup.plan v asked.by) from to text verdict
 
--- each text for a trusted thread and for an endpoint means an address
-abbrev pub has_asked : Names → Asked → Bool
-has_asked names asked = are_meant names asked.without && are_meant names asked.by
+-- each text for a trusted thread stands for a thread, and each for an endpoint that is allowed for an endpoint
+abbrev pub has_asked : ProfileName → Names → Plan → Shown → Asked → Bool
+has_asked p names plan v asked = are_trusted p names plan v asked.trust && are_meant Endpoint p names plan v asked.by
 
--- the text and the verdict of a state: nothing, where a word means none
+-- the text and the verdict of what is shown, where so many calls were refused: nothing, where a word stands for nothing
+abbrev pub IsNeverBy : Asked → ProfileName → Names → SetupView → ℕ → ℕ → Shown → List ℕ → Verdict → Type 0
+IsNeverBy asked p names setup made refused v text verdict =
+    MatchBool (has_asked p names setup.plan v asked)
+    (IsAnswered p names setup made refused v asked (object_meant Thread p names setup.plan v asked.from) (object_meant Thread p names setup.plan v asked.to) text verdict)
+    (IsAbsent text verdict)
+
+-- the same of the state behind the first calls
 abbrev pub IsNever : Asked → ProfileName → Names → SetupView → ℕ → State → List ℕ → Verdict → Type 0
-IsNever asked p names setup made A text verdict =
-    MatchBool (has_asked names asked)
-    (IsAnswered p names (shown A) asked (thread_meant names asked.from) (thread_meant names asked.to) text verdict)
-    (IsAbsent text verdict)
+IsNever asked p names setup made A text verdict = IsNeverBy asked p names setup made (refused_behind p setup made) (shown A) text verdict

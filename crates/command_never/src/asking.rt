@@ -1,37 +1,43 @@
 //! Whether one thread's part is kept from another's, as the answer of a command.
-ghost use Rattle.std.specs.Prelude.{◌≡◌, ℕ, IfOk};
+ghost use Rattle.std.specs.Prelude.{◌≡◌, ℕ, [], IfOk, true};
 ghost use Rattle.kernel_abstract.specs.Memory.{IsInMemory};
+ghost use Rattle.kernel_abstract.specs.Plan.{IsWithinLimits};
 ghost use Rattle.setup_values.specs.Names.{names_view};
+ghost use Rattle.setup_objects.specs.declared.meant.ObjectKind.TheVariants as objects;
+ghost use Rattle.setup_objects.specs.Meant as words;
 ghost use Rattle.command_parts.specs.Threads as meant;
 ghost use Rattle.command_never.specs.Never as spec;
 
 use cap_core::Profile;
-use command_check::StateCommand;
+use command_check::Command;
 use command_core::{Answer, Verdict};
 use command_never_text::{Never, never_gets};
-use command_parts::{are_meant, thread_meant, trusted};
+use command_parts::{Heading, Trust, kernel_behind, named};
 use ipc_core::{MakeWaiters, Waiters};
 use kernel_core::Kernel;
 use query_parts::PartsFault;
-use setup_format::Setup;
+use setup_format::{ReadSetup, Setup};
+use setup_objects::{ObjectKind, absent_object, are_meant, object_meant};
+use setup_report::calls_made;
 use setup_values::Name;
 use slot_core::{CapStore, DerivationStore, MakeStore};
 use std::alloc::{AllocError, Global};
 
-/// What is asked: which threads are trusted to make no more calls; whether the part of the thread `from` is kept from that of the
-/// thread `to`, but by the endpoints `by`. Each thread and each endpoint is given by its address or by a name of the set-up, also
-/// behind a `@`.
+/// What is asked behind the first `after` calls of a set-up, or behind all: which threads are trusted; whether the part of the thread
+/// `from` is kept from that of the thread `to`, but by the endpoints `by`. Each thread and each endpoint is given by its address, by
+/// its name, or by a slot of the root CNode (`object_meant`).
 ///
 /// The verdict is `AllMet` where it is excluded that the one part ever gets a capability to an object that has bytes in the
 /// other's memory, or that a message of it is ever delivered there, but by the endpoints that are named; `NotMet` where that
-/// is not excluded; or `Absent` with nothing written: where a word is neither a number nor a name, and where no thread is live
-/// at `from` or at `to`.
+/// is not excluded; or `Absent` with nothing written: where the set-up has fewer calls, where a word stands for nothing of its kind,
+/// and where no thread is live at `from` or at `to`.
 #[derive(Clone, Copy, Drop)]
 pub struct Question<'a> {
-    pub without: &'a [&'a str],
+    pub trust: Trust<'a>,
     pub from: &'a str,
     pub to: &'a str,
     pub by: &'a [&'a str],
+    pub after: Option<u64>,
 }
 
 fn verdict_of(answer: Never) -> Verdict
@@ -54,83 +60,204 @@ fn are_live<P: Profile, S: CapStore<P> + Drop, W: Waiters<P> + Drop>(
     kernel.thread_state(from).is_some() && kernel.thread_state(to).is_some()
 }
 
-impl Question<'_> {
-    /// The text and the verdict of a kernel's state.
-    fn answer_of<P: Profile, S: DerivationStore<P> + Drop, W: Waiters<P> + Drop>(
-        &self,
-        alloc: Global,
-        names: &[Name],
-        kernel: &Kernel<P, S, W>,
-        from: u64,
-        to: u64,
-    ) -> Result<Answer, AllocError>
-        requires { (memory : ℕ) × IsInMemory P.profile memory kernel.now }
-        ensures { IfOk result (λ made. spec.IsAnsweredOf P.profile (names_view names.now) (meant.trusted (names_view names.now) (spec.asked_of self.now).without)
-            kernel.now (meant.trusted (names_view names.now) (spec.asked_of self.now).by) from to made.text.items made.verdict) }
-    {
-        if !are_live::<P, S, W>(kernel, from, to) {
-            return Ok(Answer::new(alloc, Vec::new(alloc), Verdict::Absent));
-        }
-        let without = trusted(alloc, names, self.without)?;
-        let by = trusted(alloc, names, self.by)?;
-        match never_gets::<P, S, W>(
-            alloc,
-            names,
-            without.as_slice(),
-            from,
-            to,
-            by.as_slice(),
-            kernel,
-        ) {
-            Ok((text, answer)) => Ok(Answer::new(alloc, text, verdict_of(answer))),
-            Err(PartsFault::Memory) => Err(AllocError),
-            Err(PartsFault::Block) => unreachable!(),
-        }
-    }
-
-    /// The same, where each of the words for the two threads means one.
-    fn answer_meant<P: Profile, S: DerivationStore<P> + Drop, W: Waiters<P> + Drop>(
-        &self,
-        alloc: Global,
-        names: &[Name],
-        kernel: &Kernel<P, S, W>,
-    ) -> Result<Answer, AllocError>
-        requires { (memory : ℕ) × IsInMemory P.profile memory kernel.now }
-        ensures { IfOk result (λ made. spec.IsAnswered P.profile (names_view names.now) kernel.now (spec.asked_of self.now)
-            (meant.thread_meant (names_view names.now) self.now.from.now) (meant.thread_meant (names_view names.now) self.now.to.now) made.text.items made.verdict) }
-    {
-        let from = thread_meant(names, self.from.as_bytes());
-        let to = thread_meant(names, self.to.as_bytes());
-        match (from, to) {
-            (Some(from), Some(to)) => self.answer_of::<P, S, W>(alloc, names, kernel, from, to),
-            _ => Ok(Answer::new(alloc, Vec::new(alloc), Verdict::Absent)),
-        }
-    }
-
-    /// Whether each of the words for trusted threads and for endpoints means an address.
-    fn has_asked(&self, names: &[Name]) -> bool
-        ensures { result ≡ spec.has_asked (names_view names.now) (spec.asked_of self.now) }
-    {
-        are_meant(names, self.without) && are_meant(names, self.by)
+/// The answer of two live threads, which stands in the heading's set-up.
+fn answer_between<P: Profile, S: DerivationStore<P> + Drop, W: Waiters<P> + Drop>(
+    alloc: Global,
+    names: &[Name],
+    heading: &Heading<'_>,
+    from: u64,
+    to: u64,
+    by: &[u64],
+    kernel: &Kernel<P, S, W>,
+) -> Result<Answer, AllocError>
+    requires live { spec.are_live kernel.now from to ≡ true }
+    requires memory { (memory : ℕ) × IsInMemory P.profile memory kernel.now }
+    ensures { IfOk result (λ made. spec.IsAnsweredOf P.profile (names_view names.now) heading.now.setup.now heading.now.made heading.now.refused
+        heading.now.without.now heading.now.messages.now kernel.now by.now from to made.text.items made.verdict) }
+{
+    match never_gets::<P, S, W>(alloc, names, heading, from, to, by, kernel) {
+        Ok((text, answer)) => Ok(Answer::new(alloc, text, verdict_of(answer))),
+        Err(PartsFault::Memory) => Err(AllocError),
+        Err(PartsFault::Block) => unreachable!(),
     }
 }
 
-impl StateCommand for Question<'_> {
-    ghost use Rattle.command_never.specs.Never.{IsNever, asked_of};
+/// An answer of which a text is told, where there is one: nothing is written.
+fn absent_answer(alloc: Global, absent: String) -> Answer
+    ensures text { result.text.items ≡ [] }
+    ensures verdict { result.verdict ≡ Verdict.Absent }
+{
+    if absent.is_empty() {
+        Answer::new(alloc, Vec::new(alloc), Verdict::Absent)
+    } else {
+        Answer::absent(alloc, absent)
+    }
+}
 
-    ghost answers = { λ question. IsNever (asked_of question) };
-
-    fn answer<P: Profile, S: MakeStore<P> + DerivationStore<P>, W: MakeWaiters<P>>(
+impl Question<'_> {
+    /// The text and the verdict of a kernel's state, for two threads.
+    fn answer_of<P: Profile, S: DerivationStore<P> + Drop, W: Waiters<P> + Drop>(
         &self,
         alloc: Global,
         names: &[Name],
         setup: &Setup,
         made: usize,
+        refused: usize,
         kernel: &Kernel<P, S, W>,
-    ) -> Result<Answer, AllocError> {
-        if !self.has_asked(names) {
-            return Ok(Answer::new(alloc, Vec::new(alloc), Verdict::Absent));
+        from: u64,
+        to: u64,
+    ) -> Result<Answer, AllocError>
+        requires limits { IsWithinLimits P.profile setup.now.plan }
+        requires memory { (memory : ℕ) × IsInMemory P.profile memory kernel.now }
+        ensures { IfOk result (λ answer. spec.IsAnsweredOf P.profile (names_view names.now) setup.now made refused
+            (meant.named objects.Thread P.profile (names_view names.now) setup.now.plan kernel.now (spec.asked_of self.now).trust.without)
+            (meant.named objects.Thread P.profile (names_view names.now) setup.now.plan kernel.now (spec.asked_of self.now).trust.messages)
+            kernel.now (meant.named objects.Endpoint P.profile (names_view names.now) setup.now.plan kernel.now (spec.asked_of self.now).by)
+            from to answer.text.items answer.verdict) }
+    {
+        if !are_live::<P, S, W>(kernel, from, to) {
+            let absent = self.no_thread::<P, S, W>(alloc, kernel, from)?;
+            return Ok(Answer::absent(alloc, absent));
         }
-        self.answer_meant::<P, S, W>(alloc, names, kernel)
+        let Trust { without, messages } = self.trust;
+        let without = named::<P, S, W>(alloc, names, setup, kernel, ObjectKind::Thread, without)?;
+        let messages = named::<P, S, W>(alloc, names, setup, kernel, ObjectKind::Thread, messages)?;
+        let by = named::<P, S, W>(alloc, names, setup, kernel, ObjectKind::Endpoint, self.by)?;
+        let heading = Heading {
+            setup,
+            made,
+            refused,
+            without: without.as_slice(),
+            messages: messages.as_slice(),
+        };
+        let by = by.as_slice();
+        answer_between::<P, S, W>(alloc, names, &heading, from, to, by, kernel)
+    }
+
+    /// What is told where no thread is live at one of the two addresses.
+    fn no_thread<P: Profile, S: CapStore<P> + Drop, W: Waiters<P> + Drop>(
+        &self,
+        alloc: Global,
+        kernel: &Kernel<P, S, W>,
+        from: u64,
+    ) -> Result<String, AllocError> {
+        let is_first = kernel.thread_state(from).is_none();
+        let word = if is_first { self.from } else { self.to };
+        format!(in alloc; "--never {word}: no thread is live there")
+    }
+
+    /// The same, where each of the words for the two threads stands for one.
+    fn answer_meant<P: Profile, S: DerivationStore<P> + Drop, W: Waiters<P> + Drop>(
+        &self,
+        alloc: Global,
+        names: &[Name],
+        setup: &Setup,
+        made: usize,
+        refused: usize,
+        kernel: &Kernel<P, S, W>,
+    ) -> Result<Answer, AllocError>
+        requires limits { IsWithinLimits P.profile setup.now.plan }
+        requires memory { (memory : ℕ) × IsInMemory P.profile memory kernel.now }
+        ensures { IfOk result (λ answer. spec.IsAnswered P.profile (names_view names.now) setup.now made refused kernel.now (spec.asked_of self.now)
+            (words.object_meant objects.Thread P.profile (names_view names.now) setup.now.plan kernel.now self.now.from.now)
+            (words.object_meant objects.Thread P.profile (names_view names.now) setup.now.plan kernel.now self.now.to.now) answer.text.items answer.verdict) }
+    {
+        let kind = ObjectKind::Thread;
+        let from = object_meant::<P, S, W>(names, setup, kernel, kind, self.from.as_bytes());
+        let to = object_meant::<P, S, W>(names, setup, kernel, kind, self.to.as_bytes());
+        match (from, to) {
+            (Some(from), Some(to)) => {
+                self.answer_of::<P, S, W>(alloc, names, setup, made, refused, kernel, from, to)
+            }
+            _ => {
+                let absent = self.absent::<P, S, W>(alloc, names, setup, kernel)?;
+                Ok(absent_answer(alloc, absent))
+            }
+        }
+    }
+
+    /// Whether each of the words for trusted threads stands for a thread, and each for an allowed endpoint for an endpoint.
+    fn has_asked<P: Profile, S: CapStore<P> + Drop, W: Waiters<P> + Drop>(
+        &self,
+        names: &[Name],
+        setup: &Setup,
+        kernel: &Kernel<P, S, W>,
+    ) -> bool
+        requires { IsWithinLimits P.profile setup.now.plan }
+        ensures { result ≡ spec.has_asked P.profile (names_view names.now) setup.now.plan kernel.now (spec.asked_of self.now) }
+    {
+        self.trust.is_meant::<P, S, W>(names, setup, kernel)
+            && are_meant::<P, S, W>(names, setup, kernel, ObjectKind::Endpoint, self.by)
+    }
+
+    /// What is told of the first word that stands for nothing of its kind; nothing where there are not two threads.
+    fn absent<P: Profile, S: CapStore<P> + Drop, W: Waiters<P> + Drop>(
+        &self,
+        alloc: Global,
+        names: &[Name],
+        setup: &Setup,
+        kernel: &Kernel<P, S, W>,
+    ) -> Result<String, AllocError>
+        requires { IsWithinLimits P.profile setup.now.plan }
+    {
+        let trust = self.trust.absent::<P, S, W>(alloc, names, setup, kernel)?;
+        if !trust.is_empty() {
+            return Ok(trust);
+        }
+        let (kind, words) = (ObjectKind::Endpoint, self.by);
+        if let Some(text) = absent_object::<P, S, W>(
+            alloc, names, setup, kernel, kind, "--by", words,
+        )? {
+            return Ok(text);
+        }
+        if self.to.is_empty() || self.to.contains(',') {
+            return Ok(String::new(alloc));
+        }
+        let (kind, words) = (ObjectKind::Thread, [self.from, self.to]);
+        let text = absent_object::<P, S, W>(alloc, names, setup, kernel, kind, "--never", &words)?;
+        Ok(text.unwrap_or(String::new(alloc)))
+    }
+
+    /// The answer by a kernel.
+    fn answer_by<P: Profile, S: DerivationStore<P> + Drop, W: Waiters<P> + Drop>(
+        &self,
+        alloc: Global,
+        names: &[Name],
+        setup: &Setup,
+        made: usize,
+        refused: usize,
+        kernel: &Kernel<P, S, W>,
+    ) -> Result<Answer, AllocError>
+        requires limits { IsWithinLimits P.profile setup.now.plan }
+        requires memory { (memory : ℕ) × IsInMemory P.profile memory kernel.now }
+        ensures { IfOk result (λ answer. spec.IsNeverBy (spec.asked_of self.now) P.profile (names_view names.now) setup.now made refused kernel.now answer.text.items answer.verdict) }
+    {
+        if !self.has_asked::<P, S, W>(names, setup, kernel) {
+            let absent = self.absent::<P, S, W>(alloc, names, setup, kernel)?;
+            return Ok(absent_answer(alloc, absent));
+        }
+        self.answer_meant::<P, S, W>(alloc, names, setup, made, refused, kernel)
+    }
+}
+
+impl Command for Question<'_> {
+    ghost use Rattle.command_check.specs.Commands.{IsStateAnswer};
+    ghost use Rattle.command_never.specs.Never.{IsNever, asked_of};
+
+    ghost answers = { λ question. IsStateAnswer (IsNever (asked_of question)) question.after };
+
+    fn answer<P: Profile, S: MakeStore<P> + DerivationStore<P>, W: MakeWaiters<P>>(
+        &self,
+        alloc: Global,
+        read: ReadSetup,
+    ) -> Result<Answer, AllocError> {
+        let (names, setup) = (read.names.as_slice(), &read.setup);
+        let Some(made) = calls_made(setup, self.after) else {
+            let (asked, calls) = (self.after.unwrap_or(0), setup.calls().len());
+            let absent = format!(in alloc; "--after {asked}: the set-up has {calls} calls")?;
+            return Ok(Answer::absent(alloc, absent));
+        };
+        let (kernel, refused) = kernel_behind::<P, S, W>(alloc, setup, made)?;
+        self.answer_by::<P, S, W>(alloc, names, setup, made, refused, &kernel)
     }
 }

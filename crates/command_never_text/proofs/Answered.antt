@@ -1,11 +1,12 @@
 -- An answer of parts that may be told: where it is that it is excluded, the one thread's part is kept from the other's.
-use Rattle.std.proofs.Common.{◌≡◌, ℕ, Bool, true, false, cond, List, Option, Some, None, Result, Ok, Err, IfOk, refl, sym, ◌∙◌}
+use Rattle.std.proofs.Common.{◌≡◌, ℕ, Bool, true, false, cond, List, ◌++◌, Option, Some, None, Result, Ok, Err, IfOk, refl, sym, ◌∙◌}
 use Rattle.cap_core.specs.declared.profile.ProfileName.{ProfileName}
 use Rattle.kernel_abstract.specs.Shown.{Shown}
 use Rattle.query_parts.specs.declared.listed.PartMemory.{PartMemory}
 use Rattle.query_parts.specs.declared.listed.PartUse.{PartUse}
 use Rattle.query_parts.specs.Listed.{part_at}
 use Rattle.setup_values.specs.Names.{Names}
+use Rattle.setup_format.specs.Views.{SetupView}
 use Rattle.command_never_text.specs.declared.never.Never.{Never}
 use Rattle.command_never_text.specs.declared.never.Never.TheVariants.{Excluded, Possible}
 use Rattle.command_parts.specs.Ever.{AreRightParts}
@@ -19,8 +20,8 @@ excluded : (open_between : Bool) → cond open_between Possible Excluded ≡ Exc
 excluded true h = cc
 excluded false h = refl
 
-module _ (p : ProfileName) (names : Names) (without : List ℕ) (v : Shown) (by : List ℕ) (from to : ℕ) (memory : List PartMemory) (uses : List PartUse)
-    (right : AreRightParts p v without memory uses) where
+module _ (p : ProfileName) (names : Names) (setup : SetupView) (made refused : ℕ) (without messages : List ℕ) (v : Shown) (by : List ℕ) (from to : ℕ) (memory : List PartMemory) (uses : List PartUse)
+    (right : AreRightParts p v (without ++ messages) memory uses) where
   kept_between : (first second : Option ℕ) → part_at memory from ≡ first → part_at memory to ≡ second →
       never_between p memory uses (waits p v) by first second ≡ Excluded → AreThreadsKept p memory uses v by from to
   kept_between None second here there h = cc
@@ -34,8 +35,8 @@ module _ (p : ProfileName) (names : Names) (without : List ℕ) (v : Shown) (by 
   }
 
   pub answered : {A E : Type 0} (r : Result A E) (text : A → List ℕ) (answer : A → Never) →
-      IfOk r (λ a. IsNeverText p names memory uses v by from to (text a)) → IfOk r (λ a. answer a ≡ never p memory uses (waits p v) by from to) →
-      IfOk r (λ a. IsNeverOf p names without v by from to (text a) (answer a))
+      IfOk r (λ a. IsNeverText p names setup made refused without messages memory uses v by from to (text a)) → IfOk r (λ a. answer a ≡ never p memory uses (waits p v) by from to) →
+      IfOk r (λ a. IsNeverOf p names setup made refused without messages v by from to (text a) (answer a))
   answered (Ok a) text answer told is = record {
     memory = memory;
     uses = uses;

@@ -17,14 +17,20 @@ use Rattle.setup_report.specs.Report.{terminated}
 use Rattle.command_never_text.specs.declared.waits.Wait.{Wait}
 use Rattle.command_never_text.specs.declared.never.Never.{Never}
 use Rattle.command_never_text.specs.declared.never.Never.TheVariants.{Excluded, Possible}
-use Rattle.command_parts.specs.Text.{badge_text}
+use Rattle.setup_format.specs.Views.{SetupView}
+use Rattle.setup_report.specs.State.{is_in, endpoints}
+use Rattle.command_parts.specs.Text.{badge_text, none_text, head_lines, sel4_lines}
 use Rattle.command_never_text.specs.Waits.{waits}
 use Rattle.command_never_text.specs.Never.{has_some, is_use_of, is_sender, is_receiver, is_open, endpoints_met, never}
 use Rattle.command_parts.specs.Ever.{AreRightParts}
 use Rattle.command_never_text.specs.Kept.{AreThreadsKept}
 use Rattle.command_never_text.specs.Chains.{AreChains}
 
--- ---- the first line: the threads with their parts, and the answer
+-- ---- the endpoints that are allowed; and the answer: the threads with their parts
+
+-- where these are the live endpoints
+abbrev pub allowed_line : List ℕ → ℕ → List ℕ
+allowed_line live endpoint = terminated (codes "by " ++ (decimal endpoint ++ none_text (is_in endpoint live)))
 
 abbrev pub part_text : Option ℕ → List ℕ
 part_text None = codes "none"
@@ -93,25 +99,39 @@ lines_between p names memory uses v by (Some i) None = []
 lines_between p names memory uses v by (Some i) (Some j) =
     cond (i == j) [] (flat_map (open_lines p names memory uses v by i j) (endpoints_met uses (waits p v)))
 
+-- what passes between two parts in seL4, beside messages
+abbrev pub sel4_between : ProfileName → List PartMemory → List PartUse → Option ℕ → Option ℕ → List ℕ
+sel4_between p memory uses None to = []
+sel4_between p memory uses (Some i) None = []
+sel4_between p memory uses (Some i) (Some j) = cond (i == j) [] (sel4_lines p memory uses i j)
+
 -- ---- all of it
 
-unfoldable pub never_text : ProfileName → Names → List PartMemory → List PartUse → Shown → List ℕ → ℕ → ℕ → List ℕ
-never_text p names memory uses v by from to =
+abbrev pub lines_of_answer : ProfileName → Names → List PartMemory → List PartUse → Shown → List ℕ → ℕ → ℕ → List ℕ
+lines_of_answer p names memory uses v by from to =
     answer_line names memory from to (never p memory uses (waits p v) by from to)
-    ++ lines_between p names memory uses v by (part_at memory from) (part_at memory to)
+    ++ (lines_between p names memory uses v by (part_at memory from) (part_at memory to)
+    ++ sel4_between p memory uses (part_at memory from) (part_at memory to))
+
+unfoldable pub never_text : ProfileName → Names → SetupView → ℕ → ℕ → List ℕ → List ℕ → List PartMemory → List PartUse → Shown → List ℕ → ℕ → ℕ → List ℕ
+never_text p names setup made refused without messages memory uses v by from to =
+    head_lines (codes "never") names setup made refused without messages v
+    ++ (flat_map (allowed_line (endpoints p v)) by ++ lines_of_answer p names memory uses v by from to)
 
 -- that text, with the chains behind it
-pub record IsNeverText (p : ProfileName) (names : Names) (memory : List PartMemory) (uses : List PartUse) (v : Shown) (by : List ℕ) (from to : ℕ) (text : List ℕ) : Type 0 where
+pub record IsNeverText (p : ProfileName) (names : Names) (setup : SetupView) (made refused : ℕ) (without messages : List ℕ) (memory : List PartMemory)
+    (uses : List PartUse) (v : Shown) (by : List ℕ) (from to : ℕ) (text : List ℕ) : Type 0 where
   pub chains : List ℕ
   pub are_chains : AreChains p names memory uses v by from to chains
-  pub lines : text ≡ never_text p names memory uses v by from to ++ chains
+  pub lines : text ≡ never_text p names setup made refused without messages memory uses v by from to ++ chains
 
 -- the text and the answer, of parts that may be told; and where the answer is that it is excluded, the one thread's part is kept
 -- from the other's
-pub record IsNeverOf (p : ProfileName) (names : Names) (without : List ℕ) (v : Shown) (by : List ℕ) (from to : ℕ) (text : List ℕ) (answer : Never) : Type 0 where
+pub record IsNeverOf (p : ProfileName) (names : Names) (setup : SetupView) (made refused : ℕ) (without messages : List ℕ) (v : Shown) (by : List ℕ)
+    (from to : ℕ) (text : List ℕ) (answer : Never) : Type 0 where
   pub memory : List PartMemory
   pub uses : List PartUse
-  pub right : AreRightParts p v without memory uses
-  pub told : IsNeverText p names memory uses v by from to text
+  pub right : AreRightParts p v (without ++ messages) memory uses
+  pub told : IsNeverText p names setup made refused without messages memory uses v by from to text
   pub answered : answer ≡ never p memory uses (waits p v) by from to
   pub kept : answer ≡ Excluded → AreThreadsKept p memory uses v by from to

@@ -7,6 +7,7 @@ ghost use Rattle.query_reach.specs.FullSlots.{AreFullSlots};
 ghost use Rattle.setup_values.specs.Names.{names_view};
 ghost use Rattle.command_never_text.specs.Never as answers;
 ghost use Rattle.command_never_text.specs.Waits.{waits as waits_of};
+ghost use Rattle.setup_report.specs.State.{endpoints as endpoints_of};
 ghost use Rattle.setup_values.specs.Told as told;
 ghost use Rattle.command_never_text.specs.Open as spec;
 
@@ -17,7 +18,10 @@ use crate::never::{
 };
 use crate::waits::{Wait, waits};
 use cap_core::Profile;
-use command_parts::{BadgeText, listed, parts_of_callers};
+use command_parts::{
+    BadgeText, Heading, add_heading, add_sel4_lines, all_trusted, is_in, listed, none_text,
+    parts_of_callers,
+};
 use ipc_core::Waiters;
 use kernel_core::Kernel;
 use query_parts::{PartMemory, PartUse, PartsFault, part_at};
@@ -336,6 +340,43 @@ fn add_between<P: Profile, S: CapStore<P> + Drop, W: Waiters<P> + Drop>(
     add_all_open::<P, S, W>(out, names, layout, kernel, &between, endpoints)
 }
 
+/// Adds what passes between the parts of two threads in seL4, beside messages, where these are two.
+fn add_sel4_between<P: Profile>(
+    alloc: Global,
+    out: &mut String,
+    layout: &Layout<'_>,
+    from: Option<u64>,
+    to: Option<u64>,
+) -> Result<(), AllocError>
+    ensures { OnOk result (string_bytes out.new ≡ string_bytes out.old
+        ++ spec.sel4_between P.profile layout.now.memory.now layout.now.uses.now from to) }
+{
+    let (Some(from), Some(to)) = (from, to) else {
+        return Ok(());
+    };
+    if from == to {
+        return Ok(());
+    }
+    add_sel4_lines::<P>(alloc, out, layout.memory, layout.uses, from, to)
+}
+
+fn add_allowed(out: &mut String, live: &[u64], endpoint: u64) -> Result<(), AllocError>
+    ensures { OnOk result (string_bytes out.new ≡ string_bytes out.old ++ spec.allowed_line live.now endpoint) }
+{
+    let none = none_text(is_in(live, endpoint));
+    writeln!(out, "by {endpoint}{none}")
+}
+
+/// Adds a line for each endpoint that is allowed. `live` has the live endpoints.
+fn add_all_allowed(out: &mut String, live: &[u64], by: &[u64]) -> Result<(), AllocError>
+    ensures { OnOk result (string_bytes out.new ≡ string_bytes out.old ++ flat_map (spec.allowed_line live.now) by.now) }
+{
+    for endpoint in by {
+        add_allowed(out, live, *endpoint)?;
+    }
+    Ok(())
+}
+
 /// The full slots of a kernel, each with what it holds.
 fn slots_of<P: Profile, S: DerivationStore<P> + Drop, W: Waiters<P> + Drop>(
     alloc: Global,
@@ -348,29 +389,29 @@ fn slots_of<P: Profile, S: DerivationStore<P> + Drop, W: Waiters<P> + Drop>(
     Ok(filled)
 }
 
-/// The text, but for the chains, and the answer for parts that are given.
-#[tactic(auto, unfolding(crate::specs::Open::never_text))]
-fn never_of_parts<P: Profile, S: DerivationStore<P> + Drop, W: Waiters<P> + Drop>(
+/// Adds the answer for parts that are given, and what is open between them; and tells the answer.
+fn add_lines_of_answer<P: Profile, S: DerivationStore<P> + Drop, W: Waiters<P> + Drop>(
     alloc: Global,
+    out: &mut String,
     names: &[Name],
     from: u64,
     to: u64,
     by: &[u64],
     kernel: &Kernel<P, S, W>,
     layout: &Layout<'_>,
-) -> Result<(String, Never), AllocError>
+) -> Result<Never, AllocError>
     requires { layout.now.waits.now ≡ waits_of P.profile kernel.now }
-    ensures text { IfOk result (λ made. string_bytes made.0 ≡ spec.never_text P.profile (names_view names.now) layout.now.memory.now layout.now.uses.now kernel.now by.now from to) }
-    ensures answer { IfOk result (λ made. made.1 ≡ answers.never P.profile layout.now.memory.now layout.now.uses.now (waits_of P.profile kernel.now) by.now from to) }
+    ensures text { OnOk result (string_bytes out.new ≡ string_bytes out.old
+        ++ spec.lines_of_answer P.profile (names_view names.now) layout.now.memory.now layout.now.uses.now kernel.now by.now from to) }
+    ensures answer { IfOk result (λ answer. answer ≡ answers.never P.profile layout.now.memory.now layout.now.uses.now (waits_of P.profile kernel.now) by.now from to) }
 {
     let endpoints = endpoints_met(alloc, layout)?;
     let first = part_at(layout.memory, from);
     let second = part_at(layout.memory, to);
     let answer = never_between::<P>(layout, endpoints.as_slice(), by, first, second);
-    let mut out = String::new(alloc);
-    add_answer(&mut out, names, layout.memory, from, to, answer)?;
+    add_answer(out, names, layout.memory, from, to, answer)?;
     add_between::<P, S, W>(
-        &mut out,
+        out,
         names,
         layout,
         kernel,
@@ -379,6 +420,35 @@ fn never_of_parts<P: Profile, S: DerivationStore<P> + Drop, W: Waiters<P> + Drop
         first,
         second,
     )?;
+    add_sel4_between::<P>(alloc, out, layout, first, second)?;
+    Ok(answer)
+}
+
+/// The text, but for the chains, and the answer for parts that are given. `live` has the live endpoints.
+#[tactic(auto, unfolding(crate::specs::Open::never_text))]
+fn never_of_parts<P: Profile, S: DerivationStore<P> + Drop, W: Waiters<P> + Drop>(
+    alloc: Global,
+    names: &[Name],
+    heading: &Heading<'_>,
+    from: u64,
+    to: u64,
+    by: &[u64],
+    live: &[u64],
+    kernel: &Kernel<P, S, W>,
+    layout: &Layout<'_>,
+) -> Result<(String, Never), AllocError>
+    requires waits { layout.now.waits.now ≡ waits_of P.profile kernel.now }
+    requires live { live.now ≡ endpoints_of P.profile kernel.now }
+    ensures text { IfOk result (λ made. string_bytes made.0 ≡ spec.never_text P.profile (names_view names.now) heading.now.setup.now heading.now.made heading.now.refused
+        heading.now.without.now heading.now.messages.now layout.now.memory.now layout.now.uses.now kernel.now by.now from to) }
+    ensures answer { IfOk result (λ made. made.1 ≡ answers.never P.profile layout.now.memory.now layout.now.uses.now (waits_of P.profile kernel.now) by.now from to) }
+{
+    let mut out = String::new(alloc);
+    add_heading::<P, S, W>(&mut out, "never", names, heading, kernel)?;
+    add_all_allowed(&mut out, live, by)?;
+    let answer = add_lines_of_answer::<P, S, W>(
+        alloc, &mut out, names, from, to, by, kernel, layout,
+    )?;
     Ok((out, answer))
 }
 
@@ -386,17 +456,23 @@ fn never_of_parts<P: Profile, S: DerivationStore<P> + Drop, W: Waiters<P> + Drop
 fn never_with_chains<P: Profile, S: DerivationStore<P> + Drop, W: Waiters<P> + Drop>(
     alloc: Global,
     names: &[Name],
+    heading: &Heading<'_>,
     from: u64,
     to: u64,
     by: &[u64],
+    live: &[u64],
     kernel: &Kernel<P, S, W>,
     layout: &Layout<'_>,
 ) -> Result<(Vec<u8>, Never), AllocError>
-    requires { layout.now.waits.now ≡ waits_of P.profile kernel.now }
-    ensures text { IfOk result (λ made. spec.IsNeverText P.profile (names_view names.now) layout.now.memory.now layout.now.uses.now kernel.now by.now from to made.0.items) }
+    requires waits { layout.now.waits.now ≡ waits_of P.profile kernel.now }
+    requires live { live.now ≡ endpoints_of P.profile kernel.now }
+    ensures text { IfOk result (λ made. spec.IsNeverText P.profile (names_view names.now) heading.now.setup.now heading.now.made heading.now.refused
+        heading.now.without.now heading.now.messages.now layout.now.memory.now layout.now.uses.now kernel.now by.now from to made.0.items) }
     ensures answer { IfOk result (λ made. made.1 ≡ answers.never P.profile layout.now.memory.now layout.now.uses.now (waits_of P.profile kernel.now) by.now from to) }
 {
-    let (mut text, answer) = never_of_parts::<P, S, W>(alloc, names, from, to, by, kernel, layout)?;
+    let (mut text, answer) = never_of_parts::<P, S, W>(
+        alloc, names, heading, from, to, by, live, kernel, layout,
+    )?;
     let filled = slots_of::<P, S, W>(alloc, kernel)?;
     let from_in = (from, part_at(layout.memory, from));
     let to_in = (to, part_at(layout.memory, to));
@@ -405,9 +481,9 @@ fn never_with_chains<P: Profile, S: DerivationStore<P> + Drop, W: Waiters<P> + D
     Ok((text.into_bytes(), answer))
 }
 
-/// Whether a thread's part is kept from another's, but for the endpoints that `by` names, whatever calls the threads make that
-/// `without` does not name; and the text that says so, with the endpoints that are open where it is not, and the slots through
-/// which the one thread comes there.
+/// Whether a thread's part is kept from another's, but for the endpoints that `by` names, whatever calls the threads make that are
+/// not trusted; and the text that says so, with the endpoints that are open where it is not, what passes between the parts in seL4
+/// beside messages, and the slots through which the one thread comes to what is open.
 ///
 /// # Errors
 ///
@@ -416,24 +492,30 @@ fn never_with_chains<P: Profile, S: DerivationStore<P> + Drop, W: Waiters<P> + D
 pub fn never_gets<P: Profile, S: DerivationStore<P> + Drop, W: Waiters<P> + Drop>(
     alloc: Global,
     names: &[Name],
-    without: &[u64],
+    heading: &Heading<'_>,
     from: u64,
     to: u64,
     by: &[u64],
     kernel: &Kernel<P, S, W>,
 ) -> Result<(Vec<u8>, Never), PartsFault>
-    ensures told { IfOk result (λ made. spec.IsNeverOf P.profile (names_view names.now) without.now kernel.now by.now from to made.0.items made.1) }
+    ensures told { IfOk result (λ made. spec.IsNeverOf P.profile (names_view names.now) heading.now.setup.now heading.now.made heading.now.refused
+        heading.now.without.now heading.now.messages.now kernel.now by.now from to made.0.items made.1) }
     ensures fault { IfErr result (λ fault. fault ≡ PartsFault.Block → (memory : ℕ) → IsInMemory P.profile memory kernel.now → ⊥) }
 {
     let rows = state_rows::<P, S, W>(alloc, kernel)?;
-    let parts = parts_of_callers::<P, S, W>(alloc, without, kernel, &rows)?;
+    let trusted = all_trusted(alloc, heading)?;
+    let parts = parts_of_callers::<P, S, W>(alloc, trusted.as_slice(), kernel, &rows)?;
     let threads = listed(alloc, &rows.threads)?;
+    let live = listed(alloc, &rows.endpoints)?;
     let waits = waits::<P, S, W>(alloc, kernel, threads.as_slice())?;
     let layout = Layout {
         memory: parts.memory.as_slice(),
         uses: parts.uses.as_slice(),
         waits: waits.as_slice(),
     };
-    let made = never_with_chains::<P, S, W>(alloc, names, from, to, by, kernel, &layout)?;
+    let live = live.as_slice();
+    let made = never_with_chains::<P, S, W>(
+        alloc, names, heading, from, to, by, live, kernel, &layout,
+    )?;
     Ok(made)
 }

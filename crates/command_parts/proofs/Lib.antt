@@ -1,5 +1,5 @@
 pub mod Pushed
-pub mod Digits
 pub mod Right
 pub mod Callers
 pub mod Receiving
+pub mod Faults

@@ -12,7 +12,9 @@ use Rattle.query_parts.specs.declared.listed.PartMemory.{PartMemory}
 use Rattle.query_parts.specs.declared.listed.PartUse.{PartUse}
 use Rattle.query_parts.specs.Order.{owns_endpoint}
 use Rattle.setup_report.specs.State.{rising}
-use Rattle.command_parts.specs.Text.{parts_of, is_use, is_of_part, is_of_endpoint, sends_with_any, may_send_any, badges, may_receive, receivers_on, receivers, way, ways_on}
+use Rattle.command_parts.specs.declared.ways.Passing.{Passing}
+use Rattle.command_parts.specs.declared.ways.Passing.TheVariants.{Message, Grant, Answer}
+use Rattle.command_parts.specs.Text.{parts_of, passes, may_pass, badges_by, is_use, is_of_part, is_of_endpoint, sends_with_any, may_send_any, badges, may_receive, receivers_on, receivers, way, ways_on}
 
 -- ---- what a filter leaves out, a stricter test does not miss
 
@@ -76,14 +78,31 @@ module _ (p : ProfileName) (memory : List PartMemory) (uses : List PartUse) wher
       ∙ filter_agree (λ other. may_receive p memory uses endpoint other && not (other == from)) (λ other. not (other == from) && may_receive p memory uses endpoint other)
       (λ other. exchanged (may_receive p memory uses endpoint other) (not (other == from))) (parts_of memory)
 
+  passes_in_part : (passing : Passing) (from endpoint : ℕ) (u : PartUse) → passes passing from endpoint u ≡ true → is_of_part from u ≡ true
+  passes_in_part Message from endpoint u h = left_true _ _ h
+  passes_in_part Grant from endpoint u h = left_true _ _ (left_true _ _ h)
+  passes_in_part Answer from endpoint u h = left_true _ _ (left_true _ _ h)
+
+  passed_here : (passing : Passing) (from endpoint : ℕ) →
+      may_pass passing p memory (filter (is_of_part from) uses) from endpoint ≡ may_pass passing p memory uses from endpoint
+  passed_here passing from endpoint =
+      ap (λ b. owns_endpoint p memory from endpoint || b)
+      (any_kept (passes passing from endpoint) (is_of_part from) (λ u h. passes_in_part passing from endpoint u h) uses)
+
+  badges_here : (passing : Passing) (from endpoint : ℕ) →
+      badges_by passing p memory (filter (is_of_part from) uses) from endpoint ≡ badges_by passing p memory uses from endpoint
+  badges_here Message from endpoint = own_badges from endpoint
+  badges_here Grant from endpoint = ap (λ b. cond b (0 ∷ []) []) (passed_here Grant from endpoint)
+  badges_here Answer from endpoint = ap (λ b. cond b (0 ∷ []) []) (passed_here Answer from endpoint)
+
   -- the ways from a part by an endpoint
-  pub ways_here : (from endpoint : ℕ) (own : List PartUse) (heard : List ℕ) → own ≡ filter (is_of_part from) uses → heard ≡ receivers_on p memory uses endpoint →
-      flat_map (λ badge. map (way from endpoint badge) (filter (λ other. not (other == from)) heard)) (badges p memory own from endpoint)
-      ≡ ways_on p memory uses from endpoint
-  ways_here from endpoint own heard own_is heard_is =
-      ap (λ (l : List PartUse). flat_map (λ badge. map (way from endpoint badge) (filter (λ other. not (other == from)) heard)) (badges p memory l from endpoint)) own_is
-      ∙ ap (flat_map (λ badge. map (way from endpoint badge) (filter (λ other. not (other == from)) heard))) (own_badges from endpoint)
-      ∙ ap (λ (r : List ℕ). flat_map (λ badge. map (way from endpoint badge) r) (badges p memory uses from endpoint))
+  pub ways_here : (passing : Passing) (from endpoint : ℕ) (own : List PartUse) (heard : List ℕ) → own ≡ filter (is_of_part from) uses → heard ≡ receivers_on p memory uses endpoint →
+      flat_map (λ badge. map (way from endpoint badge) (filter (λ other. not (other == from)) heard)) (badges_by passing p memory own from endpoint)
+      ≡ ways_on passing p memory uses from endpoint
+  ways_here passing from endpoint own heard own_is heard_is =
+      ap (λ (l : List PartUse). flat_map (λ badge. map (way from endpoint badge) (filter (λ other. not (other == from)) heard)) (badges_by passing p memory l from endpoint)) own_is
+      ∙ ap (flat_map (λ badge. map (way from endpoint badge) (filter (λ other. not (other == from)) heard))) (badges_here passing from endpoint)
+      ∙ ap (λ (r : List ℕ). flat_map (λ badge. map (way from endpoint badge) r) (badges_by passing p memory uses from endpoint))
       (ap (filter (λ other. not (other == from))) heard_is ∙ others_are from endpoint)
 
   -- what was found of the endpoint at a place

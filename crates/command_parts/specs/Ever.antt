@@ -1,5 +1,5 @@
 -- What is told of the parts of a layout.
-use Rattle.std.specs.Prelude.{◌≡◌, ℕ, List}
+use Rattle.std.specs.Prelude.{◌≡◌, ◌++◌, ℕ, List}
 use Rattle.cap_core.specs.declared.profile.ProfileName.{ProfileName}
 use Rattle.kernel_abstract.specs.Shown.{Shown}
 use Rattle.query_parts.specs.declared.listed.PartMemory.{PartMemory}
@@ -15,14 +15,14 @@ use Rattle.command_parts.specs.Text.{ever_text}
 -- Parts that may be told: whatever calls their threads make, nothing leaves them; they stand in order, with nothing in them
 -- that goes without saying; they lie in all parts that are closed around the live threads that are not trusted; and the whole
 -- control block of each of these threads lies in one
-pub record AreRightParts (p : ProfileName) (v : Shown) (without : List ℕ) (memory : List PartMemory) (uses : List PartUse) : Type 0 where
+pub record AreRightParts (p : ProfileName) (v : Shown) (trusted : List ℕ) (memory : List PartMemory) (uses : List PartUse) : Type 0 where
   pub ever : AreConfinedEver p memory uses v
   pub order : AreInOrder p memory uses
-  pub least : AreLeast p (callers p v without) memory uses v
-  pub callers : AreInParts p memory (callers p v without)
+  pub least : AreLeast p (callers p v trusted) memory uses v
+  pub callers : AreInParts p memory (callers p v trusted)
 
--- the text of such parts
-abbrev pub IsTextOf : ProfileName → Names → SetupView → ℕ → List ℕ → Shown → List ℕ → Type 0
-IsTextOf p names setup made without v text =
+-- the text of such parts, where so many of the calls that are made were refused
+abbrev pub IsTextOf : ProfileName → Names → SetupView → ℕ → ℕ → List ℕ → List ℕ → Shown → List ℕ → Type 0
+IsTextOf p names setup made refused without messages v text =
     (memory : List PartMemory) × ((uses : List PartUse)
-    × (AreRightParts p v without memory uses × (text ≡ ever_text p names setup made without memory uses v)))
+    × (AreRightParts p v (without ++ messages) memory uses × (text ≡ ever_text p names setup made refused without messages memory uses v)))

@@ -3,7 +3,7 @@ use Rattle.std.specs.Prelude.{codes, ℕ, ◌==◌, ◌&&◌, ◌||◌, Bool, no
 use Rattle.std.specs.List.{flat_map, list_any}
 use Rattle.std.specs.Fmt.{decimal}
 use Rattle.cap_core.specs.declared.profile.ProfileName.{ProfileName}
-use Rattle.cap_core.specs.Rights.{write_bit, read_bit}
+use Rattle.cap_core.specs.Rights.{write_bit, read_bit, grant_bit, grant_reply_bit}
 use Rattle.ipc_core.specs.declared.waiter.Offer.{Offer}
 use Rattle.kernel_abstract.specs.declared.call.ThreadState.{ThreadState}
 use Rattle.kernel_abstract.specs.declared.call.ThreadState.TheVariants.{Ready, Inactive, Sending, Receiving}
@@ -21,22 +21,38 @@ use Rattle.setup_report.specs.State.{rising, threads, endpoints}
 use Rattle.setup_report.specs.Text.{rights_text}
 use Rattle.setup_report.specs.Report.{terminated, threads_at}
 use Rattle.command_parts.specs.declared.ways.Way.{Way}
+use Rattle.command_parts.specs.declared.ways.Passing.{Passing}
+use Rattle.command_parts.specs.declared.ways.Passing.TheVariants.{Message, Grant, Answer}
 
--- ---- the first lines: the version of the form, how large the set-up is, how many of its calls are made; and the threads
--- that are trusted to make no more calls
+-- ---- the first lines: the version of the form, how large the set-up is, how many of its calls are made, and how many of these
+-- were refused; and the threads that are trusted
 
-abbrev pub calls_text : ℕ → ℕ → List ℕ
-calls_text calls made = codes " calls " ++ (decimal calls ++ (codes " after " ++ decimal made))
+abbrev pub refused_text : ℕ → List ℕ
+refused_text refused = cond (refused == 0) [] (codes " refused " ++ decimal refused)
 
-abbrev pub head_line : SetupView → ℕ → List ℕ
-head_line setup made =
-    terminated (codes "ever 1 " ++ (profile_text setup.profile ++ (codes " memory_bits " ++ (decimal setup.plan.memory_bits ++ calls_text (length setup.calls) made))))
+abbrev pub calls_text : ℕ → ℕ → ℕ → List ℕ
+calls_text calls made refused = codes " calls " ++ (decimal calls ++ (codes " after " ++ (decimal made ++ refused_text refused)))
 
+-- of a text with this name, by a set-up of which so many calls are made, and so many of these refused
+abbrev pub head_line : List ℕ → SetupView → ℕ → ℕ → List ℕ
+head_line name setup made refused =
+    terminated (name ++ (codes " 2 " ++ (profile_text setup.profile ++ (codes " memory_bits " ++ (decimal setup.plan.memory_bits
+    ++ calls_text (length setup.calls) made refused)))))
+
+-- the word `none` behind a trusted thread that is not live
 abbrev pub none_text : Bool → List ℕ
 none_text live = cond live [] (codes " none")
 
 abbrev pub without_line : Names → Shown → ℕ → List ℕ
 without_line names v thread = terminated (codes "without " ++ (thread_name names thread ++ none_text (is_some (state_at v thread))))
+
+abbrev pub messages_line : Names → Shown → ℕ → List ℕ
+messages_line names v thread = terminated (codes "messages " ++ (thread_name names thread ++ none_text (is_some (state_at v thread))))
+
+-- the first line, the threads that make no more calls, and those that go on to send and receive alone
+abbrev pub head_lines : List ℕ → Names → SetupView → ℕ → ℕ → List ℕ → List ℕ → Shown → List ℕ
+head_lines name names setup made refused without messages v =
+    head_line name setup made refused ++ (flat_map (without_line names v) without ++ flat_map (messages_line names v) messages)
 
 -- ---- a part: its live threads, its memory and the endpoints that it may use
 
@@ -80,6 +96,7 @@ part_lines p names memory uses v part =
 
 -- ---- ways: from one part to another, by an endpoint that the one may send to, and the other receive on
 
+-- the numbers of the parts, each once, by rising number
 abbrev pub parts_of : List PartMemory → List ℕ
 parts_of memory = rising (map (λ (m : PartMemory). m.part) memory)
 
@@ -125,20 +142,64 @@ receivers p memory uses part endpoint =
 abbrev pub way : ℕ → ℕ → ℕ → ℕ → Way
 way from endpoint badge to = record { from = from; endpoint = endpoint; badge = badge; to = to }
 
-abbrev pub ways_on : ProfileName → List PartMemory → List PartUse → ℕ → ℕ → List Way
-ways_on p memory uses from endpoint =
-    flat_map (λ badge. map (way from endpoint badge) (receivers p memory uses from endpoint)) (badges p memory uses from endpoint)
+-- what passes by a way: a message; in seL4 also a capability with it, by a use with Write and Grant; and the answer to a call, the
+-- other way, by a use with Write and Grant or GrantReply. Who owns the endpoint may have all rights to it
+abbrev pub hands_over : ℕ → ℕ → PartUse → Bool
+hands_over part endpoint u = is_use write_bit part endpoint u && has_right grant_bit u.rights
 
-abbrev pub ways_from : ProfileName → List PartMemory → List PartUse → ℕ → List Way
-ways_from p memory uses from = flat_map (ways_on p memory uses from) (endpoints_used uses)
+abbrev pub is_answered : ℕ → ℕ → PartUse → Bool
+is_answered part endpoint u = is_use write_bit part endpoint u && (has_right grant_bit u.rights || has_right grant_reply_bit u.rights)
 
-abbrev pub ways : ProfileName → List PartMemory → List PartUse → List Way
-ways p memory uses = flat_map (ways_from p memory uses) (parts_of memory)
+abbrev pub passes : Passing → ℕ → ℕ → PartUse → Bool
+passes Message part endpoint u = is_use write_bit part endpoint u
+passes Grant part endpoint u = hands_over part endpoint u
+passes Answer part endpoint u = is_answered part endpoint u
+
+abbrev pub may_pass : Passing → ProfileName → List PartMemory → List PartUse → ℕ → ℕ → Bool
+may_pass passing p memory uses part endpoint = owns_endpoint p memory part endpoint || list_any (passes passing part endpoint) uses
+
+-- the badges of ways; where it is not messages that pass, 0 alone
+abbrev pub badges_by : Passing → ProfileName → List PartMemory → List PartUse → ℕ → ℕ → List ℕ
+badges_by Message p memory uses part endpoint = badges p memory uses part endpoint
+badges_by Grant p memory uses part endpoint = cond (may_pass Grant p memory uses part endpoint) (0 ∷ []) []
+badges_by Answer p memory uses part endpoint = cond (may_pass Answer p memory uses part endpoint) (0 ∷ []) []
+
+abbrev pub ways_on : Passing → ProfileName → List PartMemory → List PartUse → ℕ → ℕ → List Way
+ways_on passing p memory uses from endpoint =
+    flat_map (λ badge. map (way from endpoint badge) (receivers p memory uses from endpoint)) (badges_by passing p memory uses from endpoint)
+
+abbrev pub ways_from : Passing → ProfileName → List PartMemory → List PartUse → ℕ → List Way
+ways_from passing p memory uses from = flat_map (ways_on passing p memory uses from) (endpoints_used uses)
+
+-- the ways from part to part by endpoints
+abbrev pub ways : Passing → ProfileName → List PartMemory → List PartUse → List Way
+ways passing p memory uses = flat_map (ways_from passing p memory uses) (parts_of memory)
 
 abbrev pub way_line : Way → List ℕ
 way_line w =
     terminated (codes "way " ++ (decimal w.from ++ (codes " -> " ++ (decimal w.endpoint ++ (codes " badge " ++ (badge_text w.badge
     ++ (codes " -> " ++ decimal w.to)))))))
+
+abbrev pub passing_line : Passing → Way → List ℕ
+passing_line Message w = way_line w
+passing_line Grant w =
+    terminated (codes "grant " ++ (decimal w.from ++ (codes " -> " ++ (decimal w.endpoint ++ (codes " -> " ++ decimal w.to)))))
+passing_line Answer w =
+    terminated (codes "reply " ++ (decimal w.to ++ (codes " -> " ++ (decimal w.endpoint ++ (codes " -> " ++ decimal w.from)))))
+
+-- the same of two parts alone
+abbrev pub between_line : Passing → ProfileName → List PartMemory → List PartUse → ℕ → ℕ → ℕ → List ℕ
+between_line passing p memory uses from to endpoint =
+    cond (may_pass passing p memory uses from endpoint && may_receive p memory uses endpoint to) (passing_line passing (way from endpoint 0 to)) []
+
+abbrev pub lines_of_two : Passing → ProfileName → List PartMemory → List PartUse → ℕ → ℕ → List ℕ
+lines_of_two passing p memory uses from to = flat_map (between_line passing p memory uses from to) (endpoints_used uses)
+
+-- capabilities and answers that pass between two parts in seL4, either way
+abbrev pub sel4_lines : ProfileName → List PartMemory → List PartUse → ℕ → ℕ → List ℕ
+sel4_lines p memory uses i j =
+    lines_of_two Grant p memory uses i j ++ (lines_of_two Grant p memory uses j i
+    ++ (lines_of_two Answer p memory uses i j ++ lines_of_two Answer p memory uses j i))
 
 -- ---- sends that wait: each may be delivered, whatever the uses are
 
@@ -153,18 +214,24 @@ waiting_line names v endpoint thread = offer_line (thread_name names thread) end
 abbrev pub waiting_lines : Names → Shown → ℕ → List ℕ
 waiting_lines names v endpoint = flat_map (waiting_line names v endpoint) (threads_at v endpoint)
 
-abbrev pub count_line : ℕ → ℕ → List ℕ
-count_line parts ways = terminated (codes "parts " ++ (decimal parts ++ (codes " ways " ++ decimal ways)))
+abbrev pub count_line : ℕ → ℕ → ℕ → ℕ → List ℕ
+count_line parts ways grants replies =
+    terminated (codes "parts " ++ (decimal parts ++ (codes " ways " ++ (decimal ways ++ (codes " grants " ++ (decimal grants
+    ++ (codes " replies " ++ decimal replies)))))))
 
 -- ---- all of it
+
+abbrev pub way_lines : Passing → ProfileName → List PartMemory → List PartUse → List ℕ
+way_lines passing p memory uses = flat_map (passing_line passing) (ways passing p memory uses)
 
 unfoldable pub ever_lines : ProfileName → Names → List PartMemory → List PartUse → Shown → List ℕ
 ever_lines p names memory uses v =
     flat_map (part_lines p names memory uses v) (parts_of memory)
-    ++ (flat_map way_line (ways p memory uses)
+    ++ (way_lines Message p memory uses ++ (way_lines Grant p memory uses ++ (way_lines Answer p memory uses
     ++ (flat_map (waiting_lines names v) (endpoints p v)
-    ++ count_line (length (parts_of memory)) (length (ways p memory uses))))
+    ++ count_line (length (parts_of memory)) (length (ways Message p memory uses)) (length (ways Grant p memory uses))
+    (length (ways Answer p memory uses))))))
 
-unfoldable pub ever_text : ProfileName → Names → SetupView → ℕ → List ℕ → List PartMemory → List PartUse → Shown → List ℕ
-ever_text p names setup made without memory uses v =
-    head_line setup made ++ (flat_map (without_line names v) without ++ ever_lines p names memory uses v)
+unfoldable pub ever_text : ProfileName → Names → SetupView → ℕ → ℕ → List ℕ → List ℕ → List PartMemory → List PartUse → Shown → List ℕ
+ever_text p names setup made refused without messages memory uses v =
+    head_lines (codes "ever") names setup made refused without messages v ++ ever_lines p names memory uses v

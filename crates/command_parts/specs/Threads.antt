@@ -1,37 +1,36 @@
--- Which threads the words of a command line mean, and which of the live threads may go on to make calls.
-use Rattle.std.specs.Prelude.{ℕ, ◌+◌, ◌-◌, ◌*◌, ◌^◌, ◌==◌, nat_lt, Bool, not, cond, List, [], ◌∷◌, filter, Option, Some, None, is_some, option_and_then}
-use Rattle.std.specs.List.{filter_map, list_all}
+-- Which threads words mean, and which of the live threads may go on to make calls.
+use Rattle.std.specs.Prelude.{ℕ, not, Bool, ◌&&◌, List, map, filter}
+use Rattle.std.specs.Borrow.{Bor}
 use Rattle.cap_core.specs.declared.profile.ProfileName.{ProfileName}
+use Rattle.kernel_abstract.specs.Plan.{Plan}
 use Rattle.kernel_abstract.specs.Shown.{Shown}
-use Rattle.setup_values.specs.Names.{Names, word_named}
-use Rattle.setup_values.specs.Kinds.{between}
+use Rattle.setup_values.specs.Names.{Names}
+use Rattle.setup_objects.specs.declared.meant.ObjectKind.{ObjectKind}
+use Rattle.setup_objects.specs.declared.meant.ObjectKind.TheVariants.{Thread}
+use Rattle.setup_objects.specs.Meant.{are_meant, objects_meant}
 use Rattle.setup_report.specs.State.{is_in, rising, threads}
+use Rattle.command_parts.specs.declared.threads.Trust.{Trust}
 
-abbrev pub digit : ℕ → Option ℕ
-digit c = cond (between 48 57 c) (Some (c - 48)) None
+-- the objects of a kind that some words stand for, rising
+abbrev pub named : ObjectKind → ProfileName → Names → Plan → Shown → List (List ℕ) → List ℕ
+named kind p names plan v texts = rising (objects_meant kind p names plan v texts)
 
--- the number of decimal digits, after those that stand for the first number; None from 19 digits on
-abbrev pub digits_after : ℕ → List ℕ → Option ℕ
-digits_after n [] = Some n
-digits_after n (c ∷ cs) = cond (nat_lt n (10 ^ 18)) (option_and_then (λ d. digits_after (10 * n + d) cs) (digit c)) None
+-- the words for the threads that are trusted: to make no more calls, and to send and receive alone
+pub record Trusted : Type 0 where
+  pub without : List (List ℕ)
+  pub messages : List (List ℕ)
 
-abbrev pub or_named : Names → List ℕ → Option ℕ → Option ℕ
-or_named names text None = word_named names text
-or_named names text (Some n) = Some n
+-- who is trusted and how, with the words as lists of characters
+abbrev pub trusted_by : Trust → Trusted
+trusted_by trust = record {
+  without = map (λ (w : Bor (List ℕ)). w.now) trust.without.now;
+  messages = map (λ (w : Bor (List ℕ)). w.now) trust.messages.now;
+}
 
--- the address of a thread: decimal digits, or a name of the set-up, also behind a `@`, which is 64
-abbrev pub thread_meant : Names → List ℕ → Option ℕ
-thread_meant names [] = None
-thread_meant names (c ∷ cs) = cond (c == 64) (word_named names cs) (or_named names (c ∷ cs) (digits_after 0 (c ∷ cs)))
+-- each of these words stands for a thread
+abbrev pub are_trusted : ProfileName → Names → Plan → Shown → Trusted → Bool
+are_trusted p names plan v trust = are_meant Thread p names plan v trust.without && are_meant Thread p names plan v trust.messages
 
--- each of some texts means a thread
-abbrev pub are_meant : Names → List (List ℕ) → Bool
-are_meant names texts = list_all (λ text. is_some (thread_meant names text)) texts
-
--- the threads that are meant, rising
-abbrev pub trusted : Names → List (List ℕ) → List ℕ
-trusted names texts = rising (filter_map (thread_meant names) texts)
-
--- the live threads that are not trusted to make no more calls
+-- the live threads that are not trusted
 abbrev pub callers : ProfileName → Shown → List ℕ → List ℕ
-callers p v without = filter (λ thread. not (is_in thread without)) (threads p v)
+callers p v trusted = filter (λ thread. not (is_in thread trusted)) (threads p v)

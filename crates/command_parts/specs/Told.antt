@@ -1,17 +1,27 @@
 -- What is written of the parts of a set-up's layout, and the verdict.
 use Rattle.std.specs.Prelude.{◌≡◌, ℕ, List, [], MatchBool}
 use Rattle.cap_core.specs.declared.profile.ProfileName.{ProfileName}
+use Rattle.kernel_abstract.specs.Shown.{Shown}
 use Rattle.kernel_abstract.specs.State.{State, shown}
 use Rattle.setup_values.specs.Names.{Names}
 use Rattle.setup_format.specs.Views.{SetupView}
-use Rattle.command_parts.specs.Threads.{are_meant, trusted}
+use Rattle.setup_objects.specs.declared.meant.ObjectKind.TheVariants.{Thread}
+use Rattle.command_parts.specs.Threads.{Trusted, are_trusted, named}
+use Rattle.command_parts.specs.Behind.{refused_behind}
 use Rattle.command_parts.specs.Ever.{IsTextOf}
 use Rattle.command_core.specs.declared.fault.Verdict.{Verdict}
 use Rattle.command_core.specs.declared.fault.Verdict.TheVariants.{AllMet, Absent}
 
--- the text of parts of the state, and the verdict; nothing, where a word for a trusted thread means none
-abbrev pub IsEver : List (List ℕ) → ProfileName → Names → SetupView → ℕ → State → List ℕ → Verdict → Type 0
-IsEver without p names setup made A text verdict =
-    MatchBool (are_meant names without)
-    (IsTextOf p names setup made (trusted names without) (shown A) text × (verdict ≡ AllMet))
+-- the text of parts of what is shown, where so many calls were refused, and the verdict; nothing, where a word for a trusted thread
+-- stands for none
+abbrev pub IsEverOf : Trusted → ProfileName → Names → SetupView → ℕ → ℕ → Shown → List ℕ → Verdict → Type 0
+IsEverOf trust p names setup made refused v text verdict =
+    MatchBool (are_trusted p names setup.plan v trust)
+    (IsTextOf p names setup made refused (named Thread p names setup.plan v trust.without) (named Thread p names setup.plan v trust.messages) v text
+    × (verdict ≡ AllMet))
     ((text ≡ []) × (verdict ≡ Absent))
+
+-- the same of the state behind the first calls
+abbrev pub IsEver : Trusted → ProfileName → Names → SetupView → ℕ → State → List ℕ → Verdict → Type 0
+IsEver trust p names setup made A text verdict =
+    IsEverOf trust p names setup made (refused_behind p setup made) (shown A) text verdict

@@ -1,6 +1,7 @@
 //! What the threads of a set-up can never get, as text: the parts of its layout, and the ways between them.
 #![tactic(auto)]
 
+mod behind;
 mod command;
 mod head;
 mod parts;
@@ -9,9 +10,11 @@ mod text;
 mod threads;
 mod ways;
 
+pub use behind::kernel_behind;
 pub use command::Ever;
+pub use head::{Heading, add_heading, none_text};
 pub use parts::{BadgeText, is_of_part};
 pub use sets::{is_in, listed, rising};
-pub use text::{ever, parts_of_callers};
-pub use threads::{are_meant, thread_meant, trusted};
-pub use ways::{has_use_to_receive, has_use_to_send};
+pub use text::{all_trusted, ever, parts_of_callers};
+pub use threads::{Trust, named};
+pub use ways::{Passing, Way, add_sel4_lines, has_use_to_receive, has_use_to_send, ways_by};

@@ -1,5 +1,5 @@
 //! The text of the parts of a kernel.
-ghost use Rattle.std.specs.Prelude.{◌≡◌, ◌++◌, ℕ, IfErr, IfOk, OnOk, string_bytes};
+ghost use Rattle.std.specs.Prelude.{◌≡◌, ◌++◌, ℕ, IfErr, IfOk, OnOk, length, string_bytes};
 ghost use Rattle.std.specs.List.{flat_map};
 ghost use Rattle.kernel_abstract.specs.Memory.{IsInMemory};
 ghost use Rattle.setup_values.specs.Names.{names_view};
@@ -7,16 +7,15 @@ ghost use Rattle.setup_report.specs.State as state;
 ghost use Rattle.command_parts.specs.Text as spec;
 ghost use Rattle.command_parts.specs.Ever.{AreRightParts, IsTextOf};
 
-use crate::head::{add_head, add_trusted};
+use crate::head::{Heading, add_heading};
 use crate::parts::add_parts;
 use crate::sets::listed;
 use crate::threads::callers;
-use crate::ways::{add_ways, parts_of, ways};
+use crate::ways::{Passing, add_ways, parts_of, ways_by};
 use cap_core::Profile;
 use ipc_core::Waiters;
 use kernel_core::Kernel;
 use query_parts::{Parts, PartsFault, parts_around};
-use setup_format::Setup;
 use setup_report::{StateRows, state_rows, waiting_threads};
 use setup_values::{Name, thread_name};
 use slot_core::{CapStore, DerivationStore};
@@ -90,10 +89,38 @@ fn add_waiting<P: Profile, S: CapStore<P> + Drop, W: Waiters<P> + Drop>(
     Ok(())
 }
 
-fn add_count(out: &mut String, parts: usize, ways: usize) -> Result<(), AllocError>
-    ensures { OnOk result (string_bytes out.new ≡ string_bytes out.old ++ spec.count_line parts ways) }
+fn add_count(
+    out: &mut String,
+    parts: usize,
+    ways: usize,
+    grants: usize,
+    replies: usize,
+) -> Result<(), AllocError>
+    ensures { OnOk result (string_bytes out.new ≡ string_bytes out.old ++ spec.count_line parts ways grants replies) }
 {
-    writeln!(out, "parts {parts} ways {ways}")
+    writeln!(
+        out,
+        "parts {parts} ways {ways} grants {grants} replies {replies}"
+    )
+}
+
+/// Adds the lines of the ways by which something passes, and tells how many there are.
+fn add_passing<P: Profile>(
+    alloc: Global,
+    out: &mut String,
+    parts: &Parts,
+    numbers: &[u64],
+    passing: Passing,
+) -> Result<usize, AllocError>
+    requires { numbers.now ≡ spec.parts_of parts.now.memory.items }
+    ensures lines { OnOk result (string_bytes out.new ≡ string_bytes out.old
+        ++ spec.way_lines passing P.profile parts.now.memory.items parts.now.uses.items) }
+    ensures count { IfOk result (λ n. n ≡ length (spec.ways passing P.profile parts.now.memory.items parts.now.uses.items)) }
+{
+    let memory = parts.memory.as_slice();
+    let ways = ways_by::<P>(alloc, memory, parts.uses.as_slice(), numbers, passing)?;
+    add_ways(out, passing, ways.as_slice())?;
+    Ok(ways.len())
 }
 
 /// Adds the lines of parts, of the ways between them, and of the sends that wait.
@@ -112,13 +139,13 @@ fn add_lines<P: Profile, S: DerivationStore<P> + Drop, W: Waiters<P> + Drop>(
     ensures { OnOk result (string_bytes out.new ≡ string_bytes out.old
         ++ spec.ever_lines P.profile (names_view names.now) parts.now.memory.items parts.now.uses.items kernel.now) }
 {
-    let memory = parts.memory.as_slice();
-    let numbers = parts_of(alloc, memory)?;
-    let ways = ways::<P>(alloc, memory, parts.uses.as_slice(), numbers.as_slice())?;
+    let numbers = parts_of(alloc, parts.memory.as_slice())?;
     add_parts::<P, S, W>(out, names, kernel, threads, parts, numbers.as_slice())?;
-    add_ways(out, ways.as_slice())?;
+    let ways = add_passing::<P>(alloc, out, parts, numbers.as_slice(), Passing::Message)?;
+    let grants = add_passing::<P>(alloc, out, parts, numbers.as_slice(), Passing::Grant)?;
+    let replies = add_passing::<P>(alloc, out, parts, numbers.as_slice(), Passing::Answer)?;
     add_waiting::<P, S, W>(alloc, out, names, kernel, endpoints)?;
-    add_count(out, numbers.len(), ways.len())
+    add_count(out, numbers.len(), ways, grants, replies)
 }
 
 /// The text of parts that are given.
@@ -126,9 +153,7 @@ fn add_lines<P: Profile, S: DerivationStore<P> + Drop, W: Waiters<P> + Drop>(
 fn text_of_parts<P: Profile, S: DerivationStore<P> + Drop, W: Waiters<P> + Drop>(
     alloc: Global,
     names: &[Name],
-    setup: &Setup,
-    made: usize,
-    without: &[u64],
+    heading: &Heading<'_>,
     kernel: &Kernel<P, S, W>,
     rows: &StateRows,
     parts: &Parts,
@@ -136,13 +161,13 @@ fn text_of_parts<P: Profile, S: DerivationStore<P> + Drop, W: Waiters<P> + Drop>
     requires threads { rows.now.threads.keys ≡ state.threads P.profile kernel.now }
     requires endpoints { rows.now.endpoints.keys ≡ state.endpoints P.profile kernel.now }
     ensures { IfOk result (λ text. text.items
-        ≡ spec.ever_text P.profile (names_view names.now) setup.now made without.now parts.now.memory.items parts.now.uses.items kernel.now) }
+        ≡ spec.ever_text P.profile (names_view names.now) heading.now.setup.now heading.now.made heading.now.refused heading.now.without.now heading.now.messages.now
+        parts.now.memory.items parts.now.uses.items kernel.now) }
 {
     let threads = listed(alloc, &rows.threads)?;
     let endpoints = listed(alloc, &rows.endpoints)?;
     let mut out = String::new(alloc);
-    add_head(&mut out, setup, made)?;
-    add_trusted::<P, S, W>(&mut out, names, kernel, without)?;
+    add_heading::<P, S, W>(&mut out, "ever", names, heading, kernel)?;
     add_lines::<P, S, W>(
         alloc,
         &mut out,
@@ -155,7 +180,7 @@ fn text_of_parts<P: Profile, S: DerivationStore<P> + Drop, W: Waiters<P> + Drop>
     Ok(out.into_bytes())
 }
 
-/// The least closed parts around the live threads that are not trusted to make no more calls.
+/// The least closed parts around the live threads that are not trusted.
 ///
 /// # Errors
 ///
@@ -163,21 +188,33 @@ fn text_of_parts<P: Profile, S: DerivationStore<P> + Drop, W: Waiters<P> + Drop>
 /// whose objects lie in its memory has such a thread (`fault`).
 pub fn parts_of_callers<P: Profile, S: DerivationStore<P> + Drop, W: Waiters<P> + Drop>(
     alloc: Global,
-    without: &[u64],
+    trusted: &[u64],
     kernel: &Kernel<P, S, W>,
     rows: &StateRows,
 ) -> Result<Parts, PartsFault>
     requires { rows.now.threads.keys ≡ state.threads P.profile kernel.now }
-    ensures right { IfOk result (λ parts. AreRightParts P.profile kernel.now without.now parts.memory.items parts.uses.items) }
+    ensures right { IfOk result (λ parts. AreRightParts P.profile kernel.now trusted.now parts.memory.items parts.uses.items) }
     ensures fault { IfErr result (λ fault. fault ≡ PartsFault.Block → (memory : ℕ) → IsInMemory P.profile memory kernel.now → ⊥) }
 {
     let threads = listed(alloc, &rows.threads)?;
-    let callers = callers(alloc, threads.as_slice(), without)?;
+    let callers = callers(alloc, threads.as_slice(), trusted)?;
     parts_around::<P, S, W>(alloc, kernel, callers.as_slice())
 }
 
-/// What the threads of a kernel can never get, but those that are trusted to make no more calls: the text of closed parts
-/// around them.
+/// All threads that are trusted: to make no more calls, and to send and receive alone.
+///
+/// # Errors
+///
+/// Memory was refused.
+pub fn all_trusted(alloc: Global, heading: &Heading<'_>) -> Result<Vec<u64>, AllocError>
+    ensures { IfOk result (λ v. v.items ≡ heading.now.without.now ++ heading.now.messages.now) }
+{
+    let mut trusted: Vec<u64> = heading.without.iter().copied().collect(alloc)?;
+    trusted.extend_from_slice(heading.messages)?;
+    Ok(trusted)
+}
+
+/// What the threads of a kernel can never get, but those that are trusted: the text of closed parts around them.
 ///
 /// # Errors
 ///
@@ -186,16 +223,15 @@ pub fn parts_of_callers<P: Profile, S: DerivationStore<P> + Drop, W: Waiters<P> 
 pub fn ever<P: Profile, S: DerivationStore<P> + Drop, W: Waiters<P> + Drop>(
     alloc: Global,
     names: &[Name],
-    setup: &Setup,
-    made: usize,
-    without: &[u64],
+    heading: &Heading<'_>,
     kernel: &Kernel<P, S, W>,
 ) -> Result<Vec<u8>, PartsFault>
-    ensures text { IfOk result (λ text. IsTextOf P.profile (names_view names.now) setup.now made without.now kernel.now text.items) }
+    ensures text { IfOk result (λ text. IsTextOf P.profile (names_view names.now) heading.now.setup.now heading.now.made heading.now.refused heading.now.without.now heading.now.messages.now kernel.now text.items) }
     ensures fault { IfErr result (λ fault. fault ≡ PartsFault.Block → (memory : ℕ) → IsInMemory P.profile memory kernel.now → ⊥) }
 {
     let rows = state_rows::<P, S, W>(alloc, kernel)?;
-    let parts = parts_of_callers::<P, S, W>(alloc, without, kernel, &rows)?;
-    let text = text_of_parts::<P, S, W>(alloc, names, setup, made, without, kernel, &rows, &parts)?;
+    let trusted = all_trusted(alloc, heading)?;
+    let parts = parts_of_callers::<P, S, W>(alloc, trusted.as_slice(), kernel, &rows)?;
+    let text = text_of_parts::<P, S, W>(alloc, names, heading, kernel, &rows, &parts)?;
     Ok(text)
 }

@@ -1,5 +1,5 @@
 //! Ways from one part to another, by an endpoint that the one may send to, and the other receive on.
-ghost use Rattle.std.specs.Prelude.{◌≡◌, ◌++◌, ◌==◌, not, IfOk, OnOk, filter, map, string_bytes};
+ghost use Rattle.std.specs.Prelude.{◌≡◌, ◌++◌, ◌==◌, ◌∷◌, [], cond, not, IfOk, OnOk, filter, map, string_bytes};
 ghost use Rattle.std.specs.List.{flat_map, list_any};
 ghost use Rattle.cap_core.specs.Rights.{write_bit, read_bit};
 ghost use Rattle.command_parts.specs.Text as spec;
@@ -19,6 +19,17 @@ pub struct Way {
     pub endpoint: u64,
     pub badge: u64,
     pub to: u64,
+}
+
+/// What passes by a way.
+#[derive(Clone, Copy, PartialEq, Eq, Debug)]
+pub enum Passing {
+    /// Messages.
+    Message,
+    /// In seL4, capabilities that go with a message.
+    Grant,
+    /// In seL4, the answer to a call, the other way.
+    Answer,
 }
 
 /// The numbers of parts.
@@ -126,6 +137,82 @@ fn badges<P: Profile>(
     }
     let own = own_badges(alloc, uses, part, endpoint)?;
     rising(alloc, own.as_slice())
+}
+
+fn may_hand_over(allowed: &PartUse, part: u64, endpoint: u64) -> bool
+    ensures { result ≡ spec.hands_over part endpoint allowed.now }
+{
+    may_send(allowed, part, endpoint) && allowed.rights.contains(Rights::GRANT)
+}
+
+fn may_be_answered(allowed: &PartUse, part: u64, endpoint: u64) -> bool
+    ensures { result ≡ spec.is_answered part endpoint allowed.now }
+{
+    may_send(allowed, part, endpoint)
+        && (allowed.rights.contains(Rights::GRANT) || allowed.rights.contains(Rights::GRANT_REPLY))
+}
+
+/// Whether it passes by a use, which is of the part and of the endpoint.
+fn passes(allowed: &PartUse, passing: Passing, part: u64, endpoint: u64) -> bool
+    ensures { result ≡ spec.passes passing part endpoint allowed.now }
+{
+    match passing {
+        Passing::Message => may_send(allowed, part, endpoint),
+        Passing::Grant => may_hand_over(allowed, part, endpoint),
+        Passing::Answer => may_be_answered(allowed, part, endpoint),
+    }
+}
+
+fn has_use_that_passes(uses: &[PartUse], passing: Passing, part: u64, endpoint: u64) -> bool
+    ensures { result ≡ list_any (spec.passes passing part endpoint) uses.now }
+{
+    uses.iter().any(|u| passes(u, passing, part, endpoint))
+}
+
+fn may_pass<P: Profile>(
+    memory: &[PartMemory],
+    uses: &[PartUse],
+    passing: Passing,
+    part: u64,
+    endpoint: u64,
+) -> bool
+    ensures { result ≡ spec.may_pass passing P.profile memory.now uses.now part endpoint }
+{
+    owns_endpoint::<P>(memory, part, endpoint) || has_use_that_passes(uses, passing, part, endpoint)
+}
+
+fn badge_where(alloc: Global, passes: bool) -> Result<Vec<u64>, AllocError>
+    ensures { IfOk result (λ v. v.items ≡ cond passes (0 ∷ []) []) }
+{
+    let mut badges = Vec::new(alloc);
+    if passes {
+        badges.push(0)?;
+    }
+    Ok(badges)
+}
+
+/// The badges of the ways by which something passes; where it is not messages, 0 alone.
+fn badges_by<P: Profile>(
+    alloc: Global,
+    memory: &[PartMemory],
+    uses: &[PartUse],
+    passing: Passing,
+    part: u64,
+    endpoint: u64,
+) -> Result<Vec<u64>, AllocError>
+    ensures { IfOk result (λ v. v.items ≡ spec.badges_by passing P.profile memory.now uses.now part endpoint) }
+{
+    match passing {
+        Passing::Message => badges::<P>(alloc, memory, uses, part, endpoint),
+        Passing::Grant => badge_where(
+            alloc,
+            may_pass::<P>(memory, uses, Passing::Grant, part, endpoint),
+        ),
+        Passing::Answer => badge_where(
+            alloc,
+            may_pass::<P>(memory, uses, Passing::Answer, part, endpoint),
+        ),
+    }
 }
 
 /// The uses that a part has.
@@ -252,14 +339,15 @@ fn add_ways_on<P: Profile>(
     memory: &[PartMemory],
     own: &[PartUse],
     receivers: &[u64],
+    passing: Passing,
     from: u64,
     endpoint: u64,
 ) -> Result<(), AllocError>
     ensures { OnOk result (ways.new.items ≡ ways.old.items
         ++ flat_map (λ badge. map (spec.way from endpoint badge) (filter (λ other. not (other == from)) receivers.now))
-        (spec.badges P.profile memory.now own.now from endpoint)) }
+        (spec.badges_by passing P.profile memory.now own.now from endpoint)) }
 {
-    let badges = badges::<P>(alloc, memory, own, from, endpoint)?;
+    let badges = badges_by::<P>(alloc, memory, own, passing, from, endpoint)?;
     if badges.is_empty() {
         return Ok(());
     }
@@ -280,16 +368,26 @@ fn add_ways_from<P: Profile>(
     uses: &[PartUse],
     endpoints: &[u64],
     receivers: &[Vec<u64>],
+    passing: Passing,
     from: u64,
 ) -> Result<(), AllocError>
     requires endpoints { endpoints.now ≡ spec.endpoints_used uses.now }
     requires receivers { map (λ v. v.items) receivers.now ≡ map (spec.receivers_on P.profile memory.now uses.now) endpoints.now }
-    ensures { OnOk result (ways.new.items ≡ ways.old.items ++ spec.ways_from P.profile memory.now uses.now from) }
+    ensures { OnOk result (ways.new.items ≡ ways.old.items ++ spec.ways_from passing P.profile memory.now uses.now from) }
 {
     let own = uses_of(alloc, uses, from)?;
     for (place, endpoint) in endpoints.iter().enumerate() {
         let here = receivers[place].as_slice();
-        add_ways_on::<P>(alloc, ways, memory, own.as_slice(), here, from, *endpoint)?;
+        add_ways_on::<P>(
+            alloc,
+            ways,
+            memory,
+            own.as_slice(),
+            here,
+            passing,
+            from,
+            *endpoint,
+        )?;
     }
     Ok(())
 }
@@ -303,42 +401,48 @@ fn add_ways_between<P: Profile>(
     parts: &[u64],
     endpoints: &[u64],
     receivers: &[Vec<u64>],
+    passing: Passing,
 ) -> Result<(), AllocError>
     requires parts { parts.now ≡ spec.parts_of memory.now }
     requires endpoints { endpoints.now ≡ spec.endpoints_used uses.now }
     requires receivers { map (λ v. v.items) receivers.now ≡ map (spec.receivers_on P.profile memory.now uses.now) endpoints.now }
-    ensures { OnOk result (ways.new.items ≡ ways.old.items ++ spec.ways P.profile memory.now uses.now) }
+    ensures { OnOk result (ways.new.items ≡ ways.old.items ++ spec.ways passing P.profile memory.now uses.now) }
 {
     for from in parts {
-        add_ways_from::<P>(alloc, ways, memory, uses, endpoints, receivers, *from)?;
+        add_ways_from::<P>(
+            alloc, ways, memory, uses, endpoints, receivers, passing, *from,
+        )?;
     }
     Ok(())
 }
 
-/// The ways between parts.
+/// The ways between parts by which something passes.
 ///
 /// # Errors
 ///
 /// Memory was refused.
-pub fn ways<P: Profile>(
+pub fn ways_by<P: Profile>(
     alloc: Global,
     memory: &[PartMemory],
     uses: &[PartUse],
     parts: &[u64],
+    passing: Passing,
 ) -> Result<Vec<Way>, AllocError>
     requires { parts.now ≡ spec.parts_of memory.now }
-    ensures { IfOk result (λ v. v.items ≡ spec.ways P.profile memory.now uses.now) }
+    ensures { IfOk result (λ v. v.items ≡ spec.ways passing P.profile memory.now uses.now) }
 {
     let mut ways = Vec::new(alloc);
     let endpoints = endpoints_used(alloc, uses)?;
     let endpoints = endpoints.as_slice();
     let receivers = all_receivers::<P>(alloc, memory, uses, parts, endpoints)?;
     let receivers = receivers.as_slice();
-    add_ways_between::<P>(alloc, &mut ways, memory, uses, parts, endpoints, receivers)?;
+    add_ways_between::<P>(
+        alloc, &mut ways, memory, uses, parts, endpoints, receivers, passing,
+    )?;
     Ok(ways)
 }
 
-fn add_way(out: &mut String, way: &Way) -> Result<(), AllocError>
+fn add_message(out: &mut String, way: &Way) -> Result<(), AllocError>
     ensures { OnOk result (string_bytes out.new ≡ string_bytes out.old ++ spec.way_line way.now) }
 {
     let from = way.from;
@@ -348,16 +452,99 @@ fn add_way(out: &mut String, way: &Way) -> Result<(), AllocError>
     writeln!(out, "way {from} -> {endpoint} badge {badge} -> {to}")
 }
 
-/// Adds a line for each way.
+fn add_way(out: &mut String, passing: Passing, way: &Way) -> Result<(), AllocError>
+    ensures { OnOk result (string_bytes out.new ≡ string_bytes out.old ++ spec.passing_line passing way.now) }
+{
+    let from = way.from;
+    let endpoint = way.endpoint;
+    let to = way.to;
+    match passing {
+        Passing::Message => add_message(out, way),
+        Passing::Grant => writeln!(out, "grant {from} -> {endpoint} -> {to}"),
+        Passing::Answer => writeln!(out, "reply {to} -> {endpoint} -> {from}"),
+    }
+}
+
+/// Adds a line for each way by which something passes.
 ///
 /// # Errors
 ///
 /// Memory was refused.
-pub fn add_ways(out: &mut String, ways: &[Way]) -> Result<(), AllocError>
-    ensures { OnOk result (string_bytes out.new ≡ string_bytes out.old ++ flat_map spec.way_line ways.now) }
+pub fn add_ways(out: &mut String, passing: Passing, ways: &[Way]) -> Result<(), AllocError>
+    ensures { OnOk result (string_bytes out.new ≡ string_bytes out.old ++ flat_map (spec.passing_line passing) ways.now) }
 {
     for way in ways {
-        add_way(out, way)?;
+        add_way(out, passing, way)?;
     }
     Ok(())
+}
+
+fn add_between<P: Profile>(
+    out: &mut String,
+    memory: &[PartMemory],
+    uses: &[PartUse],
+    passing: Passing,
+    from: u64,
+    to: u64,
+    endpoint: u64,
+) -> Result<(), AllocError>
+    ensures { OnOk result (string_bytes out.new ≡ string_bytes out.old
+        ++ spec.between_line passing P.profile memory.now uses.now from to endpoint) }
+{
+    let way = Way {
+        from,
+        endpoint,
+        badge: 0,
+        to,
+    };
+    if may_pass::<P>(memory, uses, passing, from, endpoint)
+        && may_receive::<P>(memory, uses, endpoint, to)
+    {
+        add_way(out, passing, &way)
+    } else {
+        Ok(())
+    }
+}
+
+fn add_of_two<P: Profile>(
+    out: &mut String,
+    memory: &[PartMemory],
+    uses: &[PartUse],
+    endpoints: &[u64],
+    passing: Passing,
+    from: u64,
+    to: u64,
+) -> Result<(), AllocError>
+    requires { endpoints.now ≡ spec.endpoints_used uses.now }
+    ensures { OnOk result (string_bytes out.new ≡ string_bytes out.old
+        ++ spec.lines_of_two passing P.profile memory.now uses.now from to) }
+{
+    for endpoint in endpoints {
+        add_between::<P>(out, memory, uses, passing, from, to, *endpoint)?;
+    }
+    Ok(())
+}
+
+/// Adds a line for each endpoint by which capabilities or answers pass between two parts in seL4, either way.
+///
+/// # Errors
+///
+/// Memory was refused.
+pub fn add_sel4_lines<P: Profile>(
+    alloc: Global,
+    out: &mut String,
+    memory: &[PartMemory],
+    uses: &[PartUse],
+    one: u64,
+    other: u64,
+) -> Result<(), AllocError>
+    ensures { OnOk result (string_bytes out.new ≡ string_bytes out.old
+        ++ spec.sel4_lines P.profile memory.now uses.now one other) }
+{
+    let endpoints = endpoints_used(alloc, uses)?;
+    let used = endpoints.as_slice();
+    add_of_two::<P>(out, memory, uses, used, Passing::Grant, one, other)?;
+    add_of_two::<P>(out, memory, uses, used, Passing::Grant, other, one)?;
+    add_of_two::<P>(out, memory, uses, used, Passing::Answer, one, other)?;
+    add_of_two::<P>(out, memory, uses, used, Passing::Answer, other, one)
 }

@@ -9,6 +9,7 @@ use Rattle.command_check.specs.Commands.{IsAnswerTo, IsStateAnswer}
 use Rattle.command_check.specs.Migrations.{IsMigration}
 use Rattle.command_audit.specs.Audits.{IsAudited}
 use Rattle.command_parts.specs.Told.{IsEver}
+use Rattle.command_parts.specs.Threads.{Trusted}
 use Rattle.command_never.specs.Never.{Asked, IsNever}
 use Rattle.command_explore.specs.Explorations.{IsExploration}
 use Rattle.command_threads.specs.SharedRuns.{IsSharedProgram}
@@ -22,9 +23,16 @@ use Rattle.program.specs.NewWords.{IsNewOf}
 use Rattle.program.specs.Texts.{before_mark, behind_mark}
 use Rattle.program.specs.WitnessWords.{IsNamedWitness}
 
--- the words of `--without`, and those of `--by`
+-- the words of `--without`, of `--messages`, and of `--by`
 abbrev pub without_of : Options → List (List ℕ)
 without_of options = words_in (option_map (λ s. s.now) options.without)
+
+abbrev pub messages_of : Options → List (List ℕ)
+messages_of options = words_in (option_map (λ s. s.now) options.messages)
+
+-- the threads that are trusted
+abbrev pub trust_of : Options → Trusted
+trust_of options = record { without = without_of options; messages = messages_of options }
 
 abbrev pub by_of : Options → List (List ℕ)
 by_of options = words_in (option_map (λ s. s.now) options.by)
@@ -32,7 +40,7 @@ by_of options = words_in (option_map (λ s. s.now) options.by)
 -- what is asked of the threads before and behind the comma (44)
 abbrev pub question_of : Options → List ℕ → Asked
 question_of options threads = record {
-  without = without_of options;
+  trust = trust_of options;
   from = before_mark 44 threads;
   to = behind_mark 44 threads;
   by = by_of options;
@@ -42,7 +50,7 @@ question_of options threads = record {
 abbrev pub IsAuditOfState : Options → List ℕ → List ℕ → Verdict → Type 0
 IsAuditOfState options input text verdict =
     MatchBool options.ever
-    (IsAnswerTo (IsStateAnswer (IsEver (without_of options)) options.after) input text verdict)
+    (IsAnswerTo (IsStateAnswer (IsEver (trust_of options)) options.after) input text verdict)
     (IsAnswerTo (IsStateAnswer (IsAudited options.slot) options.after) input text verdict)
 
 -- or, with `--never`, whether the first thread's part is kept from the other's

@@ -2,7 +2,7 @@
 ghost use Rattle.std.specs.Prelude.{◌≡◌, ◌≢◌, IfErr, IfOk, map};
 ghost use Rattle.command_line.specs.declared.arguments.Job.TheVariants.{Threads};
 ghost use Rattle.command_check.specs.Commands.{IsAnswerTo, IsStateAnswer};
-ghost use Rattle.program.specs.Jobs.{IsAudit, IsAuditOfState, IsExplorationBy, by_of, form_of as form_of_options, question_of, without_of};
+ghost use Rattle.program.specs.Jobs.{IsAudit, IsAuditOfState, IsExplorationBy, by_of, form_of as form_of_options, messages_of, question_of, trust_of, without_of};
 ghost use Rattle.program.specs.NewWords.{IsNewOf};
 ghost use Rattle.program.specs.WitnessWords.{IsNamedWitness};
 ghost use Rattle.command_parts.specs.Told.{IsEver};
@@ -19,7 +19,7 @@ use command_explore::{Explore, ExploreOptions, WriteWitness};
 use command_line::{Job, Options};
 use command_never::Question;
 use command_new::Maker;
-use command_parts::Ever;
+use command_parts::{Ever, Trust};
 use command_trace::Trace;
 use command_tree::{Form, Tree};
 use command_why::Why;
@@ -49,18 +49,42 @@ fn on_state<C: StateCommand + Drop>(
     on_setup(alloc, OnState { command, after }, input)
 }
 
-/// What threads can never get, where those of `--without` make no more calls.
+/// What threads can never get, where those of `--without` and of `--messages` are trusted.
 fn make_ever(alloc: Global, options: Options<'_>, input: &[u8]) -> Result<Answer, RunFault>
-    ensures made { IfOk result (λ made. IsAnswerTo (IsStateAnswer (IsEver (without_of options.entry)) options.entry.after) input.now made.text.items made.verdict) }
+    ensures made { IfOk result (λ made. IsAnswerTo (IsStateAnswer (IsEver (trust_of options.entry)) options.entry.after) input.now made.text.items made.verdict) }
     ensures memory { IfErr result (λ fault. fault ≡ RunFault.Memory) }
 {
-    match words_in(alloc, options.without) {
-        Ok(words) => {
-            let without = words.as_slice();
-            on_state(alloc, options.after, Ever { without }, input)
-        }
-        Err(_) => Err(RunFault::Memory),
-    }
+    let Ok(without) = words_in(alloc, options.without) else {
+        return Err(RunFault::Memory);
+    };
+    let Ok(messages) = words_in(alloc, options.messages) else {
+        return Err(RunFault::Memory);
+    };
+    make_ever_trusting(
+        alloc,
+        options,
+        without.as_slice(),
+        messages.as_slice(),
+        input,
+    )
+}
+
+/// The same, by the words.
+fn make_ever_trusting(
+    alloc: Global,
+    options: Options<'_>,
+    without: &[&str],
+    messages: &[&str],
+    input: &[u8],
+) -> Result<Answer, RunFault>
+    requires without { map (λ w. w.now) without.now ≡ without_of options }
+    requires messages { map (λ w. w.now) messages.now ≡ messages_of options }
+    ensures made { IfOk result (λ made. IsAnswerTo (IsStateAnswer (IsEver (trust_of options.entry)) options.entry.after) input.now made.text.items made.verdict) }
+    ensures memory { IfErr result (λ fault. fault ≡ RunFault.Memory) }
+{
+    let trust = Trust { without, messages };
+    let after = options.after;
+    on_setup(alloc, Ever { trust, after }, input)
 }
 
 /// The audit of a state or of one slot, or, with `--ever`, what threads can never get.
@@ -76,29 +100,32 @@ fn make_state_audit(alloc: Global, options: Options<'_>, input: &[u8]) -> Result
     }
 }
 
-/// Whether the part of the first of two threads is kept from that of the other, but by the endpoints `by`, where those of
-/// `without` make no more calls.
+/// Whether the part of the first of two threads is kept from that of the other, but by the endpoints `by`, where some threads are
+/// trusted.
 fn make_never_between(
     alloc: Global,
     options: Options<'_>,
     threads: &str,
     without: &[&str],
+    messages: &[&str],
     by: &[&str],
     input: &[u8],
 ) -> Result<Answer, RunFault>
     requires without { map (λ w. w.now) without.now ≡ without_of options }
+    requires messages { map (λ w. w.now) messages.now ≡ messages_of options }
     requires by { map (λ w. w.now) by.now ≡ by_of options }
     ensures made { IfOk result (λ made. IsAnswerTo (IsStateAnswer (IsNever (question_of options.entry threads.now)) options.entry.after) input.now made.text.items made.verdict) }
     ensures memory { IfErr result (λ fault. fault ≡ RunFault.Memory) }
 {
     let (from, to) = around(threads, ',');
     let question = Question {
-        without,
+        trust: Trust { without, messages },
         from,
         to,
         by,
+        after: options.after,
     };
-    on_state(alloc, options.after, question, input)
+    on_setup(alloc, question, input)
 }
 
 /// The same, by the options.
@@ -114,6 +141,9 @@ fn make_never(
     let Ok(without) = words_in(alloc, options.without) else {
         return Err(RunFault::Memory);
     };
+    let Ok(messages) = words_in(alloc, options.messages) else {
+        return Err(RunFault::Memory);
+    };
     let Ok(by) = words_in(alloc, options.by) else {
         return Err(RunFault::Memory);
     };
@@ -122,6 +152,7 @@ fn make_never(
         options,
         threads,
         without.as_slice(),
+        messages.as_slice(),
         by.as_slice(),
         input,
     )

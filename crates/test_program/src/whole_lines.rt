@@ -197,7 +197,7 @@ const REASONS_AND_AUDITS: &[(&[&str], Wanted<'_>)] = &[
 const PARTS: &[(&[&str], Wanted<'_>)] = &[
     (
         &["sel4sim", "audit", "--ever"],
-        Wanted::Done(0, "ever 1 wide memory_bits 16 calls 2 after 2\npart 1\n"),
+        Wanted::Done(0, "ever 2 wide memory_bits 16 calls 2 after 2\npart 1\n"),
     ),
     (
         &["sel4sim", "audit", "--ever", "--after", "1"],

@@ -1,18 +1,19 @@
 //! What the threads of a set-up can ever get, and whether the part of one is kept from that of another.
 use crate::answer::{Answer, answer_of};
 use crate::files::read;
-use command_check::OnState;
 use command_never::Question;
-use command_parts::Ever;
+use command_parts::{Ever, Trust};
 use std::alloc::Global;
 use std::fs::Files;
 
-/// What is asked for: behind how many calls, which threads are trusted, and, where two threads are given, whether the part of
+/// What is asked for: behind how many calls, which threads are trusted to make no more calls, and which
+/// to go on to send and receive alone, and, where two threads are given, whether the part of
 /// the one is kept from that of the other, but by which endpoints.
 #[derive(Drop)]
 struct Asked<'a> {
     after: Option<u64>,
     without: Vec<&'a str>,
+    messages: Vec<&'a str>,
     between: Option<(&'a str, &'a str)>,
     by: Vec<&'a str>,
 }
@@ -22,7 +23,8 @@ struct Asked<'a> {
 enum Word {
     Option,
     Calls,
-    Threads,
+    Silent,
+    Messengers,
     Between,
     Endpoints,
 }
@@ -32,7 +34,9 @@ fn word_behind(option: &str) -> Word {
     if option == "--after" {
         Word::Calls
     } else if option == "--without" {
-        Word::Threads
+        Word::Silent
+    } else if option == "--messages" {
+        Word::Messengers
     } else if option == "--never" {
         Word::Between
     } else if option == "--by" {
@@ -55,7 +59,8 @@ impl<'a> Asked<'a> {
         match kind {
             Word::Option => return Ok(word_behind(word)),
             Word::Calls => self.after = Some(word.parse()?),
-            Word::Threads => add_words(&mut self.without, word)?,
+            Word::Silent => add_words(&mut self.without, word)?,
+            Word::Messengers => add_words(&mut self.messages, word)?,
             Word::Between => self.between = word.split_once(','),
             Word::Endpoints => add_words(&mut self.by, word)?,
         }
@@ -74,21 +79,22 @@ impl<'a> Asked<'a> {
     /// The answer to what is asked of a set-up.
     fn answer(&self, alloc: Global, setup: &[u8]) -> Answer {
         let after = self.after;
-        let without = self.without.as_slice();
+        let trust = Trust {
+            without: self.without.as_slice(),
+            messages: self.messages.as_slice(),
+        };
         match self.between {
-            None => {
-                let command = Ever { without };
-                answer_of(alloc, OnState { command, after }, setup)
-            }
+            None => answer_of(alloc, Ever { trust, after }, setup),
             Some((from, to)) => {
                 let by = self.by.as_slice();
                 let command = Question {
-                    without,
+                    trust,
                     from,
                     to,
                     by,
+                    after,
                 };
-                answer_of(alloc, OnState { command, after }, setup)
+                answer_of(alloc, command, setup)
             }
         }
     }
@@ -99,6 +105,7 @@ fn answer_to(alloc: Global, args: &[u8], setup: &[u8]) -> anyhow::Result<Answer>
     let mut asked = Asked {
         after: None,
         without: Vec::new(alloc),
+        messages: Vec::new(alloc),
         between: None,
         by: Vec::new(alloc),
     };

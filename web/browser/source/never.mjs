@@ -29,7 +29,7 @@ function wordsOf(told) {
 /** Draws a text of `audit --never` into an element. */
 export function drawNever(into, text) {
   const lines = text.split("\n");
-  const [, from, fromPart, to, toPart, answer] = ANSWER.exec(lines[0]) ?? [];
+  const [, from, fromPart, to, toPart, answer] = lines.map((line) => ANSWER.exec(line)).find(Boolean) ?? [];
   const endpoints = lines.map((line) => OPEN.exec(line)?.[1]).filter(Boolean);
   const told = answer === undefined ? null : element("p", { id: "verdict" },
     element("span", { class: answer === "excluded" ? "tag met" : "tag missed" }, answer), " ",

@@ -21,10 +21,11 @@ returns-clause-text g c =
     let from = c.args.from in
     let to = c.args.to in
     let text = string_bytes c.in_ok-chains.chains in
+    let head = c.args.heading.now in
     let are : AreFullSlots f c.as_slice.result.now =
     subst (λ (l : List FullSlot). AreFullSlots f l) (sym c.as_slice.ensures.value) c.in_ok-filled.ensures in
     let told : AreChainsBetween p names f memory uses (waits p c.args.kernel.now) by from to c.part_at.result c.part_at-2.result text =
-    subst (λ (w : List Wait). AreChainsBetween p names f memory uses w by from to c.part_at.result c.part_at-2.result text) c.requires
+    subst (λ (w : List Wait). AreChainsBetween p names f memory uses w by from to c.part_at.result c.part_at-2.result text) c.requires.waits
     (c.in_ok-chains.ensures f are) in
     record {
       chains = text;
@@ -33,5 +34,5 @@ returns-clause-text g c =
           (subst (λ (i : Option ℕ). AreChainsBetween p names f memory uses (waits p c.args.kernel.now) by from to i c.part_at-2.result text) c.part_at.ensures told);
       lines = ap (λ (v : Vec ℕ Global). v.items) c.into_bytes.ensures.value ∙ (c.in_ok-push_str.ensures.bytes
           ∙ (ap (λ (l : List ℕ). l ++ c.as_str.result.now) c.in_ok-text.ensures.text
-          ∙ ap (λ (l : List ℕ). never_text p names memory uses c.args.kernel.now by from to ++ l) c.as_str.ensures.value));
+          ∙ ap (λ (l : List ℕ). never_text p names head.setup.now head.made head.refused head.without.now head.messages.now memory uses c.args.kernel.now by from to ++ l) c.as_str.ensures.value));
     }

@@ -35,15 +35,15 @@ fault_of Is p v without ts same (Err e) h =
 
 pub returns-clause-right : goal.returns-clause-right
 returns-clause-right g c =
-    right_of g.P.Profile.profile c.args.kernel.now c.args.without.now c.as_slice-2.result.now
+    right_of g.P.Profile.profile c.args.kernel.now c.args.trusted.now c.as_slice-2.result.now
     (c.as_slice-2.ensures.value ∙ c.in_ok-callers.ensures
-    ∙ ap (filter (λ (t : ℕ). not (is_in t c.args.without.now))) (c.as_slice.ensures.value ∙ c.in_ok-threads.ensures ∙ c.requires))
+    ∙ ap (filter (λ (t : ℕ). not (is_in t c.args.trusted.now))) (c.as_slice.ensures.value ∙ c.in_ok-threads.ensures ∙ c.requires))
     c.parts_around.result (λ parts. parts.memory.items) (λ parts. parts.uses.items)
     c.parts_around.ensures.ever c.parts_around.ensures.order c.parts_around.ensures.threads c.parts_around.ensures.least
 
 pub returns-clause-fault : goal.returns-clause-fault
 returns-clause-fault g c =
-    fault_of _ g.P.Profile.profile c.args.kernel.now c.args.without.now c.as_slice-2.result.now
+    fault_of _ g.P.Profile.profile c.args.kernel.now c.args.trusted.now c.as_slice-2.result.now
     (c.as_slice-2.ensures.value ∙ c.in_ok-callers.ensures
-    ∙ ap (filter (λ (t : ℕ). not (is_in t c.args.without.now))) (c.as_slice.ensures.value ∙ c.in_ok-threads.ensures ∙ c.requires))
+    ∙ ap (filter (λ (t : ℕ). not (is_in t c.args.trusted.now))) (c.as_slice.ensures.value ∙ c.in_ok-threads.ensures ∙ c.requires))
     c.parts_around.result c.parts_around.ensures.fault

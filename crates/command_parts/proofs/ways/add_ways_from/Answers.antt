@@ -13,9 +13,9 @@ loop-place-preserved g c =
     c.as_slice-here.ensures.value
     ∙ heard_at p c.args.memory.now c.args.uses.now c.args.endpoints.now c.args.receivers.now c.loop-place.place c.index-receivers-place.result low c.requires.receivers
     c.index-receivers-place.is in
-    one_more (spec.ways_on p c.args.memory.now c.args.uses.now c.args.from) c.args.endpoints.now c.loop-place.place 0 c.args.ways.now.items c.loop-place.ways.items
+    one_more (spec.ways_on c.args.passing p c.args.memory.now c.args.uses.now c.args.from) c.args.endpoints.now c.loop-place.place 0 c.args.ways.now.items c.loop-place.ways.items
     c.add_ways_on.new.ways.items low c.loop-place.invariant
     (c.in_ok-add_ways_on.ensures
     ∙ ap (λ (l : List Way). c.loop-place.ways.items ++ l)
-    (ways_here p c.args.memory.now c.args.uses.now c.args.from (get_or c.args.endpoints.now c.loop-place.place 0) c.as_slice.result.now c.as_slice-here.result.now
+    (ways_here p c.args.memory.now c.args.uses.now c.args.passing c.args.from (get_or c.args.endpoints.now c.loop-place.place 0) c.as_slice.result.now c.as_slice-here.result.now
     (c.as_slice.ensures.value ∙ c.in_ok-own.ensures) heard))

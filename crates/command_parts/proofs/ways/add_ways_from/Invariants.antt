@@ -5,4 +5,4 @@ use Rattle.command_parts.specs.Text.{ways_on}
 use Rattle.command_parts.proofs.ways.add_ways_from.Given as goal
 
 abbrev pub invariant-loop-place : goal.invariant-loop-place
-invariant-loop-place g l = l.ways.items ≡ l.initial.ways.items ++ flat_map (ways_on g.P.Profile.profile l.memory l.uses l.from) (take l.place l.endpoints)
+invariant-loop-place g l = l.ways.items ≡ l.initial.ways.items ++ flat_map (ways_on l.passing g.P.Profile.profile l.memory l.uses l.from) (take l.place l.endpoints)
