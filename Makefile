@@ -64,6 +64,7 @@ rows-python:
 	python3 tests/exercises.py $(setups)
 	python3 tests/run.py $(program) $(setups)
 	python3 tests/several_files.py $(program) $(setups)
+	python3 tests/marks.py $(program) $(setups)
 	python3 tests/migrate.py $(program) $(setups)
 	python3 tests/traces.py $(program) $(setups)
 	python3 tests/why.py $(program) $(setups)

@@ -207,7 +207,7 @@ SETUPS = [
      ["TOML parse error at line 1, column 1", "invalid UTF-8", "this looks like UTF-16; save the text as UTF-8"]),
 ]
 
-COMMANDS = ["check", "trace", "threads", "migrate", "why", "audit", "explore", "tree", "new"]
+COMMANDS = ["check", "marks", "trace", "threads", "migrate", "why", "audit", "explore", "tree", "new"]
 
 # the words of a command line, the first line of standard error, and a part of what follows it
 LINES = [
@@ -217,7 +217,7 @@ LINES = [
     (["tre"], "sel4sim: reading failed", "sel4sim: tre is no command either; did you mean tree?\n"),
     (["chek.toml"], "sel4sim: reading failed", "sel4sim: chek.toml: No such file or directory (os error 2)\n"),
     (["trace", "a", "b"], "sel4sim: command line refused", "unexpected argument 'b' found"),
-    (["trace", "a", "b"], "sel4sim: command line refused", "sel4sim: one file is read in a run; check alone takes several\n"),
+    (["trace", "a", "b"], "sel4sim: command line refused", "sel4sim: one file is read in a run; check and marks take several\n"),
     (["check", "-", "a", "-"], "sel4sim: command line refused", "sel4sim: - stands for standard input, which can be read once\n"),
     (["why", "--call", "x"], "sel4sim: command line refused", "invalid value 'x' for '--call <N>': invalid digit found in string"),
     (["why", "--call", "-1"], "sel4sim: command line refused", "unexpected argument '-1' found"),

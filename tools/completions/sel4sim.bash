@@ -23,10 +23,14 @@ _sel4sim() {
     esac
     case $command in
         '')
-            COMPREPLY=($(compgen -W 'check trace migrate threads why audit explore tree new help -V --version -h --help' -- "$word"))
+            COMPREPLY=($(compgen -W 'check marks trace migrate threads why audit explore tree new help -V --version -h --help' -- "$word"))
             [[ $word == -* ]] || mapfile -t -O "${#COMPREPLY[@]}" COMPREPLY < <(compgen -f -- "$word")
             ;;
         check)
+            COMPREPLY=($(compgen -W '-h --help' -- "$word"))
+            [[ $word == -* ]] || mapfile -t -O "${#COMPREPLY[@]}" COMPREPLY < <(compgen -f -- "$word")
+            ;;
+        marks)
             COMPREPLY=($(compgen -W '-h --help' -- "$word"))
             [[ $word == -* ]] || mapfile -t -O "${#COMPREPLY[@]}" COMPREPLY < <(compgen -f -- "$word")
             ;;
@@ -62,7 +66,7 @@ _sel4sim() {
             COMPREPLY=($(compgen -W '--profile --threads --endpoints --untyped -h --help' -- "$word"))
             ;;
         help)
-            COMPREPLY=($(compgen -W 'check trace migrate threads why audit explore tree new help' -- "$word"))
+            COMPREPLY=($(compgen -W 'check marks trace migrate threads why audit explore tree new help' -- "$word"))
             ;;
     esac
 }

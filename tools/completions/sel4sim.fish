@@ -6,6 +6,9 @@ complete -c sel4sim -n '__fish_use_subcommand' -F
 complete -c sel4sim -n '__fish_use_subcommand' -a check -d 'Runs a set-up and prints its report'
 complete -c sel4sim -n '__fish_seen_subcommand_from check' -s h -l help -d 'Print help'
 complete -c sel4sim -n '__fish_seen_subcommand_from check' -F
+complete -c sel4sim -n '__fish_use_subcommand' -a marks -d 'Runs a set-up and prints which of its expectations are met, and no reply'
+complete -c sel4sim -n '__fish_seen_subcommand_from marks' -s h -l help -d 'Print help'
+complete -c sel4sim -n '__fish_seen_subcommand_from marks' -F
 complete -c sel4sim -n '__fish_use_subcommand' -a trace -d 'Runs a set-up and prints what each of its calls changed'
 complete -c sel4sim -n '__fish_seen_subcommand_from trace' -s h -l help -d 'Print help'
 complete -c sel4sim -n '__fish_seen_subcommand_from trace' -F
@@ -48,4 +51,4 @@ complete -c sel4sim -n '__fish_seen_subcommand_from new' -l endpoints -x -a '' -
 complete -c sel4sim -n '__fish_seen_subcommand_from new' -l untyped -x -a '' -d 'It has these untyped regions, with commas between them'
 complete -c sel4sim -n '__fish_seen_subcommand_from new' -s h -l help -d 'Print help'
 complete -c sel4sim -n '__fish_use_subcommand' -a help -d 'Print this message or the help of the given subcommand(s)'
-complete -c sel4sim -n '__fish_seen_subcommand_from help' -a 'check trace migrate threads why audit explore tree new help'
+complete -c sel4sim -n '__fish_seen_subcommand_from help' -a 'check marks trace migrate threads why audit explore tree new help'

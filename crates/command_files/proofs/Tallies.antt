@@ -1,5 +1,5 @@
 -- The tally of the files so far, with one more, and its exit status.
-use Rattle.std.proofs.Common.{◌≡◌, ◌∙◌, ℕ, ◌+◌, ◌≤◌, ◌==◌, List, [], ◌∷◌, ◌++◌, Bool, true, false, Option, Some, None, Result, Ok, Err, map, refl, ap, arith}
+use Rattle.std.proofs.Common.{◌≡◌, ◌∙◌, ℕ, ◌+◌, ◌≤◌, ◌==◌, List, [], ◌∷◌, ◌++◌, Bool, true, false, Option, Some, None, Result, Ok, Err, map, refl, ap, ap₂, arith}
 use Rattle.std.specs.Prelude.{max, cond}
 use Rattle.std.proofs.lemmas.List.Sums.{sum_by-append}
 use Rattle.setup_format.specs.Faults.{Fault}
@@ -7,14 +7,12 @@ use Rattle.setup_format.specs.Setups.{setup_of_bytes}
 use Rattle.setup_format.specs.Views.{SetupView}
 use Rattle.setup_report.specs.Report.{met_count, expectation_count}
 use Rattle.setup_report.specs.declared.calls.ExpectationCount.{ExpectationCount}
-use Rattle.command_check.specs.Program.{outcome_in, outcome_of, program, replies_to, verdict_in}
+use Rattle.command_check.specs.Program.{outcome_in, outcome_of, program, replies_to, verdict_in, verdict_on}
 use Rattle.command_check.specs.declared.run.CountedText.{CountedText}
-use Rattle.command_check.proofs.Runs.{counted_program}
 use Rattle.command_core.specs.Statuses.{verdict_status}
-use Rattle.command_core.specs.declared.fault.Verdict.{Verdict}
 use Rattle.command_core.specs.declared.fault.Verdict.TheVariants.{AllMet, NotMet}
-use Rattle.command_files.specs.Files.{count_with, greatest, status_alone, tally_of, tally_status}
-use Rattle.command_files.specs.Private.{IsFound, found_status, tally_size, with_status}
+use Rattle.command_files.specs.Files.{HasCountOf, count_with, greatest, status_alone, tally_of, tally_status}
+use Rattle.command_files.specs.Private.{IsCountedFound, found_status, tally_size, with_status}
 use Rattle.command_files.specs.declared.tally.Tally.{Tally}
 
 -- ---- one more file
@@ -45,12 +43,21 @@ tally_before files contents =
 
 -- ---- what was found
 
+-- a count has the verdict of its set-up
+counted : (setup : Result SetupView Fault) (count : Option ExpectationCount) → HasCountOf setup count → verdict_in count ≡ (outcome_in setup).1
+unfolding outcome_of
+counted (Ok setup) None has = absurd has
+counted (Ok setup) (Some count) has = ap₂ verdict_on has.0 has.1
+counted (Err fault) count is = ap verdict_in is
+
 -- what was found has the exit status of the contents
-pub found_status_is : (contents : Option (List ℕ)) (found : Option CountedText) → IsFound contents found → found_status found ≡ status_alone contents
-found_status_is None None is = refl
-found_status_is None (Some made) is = absurd is
-found_status_is (Some bytes) None is = absurd is
-found_status_is (Some bytes) (Some made) is = ap (λ (p : List ℕ × Verdict). verdict_status p.1) (counted_program bytes made is)
+pub found_status_is : (IsMade : List ℕ → CountedText → Type 0) (contents : Option (List ℕ)) (found : Option CountedText) → IsCountedFound IsMade contents found
+    → found_status found ≡ status_alone contents
+unfolding program
+found_status_is IsMade None None is = refl
+found_status_is IsMade None (Some made) is = absurd is
+found_status_is IsMade (Some bytes) None is = absurd is
+found_status_is IsMade (Some bytes) (Some made) is = ap verdict_status (counted (setup_of_bytes bytes) made.count is.1)
 
 run_size : (b : Bool) (t : Tally) → tally_size (with_status (verdict_status (cond b AllMet NotMet)) t) ≤ tally_size t + 1
 run_size true t = omega arith

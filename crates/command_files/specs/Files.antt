@@ -7,7 +7,9 @@ use Rattle.setup_format.specs.Refusal.{refusal_line}
 use Rattle.setup_format.specs.Setups.{setup_of_bytes}
 use Rattle.setup_format.specs.Views.{SetupView}
 use Rattle.setup_report.specs.Report.{expectation_line, terminated}
-use Rattle.command_check.specs.Program.{program, replies_to}
+use Rattle.setup_report.specs.declared.calls.ExpectationCount.{ExpectationCount}
+use Rattle.command_check.specs.Program.{HasCounts, program, replies_to}
+use Rattle.command_check.specs.declared.run.CountedText.{CountedText}
 use Rattle.command_core.specs.Devices.{Gave, GaveAsMany, Took, TookFront}
 use Rattle.command_core.specs.Statuses.{run_status, verdict_status}
 use Rattle.command_core.specs.declared.fault.RunFault.{RunFault}
@@ -47,6 +49,20 @@ Each Is [] (contents ∷ rest) = ⊥
 Each Is (name ∷ names) [] = ⊥
 Each Is (name ∷ names) (contents ∷ rest) = Is name contents × Each Is names rest
 
+-- ---- what is made of a file
+
+-- the count of a set-up's expectations, and how many of them are met; none, where it is refused
+abbrev pub HasCountOf : Result SetupView Fault → Option ExpectationCount → Type 0
+HasCountOf (Ok setup) count = HasCounts setup.profile setup count
+HasCountOf (Err fault) count = count ≡ None
+
+-- what is made of the contents of a file: nothing, where it has none
+abbrev pub IsFound : (List ℕ → CountedText → Type 0) → Option (List ℕ) → Option CountedText → Type 0
+IsFound IsMade None None = ⊤
+IsFound IsMade None (Some made) = ⊥
+IsFound IsMade (Some bytes) None = ⊥
+IsFound IsMade (Some bytes) (Some made) = IsMade bytes made
+
 -- ---- a line for each file
 
 -- the last line of the report that `check` writes, or the line by which it refuses the set-up
@@ -62,10 +78,11 @@ contents_line (Some bytes) = setup_line (setup_of_bytes bytes)
 abbrev pub file_line : List ℕ → Option (List ℕ) → List ℕ
 file_line name contents = name ++ (codes ": " ++ contents_line contents)
 
-abbrev pub file_lines : List (List ℕ) → List (Option (List ℕ)) → List ℕ
-file_lines [] files = []
-file_lines (name ∷ names) [] = []
-file_lines (name ∷ names) (contents ∷ files) = file_line name contents ++ file_lines names files
+-- the line of each name with its contents
+abbrev pub lines_of : (List ℕ → Option (List ℕ) → List ℕ) → List (List ℕ) → List (Option (List ℕ)) → List ℕ
+lines_of line [] files = []
+lines_of line (name ∷ names) [] = []
+lines_of line (name ∷ names) (contents ∷ files) = line name contents ++ lines_of line names files
 
 -- ---- the summary
 
@@ -92,9 +109,13 @@ tally_line files tally =
     terminated (codes "files " ++ (decimal files ++ (codes " met " ++ (decimal tally.met ++ (codes " unmet " ++ (decimal tally.unmet
     ++ (codes " refused " ++ (decimal tally.refused ++ (codes " unread " ++ decimal tally.unread)))))))))
 
--- what is written: the line of each file, and the summary
+-- a text of several files: what stands before, the line of each file, and what stands behind, by how many there are and their tally
+abbrev pub told_text : List ℕ → (List ℕ → Option (List ℕ) → List ℕ) → (ℕ → Tally → List ℕ) → List (List ℕ) → List (Option (List ℕ)) → List ℕ
+told_text head line last names files = (head ++ lines_of line names files) ++ last (length names) (tally_of files)
+
+-- what `check` writes: the line of each file, and the summary
 abbrev pub files_text : List (List ℕ) → List (Option (List ℕ)) → List ℕ
-files_text names files = file_lines names files ++ tally_line (length names) (tally_of files)
+files_text = told_text [] file_line tally_line
 
 -- ---- the exit status
 
@@ -115,20 +136,24 @@ greatest (n ∷ rest) = max n (greatest rest)
 
 -- ---- a run over several files
 
--- what is answered, and what the sink took, where `Is` says which contents a name has
-pub record IsCheckOf {K : Type 0} (Is : List ℕ → Option (List ℕ) → Type 0) (to : SinkGhosts K) (names : List (List ℕ))
-    (sink_old sink_new : K) (result : Result Tally RunFault) : Type 0 where
+-- what is answered, and what the sink took, where `text` is what is written, and `Is` says which contents a name has
+pub record IsToldOf {K : Type 0} (text : List (List ℕ) → List (Option (List ℕ)) → List ℕ) (Is : List ℕ → Option (List ℕ) → Type 0)
+    (to : SinkGhosts K) (names : List (List ℕ)) (sink_old sink_new : K) (result : Result Tally RunFault) : Type 0 where
   -- Ok: the sink took just the text for the contents of the files, and the tally is theirs
   pub ok : IfOk result (λ tally. (files : List (Option (List ℕ)))
       × Each Is names files
-      × Took to.taken to.written sink_old sink_new (files_text names files)
+      × Took to.taken to.written sink_old sink_new (text names files)
       × (tally ≡ tally_of files))
   -- Writing: a write failed; the sink took a beginning of the text
   pub writing : result ≡ Err Writing → to.failed sink_new ≡ true
   pub writing_front : result ≡ Err Writing → (files : List (Option (List ℕ)))
       × Each Is names files
-      × TookFront to.taken to.written sink_old sink_new (files_text names files)
+      × TookFront to.taken to.written sink_old sink_new (text names files)
   pub sink_marked : to.failed sink_new ≡ true → result ≡ Err Writing
   -- Memory: nothing was written; no other fault ends the run
   pub memory_keeps : result ≡ Err Memory → sink_new ≡ sink_old
   pub faults : IfErr result (λ fault. (fault ≡ Writing) ⊎ (fault ≡ Memory))
+
+-- a run of `check` over several files
+abbrev pub IsCheckOf : {K : Type 0} → (List ℕ → Option (List ℕ) → Type 0) → SinkGhosts K → List (List ℕ) → K → K → Result Tally RunFault → Type 0
+IsCheckOf = IsToldOf files_text

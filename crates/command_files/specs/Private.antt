@@ -1,20 +1,18 @@
 -- What is known of a file while its line is written. No public clause cites it.
-use Rattle.std.specs.Prelude.{◌+◌, ◌==◌, ⊤, ℕ, cond, codes, List, ◌++◌, Option, Some, None}
+use Rattle.std.specs.Prelude.{◌+◌, ◌==◌, ℕ, cond, codes, List, ◌++◌, Option, Some, None}
 use Rattle.std.specs.Fmt.{decimal}
 use Rattle.setup_format.specs.Setups.{setup_of_bytes}
 use Rattle.setup_report.specs.Report.{terminated}
 use Rattle.setup_report.specs.declared.calls.ExpectationCount.{ExpectationCount}
-use Rattle.command_check.specs.Program.{IsTextOfSetup, verdict_in}
+use Rattle.command_check.specs.Program.{verdict_in}
 use Rattle.command_check.specs.declared.run.CountedText.{CountedText}
 use Rattle.command_core.specs.Statuses.{verdict_status}
+use Rattle.command_files.specs.Files.{HasCountOf, IsFound}
 use Rattle.command_files.specs.declared.tally.Tally.{Tally}
 
--- the text of what a file has
-abbrev pub IsFound : Option (List ℕ) → Option CountedText → Type 0
-IsFound None None = ⊤
-IsFound None (Some made) = ⊥
-IsFound (Some bytes) None = ⊥
-IsFound (Some bytes) (Some made) = IsTextOfSetup (setup_of_bytes bytes) made
+-- what is made of the contents of a file, with their count
+abbrev pub IsCountedFound : (List ℕ → CountedText → Type 0) → Option (List ℕ) → Option CountedText → Type 0
+IsCountedFound IsMade = IsFound (λ bytes made. IsMade bytes made × HasCountOf (setup_of_bytes bytes) made.count)
 
 abbrev pub count_text : ExpectationCount → List ℕ
 count_text count = terminated (codes "expected " ++ (decimal count.met ++ (codes " of " ++ decimal count.expected)))

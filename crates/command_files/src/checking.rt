@@ -1,53 +1,58 @@
 //! The check of several files.
-ghost use Rattle.std.specs.Prelude.{◌≡◌, false, map, IfOk, List, ℕ, Option};
-ghost use Rattle.command_files.specs.Files.{Each, IsCheckOf, IsInput, file_lines, files_text, tally_of};
+ghost use Rattle.std.specs.Prelude.{◌≡◌, [], false, map};
+ghost use Rattle.setup_format.specs.Setups.{setup_of_bytes};
+ghost use Rattle.command_check.specs.Program.{IsTextOfSetup};
+ghost use Rattle.command_files.specs.Files.{IsCheckOf, IsInput, file_line, tally_line};
 
 use crate::inputs::{Inputs, Listener};
 use crate::lines::{add_line, summary};
-use crate::reading::check_file;
 use crate::tally::Tally;
-use command_core::{RunFault, Sink, write_all};
+use crate::telling::{Telling, tell_files};
+use command_check::{CountedText, checked_text};
+use command_core::{RunFault, Sink};
 use std::alloc::{AllocError, Global};
 
-/// A line for each of the files, and their tally.
-fn check_each<I: Inputs, L: Listener<I::Standard, I::File, I::Fault>>(
-    alloc: Global,
-    inputs: &I,
-    listener: &L,
-    names: &[&str],
-) -> Result<(Vec<u8>, Tally), AllocError>
-    ensures { IfOk result (λ made. (files : List (Option (List ℕ)))
-        × Each (IsInput (I.is_standard inputs.now) (I.is_file inputs.now) (I.is_fault inputs.now) I.Standard.Source I.File.Source) (map (λ s. s.now) names.now) files
-        × (made.0.items ≡ file_lines (map (λ s. s.now) names.now) files)
-        × (made.1 ≡ tally_of files)) }
-{
-    let mut out = Vec::new(alloc);
-    let mut tally = Tally::new();
-    for name in names {
-        let found = check_file(alloc, inputs, listener, *name)?;
-        add_line(alloc, &mut out, *name, found.as_ref())?;
-        tally.count(found.as_ref());
-    }
-    Ok((out, tally))
-}
+/// Of each file the last line of its report, and a summary.
+#[derive(Clone, Copy)]
+struct Summary;
 
-/// What is written for the files, and their tally.
-fn check_all<I: Inputs, L: Listener<I::Standard, I::File, I::Fault>>(
-    alloc: Global,
-    inputs: &I,
-    listener: &L,
-    names: &[&str],
-) -> Result<(Vec<u8>, Tally), AllocError>
-    ensures { IfOk result (λ made. (files : List (Option (List ℕ)))
-        × Each (IsInput (I.is_standard inputs.now) (I.is_file inputs.now) (I.is_fault inputs.now) I.Standard.Source I.File.Source) (map (λ s. s.now) names.now) files
-        × (made.0.items ≡ files_text (map (λ s. s.now) names.now) files)
-        × (made.1 ≡ tally_of files)) }
-{
-    let (lines, tally) = check_each(alloc, inputs, listener, names)?;
-    let mut out = lines;
-    let last = summary(alloc, names.len(), tally)?;
-    out.extend_from_slice(last.as_bytes())?;
-    Ok((out, tally))
+impl Telling for Summary {
+    ghost is_made = { λ summary bytes made. IsTextOfSetup (setup_of_bytes bytes) made };
+
+    ghost head = { λ summary. [] };
+
+    ghost line = { λ summary. file_line };
+
+    ghost last = { λ summary. tally_line };
+
+    fn make(&self, alloc: Global, bytes: &[u8]) -> Result<CountedText, AllocError> {
+        checked_text(alloc, bytes)
+    }
+
+    fn add_head(&self, out: &mut Vec<u8>) -> Result<(), AllocError> {
+        Ok(())
+    }
+
+    fn add_line(
+        &self,
+        alloc: Global,
+        out: &mut Vec<u8>,
+        name: &str,
+        found: Option<&CountedText>,
+    ) -> Result<(), AllocError> {
+        add_line(alloc, out, name, found)
+    }
+
+    fn add_last(
+        &self,
+        alloc: Global,
+        out: &mut Vec<u8>,
+        files: usize,
+        tally: Tally,
+    ) -> Result<(), AllocError> {
+        let last = summary(alloc, files, tally)?;
+        out.extend_from_slice(last.as_bytes())
+    }
 }
 
 /// Runs the set-up in each of the files, of which `-` is standard input, and writes a line for each to the sink, and a
@@ -68,11 +73,5 @@ pub fn check_files<I: Inputs, L: Listener<I::Standard, I::File, I::Fault>, K: Si
     ensures { IsCheckOf (IsInput (I.is_standard inputs.now) (I.is_file inputs.now) (I.is_fault inputs.now) I.Standard.Source I.File.Source)
         K.Sink (map (λ s. s.now) names.now) sink.old sink.new result }
 {
-    match check_all(alloc, inputs, listener, names) {
-        Ok((text, tally)) => {
-            write_all(sink, text.as_slice())?;
-            Ok(tally)
-        }
-        Err(_) => Err(RunFault::Memory),
-    }
+    tell_files(alloc, inputs, listener, &Summary, names, sink)
 }

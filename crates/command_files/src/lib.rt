@@ -1,4 +1,4 @@
-//! The check of several files, from their names and bytes to a line for each and a summary.
+//! What is told of several files, from their names and bytes to a line for each; and the check of them, with a summary.
 #![tactic(auto)]
 
 mod checking;
@@ -6,7 +6,9 @@ mod inputs;
 mod lines;
 mod reading;
 mod tally;
+mod telling;
 
 pub use checking::check_files;
 pub use inputs::{Inputs, Listener, Used};
 pub use tally::{Tally, status_is_the_greatest, status_of_files};
+pub use telling::{Telling, tell_files};

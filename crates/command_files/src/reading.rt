@@ -1,55 +1,62 @@
-//! The run of one of several files.
+//! What is made of one of several files.
 ghost use Rattle.std.specs.Prelude.{◌≡◌, false, IfOk, List, ℕ, Option};
 ghost use Rattle.command_files.specs.Files.{HasContents, IsFile, IsInput, IsStandard};
-ghost use Rattle.command_files.specs.Private.{IsFound};
+ghost use Rattle.command_files.specs.Private.{IsCountedFound};
 
 use crate::inputs::{Inputs, Listener, Used};
-use command_check::{CountedText, checked_text};
+use crate::telling::Telling;
+use command_check::CountedText;
 use command_core::{INPUT_LIMIT, RunFault, Source, read_below};
 use std::alloc::{AllocError, Global};
 
-/// Reads the source to its end, and runs the set-up that it holds; nothing, where it cannot be read.
-fn check_source<S: Source>(alloc: Global, source: &mut S) -> Result<Option<CountedText>, AllocError>
+/// Reads the source to its end, and makes what is told of it; nothing, where it cannot be read.
+fn make_source<T: Telling, S: Source>(
+    alloc: Global,
+    telling: &T,
+    source: &mut S,
+) -> Result<Option<CountedText>, AllocError>
     requires source { S.failed source.old ≡ false }
-    ensures { IfOk result (λ found. (contents : Option (List ℕ)) × HasContents S.Source source.old source.new contents × IsFound contents found) }
+    ensures { IfOk result (λ found. (contents : Option (List ℕ)) × HasContents S.Source source.old source.new contents × IsCountedFound (T.is_made telling.now) contents found) }
 {
     match read_below(alloc, source, INPUT_LIMIT) {
-        Ok(input) => Ok(Some(checked_text(alloc, input.as_slice())?)),
+        Ok(input) => Ok(Some(telling.make(alloc, input.as_slice())?)),
         Err(RunFault::Reading) => Ok(None),
         Err(_) => Err(AllocError),
     }
 }
 
-/// Runs the set-up on standard input.
-fn check_standard<I: Inputs, L: Listener<I::Standard, I::File, I::Fault>>(
+/// Makes what is told of standard input.
+fn make_standard<I: Inputs, L: Listener<I::Standard, I::File, I::Fault>, T: Telling>(
     alloc: Global,
     inputs: &I,
     listener: &L,
+    telling: &T,
     name: &str,
 ) -> Result<Option<CountedText>, AllocError>
     ensures { IfOk result (λ found. (contents : Option (List ℕ))
-        × IsStandard (I.is_standard inputs.now) I.Standard.Source contents × IsFound contents found) }
+        × IsStandard (I.is_standard inputs.now) I.Standard.Source contents × IsCountedFound (T.is_made telling.now) contents found) }
 {
     let mut source = inputs.standard();
-    let found = check_source(alloc, &mut source)?;
+    let found = make_source(alloc, telling, &mut source)?;
     listener.hear(name, &Used::Standard(source), found.as_ref());
     Ok(found)
 }
 
-/// Runs the set-up in the file of that name.
-fn check_named<I: Inputs, L: Listener<I::Standard, I::File, I::Fault>>(
+/// Makes what is told of the file of that name.
+fn make_named<I: Inputs, L: Listener<I::Standard, I::File, I::Fault>, T: Telling>(
     alloc: Global,
     inputs: &I,
     listener: &L,
+    telling: &T,
     name: &str,
 ) -> Result<Option<CountedText>, AllocError>
     ensures { IfOk result (λ found. (contents : Option (List ℕ))
-        × IsFile (I.is_file inputs.now) (I.is_fault inputs.now) I.File.Source name.now contents × IsFound contents found) }
+        × IsFile (I.is_file inputs.now) (I.is_fault inputs.now) I.File.Source name.now contents × IsCountedFound (T.is_made telling.now) contents found) }
 {
     match inputs.open(name) {
         Ok(file) => {
             let mut source = file;
-            let found = check_source(alloc, &mut source)?;
+            let found = make_source(alloc, telling, &mut source)?;
             listener.hear(name, &Used::File(source), found.as_ref());
             Ok(found)
         }
@@ -60,20 +67,21 @@ fn check_named<I: Inputs, L: Listener<I::Standard, I::File, I::Fault>>(
     }
 }
 
-/// Runs the set-up that the name stands for.
-pub(crate) fn check_file<I: Inputs, L: Listener<I::Standard, I::File, I::Fault>>(
+/// Makes what is told of what the name stands for.
+pub(crate) fn make_file<I: Inputs, L: Listener<I::Standard, I::File, I::Fault>, T: Telling>(
     alloc: Global,
     inputs: &I,
     listener: &L,
+    telling: &T,
     name: &str,
 ) -> Result<Option<CountedText>, AllocError>
     ensures { IfOk result (λ found. (contents : Option (List ℕ))
         × IsInput (I.is_standard inputs.now) (I.is_file inputs.now) (I.is_fault inputs.now) I.Standard.Source I.File.Source name.now contents
-        × IsFound contents found) }
+        × IsCountedFound (T.is_made telling.now) contents found) }
 {
     if name == "-" {
-        check_standard(alloc, inputs, listener, name)
+        make_standard(alloc, inputs, listener, telling, name)
     } else {
-        check_named(alloc, inputs, listener, name)
+        make_named(alloc, inputs, listener, telling, name)
     }
 }

@@ -20,9 +20,10 @@ use Rattle.clap.specs.declared.parser.matches.ArgMatches.{ArgMatches}
 use Rattle.clap.specs.declared.parser.matches.ArgMatches.TheViews.{out-ArgMatches, out-SubCommand}
 use Rattle.clap.proofs.OnLiterals.{clap_on_literals}
 use Rattle.clap.proofs.WalkLemmas.{both}
-use Rattle.command_line.specs.CommandLine.{IsCommand, command, file_of, files_of, job_named, job_of, more_behind, more_given, several_of, Explains, ExplainsMatches, StandsFor}
+use Rattle.command_line.specs.CommandLine.{IsCommand, command, file_of, files_of, job_named, job_of, more_behind, more_given, several_of, takes_several, Explains, ExplainsMatches, StandsFor}
 use Rattle.command_line.proofs.NoHelp.{IsNoHelp, walk_stops}
-use Rattle.command_line.specs.declared.arguments.Job.TheVariants.{Check}
+use Rattle.command_line.specs.declared.arguments.Job.{Job}
+use Rattle.command_line.specs.declared.arguments.Job.TheVariants.{Check, Marks}
 use Rattle.command_line.specs.declared.arguments.LineFault.{LineFault}
 use Rattle.command_line.specs.declared.arguments.LineFault.TheVariants.{Help, Refused, Conflict, Memory}
 
@@ -150,15 +151,35 @@ true_or_false : (b : Bool) → (b ≡ true) ⊎ (b ≡ false)
 true_or_false true = inl refl
 true_or_false false = inr refl
 
--- where several files are named, they are to be checked
-pub several_are_checked : (above : List Row) (met : Option (Text × List Row)) → (files_of above met ≢ []) → job_of met ≡ Some Check
-several_are_checked above None some = refl
-several_are_checked above (Some met) some = go (true_or_false (bytes_eq met.0 (codes "check")))
+-- a name with several files is that of a job that takes them
+named_takes : (name : Text) (job : Job) → bytes_eq name (codes "check") || bytes_eq name (codes "marks") ≡ true → job_named name ≡ Some job → takes_several job ≡ true
+named_takes name job is named = go (true_or_false (bytes_eq name (codes "check")))
   where
-    go : (bytes_eq met.0 (codes "check") ≡ true) ⊎ (bytes_eq met.0 (codes "check") ≡ false) → job_named met.0 ≡ Some Check
-    go (inl is) = rw is refl
-    go (inr is) =
-        let none : more_behind met.0 met.1 ≡ [] = rw is refl in
+    some_is : (one other : Job) → Some one ≡ Some other → one ≡ other
+    some_is one other e = cc
+
+    go : (bytes_eq name (codes "check") ≡ true) ⊎ (bytes_eq name (codes "check") ≡ false) → takes_several job ≡ true
+    go (inl check) =
+        let found : job_named name ≡ Some Check = rw check refl in
+        subst (λ j. takes_several j ≡ true) (some_is Check job (sym found ∙ named)) refl
+    go (inr other) =
+        let marks : bytes_eq name (codes "marks") ≡ true = rw other at is in
+        let same : name ≡ codes "marks" = (bytes_eq-Decides name (codes "marks")).0 marks in
+        let found : job_named name ≡ Some Marks = ap job_named same in
+        subst (λ j. takes_several j ≡ true) (some_is Marks job (sym found ∙ named)) refl
+
+-- where several files are named, the job takes them
+pub several_are_taken : (above : List Row) (met : Option (Text × List Row)) (job : Job) → (files_of above met ≢ []) → job_of met ≡ Some job → takes_several job ≡ true
+several_are_taken above None job some is =
+    let same : Check ≡ job = cc in
+    subst (λ j. takes_several j ≡ true) same refl
+several_are_taken above (Some met) job some is = go (true_or_false (bytes_eq met.0 (codes "check") || bytes_eq met.0 (codes "marks")))
+  where
+    go : ((bytes_eq met.0 (codes "check") || bytes_eq met.0 (codes "marks")) ≡ true) ⊎ ((bytes_eq met.0 (codes "check") || bytes_eq met.0 (codes "marks")) ≡ false)
+        → takes_several job ≡ true
+    go (inl takes) = named_takes met.0 job takes is
+    go (inr other) =
+        let none : more_behind met.0 met.1 ≡ [] = rw other refl in
         absurd (some (ap (several_of (file_of above (Some met))) none))
 
 pub on_ok : {V E : Type 0} (r : Result V E) (P : Type 0) → P → OnOk r P

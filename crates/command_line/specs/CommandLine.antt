@@ -1,5 +1,5 @@
 -- The program's command as clap's definition, and what clap's matches for the words say.
-use Rattle.std.specs.Prelude.{◌≡◌, ◌≢◌, ◌<◌, ◌^◌, ◌&&◌, ◌||◌, ⊤, Bool, nat_le, count_by, unwrap_or, false, not, codes, ℕ, List, [], ◌∷◌, Option, Some, None, is_some, option_map, if◌then◌else◌, IfOk, Result}
+use Rattle.std.specs.Prelude.{◌≡◌, ◌≢◌, ◌<◌, ◌^◌, ◌&&◌, ◌||◌, ⊤, Bool, nat_le, count_by, unwrap_or, true, false, not, codes, ℕ, List, [], ◌∷◌, Option, Some, None, is_some, option_map, if◌then◌else◌, IfOk, Result}
 use Rattle.std.specs.Str.Parse.{IsNumeral, digits_value, without_leading_plus}
 use Rattle.std.specs.Borrow.{Bor}
 use Rattle.std.specs.Option.{option_or}
@@ -14,7 +14,7 @@ use Rattle.clap.specs.declared.builder.value_parser.ValueParser.TheVariants.{Uns
 use Rattle.clap.specs.declared.error.kind.ErrorKind.{ErrorKind}
 use Rattle.clap.specs.declared.error.kind.ErrorKind.TheVariants.{DisplayHelp, OutOfMemory}
 use Rattle.command_line.specs.declared.arguments.Job.{Job}
-use Rattle.command_line.specs.declared.arguments.Job.TheVariants.{Check, Trace, Threads, Migrate, Why, Audit, Explore, Tree, New}
+use Rattle.command_line.specs.declared.arguments.Job.TheVariants.{Check, Trace, Threads, Migrate, Why, Audit, Explore, Tree, New, Marks}
 use Rattle.command_line.specs.declared.arguments.LineFault.{LineFault}
 use Rattle.command_line.specs.declared.arguments.LineFault.TheVariants.{Help, Refused, Conflict, Memory}
 use Rattle.command_line.specs.declared.arguments.Options.{Options}
@@ -85,6 +85,10 @@ text_rule name = record (new_rule name) {
 abbrev pub check_command : App
 check_command = with_rule (with_file (codes "check")) more_files_rule
 
+-- the subcommand `marks`, which does so too
+abbrev pub marks_command : App
+marks_command = with_rule (with_file (codes "marks")) more_files_rule
+
 -- the subcommands that have options
 abbrev pub threads_command : App
 threads_command = with_rule (with_file (codes "threads")) (number_rule (codes "first"))
@@ -116,7 +120,7 @@ new_command =
 abbrev pub plain_command : App
 plain_command =
     and_subcommand (with_file (codes "migrate"))
-    (and_subcommand (with_file (codes "trace")) (and_subcommand check_command bare_command))
+    (and_subcommand (with_file (codes "trace")) (and_subcommand marks_command (and_subcommand check_command bare_command)))
 
 -- `sel4sim`, with all its subcommands
 unfoldable pub command : App
@@ -138,7 +142,14 @@ job_named name =
     else if bytes_eq name (codes "explore") then Some Explore
     else if bytes_eq name (codes "tree") then Some Tree
     else if bytes_eq name (codes "new") then Some New
+    else if bytes_eq name (codes "marks") then Some Marks
     else None
+
+-- the jobs that can have several files
+abbrev pub takes_several : Job → Bool
+takes_several Check = true
+takes_several Marks = true
+takes_several job = false
 
 -- the job where a subcommand of that name with these matches is met, and where none is
 abbrev pub job_of : Option (Text × List Row) → Option Job
@@ -158,9 +169,9 @@ abbrev pub more_given : Option (List (Bor Text)) → List Text
 more_given None = []
 more_given (Some names) = texts names
 
--- the same of a subcommand of that name: `check` alone takes several
+-- the same of a subcommand of that name: `check` and `marks` take several
 abbrev pub more_behind : Text → List Row → List Text
-more_behind name rows = if bytes_eq name (codes "check") then more_files_in rows else []
+more_behind name rows = if bytes_eq name (codes "check") || bytes_eq name (codes "marks") then more_files_in rows else []
 
 -- the names of all files, where there is more than one; else none
 abbrev pub several_of : Option Text → List Text → List Text

@@ -24,6 +24,8 @@ pub enum Job {
     Tree,
     /// Write a set-up to start from.
     New,
+    /// Run a set-up and tell which of its expectations are met, and no reply.
+    Marks,
 }
 
 /// What the options of a command line give; `None` where an option is not there.
@@ -77,7 +79,7 @@ pub struct Line<'a> {
     pub options: Options<'a>,
     /// The file's name; the first one's, where there are several.
     pub file: Option<&'a str>,
-    /// The names of all files where there is more than one, which are to be checked; else nothing.
+    /// The names of all files where there is more than one, which are to be checked or marked; else nothing.
     pub several: Vec<&'a str>,
 }
 
@@ -139,6 +141,8 @@ impl Job {
             Some(Job::Tree)
         } else if name == "new" {
             Some(Job::New)
+        } else if name == "marks" {
+            Some(Job::Marks)
         } else {
             None
         }

@@ -4,7 +4,7 @@ ghost use Rattle.std.specs.Str.{bytes_eq};
 ghost use Rattle.clap.specs.Words.{App, Rule, app_of, fault_of, first_of, found_of, rows_of, subcommand_of, subcommand_rows_of, with_rule};
 ghost use Rattle.clap.specs.Values.{kind_of};
 ghost use Rattle.clap.specs.Walk.{texts};
-ghost use Rattle.command_line.specs.CommandLine.{Explains, ExplainsMatches, Extends, HasOptions, IsArgument, IsCommand, Says, StandsFor, agrees, and_subcommand as and_command, audit_command, bare_command, check_command, command as definition, explore_command, file_asked, file_of, file_rule, files_of, flag_rule, is_set, job_asked, job_named, job_of, more_behind as more_behind_definition, more_files_in, more_files_rule, more_given, new_command, number_rule, own_rows, plain_command, reads_once, several_asked, several_of, text_rule, threads_command, tree_command, version_rule, why_command, with_file as with_file_definition};
+ghost use Rattle.command_line.specs.CommandLine.{Explains, ExplainsMatches, Extends, HasOptions, IsArgument, IsCommand, Says, StandsFor, agrees, and_subcommand as and_command, audit_command, bare_command, check_command, command as definition, explore_command, file_asked, file_of, file_rule, files_of, flag_rule, is_set, job_asked, job_named, job_of, marks_command, more_behind as more_behind_definition, more_files_in, more_files_rule, more_given, new_command, number_rule, own_rows, plain_command, reads_once, several_asked, several_of, text_rule, threads_command, tree_command, version_rule, why_command, with_file as with_file_definition};
 
 use crate::arguments::{Job, Line, LineFault, Options};
 use clap::builder::ValueParser;
@@ -24,6 +24,7 @@ Without a command, FILE is run as by check.
 Examples:
   sel4sim layout.toml            the report of a set-up
   sel4sim a.toml b.toml          a line for each of several, and a summary
+  sel4sim marks layout.toml      which of its expectations are met, and no reply
   sel4sim trace layout.toml      what each of its calls changed
   sel4sim why layout.toml        why its calls are refused
   sel4sim tree layout.toml       which slot is derived from which
@@ -317,17 +318,26 @@ fn check<'a>(alloc: Global) -> Result<Command<'a>, AllocError>
     and_argument(command, more_files(alloc))
 }
 
+/// The subcommand `marks`, which takes several files too.
+fn marks<'a>(alloc: Global) -> Result<Command<'a>, AllocError>
+    ensures { IfOk result (IsCommand marks_command) }
+{
+    let about = "Runs a set-up and prints which of its expectations are met, and no reply";
+    and_argument(with_file(alloc, "marks", about), more_files(alloc))
+}
+
 /// The command with the subcommands that have no options.
 fn plain<'a>(alloc: Global) -> Result<Command<'a>, AllocError>
     ensures { IfOk result (IsCommand plain_command) }
 {
     let with_check = and_subcommand(bare(alloc), check(alloc));
+    let with_marks = and_subcommand(with_check, marks(alloc));
     let trace = with_file(
         alloc,
         "trace",
         "Runs a set-up and prints what each of its calls changed",
     );
-    let with_trace = and_subcommand(with_check, trace);
+    let with_trace = and_subcommand(with_marks, trace);
     let migrate = with_file(
         alloc,
         "migrate",
@@ -475,7 +485,7 @@ fn bare_line<'a>(alloc: Global, matches: &ArgMatches<'a>) -> Result<Line<'a>, Al
 fn more_behind<'m, 'a>(name: &str, matches: &'m ArgMatches<'a>) -> Option<&'m [&'a str]>
     ensures { more_given (option_map (λ v. v.now) result) ≡ more_behind_definition name.now (rows_of (found_of matches.now)) }
 {
-    if name == "check" {
+    if name == "check" || name == "marks" {
         more_in(matches)
     } else {
         None

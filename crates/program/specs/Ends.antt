@@ -1,11 +1,11 @@
 -- What the program does with the words of its command line.
-use Rattle.std.specs.Prelude.{◌≡◌, ◌≢◌, ℕ, List, [], codes, Option, Some, None, Result, Err, true, false, if◌then◌else◌, IfOk, IfErr, OnOk, OnErr}
+use Rattle.std.specs.Prelude.{◌≡◌, ◌≢◌, ℕ, List, [], codes, Option, Some, None, Result, Err, true, false, if◌then◌else◌, IfOk, IfErr, OnOk, OnErr, Bool, MatchBool}
 use Rattle.std.specs.Str.{bytes_eq}
 use Rattle.clap.specs.Words.{Text, subcommand_of, takes, fault_of, IsAmong}
 use Rattle.clap.specs.declared.error.kind.ErrorKind.TheVariants.{DisplayHelp}
-use Rattle.command_line.specs.CommandLine.{agrees, command, file_asked, job_asked, own_rows, reads_once, several_asked, HasConflict, HasOptions, HasOtherFault}
+use Rattle.command_line.specs.CommandLine.{agrees, command, file_asked, job_asked, own_rows, reads_once, several_asked, takes_several, HasConflict, HasOptions, HasOtherFault}
 use Rattle.command_line.specs.declared.arguments.Job.{Job}
-use Rattle.command_line.specs.declared.arguments.Job.TheVariants.{Check, New}
+use Rattle.command_line.specs.declared.arguments.Job.TheVariants.{New, Marks}
 use Rattle.command_line.specs.declared.arguments.Options.{Options}
 use Rattle.command_core.specs.Devices.{Took, TookFront}
 use Rattle.command_core.specs.Runs.{IsRun}
@@ -18,6 +18,8 @@ use Rattle.command_core.specs.declared.source.Source.{Ghosts as SourceGhosts}
 use Rattle.program.specs.Jobs.{meaning}
 use Rattle.program.specs.NewWords.{IsNewOf}
 use Rattle.command_files.specs.Files.{IsCheckOf, IsInput}
+use Rattle.command_files.specs.declared.tally.Tally.{Tally}
+use Rattle.command_marks.specs.Table.{IsMarksOf}
 use Rattle.command_files.specs.declared.inputs.Used.{Used}
 use Rattle.command_files.specs.declared.inputs.Used.TheVariants.{Standard, File, Unopened, Nothing}
 use Rattle.program_messages.specs.declared.ended.Ended.{Ended}
@@ -56,6 +58,14 @@ IsDone is_standard is_file is_fault from_standard from_file to job options name 
 IsDone is_standard is_file is_fault from_standard from_file to job options name Nothing answer old new =
     (job ≡ New) × IsWriting (IsNewOf options) to old new answer
 
+abbrev pub is_marks : Job → Bool
+is_marks Marks = true
+is_marks job = false
+
+-- several files were marked, where that is the job, or checked
+abbrev pub AreDone : {K : Type 0} → Job → (Text → Option Text → Type 0) → SinkGhosts K → List Text → K → K → Result Tally RunFault → Type 0
+AreDone job Is to names old new answer = MatchBool (is_marks job) (IsMarksOf Is to names old new answer) (IsCheckOf Is to names old new answer)
+
 -- a text was written, or a front of it where a write failed
 abbrev pub IsWritten : {K : Type 0} → SinkGhosts K → Result Unit RunFault → K → K → Type 0
 IsWritten to result old new = (text : List ℕ)
@@ -64,7 +74,7 @@ IsWritten to result old new = (text : List ℕ)
     × OnErr result (TookFront to.taken to.written old new text)
 
 -- Did: clap takes the words, their options go together, and their job was done with the one input that they name. Checked:
--- clap takes them, they ask for the check of several files, of which standard input is one at most, and these were checked.
+-- clap takes them, they ask that several files be checked or marked, of which standard input is one at most, and these were.
 -- Helped: their fault can be a call for help. Refused: they have another fault, and nothing is written. Conflict: clap takes
 -- them, their options do not go together or standard input is named twice, and nothing is written. NoMemory: nothing is written.
 abbrev pub IsEnd : {S F E K : Type 0} → (S → Type 0) → (Text → F → Type 0) → (Text → E → Type 0)
@@ -79,10 +89,11 @@ IsEnd is_standard is_file is_fault from_standard from_file to words (Did done) o
     done.line.job done.line.options (named_input (file_asked words)) done.input done.answer old new
 IsEnd is_standard is_file is_fault from_standard from_file to words (Checked checked) old new =
     (fault_of command words ≡ [])
-    × (job_asked words ≡ Some Check)
+    × (job_asked words ≡ Some checked.line.job)
+    × (takes_several checked.line.job ≡ true)
     × (several_asked words ≢ [])
     × (reads_once (several_asked words) ≡ true)
-    × IsCheckOf (IsInput is_standard is_file is_fault from_standard from_file) to (several_asked words) old new checked.answer
+    × AreDone checked.line.job (IsInput is_standard is_file is_fault from_standard from_file) to (several_asked words) old new checked.answer
 IsEnd is_standard is_file is_fault from_standard from_file to words (Helped answer) old new =
     (takes command words ≡ false) × IsAmong DisplayHelp (fault_of command words) × IsWritten to answer old new
 IsEnd is_standard is_file is_fault from_standard from_file to words Refused old new =

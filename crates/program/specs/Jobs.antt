@@ -1,7 +1,7 @@
 -- Which text and which verdict each job has, by its options, for the bytes of an input.
 use Rattle.std.specs.Prelude.{◌≡◌, ℕ, List, Option, Some, None, option_map, unwrap_or, cond, MatchBool}
 use Rattle.command_line.specs.declared.arguments.Job.{Job}
-use Rattle.command_line.specs.declared.arguments.Job.TheVariants.{Check, Trace, Threads, Migrate, Why, Audit, Explore, Tree, New}
+use Rattle.command_line.specs.declared.arguments.Job.TheVariants.{Check, Trace, Threads, Migrate, Why, Audit, Explore, Tree, New, Marks}
 use Rattle.command_line.specs.declared.arguments.Options.{Options}
 use Rattle.command_core.specs.declared.fault.Verdict.{Verdict}
 use Rattle.command_check.specs.Program.{program}
@@ -16,6 +16,7 @@ use Rattle.command_threads.specs.SharedRuns.{IsSharedProgram}
 use Rattle.command_trace.specs.Traces.{IsTrace}
 use Rattle.command_tree.specs.Trees.{IsTree}
 use Rattle.command_why.specs.Explained.{IsWhy}
+use Rattle.command_marks.specs.Text.{IsMarks}
 use Rattle.command_tree.specs.declared.form.Form.{Form}
 use Rattle.command_tree.specs.declared.form.Form.TheVariants.{Lines, Dot}
 use Rattle.program.specs.Commas.{words_in}
@@ -96,3 +97,4 @@ meaning Audit options = IsAudit options
 meaning Explore options = IsExplorationBy options
 meaning Tree options = IsAnswerTo (IsStateAnswer (IsTree (form_of options)) options.after)
 meaning New options = λ input text verdict. IsNewOf options text verdict
+meaning Marks options = IsAnswerTo IsMarks

@@ -1,14 +1,15 @@
 //! A command line, from its words to its end.
 ghost use Rattle.std.specs.Prelude.{◌≡◌, false, Some, None, option_map};
 ghost use Rattle.clap.specs.Walk.{texts};
-ghost use Rattle.command_files.specs.Files.{IsCheckOf, IsInput};
-ghost use Rattle.program.specs.Ends.{IsDone, IsEnd, IsWriting, named_input};
+ghost use Rattle.command_files.specs.Files.{IsInput};
+ghost use Rattle.program.specs.Ends.{AreDone, is_marks as is_marks_definition, IsDone, IsEnd, IsWriting, named_input};
 ghost use Rattle.program.specs.NewWords.{IsNewOf};
 
 use crate::jobs::{run_job, run_work};
 use command_core::{ReaderSource, RunFault, Sink, write_all};
 use command_files::{Inputs, Listener, Used, check_files};
 use command_line::{Job, Line, LineFault, line};
+use command_marks::mark_files;
 use program_messages::{CheckedFiles, Done, Ended};
 use std::alloc::Global;
 use std::sync::Wait;
@@ -131,7 +132,14 @@ fn run_line<'a, R: Threads + Wait + Sync, I: Inputs, K: Sink>(
     }
 }
 
-/// Checks the files of a line that names several.
+/// Whether files are to be marked.
+fn is_marks(job: Job) -> bool
+    ensures { result ≡ is_marks_definition job }
+{
+    matches!(job, Job::Marks)
+}
+
+/// Checks or marks the files of a line that names several.
 fn run_files<'a, I: Inputs, L: Listener<I::Standard, I::File, I::Fault>, K: Sink>(
     alloc: Global,
     inputs: &I,
@@ -141,15 +149,21 @@ fn run_files<'a, I: Inputs, L: Listener<I::Standard, I::File, I::Fault>, K: Sink
 ) -> CheckedFiles<'a>
     requires sink { K.failed sink.old ≡ false }
     ensures line { result.line ≡ line.entry }
-    ensures checked { IsCheckOf (IsInput (I.is_standard inputs.now) (I.is_file inputs.now) (I.is_fault inputs.now) I.Standard.Source I.File.Source)
+    ensures done { AreDone line.entry.job (IsInput (I.is_standard inputs.now) (I.is_file inputs.now) (I.is_fault inputs.now) I.Standard.Source I.File.Source)
         K.Sink (texts line.entry.several.items) sink.old sink.new result.answer }
 {
-    let answer = check_files(alloc, inputs, listener, line.several.as_slice(), sink);
+    let names = line.several.as_slice();
+    let answer = if is_marks(line.job) {
+        mark_files(alloc, inputs, listener, names, sink)
+    } else {
+        check_files(alloc, inputs, listener, names, sink)
+    };
     CheckedFiles { line, answer }
 }
 
 /// Does what the words of a command line ask for, of which the first is the program's name: the job, with the file that
-/// they name or with standard input, the check of several files, of each of which the listener hears, or the help text.
+/// they name or with standard input, the check or the marks of several files, of each of which the listener hears, or the help
+/// text.
 /// Nothing is written where they are not taken.
 pub fn run_words<
     'a,

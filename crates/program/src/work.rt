@@ -17,6 +17,7 @@ use command_check::{Checker, Command, Migrator, OnSetup, OnState, StateCommand};
 use command_core::{Answer, Engine, RunFault};
 use command_explore::{Explore, ExploreOptions, WriteWitness};
 use command_line::{Job, Options};
+use command_marks::Marks;
 use command_never::Question;
 use command_new::Maker;
 use command_parts::{Ever, Trust};
@@ -256,6 +257,7 @@ impl Engine for Work<'_> {
                 on_state(alloc, options.after, Tree { form }, input)
             }
             Job::New => make_new(alloc, options, input),
+            Job::Marks => on_setup(alloc, Marks, input),
         }
     }
 }

@@ -19,7 +19,7 @@ pub struct Done<'a, S, F, E> {
     pub answer: Result<Found, RunFault>,
 }
 
-/// A line whose several files were checked, and what came of it.
+/// A line whose several files were checked or marked, and what came of it.
 #[derive(Drop)]
 pub struct CheckedFiles<'a> {
     /// What was asked for.
@@ -33,7 +33,7 @@ pub struct CheckedFiles<'a> {
 pub enum Ended<'a, S, F, E> {
     /// The line was taken, and its job done.
     Did(Done<'a, S, F, E>),
-    /// The line was taken, and its several files checked.
+    /// The line was taken, and its several files checked or marked.
     Checked(CheckedFiles<'a>),
     /// The line calls for help, whose text was written, or a front of it.
     Helped(Result<(), RunFault>),

@@ -17,6 +17,7 @@ fn name_of(job: Job) -> &'static str {
         Job::Explore => "explore",
         Job::Tree => "tree",
         Job::New => "new",
+        Job::Marks => "marks",
     }
 }
 
@@ -27,6 +28,8 @@ enum Told<'a> {
     Job(&'a str, Option<&'a str>),
     /// They ask for a check of these files; of none, where there is at most one.
     Several(&'a [&'a str]),
+    /// They ask for the marks of these files; of none, where there is at most one.
+    Marks(&'a [&'a str]),
     /// They ask for reasons, of the call with this number or of all.
     Why(Option<u64>),
     /// They ask for an audit, behind so many calls, and of this slot.
@@ -119,6 +122,10 @@ const JOBS: &[(&[&str], Told)] = &[
         Told::Several(&["b", "c"]),
     ),
     (&["sel4sim", "a", "check"], Told::Several(&[])),
+    // and to be marked
+    (&["sel4sim", "marks", "a"], Told::Marks(&[])),
+    (&["sel4sim", "marks", "a", "b"], Told::Marks(&["a", "b"])),
+    (&["sel4sim", "marks", "-", "a"], Told::Marks(&["-", "a"])),
 ];
 
 /// Words that are taken, each with what their options ask for.
@@ -288,6 +295,7 @@ fn asks_for(taken: &Line, wanted: Told) -> bool {
     match wanted {
         Told::Job(job, file) => name == job && taken.file == file,
         Told::Several(files) => name == "check" && taken.several.as_slice() == files,
+        Told::Marks(files) => name == "marks" && taken.several.as_slice() == files,
         Told::Why(call) => name == "why" && options.call == call,
         Told::Audit(after, slot) => {
             name == "audit" && options.after == after && options.slot == slot

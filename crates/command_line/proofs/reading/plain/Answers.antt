@@ -5,4 +5,5 @@ pub returns : goal.returns
 returns c =
     c.and_subcommand.ensures _ c.with_file-migrate.ensures _
     (c.and_subcommand-with_trace.ensures _ c.with_file-trace.ensures _
-    (c.and_subcommand-with_check.ensures _ c.check.ensures _ c.bare.ensures))
+    (c.and_subcommand-with_marks.ensures _ c.marks.ensures _
+    (c.and_subcommand-with_check.ensures _ c.check.ensures _ c.bare.ensures)))

@@ -1,29 +1,36 @@
--- Several files are named, so they are to be checked, and they were.
-use Rattle.std.proofs.Common.{◌≡◌, ◌≢◌, ◌∙◌, List, [], ◌∷◌, length, true, refl, sym, subst, arith}
+-- Several files are named, so they are to be checked or marked, and they were.
+use Rattle.std.proofs.Common.{◌≡◌, ◌≢◌, ◌∙◌, List, [], ◌∷◌, length, true, Some, refl, sym, ap, subst, arith}
 use Rattle.std.specs.Borrow.{Bor}
 use Rattle.clap.specs.Walk.{texts}
 use Rattle.clap.specs.Words.{Text, matches_of, subcommand_of}
-use Rattle.command_line.specs.CommandLine.{command, reads_once, several_asked}
-use Rattle.command_line.proofs.CommandLines.{several_are_checked}
-use Rattle.command_files.specs.Files.{IsCheckOf, IsInput}
+use Rattle.command_line.specs.CommandLine.{command, reads_once, several_asked, takes_several}
+use Rattle.command_line.specs.declared.arguments.Job.{Job}
+use Rattle.command_line.proofs.CommandLines.{several_are_taken}
+use Rattle.command_files.specs.Files.{IsInput}
+use Rattle.program.specs.Ends.{AreDone}
 use Rattle.program.proofs.lines.run_words.Goals as goal
 
 no_items : (names : List (Bor Text)) → texts names ≡ [] → length names ≡ 0
 no_items [] none = refl
 no_items (name ∷ names) none = cc
 
+some_asked : (ws : List Text) (several : List (Bor Text)) → several_asked ws ≡ texts several → length several ≢ 0 → several_asked ws ≢ []
+some_asked ws several is some none = some (no_items several (sym is ∙ none))
+
 pub returns-else-is_empty : goal.returns-else-is_empty
 returns-else-is_empty g c =
     let ws = texts c.args.words.now in
     let is = c.in-Ok.ensures in
-    let some : several_asked ws ≢ [] = λ none. (
-    let empty = no_items c.in-Ok.line.several.items (sym is.several ∙ none) in
-    grind (arith, empty, c.is_empty.ensures, c.if-is_empty.false)
-    ) in (
+    let some = some_asked ws c.in-Ok.line.several.items is.several (λ none. grind (arith, none, c.is_empty.ensures, c.if-is_empty.false)) in
+    let takes = several_are_taken (matches_of command ws) (subcommand_of command ws) c.in-Ok.line.job some is.job in
+    let job = ap (λ l. l.job) (sym c.run_files.ensures.line) in (
       is.taken,
-      several_are_checked (matches_of command ws) (subcommand_of command ws) some,
+      is.job ∙ ap (λ j. Some j) job,
+      subst (λ (j : Job). takes_several j ≡ true) job takes,
       some,
       subst (λ names. reads_once names ≡ true) (sym is.several) is.once,
-      subst (λ names. IsCheckOf (IsInput (g.I.Inputs.is_standard c.args.inputs.now) (g.I.Inputs.is_file c.args.inputs.now) (g.I.Inputs.is_fault c.args.inputs.now) g.I.Standard.Source g.I.File.Source)
-          g.K.Sink names c.args.sink.now c.run_files.new.sink c.run_files.result.answer) (sym is.several) c.run_files.ensures.checked,
+      subst (λ (j : Job). AreDone j (IsInput (g.I.Inputs.is_standard c.args.inputs.now) (g.I.Inputs.is_file c.args.inputs.now) (g.I.Inputs.is_fault c.args.inputs.now) g.I.Standard.Source g.I.File.Source)
+          g.K.Sink (several_asked ws) c.args.sink.now c.run_files.new.sink c.run_files.result.answer) job
+      (subst (λ names. AreDone c.in-Ok.line.job (IsInput (g.I.Inputs.is_standard c.args.inputs.now) (g.I.Inputs.is_file c.args.inputs.now) (g.I.Inputs.is_fault c.args.inputs.now) g.I.Standard.Source g.I.File.Source)
+          g.K.Sink names c.args.sink.now c.run_files.new.sink c.run_files.result.answer) (sym is.several) c.run_files.ensures.done),
     )

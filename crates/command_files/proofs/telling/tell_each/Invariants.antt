@@ -2,9 +2,10 @@
 use Rattle.std.proofs.Common.{map, take}
 use Rattle.command_files.specs.Files.{IsInput}
 use Rattle.command_files.proofs.Sequences.{SoFar}
-use Rattle.command_files.proofs.checking.check_each.Given as goal
+use Rattle.command_files.proofs.telling.tell_each.Given as goal
 
 abbrev pub invariant-loop-name : goal.invariant-loop-name
 invariant-loop-name g l =
-    SoFar (IsInput (g.I.Inputs.is_standard l.inputs) (g.I.Inputs.is_file l.inputs) (g.I.Inputs.is_fault l.inputs) g.I.Standard.Source g.I.File.Source)
+    SoFar (g.T.Telling.head l.telling) (g.T.Telling.line l.telling)
+    (IsInput (g.I.Inputs.is_standard l.inputs) (g.I.Inputs.is_file l.inputs) (g.I.Inputs.is_fault l.inputs) g.I.Standard.Source g.I.File.Source)
     (map (λ s. s.now) (take l.name-index l.names)) l.name-index l.out.items l.tally

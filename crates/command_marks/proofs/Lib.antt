@@ -1,0 +1,3 @@
+pub mod Marked
+pub mod Sequences
+pub mod Reports

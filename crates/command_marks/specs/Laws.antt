@@ -1,0 +1,17 @@
+-- What the marks tell of the report, and that they tell no reply.
+use Rattle.std.specs.Prelude.{◌≡◌, ◌↔◌, codes, List, ℕ, length, Some}
+use Rattle.kernel_abstract.specs.declared.call.Reply.{Reply}
+use Rattle.setup_format.specs.Views.{CallView}
+use Rattle.setup_report.specs.Report.{met_count}
+use Rattle.setup_report.specs.Text.{begins_as, expectation_text}
+use Rattle.command_marks.specs.declared.mark.Mark.TheVariants.{Right}
+use Rattle.command_marks.specs.Marks.{mark_of, marks_of, numbers_of}
+
+-- the marks of a set-up are those that its report shows: right where it says that an expectation is met
+pub record AreThoseOfTheReport : Type 0 where
+  -- a call is right exactly where the report says ` [met]` of it
+  pub right : (expected reply : List ℕ) → (mark_of (Some expected) reply ≡ Right) ↔ (expectation_text (Some expected) reply ≡ codes " [met]")
+  -- as many are right as the report counts
+  pub count : (calls : List CallView) (replies : List Reply) → length (numbers_of Right 1 (marks_of calls replies)) ≡ met_count calls replies
+  -- of a reply a mark tells nothing but whether it is as expected
+  pub blind : (expected one other : List ℕ) → begins_as one expected ≡ begins_as other expected → mark_of (Some expected) one ≡ mark_of (Some expected) other

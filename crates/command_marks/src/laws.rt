@@ -1,0 +1,8 @@
+//! Laws of the marks, over the definitions alone. Nothing is done.
+ghost use Rattle.command_marks.specs.Laws.{AreThoseOfTheReport};
+
+/// A call is right exactly where the report says ` [met]` of it, and as many are right as the report counts. Of two replies
+/// that are both as expected, or both not, a mark is the same.
+pub fn marks_are_those_of_the_report()
+    ensures { AreThoseOfTheReport }
+{}
