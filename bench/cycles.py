@@ -94,8 +94,8 @@ def revoke_rows(text):
 
 
 def rows():
-    yield from printed_rows(printed("store_cycle"))
-    yield from printed_rows(printed("ping_pong"))
-    yield from printed_rows(printed("kernel_cycle", "kernel_cycle", "kernel_replies"))
+    yield from printed_rows(printed("store_cycle", "bench_store"))
+    yield from printed_rows(printed("ping_pong", "bench_queue"))
+    yield from printed_rows(printed("kernel_cycle", "bench_kernel", "bench_replies"))
     yield from step_rows()
-    yield from revoke_rows(printed("revoke_cycle"))
+    yield from revoke_rows(printed("revoke_cycle", "bench_revoke"))

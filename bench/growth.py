@@ -18,7 +18,7 @@ from measures import counts_of_functions, instructions, least_seconds, output, p
 WHOLE = ["engine::run::counted_text_of", "engine::run::text_of", "engine::checking::CheckerEngine::make"]
 BOOT = "engine::run::boot"
 AUDITS = ["engine_audit::auditing::Auditor::text_of", "engine_audit::auditing::AuditorEngine::make"]
-EVERS = ["command_parts::telling::Teller::text_of", "setup_ever::telling::TellerEngine::make"]
+EVERS = ["command_parts::telling::Teller::text_of", "command_parts::telling::TellerEngine::make"]
 READ = "setup_format::read::read_named_setup"
 REVOKES = "command_audit::revokes::add_revokes"
 

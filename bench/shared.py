@@ -9,10 +9,10 @@ import time
 from measures import instructions
 
 HERE = pathlib.Path(__file__).parent
-CRATE = HERE.parent / "crates" / "shared_cycle"
+CRATE = HERE.parent / "crates" / "bench_shared"
 
 PROGRAMS = {
-    "proved": CRATE / "out" / "shared_cycle",
+    "proved": CRATE / "out" / "bench_shared",
     "plain Rust": HERE / "shared_cycle" / "out" / "target" / "release" / "shared_cycle",
 }
 

@@ -9,14 +9,14 @@ const ROUNDS: u16 = 1000;
 const TURNS: u32 = 20;
 const REPEATS: u32 = 20;
 
-#[link(name = "kernel_cycle", kind = "static")]
+#[link(name = "bench_kernel", kind = "static")]
 #[link(name = "libc_c", kind = "static")]
 extern "C" {
     // The allocator takes no bytes, so nothing is passed for it.
     fn kernel_cycle_run(rounds: u16) -> bool;
 }
 
-#[link(name = "kernel_replies", kind = "static")]
+#[link(name = "bench_replies", kind = "static")]
 extern "C" {
     // As above.
     fn kernel_replies_run(rounds: u16) -> bool;

@@ -116,7 +116,10 @@ fn note_on_words(rt: &impl Eprint, text: &str) {
 fn note_on_files(rt: &impl Eprint, words: &[&str]) {
     let is_option_or_help = |word: &&str| word.starts_with("-") || *word == "help";
     if words.len() > 3 && !words.iter().any(is_option_or_help) {
-        complain(rt, "one file is read in a run; check and marks take several");
+        complain(
+            rt,
+            "one file is read in a run; check and marks take several",
+        );
     }
 }
 

@@ -4,7 +4,8 @@ use strsim::osa_distance;
 
 /// The commands.
 const COMMANDS: [&str; 11] = [
-    "check", "marks", "trace", "threads", "migrate", "why", "audit", "explore", "tree", "new", "help",
+    "check", "marks", "trace", "threads", "migrate", "why", "audit", "explore", "tree", "new",
+    "help",
 ];
 
 /// The most edits that lead from a command to a word that looks like it, and how many bytes a word has for each of them.

@@ -11,5 +11,5 @@ returns-in_ok-make-in-Ok g c =
       Some c.in-Ok.input.items,
       (read.all, omega (arith, read.all.0, read.short)),
       subst (λ b. g.T.Telling.is_made c.args.telling.now b made.field-0 × HasCountOf (setup_of_bytes b) made.field-0.count)
-      c.as_slice.ensures.value (made.ensures.made, made.ensures.count),
+          c.as_slice.ensures.value (made.ensures.made, made.ensures.count),
     )

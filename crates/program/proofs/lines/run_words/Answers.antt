@@ -31,6 +31,6 @@ returns-else-is_empty g c =
       subst (λ names. reads_once names ≡ true) (sym is.several) is.once,
       subst (λ (j : Job). AreDone j (IsInput (g.I.Inputs.is_standard c.args.inputs.now) (g.I.Inputs.is_file c.args.inputs.now) (g.I.Inputs.is_fault c.args.inputs.now) g.I.Standard.Source g.I.File.Source)
           g.K.Sink (several_asked ws) c.args.sink.now c.run_files.new.sink c.run_files.result.answer) job
-      (subst (λ names. AreDone c.in-Ok.line.job (IsInput (g.I.Inputs.is_standard c.args.inputs.now) (g.I.Inputs.is_file c.args.inputs.now) (g.I.Inputs.is_fault c.args.inputs.now) g.I.Standard.Source g.I.File.Source)
+          (subst (λ names. AreDone c.in-Ok.line.job (IsInput (g.I.Inputs.is_standard c.args.inputs.now) (g.I.Inputs.is_file c.args.inputs.now) (g.I.Inputs.is_fault c.args.inputs.now) g.I.Standard.Source g.I.File.Source)
           g.K.Sink names c.args.sink.now c.run_files.new.sink c.run_files.result.answer) (sym is.several) c.run_files.ensures.done),
     )
