@@ -4,12 +4,9 @@ ghost use Rattle.command_check.specs.Notes as spec;
 
 use command_core::{CallNote, Notes};
 use kernel_core::Reply;
-use setup_format::Setup;
+use setup_format::{Setup, asks};
 use setup_report::{ExpectationCount, ReplyText};
 use std::alloc::{AllocError, Global};
-
-/// The expectation of an exercise that nobody has answered yet: nothing is told of it.
-const UNANSWERED: &str = "?";
 
 /// Adds the number of a call, where it was refused and nothing was expected of it.
 fn add_unexpected(
@@ -53,7 +50,7 @@ fn is_met(shown: &str, expected: &str) -> bool {
     }
 }
 
-/// Adds what is told of a call, where its reply is not the expected one.
+/// Adds what is told of a call, where its reply is not the expected one. Of an expectation that asks nothing is told.
 fn add_unmet(
     alloc: Global,
     unmet: &mut Vec<CallNote>,
@@ -65,7 +62,7 @@ fn add_unmet(
         return Ok(());
     };
     let shown = ReplyText(reply).to_string(alloc)?;
-    if expected != UNANSWERED && !is_met(shown.as_str(), expected) {
+    if !asks(expected) && !is_met(shown.as_str(), expected) {
         let text = format!(in alloc; "{shown}, and not {expected}")?;
         unmet.push(CallNote { call, text })?;
     }
@@ -95,8 +92,21 @@ pub fn unmet_calls(
     Ok(unmet)
 }
 
+/// The numbers of the calls of a set-up whose expectation asks what the reply is.
+fn asking_calls(alloc: Global, setup: &Setup) -> Result<Vec<usize>, AllocError> {
+    let mut numbers = Vec::new(alloc);
+    for i in 0..setup.calls().len() {
+        if let Some(expected) = setup.expect(i)
+            && asks(expected)
+        {
+            numbers.push(i + 1)?;
+        }
+    }
+    Ok(numbers)
+}
+
 /// What standard error tells of the calls of a set-up, given the reply to each and the count of their expectations: which were
-/// refused where nothing was expected, and whose expectation is not met.
+/// refused where nothing was expected, whose expectation is not met, and which ask what the reply is.
 ///
 /// # Errors
 ///
@@ -112,9 +122,11 @@ pub fn notes_on(
 {
     let refused = unexpected_refusals(alloc, setup, replies)?;
     let unmet = unmet_calls(alloc, setup, replies, count)?;
+    let asking = asking_calls(alloc, setup)?;
     Ok(Notes {
         refused,
         unmet,
+        asking,
         absent: None,
     })
 }

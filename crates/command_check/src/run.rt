@@ -54,9 +54,13 @@ fn boot<P: Profile, S: MakeStore<P>, W: MakeWaiters<P>>(
 }
 
 /// Boots a kernel from the set-up's plan and makes its calls: the kernel then, and the replies.
+///
+/// # Errors
+///
+/// Memory was refused.
 #[inline(never)]
 #[tactic(auto, unfolding(crate::specs::Program::replies_to, crate::specs::Program::end_of))]
-fn run_calls<P: Profile, S: MakeStore<P>, W: MakeWaiters<P>>(
+pub fn run_calls<P: Profile, S: MakeStore<P>, W: MakeWaiters<P>>(
     alloc: Global,
     setup: &Setup,
 ) -> Result<(Kernel<P, S, W>, Vec<Reply>), AllocError>

@@ -20,6 +20,8 @@ pub struct Notes {
     pub refused: Vec<usize>,
     /// The calls whose expectation is not met.
     pub unmet: Vec<CallNote>,
+    /// The numbers, counted from 1, of the calls whose expectation asks what the reply is.
+    pub asking: Vec<usize>,
     /// What the command line names and the input does not have.
     pub absent: Option<String>,
 }
@@ -29,11 +31,13 @@ impl Notes {
     pub fn none(alloc: Global) -> Notes
         ensures refused { result.refused.items ≡ [] }
         ensures unmet { result.unmet.items ≡ [] }
+        ensures asking { result.asking.items ≡ [] }
         ensures absent { result.absent ≡ None }
     {
         Notes {
             refused: Vec::new(alloc),
             unmet: Vec::new(alloc),
+            asking: Vec::new(alloc),
             absent: None,
         }
     }

@@ -3,11 +3,8 @@ use crate::answers::{AnswerText, misses};
 use crate::numbers::{add_order, number_at};
 use command_core::CallNote;
 use query_orders::FoundAnswer;
-use setup_format::Setup;
+use setup_format::{Setup, asks};
 use std::alloc::{AllocError, Global};
-
-/// The expectation of an exercise that nobody has answered yet: nothing is told of it.
-const UNANSWERED: &str = "?";
 
 /// What is expected of the call with a number; nothing where there is no such call.
 fn expected_of(setup: &Setup, number: usize) -> Option<&str> {
@@ -19,7 +16,8 @@ fn expected_of(setup: &Setup, number: usize) -> Option<&str> {
     }
 }
 
-/// Adds what is told of an answer, where it does not meet the expectation of its call: also the first order with it.
+/// Adds what is told of an answer, where it does not meet the expectation of its call: also the first order with it. Of an
+/// expectation that asks nothing is told.
 fn add_unmet(
     alloc: Global,
     unmet: &mut Vec<CallNote>,
@@ -31,7 +29,7 @@ fn add_unmet(
     let Some(expected) = expected_of(setup, call) else {
         return Ok(());
     };
-    if expected == UNANSWERED || !misses(alloc, answer.answer, Some(expected))? {
+    if asks(expected) || !misses(alloc, answer.answer, Some(expected))? {
         return Ok(());
     }
     let shown = AnswerText(answer.answer);

@@ -99,7 +99,7 @@ why_command = with_rule (with_file (codes "why")) (number_rule (codes "call"))
 abbrev pub audit_command : App
 audit_command =
     with_rule (with_rule (with_rule (with_rule (with_rule (with_rule (with_rule (with_file (codes "audit"))
-    (number_rule (codes "after"))) (number_rule (codes "slot"))) (flag_rule (codes "ever"))) (text_rule (codes "without")))
+    (number_rule (codes "after"))) (text_rule (codes "slot"))) (flag_rule (codes "ever"))) (text_rule (codes "without")))
     (text_rule (codes "messages"))) (text_rule (codes "never"))) (text_rule (codes "by"))
 
 abbrev pub explore_command : App
@@ -207,7 +207,7 @@ is_set (Some text) = bytes_eq text (codes "true")
 pub record HasOptions (rows : List Row) (options : Options) : Type 0 where
   pub call : Says (first_of (codes "call") rows) options.call
   pub after : Says (first_of (codes "after") rows) options.after
-  pub slot : Says (first_of (codes "slot") rows) options.slot
+  pub slot : option_map (λ s. s.now) options.slot ≡ first_of (codes "slot") rows
   pub ever : options.ever ≡ is_set (first_of (codes "ever") rows)
   pub never : option_map (λ s. s.now) options.never ≡ first_of (codes "never") rows
   pub by : option_map (λ s. s.now) options.by ≡ first_of (codes "by") rows

@@ -35,8 +35,8 @@ pub struct Options<'a> {
     pub call: Option<u64>,
     /// `--after` of `audit` and `tree`: how many calls are made.
     pub after: Option<u64>,
-    /// `--slot` of `audit`: the address of a slot.
-    pub slot: Option<u64>,
+    /// `--slot` of `audit`: a slot, by its address or by a name.
+    pub slot: Option<&'a str>,
     /// Whether `--ever` of `audit` is there: what threads can never get is asked for.
     pub ever: bool,
     /// `--never` of `audit`: two threads, with a comma between them. Whether the first one's part is kept from the other's is asked

@@ -207,10 +207,11 @@ fn audit<'a>(alloc: Global) -> Result<Command<'a>, AllocError>
         "Runs a set-up and prints who reaches what, who can send to whom, and what a revoke would destroy";
     let after = number(alloc, "after", "Make the first N calls alone");
     let with_after = and_argument(with_file(alloc, "audit", about), after);
-    let slot = number(
+    let slot = text(
         alloc,
         "slot",
-        "Tell what a revoke of the slot at N would change",
+        "S",
+        "Tell what a revoke of slot S, an address or a name, would change",
     );
     let with_slot = and_argument(with_after, slot);
     let ever = flag(
@@ -390,7 +391,7 @@ fn options_in<'a>(matches: &ArgMatches<'a>) -> Options<'a>
     Options {
         call: number_given(matches, "call"),
         after: number_given(matches, "after"),
-        slot: number_given(matches, "slot"),
+        slot: text_given(matches, "slot"),
         ever: flag_given(matches, "ever"),
         never: text_given(matches, "never"),
         by: text_given(matches, "by"),

@@ -8,7 +8,8 @@ use Rattle.setup_report.specs.Text.{begins_as, reply_text}
 use Rattle.command_marks.specs.declared.mark.Mark.{Mark}
 use Rattle.command_marks.specs.declared.mark.Mark.TheVariants.{Right, Open, Wrong}
 use Rattle.command_marks.specs.Laws.{AreThoseOfTheReport}
-use Rattle.command_marks.specs.Marks.{asks, is_mark, mark_of, marks_of, numbers_of}
+use Rattle.setup_format.specs.Expectations.{asks}
+use Rattle.command_marks.specs.Marks.{is_mark, mark_of, marks_of, numbers_of}
 
 abbrev by : Bool → Bool → Mark
 by met asked = if met then Right else if asked then Open else Wrong

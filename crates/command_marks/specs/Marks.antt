@@ -1,15 +1,11 @@
 -- The marks of a set-up's calls: whether the reply to each is as expected.
 use Rattle.std.specs.Prelude.{ℕ, ◌+◌, ◌==◌, List, [], ◌∷◌, Bool, true, false, if◌then◌else◌, Option, Some, None}
 use Rattle.kernel_abstract.specs.declared.call.Reply.{Reply}
+use Rattle.setup_format.specs.Expectations.{asks}
 use Rattle.setup_format.specs.Views.{CallView}
 use Rattle.setup_report.specs.Text.{begins_as, reply_text}
 use Rattle.command_marks.specs.declared.mark.Mark.{Mark}
 use Rattle.command_marks.specs.declared.mark.Mark.TheVariants.{Nothing, Right, Open, Wrong}
-
--- an expectation that begins with a question mark (63) asks
-abbrev pub asks : List ℕ → Bool
-asks [] = false
-asks (c ∷ expected) = c == 63
 
 -- right where the reply is as expected, and else open where the expectation asks, or wrong
 abbrev pub mark_by : Bool → Bool → Mark

@@ -4,6 +4,7 @@ ghost use Rattle.setup_report.specs.Text.{reply_text};
 ghost use Rattle.command_marks.specs.Marks as spec;
 
 use kernel_core::{Call, Reply};
+use setup_format::asks;
 use setup_report::add_call;
 use std::alloc::{AllocError, Global};
 
@@ -18,17 +19,6 @@ pub enum Mark {
     Open,
     /// The reply is another.
     Wrong,
-}
-
-/// Whether an expectation asks.
-#[tactic(auto, using(crate::proofs::Marked::asks_first))]
-fn asks(expected: &str) -> bool
-    ensures { result ≡ spec.asks expected.now }
-{
-    match expected.as_bytes() {
-        [] => false,
-        [byte, ..] => *byte == b'?',
-    }
 }
 
 /// The mark of a call that expects something.

@@ -7,27 +7,13 @@ ghost use Rattle.command_marks.specs.Marks as spec;
 
 use crate::mark::{Mark, mark_of};
 use cap_core::Profile;
+use command_check::run_calls;
 use ipc_core::MakeWaiters;
-use kernel_core::{Kernel, Reply};
+use kernel_core::Reply;
 use setup_format::Setup;
 use setup_report::{ExpectationCount, expectations};
 use slot_core::MakeStore;
 use std::alloc::{AllocError, Global};
-
-/// The replies to the calls of a set-up, in a profile.
-fn replies<P: Profile, S: MakeStore<P>, W: MakeWaiters<P>>(
-    alloc: Global,
-    setup: &Setup,
-) -> Result<Vec<Reply>, AllocError>
-    requires { IsPlan P.profile setup.now.plan }
-    ensures { IfOk result (λ replies. replies.items ≡ replies_to P.profile setup.now) }
-{
-    let mut kernel = Kernel::<P, S, W>::boot(alloc, setup.plan())?;
-    let calls = setup.calls();
-    let mut replies = Vec::with_capacity(alloc, calls.len())?;
-    kernel.run(calls, &mut replies);
-    Ok(replies)
-}
 
 /// The marks of a set-up's calls, given the reply to each.
 fn marks(alloc: Global, setup: &Setup, replies: &[Reply]) -> Result<Vec<Mark>, AllocError>
@@ -62,7 +48,7 @@ pub(crate) fn mark_setup<P: Profile, S: MakeStore<P>, W: MakeWaiters<P>>(
     ensures expected { IfOk result (λ made. made.count.expected
         ≡ expectation_count setup.now.calls (replies_to P.profile setup.now)) }
 {
-    let replies = replies::<P, S, W>(alloc, setup)?;
+    let (_, replies) = run_calls::<P, S, W>(alloc, setup)?;
     let marks = marks(alloc, setup, replies.as_slice())?;
     let count = expectations(alloc, setup, replies.as_slice())?;
     Ok(Marked { marks, count })

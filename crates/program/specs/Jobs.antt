@@ -7,7 +7,7 @@ use Rattle.command_core.specs.declared.fault.Verdict.{Verdict}
 use Rattle.command_check.specs.Program.{program}
 use Rattle.command_check.specs.Commands.{IsAnswerTo, IsStateAnswer}
 use Rattle.command_check.specs.Migrations.{IsMigration}
-use Rattle.command_audit.specs.Audits.{IsAudited}
+use Rattle.command_audit.specs.Audits.{IsAudited, IsSlotAudited}
 use Rattle.command_parts.specs.Told.{IsEver}
 use Rattle.command_parts.specs.Threads.{Trusted}
 use Rattle.command_never.specs.Never.{Asked, IsNever}
@@ -47,12 +47,20 @@ question_of options threads = record {
   by = by_of options;
 }
 
--- an audit of a state or of one slot, or, with `--ever`, what threads can never get
+-- an audit of a state, or of the slot that a word stands for
+abbrev pub IsAuditAt : Options → Option (List ℕ) → List ℕ → List ℕ → Verdict → Type 0
+IsAuditAt options None input text verdict = IsAnswerTo (IsStateAnswer (IsAudited None) options.after) input text verdict
+IsAuditAt options (Some slot) input text verdict = IsAnswerTo (IsSlotAudited slot options.after) input text verdict
+
+abbrev pub IsAuditNow : Options → List ℕ → List ℕ → Verdict → Type 0
+IsAuditNow options input text verdict = IsAuditAt options (option_map (λ s. s.now) options.slot) input text verdict
+
+-- such an audit, or, with `--ever`, what threads can never get
 abbrev pub IsAuditOfState : Options → List ℕ → List ℕ → Verdict → Type 0
 IsAuditOfState options input text verdict =
     MatchBool options.ever
     (IsAnswerTo (IsStateAnswer (IsEver (trust_of options)) options.after) input text verdict)
-    (IsAnswerTo (IsStateAnswer (IsAudited options.slot) options.after) input text verdict)
+    (IsAuditNow options input text verdict)
 
 -- or, with `--never`, whether the first thread's part is kept from the other's
 abbrev pub IsAuditBy : Options → Option (List ℕ) → List ℕ → List ℕ → Verdict → Type 0

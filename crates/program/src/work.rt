@@ -2,7 +2,7 @@
 ghost use Rattle.std.specs.Prelude.{◌≡◌, ◌≢◌, IfErr, IfOk, map};
 ghost use Rattle.command_line.specs.declared.arguments.Job.TheVariants.{Threads};
 ghost use Rattle.command_check.specs.Commands.{IsAnswerTo, IsStateAnswer};
-ghost use Rattle.program.specs.Jobs.{IsAudit, IsAuditOfState, IsExplorationBy, by_of, form_of as form_of_options, messages_of, question_of, trust_of, without_of};
+ghost use Rattle.program.specs.Jobs.{IsAudit, IsAuditNow, IsAuditOfState, IsExplorationBy, by_of, form_of as form_of_options, messages_of, question_of, trust_of, without_of};
 ghost use Rattle.program.specs.NewWords.{IsNewOf};
 ghost use Rattle.program.specs.WitnessWords.{IsNamedWitness};
 ghost use Rattle.command_parts.specs.Told.{IsEver};
@@ -12,7 +12,7 @@ use crate::commas::words_in;
 use crate::marks::around;
 use crate::new_setup::asked_by;
 use crate::witness::witness_named;
-use command_audit::Audit;
+use command_audit::{Audit, SlotAudit};
 use command_check::{Checker, Command, Migrator, OnSetup, OnState, StateCommand};
 use command_core::{Answer, Engine, RunFault};
 use command_explore::{Explore, ExploreOptions, WriteWitness};
@@ -88,6 +88,18 @@ fn make_ever_trusting(
     on_setup(alloc, Ever { trust, after }, input)
 }
 
+/// The audit of a state or of one slot.
+fn make_audit_now(alloc: Global, options: Options<'_>, input: &[u8]) -> Result<Answer, RunFault>
+    ensures made { IfOk result (λ made. IsAuditNow options.entry input.now made.text.items made.verdict) }
+    ensures memory { IfErr result (λ fault. fault ≡ RunFault.Memory) }
+{
+    let Options { after, slot, .. } = options;
+    match slot {
+        None => on_state(alloc, after, Audit { slot: None }, input),
+        Some(slot) => on_setup(alloc, SlotAudit { slot, after }, input),
+    }
+}
+
 /// The audit of a state or of one slot, or, with `--ever`, what threads can never get.
 fn make_state_audit(alloc: Global, options: Options<'_>, input: &[u8]) -> Result<Answer, RunFault>
     ensures made { IfOk result (λ made. IsAuditOfState options.entry input.now made.text.items made.verdict) }
@@ -96,8 +108,7 @@ fn make_state_audit(alloc: Global, options: Options<'_>, input: &[u8]) -> Result
     if options.ever {
         make_ever(alloc, options, input)
     } else {
-        let Options { after, slot, .. } = options;
-        on_state(alloc, after, Audit { slot }, input)
+        make_audit_now(alloc, options, input)
     }
 }
 

@@ -4,7 +4,8 @@ use command_core::CallNote;
 use setup_format::Place;
 use setup_messages::unmeetable_expectations;
 use setup_positions::{NamedText, Part, SoughtKey, span_at};
-use std::alloc::AllocError;
+use std::alloc::{AllocError, Global};
+use std::fmt::Write;
 use std::io::{self, Eprint};
 use std::ops::Range;
 
@@ -120,6 +121,36 @@ pub fn note_on_unmet<R: Eprint + AllocGlobal>(
         note_on_answer(rt, source, note, words.get(i));
     }
     note_on_others(rt, unmet.len());
+}
+
+/// The first of some numbers of calls, and how many more there are.
+fn call_numbers(alloc: Global, calls: &[usize]) -> Result<String, AllocError> {
+    let mut text = String::new(alloc);
+    for (i, call) in calls.iter().take(MOST_TOLD).enumerate() {
+        let comma = if i > 0 { ", " } else { "" };
+        write!(text, "{comma}{call}")?;
+    }
+    if let Some(more) = calls.len().checked_sub(MOST_TOLD)
+        && more > 0
+    {
+        write!(text, " and {more} more")?;
+    }
+    Ok(text)
+}
+
+/// Says which calls of a set-up ask what the reply is, and which command tells no reply.
+pub fn note_on_questions<R: Eprint + AllocGlobal>(rt: &R, name: &str, file: &str, calls: &[usize]) {
+    if calls.is_empty() {
+        return;
+    }
+    if let Ok(numbers) = call_numbers(rt.alloc(), calls) {
+        complain(
+            rt,
+            format_args!(
+                "{name}: calls that ask: {numbers}; the report shows their replies, and sel4sim marks{file} does not"
+            ),
+        );
+    }
 }
 
 /// Says of the calls of a set-up that were refused and of which nothing was expected what tells why.

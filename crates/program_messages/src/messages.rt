@@ -1,6 +1,6 @@
 //! What is said on standard error. Where that fails too, nothing more is said.
 use crate::absent::absence;
-use crate::calls::{note_on_refusals, note_on_unmet};
+use crate::calls::{note_on_questions, note_on_refusals, note_on_unmet};
 use crate::ended::{CheckedFiles, Done, Ended};
 use crate::words::{is_command, may_be_command, near_command};
 use command_check::CountedText;
@@ -225,6 +225,7 @@ fn note_on_calls<R: Eprint + AllocGlobal>(
     let source = NamedText { name, text };
     note_on_unmet(rt, source, notes.unmet.as_slice(), is_one_order);
     note_on_refusals(rt, source, file, notes.refused.as_slice());
+    note_on_questions(rt, name, file, notes.asking.as_slice());
 }
 
 /// Says the same of the input of a command. Its name stands behind `sel4sim why` where it has one.

@@ -6,6 +6,7 @@ pub mod Limits
 pub mod Faults
 pub mod Tables
 pub mod Views
+pub mod Expectations
 pub mod Operations
 pub mod Messages
 pub mod Setups

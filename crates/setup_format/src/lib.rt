@@ -1,6 +1,7 @@
 //! Set-ups: the grammar by which a text or a table is read, and the line by which another is refused.
 #![tactic(auto)]
 
+mod expectation;
 pub mod fault;
 mod laws;
 pub mod limits;
@@ -10,6 +11,7 @@ mod refusal;
 pub mod setup;
 mod tables;
 
+pub use expectation::asks;
 pub use fault::{Key, Place, SetupFault, Wrong};
 pub use laws::what_is_read_is_the_set_up;
 pub use operations::op_name;

@@ -6,7 +6,7 @@ use crate::message::question;
 use crate::near::nearest;
 use cap_core::limits::MAX_MESSAGE_WORDS;
 use cap_core::{Narrow, ProfileName, Wide};
-use setup_format::{ReadSetup, Setup, op_name, read};
+use setup_format::{ReadSetup, Setup, asks, op_name, read};
 use setup_values::OpName;
 use std::alloc::{AllocError, Global};
 use std::fmt::Write;
@@ -27,9 +27,6 @@ const DELIVERED: [&str; 11] = ["delivered", "", "from", "", "to", "", "badge", "
 
 /// The place of the endpoint's address among them, 0 the first.
 const ENDPOINT_PLACE: usize = 1;
-
-/// The expectation of an exercise that is not answered yet. It is never met, and nothing is said of it.
-const UNANSWERED: &str = "?";
 
 /// What is said of a text that begins as a delivery, and is none.
 const DELIVERY: &str = "; a delivery reads delivered E from F to T badge B label L words W ..";
@@ -146,13 +143,13 @@ fn hint(alloc: Global, word: &str, text: &str) -> Result<String, AllocError> {
     }
 }
 
-/// The expectation of a call, where it is answered and no reply of the call's operation begins with it.
+/// The expectation of a call, where it does not ask and no reply of the call's operation begins with it.
 fn unmeetable(setup: &Setup, i: usize) -> Option<&str>
     requires { i < length setup.now.calls }
 {
     let expectation = setup.expect(i)?;
     let word = word_of(op_name(&setup.calls()[i].op));
-    if expectation == UNANSWERED || is_beginning(word, expectation) {
+    if asks(expectation) || is_beginning(word, expectation) {
         None
     } else {
         Some(expectation)

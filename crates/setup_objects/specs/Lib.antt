@@ -1,3 +1,4 @@
--- What a word of a command line or of a policy stands for: Words has its number, and Meant the object, or the slot.
+-- What a word of a command line or of a policy stands for: Words has its number, Meant the object, and Slots the slot.
 pub mod Words
 pub mod Meant
+pub mod Slots

@@ -62,6 +62,23 @@ fn no_name(alloc: Global, names: &[Name], option: &str, word: &str) -> Result<St
     }
 }
 
+/// What is told of a word of an option that stands for no slot, since it is no number and no name.
+///
+/// # Errors
+///
+/// Memory was refused.
+pub fn absent_slot(
+    alloc: Global,
+    names: &[Name],
+    option: &str,
+    word: &str,
+) -> Result<String, AllocError> {
+    if word.is_empty() {
+        return format!(in alloc; "{option}: the word is empty");
+    }
+    no_name(alloc, names, option, word)
+}
+
 /// Of some words, as an option gives them, what is told of the first that stands for no object of the kind.
 ///
 /// # Errors

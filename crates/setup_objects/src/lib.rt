@@ -4,8 +4,10 @@
 
 mod absent;
 mod meant;
+mod slots;
 mod words;
 
-pub use absent::absent_object;
+pub use absent::{absent_object, absent_slot};
 pub use meant::{ObjectKind, are_meant, object_meant, objects_meant};
+pub use slots::slot_meant;
 pub use words::number_meant;

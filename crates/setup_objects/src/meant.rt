@@ -114,7 +114,7 @@ fn boot_object<P: Profile>(plan: &BootPlan, kind: ObjectKind, index: u64) -> Opt
 }
 
 /// How many slots the root CNode has.
-fn slot_count<P: Profile>(plan: &BootPlan) -> u64
+pub(crate) fn slot_count<P: Profile>(plan: &BootPlan) -> u64
     requires { IsWithinLimits P.profile plan.now }
     ensures count { result ≡ 2 ^ plan.now.root_radix }
     ensures small { result ≤ 4096 }
@@ -123,7 +123,7 @@ fn slot_count<P: Profile>(plan: &BootPlan) -> u64
 }
 
 /// The address of a slot of the root CNode.
-fn slot_address<P: Profile>(index: u64) -> u64
+pub(crate) fn slot_address<P: Profile>(index: u64) -> u64
     requires { index < 2 ^ 32 }
     ensures { result ≡ slot_size_of P.profile * index }
 {

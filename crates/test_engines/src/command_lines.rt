@@ -33,7 +33,7 @@ enum Told<'a> {
     /// They ask for reasons, of the call with this number or of all.
     Why(Option<u64>),
     /// They ask for an audit, behind so many calls, and of this slot.
-    Audit(Option<u64>, Option<u64>),
+    Audit(Option<u64>, Option<&'static str>),
     /// They ask for parts or not, without these threads.
     Parts(bool, Option<&'a str>),
     /// They ask for an exploration, of the first so many calls, with so many states.
@@ -153,11 +153,11 @@ const OPTIONS: &[(&[&str], Told)] = &[
     ),
     (
         &["sel4sim", "audit", "rows.toml", "--slot=160"],
-        Told::Audit(None, Some(160)),
+        Told::Audit(None, Some("160")),
     ),
     (
         &["sel4sim", "audit", "--slot", "160", "--after", "0"],
-        Told::Audit(Some(0), Some(160)),
+        Told::Audit(Some(0), Some("160")),
     ),
     // parts, and who is trusted
     (&["sel4sim", "audit"], Told::Parts(false, None)),

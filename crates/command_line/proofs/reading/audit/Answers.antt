@@ -6,5 +6,5 @@ returns c =
     c.and_never.ensures _
     (c.and_argument.ensures _ c.text-without.ensures _
     (c.and_argument-with_ever.ensures _ c.flag-ever.ensures _
-    (c.and_argument-with_slot.ensures _ c.number-slot.ensures _
+    (c.and_argument-with_slot.ensures _ c.text-slot.ensures _
     (c.and_argument-with_after.ensures _ c.number-after.ensures _ c.with_file.ensures))))
