@@ -7,7 +7,8 @@ A page's blocks are taken in order, in a folder of the page's own that has `crat
 - ```console        has commands, each behind `$ `, and below each what it writes: standard output alone, or with
                     standard error as a terminal shows both;
 - ```report         stands in what the last command wrote, behind the reports that came before;
-- ```sh             builds or proves: it is not run, and each `make` has to name a target of the Makefile;
+- ```sh             builds or proves: it is not run, and each `make` has to name a target of the Makefile; with a name
+                    behind it, it is written to the file of that name;
 - ```rust FILE      stands in that file, line for line, and so does ```antt FILE;
 - ```text           is not run.
 
@@ -84,7 +85,9 @@ class Runner:
         else:
             self.written = self.written[met.end() :]
 
-    def sh(self, _, lines):
+    def sh(self, words, lines):
+        if words:
+            return self.toml(words, lines)
         targets = re.findall(r"^([\w-]+):", (ROOT / "Makefile").read_text(), re.M)
         named = [word for line in lines for word in re.findall(r"^make ([\w-]+)", line)]
         return [f"the Makefile has no target {word}" for word in named if word not in targets]
