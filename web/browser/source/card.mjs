@@ -1,7 +1,7 @@
 // One call of an exercise on its sheet: its words, the call as it is written, the fields for its answer, and what came of it.
-import { Prediction } from "./prediction.mjs";
+import { Prediction, wordsOfRefusal } from "./prediction.mjs";
 import { drawBits } from "./bits.mjs";
-import { code, element } from "../../page/source/element.mjs";
+import { code, dim, element } from "../../page/source/element.mjs";
 import { drawReason } from "./report.mjs";
 
 /** The call as it is written. */
@@ -63,7 +63,7 @@ export class Card {
     const mark = tag(isRight, isRight ? "✓ right" : "✗ wrong");
     this.outcome.replaceChildren(...[
       this.prediction ? element("p", {}, mark, ` you said: ${this.prediction.words || "nothing"}`) : "",
-      element("p", { class: "answered" }, "answered: ", code(reply), " ", effect),
+      element("p", { class: "answered" }, "answered: ", code(reply), " ", dim(wordsOfRefusal(reply)), " ", effect),
       this.call.because ? element("p", { class: "because" }, this.call.because) : "", ...(reason ? [drawReason(reason), drawBits(reason, this.wordBits)] : []),
     ].filter(Boolean));
   }

@@ -49,12 +49,15 @@ export class Exercise {
     Object.assign(this, { page, told: null, text: "", name: "", course: [] });
     const sheet = element("section", { class: "sheet", role: "main", "aria-label": "Exercise" });
     this.heading = element("h2", {});
-    this.beside = element("section", { class: "beside", "aria-label": "The run" }, this.heading);
+    const back = element("button", { type: "button", class: "link way" }, "back to the questions");
+    back.addEventListener("click", () => sheet.scrollIntoView());
+    this.beside = element("section", { class: "beside", "aria-label": "The run" }, this.heading, back);
     parent.append(sheet, this.beside);
     this.sheet = new Sheet(sheet, {
       mark: () => this.mark(), check: () => this.checkOne(), reveal: () => this.reveal(), save: () => this.save(),
       restart: () => this.restart(), leave: () => page.leaveExercise(), next: () => page.openNext(),
       turn: (inTurn) => this.keep({ inTurn }), answered: (card) => this.answered(card), step: (number) => this.showStep(number),
+      see: () => this.heading.scrollIntoView(),
     });
   }
 

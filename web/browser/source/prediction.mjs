@@ -19,6 +19,12 @@ const REFUSALS = [
   ["10", "not enough memory"], ["100", "no such thread"], ["101", "the thread is not ready"],
 ];
 
+/** What a reply that refuses means, in words, or an empty text. */
+export function wordsOfRefusal(reply) {
+  const [, code] = /^refused (\S+)$/u.exec(reply) ?? [];
+  return new Map(REFUSALS).get(code) ?? "";
+}
+
 const option = (value, text) => element("option", { value }, text);
 
 /** What is chosen from to tell a part of a delivery: threads or endpoints; undefined for what is typed. */

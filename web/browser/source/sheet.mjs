@@ -55,8 +55,13 @@ export class Sheet {
       element("summary", {}, `${counted(made.length, "call")} ${made.length === 1 ? "is" : "are"} made already`), list(made));
     this.parent.replaceChildren(...[this.course,
       element("h1", { tabindex: "-1" }, title || name, " ", element("small", {}, counted(this.asking.length, "question"))),
-      ...task.map((it) => element("p", { class: "task" }, withTerms(it, seen))), this.before,
+      ...task.map((it) => element("p", { class: "task" }, withTerms(it, seen))), this.drawWay(), this.before,
       list([...this.cards.values()].slice(made.length)), this.marking].filter(Boolean));
+  }
+
+  /** The way to the state, where it stands below the sheet. */
+  drawWay() {
+    return element("p", { class: "way" }, drawButton("the state that the questions begin in", this.acts.see, "link"));
   }
 
   /** Puts the focus on the title, and the sheet at its beginning. */
