@@ -2,6 +2,7 @@
 import { drawChannels, wayOf } from "../../page/source/channels.mjs";
 import { dim, element, fold, heading } from "../../page/source/element.mjs";
 import { drawNamed } from "./named.mjs";
+import { savable } from "./savable.mjs";
 
 const FORMS = {
   name: /^name (\S+) (\d+)$/u,
@@ -67,8 +68,9 @@ function drawRevokes(revokes, choose) {
   return drawSome(revokes, "revokes", draw).filter(Boolean);
 }
 
-/** Draws a text of `audit` into an element; `choose` is told the slot whose revoke is asked for, or "" for all. */
-export function drawAudit(into, text, choose) {
+/** Draws a text of `audit` into an element; `choose` is told the slot whose revoke is asked for, or "" for all, and `save` the
+    drawing that is to be saved, and its name. */
+export function drawAudit(into, text, { choose, save }) {
   const lines = linesOf(text);
   const revokes = grouped(lines, "revoke", ["ends", "change"]);
   if (/^audit .* slot \d+$/mu.test(lines[0]?.line ?? "") && revokes.length === 1) {
@@ -80,7 +82,7 @@ export function drawAudit(into, text, choose) {
   const drawing = drawChannels(channels.map(wayOf).filter(Boolean), "Who can send to whom; the text below says the same");
   into.replaceChildren(
     heading("Who can send to whom", "by a word; an endpoint, a badge that the receiver is told, and rights"),
-    ...[drawing].filter(Boolean),
+    ...[drawing && savable(drawing, () => save(drawing.querySelector("svg"), "channels"))].filter(Boolean),
     element("pre", { class: "told", tabindex: "0", "aria-label": "Channels as text" }, channels.join("\n") || "nobody"),
     heading("What each thread can name", "by a word of a call; in dim letters, by a CNode's word with an index and a depth"),
     ...drawNamed(threads),

@@ -1,6 +1,7 @@
 // What threads can never get: parts of a system as boxes, and the ways between them as lines.
 import { dim, element, fold, heading } from "../../page/source/element.mjs";
 import { drawWires } from "../../page/source/wires.mjs";
+import { savable } from "./savable.mjs";
 
 const PART = /^part (\d+)$/u;
 const THREAD = /^ {2}thread (\d+(?: @\S+)?) (\w+)$/u;
@@ -44,16 +45,19 @@ function drawPart({ id, lines }) {
 
 const drawParts = (parts) => element("div", { class: "parts" }, parts.map(drawPart));
 
-/** Draws a text of `audit --ever` into an element. */
-export function drawEver(into, text) {
+/** The drawing of parts and ways in a box that scrolls, with a button that has it saved. */
+const drawBoxed = (drawing, save) => savable(element("div", { class: "drawing", tabindex: "0", role: "region", "aria-label": "Parts and ways" },
+  drawing), () => save(drawing, "parts"));
+
+/** Draws a text of `audit --ever` into an element; `save` is told the drawing that is to be saved, and its name. */
+export function drawEver(into, text, save) {
   const { parts, ways, trusted, rest } = partsOf(text);
   const boxes = parts.map(({ id, threads }) => ({ id, title: `part ${id}`, lines: threads.map(([thread]) => thread) }));
   const drawing = drawWires(boxes, ways, `${parts.length} parts and ${ways.length} ways between them; the text below says the same`);
   const last = rest.slice(1);
   into.replaceChildren(
     heading("Parts and ways", "no list of calls of their threads leads out of the parts; a way is by an endpoint and a badge"),
-    drawing ? element("div", { class: "drawing", tabindex: "0", role: "region", "aria-label": "Parts and ways" }, drawing)
-      : element("p", {}, dim(parts.length === 0 ? "There are no parts." : "Too many parts and ways to draw.")),
+    drawing ? drawBoxed(drawing, save) : element("p", {}, dim(parts.length === 0 ? "There are no parts." : "Too many parts and ways to draw.")),
     element("pre", { class: "told", tabindex: "0", "aria-label": "Ways" },
       [...trusted.map(({ line }) => line), ...ways.map(({ line }) => line), ...last].join("\n")),
     heading("What each part may ever hold", "memory of its own, and uses of endpoints"),

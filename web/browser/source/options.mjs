@@ -12,26 +12,45 @@ export function threadWord(told) {
   return PLAIN_NAME.test(name) ? name : address;
 }
 
+/** So many pairs of threads are offered. */
+const MOST_PAIRS = 200;
+
 const ticked = (value) => (value ? value.split(",") : []);
 
+/** All pairs of threads, to choose from where a field takes a pair. */
+function drawPairs(id, threads) {
+  const words = threads.map(({ word }) => word);
+  const pairs = words.flatMap((from) => words.filter((to) => to !== from).map((to) => `${from},${to}`));
+  return element("datalist", { id }, pairs.slice(0, MOST_PAIRS).map((value) => element("option", { value })));
+}
+
 /** Draws a text field. */
-function drawText({ name, about, least, value, inputmode = "numeric", give }) {
+function drawText({ name, about, least, value, inputmode = "numeric", isPair, threads, give }) {
+  const list = isPair ? `pairs-${name}` : undefined;
   const field = element("input", { type: "text", id: `option-${name}`, size: "8", inputmode, spellcheck: "false",
-    autocomplete: "off", title: about, placeholder: least });
+    autocomplete: "off", title: about, placeholder: least, list });
   field.value = value;
   field.addEventListener("input", () => give(field.value.trim()));
-  return element("label", { class: "field" }, `--${name}`, field);
+  return element("label", { class: "field" }, `--${name}`, field, list && drawPairs(list, threads));
 }
+
+/** Draws a box to tick, with its words behind it; `given` is told whether it is ticked. */
+function drawBox({ id, value, isTicked, words, title }, given) {
+  const box = element("input", { type: "checkbox", id, value });
+  box.checked = isTicked;
+  box.addEventListener("change", () => given(box.checked));
+  return element("label", { class: "tick", title }, box, words);
+}
+
+/** Draws an option without a value as a box to tick. */
+const drawAlone = ({ name, about, value, give }) => drawBox({ id: `option-${name}`, value: name, isTicked: value !== "", title: about,
+  words: element("code", {}, `--${name}`) }, (isTicked) => give(isTicked ? "yes" : ""));
 
 /** Draws a box to tick for each thread. */
 function drawTicks({ name, about, value, threads, give }) {
-  const boxes = threads.map(({ word, told }) => {
-    const box = element("input", { type: "checkbox", id: `option-${name}-${word}`, value: word });
-    box.checked = ticked(value()).includes(word);
-    box.addEventListener("change", () => give([...ticked(value()).filter((it) => it !== word), ...(box.checked ? [word] : [])]
-      .join(",")));
-    return element("label", { class: "tick" }, box, told);
-  });
+  const others = (word) => ticked(value()).filter((it) => it !== word);
+  const boxes = threads.map(({ word, told }) => drawBox({ id: `option-${name}-${word}`, value: word, words: told,
+    isTicked: ticked(value()).includes(word) }, (isTicked) => give([...others(word), ...(isTicked ? [word] : [])].join(","))));
   return element("fieldset", { title: about }, element("legend", {}, `--${name}`), boxes);
 }
 
@@ -49,7 +68,7 @@ export class Options {
   words(tab) {
     const given = (tab.options ?? []).filter(({ name }) => this.value(tab, name));
     const own = tab.words.filter((word) => !given.some(({ replaces }) => replaces === word));
-    return [...own, ...given.flatMap(({ name }) => [`--${name}`, this.value(tab, name)])];
+    return [...own, ...given.flatMap(({ name, isAlone }) => [`--${name}`, ...(isAlone ? [] : [this.value(tab, name)])])];
   }
 
   /** Gives an option of a tab, or takes it back by an empty value. */
@@ -84,11 +103,15 @@ export class Options {
     this.drawn = wanted;
     const focused = document.activeElement?.id;
     this.parent.hidden = parts.length === 0;
-    this.parent.replaceChildren(...parts.map((part) => {
-      const give = (value) => this.give(tab, part.name, value);
-      return part.ticks ? drawTicks({ ...part, give, value: () => this.value(tab, part.name) })
-        : drawText({ ...part, give, value: this.value(tab, part.name) });
-    }));
+    this.parent.replaceChildren(...parts.map((part) => this.drawOne(tab, part)));
     if (focused?.startsWith("option-")) document.getElementById(focused)?.focus();
+  }
+
+  /** Draws one option of a tab. */
+  drawOne(tab, part) {
+    const value = () => this.value(tab, part.name);
+    const give = (given) => this.give(tab, part.name, given);
+    if (part.ticks) return drawTicks({ ...part, give, value });
+    return part.isAlone ? drawAlone({ ...part, give, value: value() }) : drawText({ ...part, give, value: value() });
   }
 }

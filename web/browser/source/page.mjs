@@ -11,6 +11,8 @@ import { callsOf } from "./report.mjs";
 import { element } from "../../page/source/element.mjs";
 import { fragmentOf, readFragment } from "./share.mjs";
 import { callAt, lastLineOf, lineOfFault, placesOf, wordsTold } from "./places.mjs";
+import { drawTerms } from "./terms.mjs";
+import { drawingOf } from "../../page/source/picture.mjs";
 import { keepLeft, keepState, keptState } from "./kept.mjs";
 import { wordsOf } from "./answer.mjs";
 import { listenToFiles } from "../../page/source/files.mjs";
@@ -28,7 +30,7 @@ const REFUSED = [2, 4];
 /** Standard error tells of `why`. */
 const TELLS_WHY = /sel4sim why/u;
 /** The field of the name is at least and at most so wide, in letters. */
-const [NARROW, BROAD] = [12, 24];
+const [NARROW, BROAD] = [12, 33];
 /** So long after the last key the set-up is run by itself, */
 const MILLISECONDS_STILL = 300;
 /** unless it is longer than this, or its last run took so long. */
@@ -98,6 +100,7 @@ class Page {
     this.reasons = new Map();
     this.read = "";
     this.drawTabs();
+    byId("terms").append(...drawTerms());
   }
 
   get name() {
@@ -453,6 +456,11 @@ class Page {
     saveFile(text, name);
   }
 
+  /** Saves a drawing of the tab that is shown, an SVG, in the colours of the page. */
+  saveDrawing(drawing, what) {
+    saveFile(drawingOf(drawing, getComputedStyle(byId("panels").parentElement).backgroundColor), `${this.title}.${what}.svg`);
+  }
+
   /** What is shown of the set-up: the tab, its options, and of the steps the call; nothing of an exercise. */
   get place() {
     if (this.exercise.isOpen || byId("as-exercise").checked) return {};
@@ -568,13 +576,19 @@ class Page {
     where.addEventListener("keydown", (event) => {
       const { key, target } = event;
       const isTyping = target.closest("input, select, textarea, .CodeMirror") !== null;
-      const action = event.ctrlKey || event.metaKey ? { Enter: () => this.run(), s: () => this.save() }[key]
+      const action = event.ctrlKey || event.metaKey ? this.withControl(key)
         : this.actionOf(key, isTyping || where !== document && key === "?");
       // What the steps have done by a key of their own is not done once more.
       if (!action || event.altKey || event.defaultPrevented || document.querySelector("dialog[open]")) return;
       event.preventDefault();
       action();
     });
+  }
+
+  /** What a key does together with Ctrl. */
+  withControl(key) {
+    const print = this.tab === STEPS && !this.exercise.isOpen ? () => this.printStep() : null;
+    return { Enter: () => this.run(), s: () => this.save(), p: print }[key];
   }
 
   actionOf(key, isTyping) {
@@ -588,6 +602,22 @@ class Page {
     const place = /^\d$/u.test(key) ? (Number(key) + 9) % 10 : TABS.length;
     if (place < TABS.length) return () => this.chooseAt(place);
     return { e: () => this.edit(), p: () => this.project(true), w: () => this.setWide(!document.body.classList.contains("wide")) }[key] ?? null;
+  }
+
+  /** Prints the step that is shown: it stands in a document of its own. */
+  printStep() {
+    if (this.steps.isLoaded) this.steps.frame.contentWindow.print();
+  }
+
+  /** Shows what the words mean, at the end of what is said about the page. */
+  showWords() {
+    byId("about").showModal();
+    byId("words").focus();
+  }
+
+  /** In a narrow window, shows the controls that are used less, or folds them away. */
+  toggleMenu() {
+    byId("menu").setAttribute("aria-expanded", String(document.body.classList.toggle("menu")));
   }
 
   edit() {
@@ -608,6 +638,9 @@ class Page {
     on("welcome-exercise", () => this.openExample(...FIRST_EXERCISE));
     on("wide", () => this.setWide(!document.body.classList.contains("wide")));
     on("project", () => this.project(true));
+    on("print-step", () => this.printStep());
+    on("menu", () => this.toggleMenu());
+    on("welcome-words", () => this.showWords());
     on("more-tabs", () => this.showMore(!document.body.classList.contains("more")));
     on("letters", () => this.keep());
     on("show-keys", () => byId("keys").showModal());

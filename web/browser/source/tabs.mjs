@@ -23,7 +23,7 @@ function showReasons(page, panel, text) {
 }
 
 function showAudit(page, panel, text) {
-  drawAudit(panel, text, (slot) => page.give(AUDIT, "slot", slot));
+  drawAudit(panel, text, { choose: (slot) => page.give(AUDIT, "slot", slot), save: (...drawing) => page.saveDrawing(...drawing) });
 }
 
 /** The parts of a layout, where each thread that is told gets a box to tick; or the answer whether two are kept apart. */
@@ -33,7 +33,7 @@ function showEver(page, panel, text) {
     return;
   }
   page.options.offer(EVER, threadsTold(text));
-  drawEver(panel, text);
+  drawEver(panel, text, (...drawing) => page.saveDrawing(...drawing));
 }
 
 function showOrders(page, panel, text) {
@@ -66,8 +66,9 @@ const EVER = {
   name: "ever", words: ["audit", "--ever"], about: "What each thread can never get, whatever calls are made",
   missed: "it is not excluded",
   options: [AFTER, { name: "without", about: "Threads that are trusted to make no more calls", ticks: true },
+    { name: "messages", about: "Threads that are trusted to go on to send and receive, and to do nothing else", ticks: true },
     { name: "never", about: "Two threads: is the part of the first kept from the part of the second?", least: "FROM,TO",
-      inputmode: "text", replaces: "--ever" },
+      inputmode: "text", isPair: true, replaces: "--ever" },
     { name: "by", about: "Endpoints that are allowed between these two", least: "none", inputmode: "text" }],
   show: showEver,
 };
@@ -82,7 +83,8 @@ export const TABS = [
     options: [{ name: "call", about: "The number of a call: the reason of that call alone", least: "all refused" }] },
   AUDIT,
   EVER,
-  { name: "tree", words: ["tree"], about: "Each slot below the one that it is derived from", options: [AFTER], show: showText },
+  { name: "tree", words: ["tree"], about: "Each slot below the one that it is derived from", show: showText,
+    options: [AFTER, { name: "dot", about: "As a graph in DOT, the language of Graphviz, to be saved and drawn", isAlone: true }] },
   { name: "orders", words: ["explore"], about: "Every order of the clients' calls: what can happen, and what cannot",
     missed: "an expectation is not met in some order, an order ends stuck, or not all orders were made",
     options: [{ name: "first", about: "So many calls are made before the clients begin", least: "0" },

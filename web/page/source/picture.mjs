@@ -7,6 +7,10 @@ const MARGIN = 8;
 /** Hatched grounds are drawn with lines so far apart. */
 const HATCH = 8;
 const SIDES = ["Top", "Right", "Bottom", "Left"];
+/** Where the border of each side begins and ends, in widths and heights of its box, and to where the box lies from it. */
+const BORDERS = [[0, 0, 1, 0, 0, 1], [1, 0, 1, 1, -1, 0], [0, 1, 1, 1, 0, -1], [0, 0, 0, 1, 1, 0]];
+/** What a drawing has from the page's styles. */
+const LOOKS = ["color", "fill", "stroke", "stroke-width", "font-family", "font-size", "font-weight"];
 
 const escaped = (text) => text.replace(/&/gu, "&amp;").replace(/</gu, "&lt;").replace(/"/gu, "&quot;");
 const rounded = (value) => (typeof value === "number" ? Math.round(10 * value) / 10 : value);
@@ -43,10 +47,11 @@ function* boxOf({ left, top, width, height }, style) {
   const ring = /^(rgba?\([^)]*\)) 0px 0px 0px (\S+)px/u.exec(style.boxShadow);
   if (ring) yield tag("rect", { ...shape, fill: "none", stroke: ring[1], "stroke-width": Number(ring[2]) });
   if (isFramed) return;
-  const ends = [[0, 0, 1, 0], [1, 0, 1, 1], [0, 1, 1, 1], [0, 0, 0, 1]];
-  for (const [side, [x1, y1, x2, y2]] of ends.entries()) {
-    if (widths[side] > 0 && isSeen(colours[side])) yield tag("line", { x1: left + x1 * width, y1: top + y1 * height,
-      x2: left + x2 * width, y2: top + y2 * height, stroke: colours[side], "stroke-width": widths[side] });
+  for (const [side, [x1, y1, x2, y2, inX, inY]] of BORDERS.entries()) {
+    // A border lies within its box.
+    const [x, y] = [left + inX * widths[side] / 2, top + inY * widths[side] / 2];
+    if (widths[side] > 0 && isSeen(colours[side])) yield tag("line", { x1: x + x1 * width, y1: y + y1 * height,
+      x2: x + x2 * width, y2: y + y2 * height, stroke: colours[side], "stroke-width": widths[side] });
   }
 }
 
@@ -112,6 +117,21 @@ function* drawn(root) {
       if (node.matches("select")) yield chosenIn(node);
     }
   }
+}
+
+/** A drawing of the page, an SVG itself, as the text of an SVG that stands alone: with its colours, and its ground `behind` it. */
+export function drawingOf(svg, behind) {
+  const copy = svg.cloneNode(true);
+  const [all, copied] = [svg, copy].map((it) => [it, ...it.querySelectorAll("*")]);
+  all.forEach((it, at) => {
+    const style = getComputedStyle(it);
+    LOOKS.forEach((look) => copied[at].setAttribute(look, style.getPropertyValue(look)));
+    copied[at].removeAttribute("class");
+  });
+  const ground = document.createElementNS(copy.namespaceURI, "rect");
+  for (const [name, value] of Object.entries({ width: "100%", height: "100%", fill: behind })) ground.setAttribute(name, value);
+  copy.prepend(ground);
+  return new XMLSerializer().serializeToString(copy);
 }
 
 /** A part of the page as the text of an SVG; what is scrolled away in it is drawn too. */
