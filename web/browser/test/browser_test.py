@@ -30,9 +30,10 @@ import hostile_texts  # noqa: E402
 import lectures  # noqa: E402
 import nothing_lost  # noqa: E402
 import sheets  # noqa: E402
+import teacher  # noqa: E402
 from tester import SITE, Tester, as_answer, native, option, pick, picked, type_option  # noqa: E402
 
-SUBCOMMANDS = (["check"], ["trace"], ["migrate"], ["why"], ["audit"], ["audit", "--ever"], ["audit", "--never", "2048,4096"], ["explore"],
+SUBCOMMANDS = (["check"], ["marks"], ["trace"], ["migrate"], ["why"], ["audit"], ["audit", "--ever"], ["audit", "--never", "2048,4096"], ["explore"],
                ["tree"])
 SEED = 7
 TEXTS = 400
@@ -384,10 +385,15 @@ def parts(test, _):
         return
     browser = test.browser
     boxes = "[...document.querySelectorAll('#options input[type=checkbox]')].map((it) => `${it.value} ${it.checked}`).join(', ')"
-    wanted = "loader true, client_a false, client_b false, client_c false"
+    wanted = "loader true, client_a false, client_b false, client_c false, loader false, client_a false, client_b false, client_c false"
     test.wanted(browser.value(boxes) == wanted, f"the boxes to tick are {browser.value(boxes)}")
     drawn = "document.querySelectorAll('#panel-ever .wires rect').length"
     test.wanted(browser.value(drawn) == 3, f"{browser.value(drawn)} parts are drawn, and not 3")
+    browser.value("document.getElementById('option-messages-client_a').click()")
+    test.settle(0.6)
+    told = test.text("panel-ever")
+    test.wanted("--without loader --messages client_a" in test.text("command-line") and "messages 4096 @client_a" in told, f"who sends is told as {told}")
+    browser.value("document.getElementById('option-messages-client_a').click()")
     browser.value("document.getElementById('option-without-client_c').click()")
     test.settle(0.6)
     test.wanted("--without loader,client_c" in test.text("command-line"), f"a second tick gives {test.text('command-line')}")
@@ -404,6 +410,8 @@ def kept_apart(test, _):
     if not pick(test, *TRUSTED_LOADER):
         return
     parts_drawn = test.browser.value("document.querySelectorAll('#panel-ever .wires rect').length")
+    offered = test.browser.value("[...document.getElementById('option-never').list.options].map((it) => it.value)")
+    test.wanted(len(offered) == 12 and "client_a,client_b" in offered, f"the pairs {offered} are offered")
     asked = (("never", "client_a,client_b", "--without loader --never client_a,client_b", 0, "excluded", ()),
              ("never", "client_a,client_c", "--without loader --never client_a,client_c", 1, "possible", ("open 10240", "chain 4096 @client_a -> 10240")),
              ("by", "10240", "--without loader --never client_a,client_c --by 10240", 0, "excluded", ()),
@@ -454,11 +462,26 @@ def opens_an_order(test):
                 f"the way back leads to {test.text('command-line')}")
 
 
+def graph(test, _):
+    """The tab tree writes a graph where its box is ticked."""
+    if not pick(test, "examples", "two_clients_by_badge"):
+        return
+    test.browser.value("document.getElementById('tab-tree').click()")
+    test.settle()
+    test.browser.value("document.getElementById('option-dot').click()")
+    test.settle(0.6)
+    test.wanted(test.text("command-line") == "sel4sim tree --dot two_clients_by_badge.toml", f"a graph is asked for by {test.text('command-line')}")
+    test.wanted(test.text("panel-tree").startswith("digraph"), f"a graph is written as {test.text('panel-tree')[:40]!r}")
+    test.browser.value("document.getElementById('option-dot').click()")
+    test.settle(0.6)
+    test.wanted(test.text("command-line") == "sel4sim tree two_clients_by_badge.toml", "the graph cannot be taken back")
+
+
 def new_tabs(test, stored):
     """The tabs with options, at two widths."""
     for width in (1280, 390):
         test.browser.call("Emulation.setDeviceMetricsOverride", width=width, height=844, deviceScaleFactor=1, mobile=width < 400)
-        for check in (reasons, audits, parts, kept_apart, every_order):
+        for check in (reasons, audits, parts, kept_apart, every_order, graph):
             check(test, stored)
             wide = test.browser.value("document.documentElement.scrollWidth")
             test.wanted(wide <= width, f"{check.__name__}: a window of {width} is overrun: {wide}")
@@ -616,7 +639,7 @@ def main():
             test.open()
         same_answers(test, setups)
         marks(test, setups)
-        for check in (same_with_options, typing, *first_minute.CHECKS, *nothing_lost.CHECKS, *sheets.CHECKS, *hearing.CHECKS, *lectures.CHECKS, files, tabs, new_tabs, reading, trapped, nothing_leaves):
+        for check in (same_with_options, typing, *first_minute.CHECKS, *nothing_lost.CHECKS, *sheets.CHECKS, *teacher.CHECKS, *hearing.CHECKS, *lectures.CHECKS, files, tabs, new_tabs, reading, trapped, nothing_leaves):
             check(test, stored)
         if not is_short:
             hostile(test, setups, stored)

@@ -24,6 +24,37 @@ def welcomed(test, _):
     test.wanted(browser.value("document.getElementById('welcome').offsetParent === null"), "who was here before is welcomed")
 
 
+def one_row(test, _):
+    """On a phone the head is one row, and the other controls are behind one of it; in a wide window all of it is one row."""
+    browser = test.browser
+    shown = "[...document.querySelectorAll('header :is(button, select, input:not(.unseen), label.button)')].filter((it) => it.offsetParent !== null).map((it) => it.id)"
+    height = "document.querySelector('header').offsetHeight"
+    pick(test, "examples", "revocation_of_badged_copies")
+    browser.call("Emulation.setDeviceMetricsOverride", width=390, height=844, deviceScaleFactor=1, mobile=True)
+    test.wanted(browser.value(shown) == ["examples", "run", "menu"], f"on a phone the head has {browser.value(shown)}")
+    test.wanted(browser.value(height) < 60, f"on a phone the head is {browser.value(height)} pixels high")
+    test.click("#menu")
+    test.wanted({"name", "save", "share", "show-about"} <= set(browser.value(shown)), f"behind the menu there are {browser.value(shown)}")
+    test.click("#menu")
+    browser.call("Emulation.setDeviceMetricsOverride", width=1280, height=800, deviceScaleFactor=1, mobile=False)
+    test.wanted(browser.value(height) < 60 and "menu" not in browser.value(shown), f"the head is {browser.value(height)} pixels high")
+    field = browser.value("[document.getElementById('name').scrollWidth, document.getElementById('name').clientWidth]")
+    test.wanted(field[0] <= field[1], "the name of a set-up is cut")
+    browser.call("Emulation.clearDeviceMetricsOverride")
+
+
+def told_words(test, _):
+    """What the first words mean is told, where the first line leads, and to a reader who comes back behind "about"."""
+    browser = test.browser
+    browser.value("localStorage.clear()")
+    test.open()
+    test.click("#welcome-words")
+    told = browser.value("[...document.querySelectorAll('#terms dt')].map((it) => it.textContent)")
+    test.wanted({"capability", "CNode", "slot", "guard", "badge", "rights", "original"} <= set(told), f"the words {told} are explained")
+    test.wanted(browser.value("document.activeElement.id") == "words", "the first line does not lead to the words")
+    browser.press("Escape")
+
+
 def ordered(test, _):
     """The list begins with the exercises, then the examples to begin with; tests come last; no key is in the page."""
     groups = test.browser.value(GROUPS)
@@ -84,4 +115,4 @@ def rare_ones_behind_more(test, _):
     test.settle()
 
 
-CHECKS = (welcomed, ordered, said_in_words, rare_ones_behind_more)
+CHECKS = (welcomed, one_row, told_words, ordered, said_in_words, rare_ones_behind_more)

@@ -30,6 +30,20 @@ def live_texts(test):
     return [" ".join(filter(None, below(node))) for node in nodes.values() if value(node, "role") in ("status", "alert")]
 
 
+def focused(test):
+    """The role and the name of what has the focus, also in the frame of the steps."""
+    frames = [it["frame"]["id"] for it in test.browser.call("Page.getFrameTree")["frameTree"].get("childFrames", [])]
+    nodes = [node for frame in frames for node in test.browser.call("Accessibility.getFullAXTree", frameId=frame)["nodes"]] + tree(test)
+    have = [node for node in nodes if any(it["name"] == "focused" and it["value"].get("value") for it in node.get("properties", []))]
+    return [(value(node, "role"), value(node, "name")) for node in have]
+
+
+def chosen_tab(test):
+    """The name of the tab that is told as the chosen one."""
+    return [value(node, "name") for node in tree(test) if value(node, "role") == "tab"
+            and any(it["name"] == "selected" and it["value"].get("value") for it in node.get("properties", []))]
+
+
 def outcome_is_told(test, _):
     """The editor is a field of many lines, and how a run ended is told, with the first fault where there is one."""
     pick(test, "examples", "send_then_receive")
@@ -69,13 +83,15 @@ def panel_by_keys(test, _):
     steps_come(test, "send_then_receive")
     browser.press("ArrowDown")
     inside = "document.querySelector('#panel-steps iframe').contentDocument"
-    test.wanted(browser.value(f"{inside}.activeElement.id") in ("list", "main"), "no key leads from the tab to the steps")
+    told = [role for role, name in focused(test) if name.startswith(("Calls of the run", "The state after the call"))]
+    test.wanted(told, f"no key leads from the tab to the steps, but to {focused(test)}")
     browser.press("ArrowRight")
     test.until(f"{inside}.getElementById('range').value === '1'", "the arrow keys do not step")
     browser.press("1")
     test.settle()
     browser.press("Enter")
-    test.wanted(browser.value("document.activeElement.closest('#panel-report') !== null"), "no key leads from the tab to the report")
+    test.wanted(any("send" in name for _, name in focused(test)) and browser.value("document.activeElement.closest('#panel-report') !== null"),
+                f"no key leads from the tab to the report, but to {focused(test)}")
 
 
 def letters_off(test, _):
@@ -89,7 +105,12 @@ def letters_off(test, _):
     test.open()
     browser.value("document.getElementById('tab-steps').focus()")
     browser.press("1")
-    test.wanted(browser.value("document.body.dataset.tab") == "steps", "a digit is a key, though it is turned off")
+    test.wanted(chosen_tab(test) == ["steps"], f"a digit is a key, though it is turned off: it leads to {chosen_tab(test)}")
+    browser.value("document.getElementById('keys').showModal()")
+    box = [node for node in tree(test) if value(node, "role") == "checkbox" and value(node, "name") == "keys of one letter or digit"]
+    ticks = [it["value"]["value"] for node in box for it in node["properties"] if it["name"] == "checked"]
+    test.wanted(ticks == ["false"], f"that letters are no keys is told as {ticks}")
+    browser.value("document.getElementById('keys').close()")
     inside = "document.querySelector('#panel-steps iframe').contentDocument"
     steps_come(test, "send_then_receive")
     browser.value(f"{inside}.getElementById('main').focus()")

@@ -50,6 +50,44 @@ def pictures(test, _):
             test.wanted(struck == (name.startswith("revocation") and part in ("forest", "spaces")), f"{name}: in the picture of the {part}, struck out: {struck}")
 
 
+def drawings(test, _):
+    """The drawings of the audit and of the parts are saved too, with all their words, in the colours of the page."""
+    browser = test.browser
+    for topic, name, tab, words in (("for audit", "engineers_system", "audit", "4096 @driver"), ("for ever", "two_clients", "ever", "4096 @client_a")):
+        pick(test, topic, name)
+        browser.value(CATCH.replace(f"{FRAME}.contentWindow", "window"))
+        test.click(f"#panel-{tab} .saver")
+        test.until("window.saved.length === 1", f"no drawing of {tab} is saved")
+        drawn = ElementTree.fromstring(browser.value("window.saved[0]"))
+        told = [it.text for it in drawn.iter() if it.tag.endswith("text")]
+        wanted = browser.value(f"[...document.querySelectorAll('#panel-{tab} .wires text')].map((it) => it.textContent)")
+        test.wanted(words in told and told == wanted, f"{tab}: a drawing with the texts {told} is saved, and not {wanted}")
+        looks = {it.get("fill") for it in drawn.iter()} | {it.get("stroke") for it in drawn.iter()}
+        test.wanted(not any("var(" in (look or "") for look in looks) and len(looks) > 4, f"{tab}: a drawing is saved in {looks}")
+        test.open()
+
+
+def prints_step(test, _):
+    """Ctrl P in the steps prints the step that is shown, with the name of the set-up; elsewhere it prints the page."""
+    browser = test.browser
+    open_steps(test, "examples", "two_clients_by_badge", 2)
+    browser.value(f"window.printed = 0; {FRAME}.contentWindow.print = () => {{ window.printed += 1; }}; document.activeElement.blur()")
+    press = "document.body.dispatchEvent(new KeyboardEvent('keydown', { key: 'p', ctrlKey: true, bubbles: true, cancelable: true }))"
+    test.wanted(browser.value(press) is False and browser.value("window.printed") == 1, "Ctrl P does not print the step")
+    test.click("#print-step")
+    test.wanted(browser.value("window.printed") == 2, "a step is not printed")
+    # A print of the whole page has the report; so the frame is laid out for its own print by hand.
+    browser.value("document.getElementById('panel-steps').style.setProperty('display', 'block', 'important')")
+    browser.call("Emulation.setEmulatedMedia", media="print")
+    told = browser.value(f"[{INSIDE}.getElementById('name'), {INSIDE}.getElementById('said'), {INSIDE}.getElementById('forest')].map((it) => it.offsetParent !== null)")
+    test.wanted(told == [True] * 3, f"a print of a step has its name, its sentence and the forest: {told}")
+    browser.call("Emulation.setEmulatedMedia", media="")
+    browser.value("document.getElementById('panel-steps').style.removeProperty('display')")
+    test.click("#tab-report")
+    test.settle()
+    test.wanted(browser.value(press) is True, "Ctrl P of a report is taken from the browser")
+
+
 def projected(test, _):
     """A key shows the steps alone in the whole window, with the set-up's name; Escape leads back."""
     browser = test.browser
@@ -119,4 +157,4 @@ def lookup_bits(test, _):
     test.wanted(drawn > 20, f"the bits of {drawn} lookups are drawn")
 
 
-CHECKS = (pictures, projected, embedded, lookup_bits)
+CHECKS = (pictures, drawings, prints_step, projected, embedded, lookup_bits)

@@ -2,7 +2,7 @@
 import json
 
 import chromium
-from tester import pick, type_option
+from tester import Tester, pick, type_option
 
 FRAME = "document.querySelector('#panel-steps iframe')"
 INSIDE = f"{FRAME}.contentDocument"
@@ -68,6 +68,34 @@ def fault_keeps_steps(test, _):
     type_anew(test, kept)
     test.wanted(browser.value(SHOWN) == 8, f"behind a fault the steps are at call {browser.value(SHOWN)}")
     test.wanted(browser.value("document.querySelector('.old') === null"), "an answer stays dimmed")
+
+
+# How far the page, the tabs and the frame of the steps can be scrolled, and how broad the page's own scroll bar is.
+ROOM = f"""(() => {{
+  const [page, tabs, frame] = [document.documentElement, document.getElementById("tabs"), {INSIDE}.documentElement];
+  return [page.scrollHeight - page.clientHeight, tabs.scrollWidth - tabs.clientWidth, frame.scrollHeight - frame.clientHeight, innerWidth - page.clientWidth];
+}})()"""
+
+
+def with_scroll_bars(test, _):
+    """Where a browser shows scroll bars, none leads out of the steps, and none stands at the page or below the tabs."""
+    other = Tester(chromium.Chromium(width=1280, height=800, has_bars=True), test.program, test.folder)
+    try:
+        other.open()
+        for width, is_wide in ((1280, False), (1024, True), (1600, False)):
+            other.browser.call("Emulation.setDeviceMetricsOverride", width=width, height=700, deviceScaleFactor=1, mobile=False)
+            other.browser.value(f"sel4sim.page.setWide({json.dumps(is_wide)})")
+            for name in ("revocation_of_badged_copies", "layout_of_three_components"):
+                pick(other, "examples", name)
+                other.click("#tab-steps")
+                other.settle()
+                steps_come(other, name)
+                other.browser.value(f"{INSIDE}.getElementById('last').click()")
+                room = other.browser.value(ROOM)
+                other.wanted(room == [0, 0, 0, 0], f"{name} at {width}: the page, the tabs and the steps can be scrolled by {room[:3]}, bar {room[3]}")
+    finally:
+        test.faults += other.faults
+        other.browser.close()
 
 
 STILL = f"""(() => {{
@@ -183,4 +211,4 @@ def reason_in_report(test, _):
     test.settle()
 
 
-CHECKS = (fault_keeps_steps, steps_stand_still, cursor_leads_steps, address_of_home, address_of_place, way_back, reason_in_report)
+CHECKS = (fault_keeps_steps, with_scroll_bars, steps_stand_still, cursor_leads_steps, address_of_home, address_of_place, way_back, reason_in_report)

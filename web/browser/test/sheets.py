@@ -11,6 +11,7 @@ from tester import TOP, native
 SETUPS = TOP / "crates" / "test_worked" / "data"
 CALL = re.compile(r"^(\d+) (\d+ \w+): (.*?)(?: \[met\])?$", re.M)
 PART = re.compile(r"(from|to|badge|label|words) (\d+)")
+MARKED = re.compile(r"^marks (\d+) of (\d+) open (\d+)\n\Z", re.M)
 SHEET = "document.querySelector('.sheet')"
 FRAME = "document.querySelector('.beside iframe')?.contentDocument"
 MARKING = "(document.querySelector('.marking [role=status]')?.textContent ?? '')"
@@ -111,8 +112,17 @@ def wrong_for(answer):
     return "refused 101" if answer != "refused 101" else "refused 100"
 
 
+def same_marks(test, name, text, counts):
+    """The program marks a text natively and in the page by the same lines: so many right, of so many, so many open."""
+    given = test.run_bytes([["marks"]], f"{name}.toml", text.encode())[0]
+    test.compare(name, ["marks"], f"{name}.toml", text.encode(), {key: it for key, it in given.items() if it is not None})
+    _, output, _ = native(test.program, test.folder, ["marks"], f"{name}.toml", text.encode())
+    found = MARKED.search(output.decode())
+    test.wanted(found and tuple(map(int, found.groups())) == counts, f"{name}: {output.decode()[-40:]!r} is not {counts}")
+
+
 def do_exercise(test, name):
-    """One answer is wrong at first."""
+    """One answer is wrong at first. What the sheet counts the native program counts."""
     browser, answers = test.browser, answers_of(name)
     first = min(answers)
     open_exercise(test, name)
@@ -127,6 +137,7 @@ def do_exercise(test, name):
     test.wanted((wrong, right) == ([first], len(answers) - 1), f"{name}: with call {first} wrong, {wrong} are marked as wrong and {right} right")
     test.wanted(f"{right} of {len(answers)} right" in browser.value(MARKING), f"{name}: {browser.value(MARKING)}")
     hides_replies(test, name, answers, "when one is wrong")
+    same_marks(test, name, browser.value("sel4sim.page.exercise.answeredText"), (right, len(answers), 0))
     give(test, first, answers[first])
     press_button(test, "mark again")
     test.until("document.querySelector('.answered')", f"{name}: no answers are shown")
@@ -182,6 +193,14 @@ def pictured(test, picture):
     test.until("document.querySelector('.answered')", f"{name}: no answers are shown")
     picture("shown")
     test.browser.value("sel4sim.page.leaveExercise()")
+
+
+def marked_alike(test, _):
+    """Each worked exercise and its key, marked by the native program and by the one in the page."""
+    for name in names():
+        count = len(answers_of(name))
+        same_marks(test, name, text_of("exercises", name), (0, count, count))
+        same_marks(test, name, text_of("exercise_answers", name), (count, count, 0))
 
 
 def in_turn(test, _):
@@ -311,4 +330,4 @@ def in_firefox(test):
         test.wanted(wide <= 0, f"{name}: in firefox the window is overrun by {wide}")
 
 
-CHECKS = (each_exercise, in_turn, refused, kept_and_saved, shared_as_exercise, leaves_sheet, printed)
+CHECKS = (marked_alike, each_exercise, in_turn, refused, kept_and_saved, shared_as_exercise, leaves_sheet, printed)

@@ -25,8 +25,9 @@ LOADED = "new Promise((done) => document.readyState === 'complete' ? done() : ad
 QUIET = [
     "--headless=new", "--no-first-run", "--no-default-browser-check", "--disable-background-networking",
     "--disable-component-update", "--disable-default-apps", "--disable-sync", "--disable-extensions", "--disable-gpu",
-    "--password-store=basic", "--use-mock-keychain", "--hide-scrollbars", "--disable-dev-shm-usage",
+    "--password-store=basic", "--use-mock-keychain", "--disable-dev-shm-usage",
 ]
+WITHOUT_BARS = ["--hide-scrollbars"]
 
 
 def program():
@@ -64,7 +65,8 @@ class Recorder:
 class Chromium:
     """A browser with one page. `asked` has the addresses that its page asked for, `denied` what its policy denied."""
 
-    def __init__(self, *, width=1200, height=800):
+    def __init__(self, *, width=1200, height=800, has_bars=False):
+        self.has_bars = has_bars
         self.recorder = Recorder()
         self.folder = tempfile.mkdtemp(prefix="page_test_")
         self.numbers = itertools.count(1)
@@ -85,7 +87,8 @@ class Chromium:
 
     def command(self, width, height):
         root = ["--no-sandbox"] if os.getuid() == 0 else []
-        return [program(), *QUIET, *root, f"--window-size={width},{height}", f"--user-data-dir={self.folder}",
+        bars = [] if self.has_bars else WITHOUT_BARS
+        return [program(), *QUIET, *bars, *root, f"--window-size={width},{height}", f"--user-data-dir={self.folder}",
                 "--host-resolver-rules=MAP * ~NOTFOUND , EXCLUDE 127.0.0.1", f"--proxy-server={NOBODY}",
                 "--remote-debugging-pipe", "about:blank"]
 
