@@ -1,8 +1,11 @@
 // What is kept in the browser over a reload: the set-up and its name, the tab, which shared address was read, and the
-// set-ups that were changed and left for others. A browser that keeps nothing, as in a private window, leaves all of it
-// empty.
+// set-ups that were changed and left for others. A page in the frame of another one keeps its own, by its address. A browser
+// that keeps nothing, as in a private window, leaves all of it empty.
 
 const STATE = "sel4sim.page";
+const FRAMED = "sel4sim.framed";
+/** So many pages in frames are kept. */
+const MOST_FRAMED = 20;
 const LEFT = "sel4sim.left";
 /** So many set-ups that were left are kept. */
 const MOST_LEFT = 8;
@@ -25,9 +28,19 @@ export function keepAt(name, value) {
   }
 }
 
-/** The state of the page as it was kept. */
-export const keptState = () => keptAt(STATE);
-export const keepState = (state) => keepAt(STATE, state);
+const framedStates = () => keptAt(FRAMED).states ?? [];
+
+/** The state of the page as it was kept; of a page in a frame, by its `address` there. */
+export function keptState(address) {
+  if (address === undefined) return keptAt(STATE);
+  return framedStates().find((it) => it.address === address)?.state ?? {};
+}
+
+/** Keeps the state of the page. */
+export function keepState(state, address) {
+  if (address === undefined) keepAt(STATE, state);
+  else keepAt(FRAMED, { states: [{ address, state }, ...framedStates().filter((it) => it.address !== address)].slice(0, MOST_FRAMED) });
+}
 
 /** The set-ups that were changed and left for others: first the one that was left last. */
 export const leftSetUps = () => keptAt(LEFT).setups ?? [];

@@ -99,6 +99,7 @@ class Page {
     this.shownCall = 0;
     this.reasons = new Map();
     this.read = "";
+    this.frame = undefined;
     this.drawTabs();
     byId("terms").append(...drawTerms());
   }
@@ -171,7 +172,7 @@ class Page {
   }
 
   keep() {
-    keepState({ ...this.setup, read: this.read, hasLetters: this.hasLetters });
+    keepState({ ...this.setup, read: this.read, hasLetters: this.hasLetters }, this.frame);
   }
 
   /** What is typed is run by itself, where that is quick. */
@@ -514,9 +515,11 @@ class Page {
 
   /** Opens what the address has, or what was kept, or an example. */
   async begin() {
-    const kept = keptState();
     // A lecture's own page has this one in a frame, by the address ?embed: without its head and foot.
-    document.body.classList.toggle("embed", new URLSearchParams(location.search).has("embed"));
+    const isEmbedded = new URLSearchParams(location.search).has("embed");
+    document.body.classList.toggle("embed", isEmbedded);
+    this.frame = isEmbedded ? location.hash : undefined;
+    const kept = keptState(this.frame);
     // A reload keeps what was made of a shared set-up. Who opens the address anew sees what the address has.
     const [{ type } = {}] = performance.getEntriesByType("navigation");
     this.read = type === "navigate" ? "" : kept.read ?? "";

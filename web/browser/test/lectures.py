@@ -3,7 +3,7 @@ import json
 import re
 import xml.etree.ElementTree as ElementTree
 
-from nothing_lost import FRAME, INSIDE, steps_come
+from nothing_lost import EDITOR, FRAME, INSIDE, address_of, steps_come, type_anew
 from tester import SITE, pick
 
 # What is saved is caught: the texts of the files.
@@ -107,6 +107,23 @@ def projected(test, _):
     test.wanted(browser.value("document.querySelector('header').offsetParent !== null"), "no Escape leads out of the whole window")
 
 
+def embedded_apart(test, _):
+    """What is typed in the frame of a lecture's page takes no place of what the page itself keeps, and comes back there."""
+    browser, mine, theirs = test.browser, "# mine\nformat = 2\n", "# theirs\nformat = 2\n"
+    pick(test, "examples", "three_clients")
+    address = address_of(test)
+    type_anew(test, mine)
+    for _ in range(2):
+        browser.open(f"{SITE.as_uri()}?embed{address}")
+        test.settle()
+        test.wanted(browser.value(f"{EDITOR}.text.includes('clients')"), "the page in a frame does not show what its address has")
+        back = browser.value("document.querySelector('#notice button')?.textContent ?? null")
+        type_anew(test, theirs)
+    test.wanted(back == "back to three_clients.toml, as you left it", f"the page in a frame leads back by {back}")
+    test.open()
+    test.wanted(browser.value(f"{EDITOR}.text") == mine, "the page in a frame takes the place of what was kept")
+
+
 def embedded(test, _):
     """In the frame of a lecture's page it has neither head nor foot."""
     test.browser.open(f"{SITE.as_uri()}?embed")
@@ -157,4 +174,4 @@ def lookup_bits(test, _):
     test.wanted(drawn > 20, f"the bits of {drawn} lookups are drawn")
 
 
-CHECKS = (pictures, drawings, prints_step, projected, embedded, lookup_bits)
+CHECKS = (pictures, drawings, prints_step, projected, embedded_apart, embedded, lookup_bits)
