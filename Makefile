@@ -59,6 +59,7 @@ rows-python:
 	python3 tools/test_build.py
 	python3 tools/completions_test.py
 	python3 tools/completions.py --check $(program)
+	python3 tools/options.py --check $(program)
 	python3 tools/architecture.py --check
 	python3 tools/definitions.py --check
 	python3 tests/exercises.py $(setups)
