@@ -30,3 +30,18 @@ pub fn question(alloc: Global, name: Option<&str>) -> Result<String, AllocError>
         None => Ok(String::new(alloc)),
     }
 }
+
+/// A fault, what may have been meant, and behind them a list of what there is.
+pub fn with_list(
+    alloc: Global,
+    fault: &str,
+    hint: &str,
+    noun: &str,
+    list: &str,
+) -> Result<String, AllocError> {
+    if hint.ends_with('?') {
+        format!(in alloc; "{fault}{hint} The {noun} are {list}")
+    } else {
+        format!(in alloc; "{fault}{hint}; the {noun} are {list}")
+    }
+}

@@ -1,7 +1,7 @@
 //! Why a set-up is refused, in words.
 use crate::document::{Document, Formats, read_at};
 use crate::mending::{Mended, mend};
-use crate::message::{question, quoted};
+use crate::message::{question, quoted, with_list};
 use crate::near::nearest;
 use crate::regions::{key_of, layout_words};
 use crate::spot::Spot;
@@ -58,9 +58,11 @@ fn unknown_words(spot: Spot<'_>) -> Result<String, AllocError> {
     }
     let names = keys_at(spot.document, place);
     let question = question(alloc, nearest(alloc, key, names)?)?;
-    let (keys, hint) = (names.join(alloc, ", ")?, hint_on_top(place, key));
+    let hint = format!(in alloc; "{}{question}", hint_on_top(place, key))?;
     let key = quoted(alloc, key)?;
-    format!(in alloc; "{place}: there is no key {key}; the keys are {keys}{hint}{question}")
+    let fault = format!(in alloc; "{place}: there is no key {key}")?;
+    let keys = names.join(alloc, ", ")?;
+    with_list(alloc, fault.as_str(), hint.as_str(), "keys", keys.as_str())
 }
 
 /// A key as text.

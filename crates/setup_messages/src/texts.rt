@@ -14,17 +14,55 @@ const LACKS_QUOTES: &str = "a text stands in plain quotes, as \"send\"\n";
 const TOO_LARGE: &str =
     "TOML's integers end at 2^63 - 1; a greater word is written as \"0xFFFFFFFFFFFFFFFF\", in quotes\n";
 
+const NO_COMMENT: &str = "a comment begins with #\n";
+
+const LACKS_COMMA: &str = "a comma stands between two elements, as [1, 2]\n";
+
+const BEGINS_WITH_0: &str = "a decimal number begins with no 0, as 7\n";
+
+const NO_COLON: &str = "a key has = behind it, as threads = 2\n";
+
+const LACKS_QUOTE: &str = "the quotation mark at the end is missing\n";
+
+const NO_SEMICOLON: &str = "a value has no ; behind it\n";
+
+const NO_SUM: &str = "a value is one number, and no sum or product\n";
+
+/// What helps where a value is none that TOML knows, by what stands there.
+fn hint_on_value(there: &str) -> &'static str {
+    let mut letters = there.chars();
+    match (letters.next(), letters.next()) {
+        (Some('0'), Some('x')) => TOO_LARGE,
+        (Some('0'), Some('0'..='9')) => BEGINS_WITH_0,
+        (Some('0'..='9'), _) => LACKS_COMMA,
+        (Some('a'..='z' | 'A'..='Z' | '@' | '\u{2018}' | '\u{201C}'), _) => LACKS_QUOTES,
+        _ => "",
+    }
+}
+
+/// What helps where something stands behind a value.
+fn hint_behind(there: &str) -> &'static str {
+    match there.trim_start().chars().next() {
+        Some('/') => NO_COMMENT,
+        Some(';') => NO_SEMICOLON,
+        Some('+' | '-' | '*') => NO_SUM,
+        _ => "",
+    }
+}
+
 /// What helps to mend a text, by the words of the fault, its bytes and what stands at the fault; a line, or nothing.
 fn hint(fault: &str, bytes: &[u8], there: &str) -> &'static str {
-    let is_value = fault.starts_with("invalid value");
-    match (bytes.trim_ascii_start(), there.chars().next()) {
-        ([0xFF, 0xFE, ..] | [0xFE, 0xFF, ..], _) => IS_UTF16,
-        ([b'{', ..], _) => IS_JSON,
+    match bytes.trim_ascii_start() {
+        [0xFF, 0xFE, ..] | [0xFE, 0xFF, ..] => IS_UTF16,
+        [b'{', ..] => IS_JSON,
         _ if fault == "invalid UTF-8" => SAVE_AS_UTF8,
         _ if fault == "number out of range" => TOO_LARGE,
-        (_, Some('0')) if is_value && there.starts_with("0x") => TOO_LARGE,
-        (_, Some('a'..='z' | 'A'..='Z' | '@' | '\u{2018}' | '\u{201C}')) if is_value =>
-            LACKS_QUOTES,
+        _ if fault == "invalid string" => LACKS_QUOTE,
+        _ if fault.starts_with("invalid key") && there.starts_with("//") => NO_COMMENT,
+        _ if fault.starts_with("key with no value") && there.trim_start().starts_with(':') =>
+            NO_COLON,
+        _ if fault.starts_with("invalid value") => hint_on_value(there),
+        _ if fault.starts_with("unexpected key or value") => hint_behind(there),
         _ => "",
     }
 }
