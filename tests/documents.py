@@ -12,7 +12,8 @@ A page's blocks are taken in order, in a folder of the page's own that has `crat
 - ```rust FILE      stands in that file, line for line, and so does ```antt FILE;
 - ```text           is not run.
 
-A line of three dots stands for any lines. A block of another kind is a fault, so that none is forgotten.
+A line of three dots stands for any lines. A block of another kind is a fault, so that none is forgotten. Each link to a file
+of the repository has to lead to one, and to a heading where it names one.
 """
 import os
 import pathlib
@@ -106,8 +107,37 @@ class Runner:
 KINDS = {"toml": True, "console": False, "report": False, "sh": False, "rust": True, "antt": True, "text": False}
 
 
+def prose(page):
+    """The lines of a page that stand in no block."""
+    within = False
+    for line in page.read_text().splitlines():
+        if line.startswith("```"):
+            within = not within
+        elif not within:
+            yield line
+
+
+def headings(page):
+    """How links name the headings of a page."""
+    for line in prose(page):
+        if line.startswith("#"):
+            yield re.sub(r"[^\w -]", "", line.lstrip("#").strip().lower()).replace(" ", "-")
+
+
+def lost_links(page):
+    """The links of a page that lead nowhere in the repository."""
+    for link in re.findall(r"\]\(([^)\s]+)\)", "\n".join(prose(page))):
+        name, _, heading = link.partition("#")
+        target = page.parent / name if name else page
+        if not re.match(r"https?:", link) and (
+            not target.exists() or (heading and target.suffix == ".md" and heading not in headings(target))
+        ):
+            yield f"{page}: the link {link} leads nowhere"
+
+
 def faults(page, program):
     """What is wrong on a page."""
+    yield from lost_links(page)
     with tempfile.TemporaryDirectory() as name:
         folder = pathlib.Path(name)
         for top in ("crates", "examples"):
