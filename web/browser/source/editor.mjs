@@ -6,14 +6,14 @@ const MARGIN = "margin";
 const POINTED_FROM_EDGE = 60;
 
 /** An editor in an element; `changed` is told of each change that the reader makes, `moved` of each line that the reader puts
-    the cursor into, and `asked` of a line whose mark the reader asks for. */
+    the cursor into, and `asked` of a line whose mark the reader asks for, and whether by a click on the mark. */
 export class Editor {
   constructor(parent, { changed, moved, asked }) {
     this.mirror = CodeMirror(parent, {
       mode: "toml", lineNumbers: true, gutters: [MARGIN, "CodeMirror-linenumbers"], inputStyle: "contenteditable",
       screenReaderLabel: "Set-up", lineWrapping: true, tabSize: 2,
       // Tab leaves the editor, as it leaves every other part of the page.
-      extraKeys: { Tab: false, "Shift-Tab": false, Esc: () => this.leave(), F2: () => asked(this.mirror.getCursor().line) },
+      extraKeys: { Tab: false, "Shift-Tab": false, Esc: () => this.leave(), F2: () => asked(this.mirror.getCursor().line, false) },
     });
     this.faulty = [];
     this.pointed = [];
@@ -25,6 +25,10 @@ export class Editor {
     this.mirror.on("changes", () => {
       this.clear();
       changed();
+    });
+    // A finger is shown no title.
+    this.mirror.on("gutterClick", (mirror, line) => {
+      if (this.told.has(line)) asked(line, true);
     });
     this.mirror.on("cursorActivity", () => {
       if (this.mirror.hasFocus()) moved(this.mirror.getCursor().line);

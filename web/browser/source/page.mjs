@@ -40,6 +40,8 @@ const MILLISECONDS_BY_ITSELF = 1500;
 const CALLS_MARKED = 3000;
 /** A run that takes longer than this is told. */
 const MILLISECONDS_UNTOLD = 150;
+/** What is asked of a sign in the margin is shown for so long. */
+const MILLISECONDS_SHOWN = 8000;
 /** The reasons of refusals are found beside the report where that took no longer than this. */
 const MILLISECONDS_REASONED = 500;
 
@@ -81,7 +83,7 @@ class Page {
     this.markup = (text) => URLS.createHTML(text);
     this.program = new Program(data.module, data.worker, URLS);
     this.editor = new Editor(byId("editor"), { changed: () => this.changed(), moved: (line) => this.follow(line),
-      asked: (line) => this.hear(line) });
+      asked: (...mark) => this.hear(...mark) });
     this.options = new Options(byId("options"), () => this.given());
     this.steps = new Steps({ viewer: this.markup(data.viewer), title: "The run, call by call",
       listen: (frame) => { this.listenToFrame(frame); this.drawProjected(); }, shown: (number) => this.showCall(number) });
@@ -97,6 +99,7 @@ class Page {
     this.asOpened = "";
     this.firstCall = 0;
     this.shownCall = 0;
+    this.shownFor = null;
     this.reasons = new Map();
     this.read = "";
     this.frame = undefined;
@@ -420,13 +423,17 @@ class Page {
     else this.editor.unpoint();
   }
 
-  /** Says what the call of a line was answered, or what is wrong there: what the sign in its margin tells. */
-  hear(line) {
+  /** Says what the call of a line was answered, or what is wrong there: what the sign in its margin tells; and shows it for a
+      while, where that is asked for. */
+  hear(line, isShown) {
     const place = placesOf(this.editor.text).call[callAt(this.editor.text, line) - 1];
     const words = this.editor.told.get(line) ?? this.editor.told.get(place?.line) ?? "No call is here.";
     // The same words are said again only where they are new.
     byId("heard").textContent = "";
     setTimeout(() => { byId("heard").textContent = words; });
+    byId("heard").classList.toggle("unseen", !isShown);
+    clearTimeout(this.shownFor);
+    this.shownFor = setTimeout(() => byId("heard").classList.add("unseen"), MILLISECONDS_SHOWN);
   }
 
   /** Has the steps show the call of a line. */

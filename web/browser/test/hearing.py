@@ -73,6 +73,22 @@ def call_is_told(test, _):
         test.browser.value("document.getElementById('heard').textContent = ''")
 
 
+def call_is_shown(test, _):
+    """A finger on a sign of the margin shows what the call was answered, and why."""
+    browser = test.browser
+    pick(test, "mistakes", "send_without_write")
+    test.click("#tab-report")
+    test.settle()
+    browser.value(f"{EDITOR}.mirror.scrollIntoView({{ line: {EDITOR}.lines - 1, ch: 0 }})")
+    test.until("document.querySelector('.mark-missed')", "no call is marked as missed")
+    x, y = browser.value("(({ x, y, width, height }) => [x + width / 2, y + height / 2])(document.querySelector('.mark-missed').getBoundingClientRect())")
+    for kind in ("mousePressed", "mouseReleased"):
+        browser.call("Input.dispatchMouseEvent", type=kind, x=x, y=y, button="left", clickCount=1)
+    test.until("document.getElementById('heard').textContent !== ''", "a sign of the margin says nothing")
+    shown = browser.value("document.getElementById('heard').getBoundingClientRect().height > 20")
+    test.wanted(shown and "needs the right Write" in test.text("heard"), f"a sign of the margin shows {test.text('heard')!r}")
+
+
 def panel_by_keys(test, _):
     """From a tab a key leads into what it shows, of the steps to their list of calls."""
     browser = test.browser
@@ -137,4 +153,4 @@ def sheet_is_told(test, _):
     test.settle()
 
 
-CHECKS = (outcome_is_told, call_is_told, panel_by_keys, letters_off, sheet_is_told)
+CHECKS = (outcome_is_told, call_is_told, call_is_shown, panel_by_keys, letters_off, sheet_is_told)
