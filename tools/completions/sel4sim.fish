@@ -25,7 +25,7 @@ complete -c sel4sim -n '__fish_seen_subcommand_from why' -s h -l help -d 'Print 
 complete -c sel4sim -n '__fish_seen_subcommand_from why' -F
 complete -c sel4sim -n '__fish_use_subcommand' -a audit -d 'Runs a set-up and prints who reaches what, who can send to whom, and what a revoke would destroy'
 complete -c sel4sim -n '__fish_seen_subcommand_from audit' -l after -x -a '' -d 'Make the first N calls alone'
-complete -c sel4sim -n '__fish_seen_subcommand_from audit' -l slot -x -a '' -d 'Tell what a revoke of the slot at N would change'
+complete -c sel4sim -n '__fish_seen_subcommand_from audit' -l slot -x -a '' -d 'Tell what a revoke of slot S, an address or a name, would change'
 complete -c sel4sim -n '__fish_seen_subcommand_from audit' -l ever -d 'Tell what the threads can never get, whatever they call'
 complete -c sel4sim -n '__fish_seen_subcommand_from audit' -l without -x -a '' -d 'With --ever or --never: these threads, with commas between them, make no more calls'
 complete -c sel4sim -n '__fish_seen_subcommand_from audit' -l messages -x -a '' -d 'With --ever or --never: these threads go on to send and receive, and do nothing else'
