@@ -68,6 +68,11 @@ def warned(call):
     return f"warning: call {call}: refused, and nothing is expected of it; sel4sim why --call {call} tells why"
 
 
+def asking(calls):
+    """What is said of calls whose expectation asks."""
+    return f"standard input: calls that ask: {calls}; the report shows their replies, and sel4sim marks does not"
+
+
 # a set-up on standard input, the exit status of check, and the whole of standard error, without `sel4sim: ` and without places
 SETUPS = [
     (FIRST, 0, []),
@@ -78,7 +83,9 @@ SETUPS = [
     (FIRST + CALL + 'op = "nbsend"\nexpect = "empty"\n', 1,
      ['error: call 1: dropped, and not empty; no reply to nbsend begins with "empty"; did you mean dropped?']),
     (FIRST + CALL + 'op = "nbsend"\nexpect = "refused"\n', 1, ["error: call 1: dropped, and not refused"]),
-    (FIRST + CALL + 'op = "nbsend"\nexpect = "?"\n', 1, []),
+    (FIRST + CALL + 'op = "nbsend"\nexpect = "?"\n', 1, [asking("1")]),
+    (FIRST + CALL + 'op = "nbsend"\nexpect = "? badge"\n', 1, [asking("1")]),
+    (FIRST + (CALL + 'op = "nbsend"\nexpect = "?"\n') * 23, 1, [asking(", ".join(map(str, range(1, 21))) + " and 3 more")]),
     (FIRST + CALL + 'op = "nbsend"\nexpect = "delivered 6144 from 2048"\n', 1,
      ["error: call 1: dropped, and not delivered 6144 from 2048"]),
     (FIRST + CALL + 'op = "nbsend"\nexpect = "refused IllegalOperation"\n', 1,
@@ -473,7 +480,7 @@ def wrong_places(program):
         line, column, length = shown[0]
         written = setup.split("\n")[line - 1][column - 1 : column - 1 + length]
         name = re.search(r'(?:names has no "|the value is "@)([^"]*)"', wanted[0])
-        if written not in ((f'"@{name[1]}"',) if name else (key[1] or key[2], "[[")):
+        if written not in ((f'"@{name[1]}"',) if name else (key[1] or key[2], "[[", "[")):
             yield f"{setup}shown {written}"
 
 

@@ -1,5 +1,6 @@
 //! Values that their keys do not take, in words.
 use crate::accepted::{A_NAME, A_NUMBER, accepted, operations, word_bound};
+use crate::document::Formats;
 use crate::message::{MAX_SHOWN, found, question, quoted, with_list};
 use crate::near::nearest;
 use crate::spot::Spot;
@@ -152,8 +153,9 @@ fn no_client(spot: Spot<'_>) -> Result<String, AllocError> {
 
 /// What helps where a value has the type of another spelling of the same.
 fn hint_on_type(spot: Spot<'_>) -> &'static str {
+    let takes_all = matches!(spot.document.formats, Formats::All);
     match (spot.key, spot.value) {
-        ("format", None) => "; begin with format = 2, as sel4sim new does",
+        ("format", None) if takes_all => "; begin with format = 2, as sel4sim new does",
         ("names", Some(Value::Array(_))) => "; write [names]",
         ("call", Some(Value::Table(_))) => "; write [[call]]",
         ("untyped", Some(Value::Table(_))) => "; write [[untyped]]",
