@@ -30,7 +30,7 @@ const REFUSED = [2, 4];
 /** Standard error tells of `why`. */
 const TELLS_WHY = /sel4sim why/u;
 /** The field of the name is at least and at most so wide, in letters. */
-const [NARROW, BROAD] = [12, 33];
+const [NARROW, BROAD] = [12, 32];
 /** So long after the last key the set-up is run by itself, */
 const MILLISECONDS_STILL = 300;
 /** unless it is longer than this, or its last run took so long. */
