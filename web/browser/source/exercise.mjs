@@ -266,13 +266,19 @@ export class Exercise {
     this.open(this.text, this.name);
   }
 
-  /** Saves the set-up with the answers in it, and how they came about: any program marks it again. */
-  save() {
+  /** How the answers came about, in words. */
+  get story() {
     const { right, of, atFirst, tries, stage, inTurn } = this.state;
+    if (stage === ASKED) return `${this.sheet.answers.size} of ${of} answered, not marked`;
     const later = this.sheet.asking.map(({ number }) => number).filter((number) => !atFirst.includes(number));
     const words = [`${right} of ${of} right`, `${atFirst.length} at the first try${later.length > 0 ? ` (not ${later.join(", ")})` : ""}`,
       `tries ${tries}`, inTurn ? "one at a time" : "", stage === SHOWN && right < of ? "then shown" : ""];
-    const text = `${this.answeredText.trimEnd()}\n\n# answers: ${words.filter(Boolean).join(", ")}\n`;
+    return words.filter(Boolean).join(", ");
+  }
+
+  /** Saves the set-up with the answers in it, and how they came about: any program marks it again. */
+  save() {
+    const text = `${this.answeredText.trimEnd()}\n\n# answers: ${this.story}\n`;
     this.page.saveText(text, `${this.name.replace(/\.toml$/u, "")}.answers.toml`);
   }
 }

@@ -57,12 +57,12 @@ WRONG = {**ANSWERS, 3: "delivered 6144 from 2048 to 4096 badge 0"}
 TABLE = """file,right,of,wrong,open,note
 ann.toml,3,3,,,
 ben.toml,2,3,3,,
-cat.toml,0,3,,1 2 3,
+cat.toml,1,3,,2 3,
 """
 
 
 def address_of_exercise(test):
-    """Opens the key, which is as expected, and shares it as an exercise: the part of the address, and the text."""
+    """Opens the key, which is as expected, and shares it as an exercise: the part of the address."""
     browser = test.browser
     browser.value("localStorage.clear()")
     test.open()
@@ -73,10 +73,9 @@ def address_of_exercise(test):
     test.click("#share")
     test.until("document.getElementById('address').value !== ''", "no address is shared")
     test.click("#as-exercise")
-    text = browser.value("sel4sim.page.sharedText")
     address = browser.value("(async () => { await sel4sim.page.drawAddress(); return document.getElementById('address').value; })()")
     test.click("#shared button:last-child")
-    return address, text
+    return address
 
 
 def handed_in(test, address, answers, name):
@@ -93,9 +92,10 @@ def handed_in(test, address, answers, name):
         focus_first(student)
         for number, answer in answers.items():
             give(student, number, answer)
-        press_button(student, "mark my answers")
-        student.until("document.querySelector('.card.wrong, .answered')", f"{name}: nothing is marked")
-        student.wanted(browser.value(MARKING).startswith("3 of 3 right" if answers == ANSWERS else "2 of 3 right"), f"{name}: {browser.value(MARKING)}")
+        if len(answers) == len(ANSWERS):
+            press_button(student, "mark my answers")
+            student.until("document.querySelector('.card.wrong, .answered')", f"{name}: nothing is marked")
+            student.wanted(browser.value(MARKING).startswith("3 of 3 right" if answers == ANSWERS else "2 of 3 right"), f"{name}: {browser.value(MARKING)}")
         browser.call("Browser.setDownloadBehavior", behavior="allow", browserContextId=browser.context, downloadPath=str(folder))
         browser.value("[...document.querySelectorAll('.marking button')].find((it) => it.textContent === 'save my answers').click()")
         saved = folder / "told_what.answers.toml"
@@ -107,13 +107,13 @@ def handed_in(test, address, answers, name):
 
 
 def course_of_ones_own(test, _):
-    """All right, one answer wrong, and a file that came back as it was: the program's table says so."""
-    address, text = address_of_exercise(test)
+    """All right, one answer wrong, and one given and two left open: the program's table says so."""
+    address = address_of_exercise(test)
     folder = pathlib.Path(test.folder, "handed in")
     folder.mkdir()
-    for name, answers in (("ann", ANSWERS), ("ben", WRONG)):
+    for name, answers in (("ann", ANSWERS), ("ben", WRONG), ("cat", {1: "done"})):
         shutil.copy(handed_in(test, address, answers, name), folder / f"{name}.toml")
-    (folder / "cat.toml").write_text(text)
+    test.wanted((folder / "cat.toml").read_text().endswith("\n# answers: 1 of 3 answered, not marked\n"), "what is not marked is told as marked")
     words = [test.program, "marks", "ann.toml", "ben.toml", "cat.toml"]
     ran = subprocess.run(words, cwd=folder, stdin=subprocess.DEVNULL, capture_output=True, text=True, check=False)
     test.wanted((ran.returncode, ran.stdout) == (1, TABLE), f"what came back is marked as {ran.stdout!r}, with status {ran.returncode}")
