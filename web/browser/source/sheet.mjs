@@ -99,7 +99,8 @@ export class Sheet {
     this.turn.checked = view.inTurn;
     for (const card of this.cards.values()) card.element.hidden = current !== 0 && card.number > current;
     const hidden = { mark: stage === SHOWN || current !== 0, check: current === 0, reveal: stage !== MARKED,
-      next: stage !== SHOWN || isLast, save: stage === ASKED && (current !== 0 || missing.length === of), restart: stage === ASKED && checked === 0, leave: false };
+      next: stage !== SHOWN || isLast, save: stage === ASKED && (current !== 0 || missing.length === of),
+      restart: stage === ASKED && checked === 0, leave: false };
     for (const [name, isHidden] of Object.entries(hidden)) this.buttons[name].hidden = isHidden;
     this.buttons.mark.disabled = missing.length > 0 || wrong.length > 0;
     this.buttons.mark.textContent = stage === MARKED ? "mark again" : "mark my answers";

@@ -639,7 +639,8 @@ def main():
             test.open()
         same_answers(test, setups)
         marks(test, setups)
-        for check in (same_with_options, typing, *first_minute.CHECKS, *nothing_lost.CHECKS, *sheets.CHECKS, *teacher.CHECKS, *hearing.CHECKS, *lectures.CHECKS, files, tabs, new_tabs, reading, trapped, nothing_leaves):
+        for check in (same_with_options, typing, *first_minute.CHECKS, *nothing_lost.CHECKS, *sheets.CHECKS, *teacher.CHECKS,
+                      *hearing.CHECKS, *lectures.CHECKS, files, tabs, new_tabs, reading, trapped, nothing_leaves):
             check(test, stored)
         if not is_short:
             hostile(test, setups, stored)
