@@ -1,0 +1,3 @@
+pub mod Ordered
+pub mod Passed
+pub mod Whole

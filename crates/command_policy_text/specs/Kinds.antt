@@ -1,0 +1,115 @@
+-- The kinds of lines: what is told of a layout, one kind after another.
+use Rattle.std.specs.Prelude.{ℕ, nat_lt, not, cond, List, [], ◌∷◌, ◌++◌, map, filter}
+use Rattle.std.specs.List.{filter_map, flat_map}
+use Rattle.query_parts.specs.declared.listed.PartUse.{PartUse}
+use Rattle.command_policy_breaches.specs.declared.breaches.Hold.{Hold}
+use Rattle.command_policy_breaches.specs.declared.joining.Join.{Join}
+use Rattle.command_policy_breaches.specs.declared.policy.Allowance.{Allowance}
+use Rattle.command_policy_breaches.specs.declared.policy.Block.{Block}
+use Rattle.command_policy_breaches.specs.declared.policy.HeldRegion.{HeldRegion}
+use Rattle.command_policy_breaches.specs.declared.policy.Layout.{Layout}
+use Rattle.command_policy_breaches.specs.declared.policy.Member.{Member}
+use Rattle.command_policy_breaches.specs.declared.policy.OwnRegion.{OwnRegion}
+use Rattle.command_policy_breaches.specs.declared.policy.Policy.{Policy}
+use Rattle.command_policy_breaches.specs.declared.policy.PolicyWay.{PolicyWay}
+use Rattle.command_policy_breaches.specs.declared.policy.Waiting.{Waiting}
+use Rattle.command_policy_text.specs.declared.told.Told.{Told}
+use Rattle.command_policy_text.specs.declared.told.Told.TheVariants.{Silent, Messages, Group, Joined, Grant, Thread, Region, Use, Badge, Right, Way, Waits, UnusedWay, UnusedUse, IdleInWay, IdleInUse, UnusedRegion, UnusedGroup}
+use Rattle.command_policy_breaches.specs.declared.ways.Passage.{Passage}
+use Rattle.command_policy_breaches.specs.Breaches.{has_other_badge, has_right_too_much, hold_of, is_region_amiss, is_unlisted, is_wait_amiss}
+use Rattle.command_policy_breaches.specs.Joins.{have_two_groups}
+use Rattle.command_policy_breaches.specs.Unused.{count_of_parts, has_use_idle_right, has_way_idle_right, is_entry_used, is_region_used, is_way_used}
+use Rattle.command_policy_breaches.specs.Ways.{is_passage_amiss}
+
+-- ---- who there is
+
+-- the threads that are trusted to make no more calls
+abbrev pub silent : Policy → List Told
+silent c = map (λ (m : Member). Silent m.thread) c.silent.items
+
+-- the threads that are trusted to send and to receive alone
+abbrev pub messages : Policy → List Told
+messages c = map (λ (m : Member). Messages m.thread) c.messages.items
+
+-- the groups of the policy
+abbrev pub groups : Policy → List Told
+groups c = map (λ (g : ℕ). Group g) c.groups.items
+
+-- ---- breaches
+
+-- the parts in which threads of two groups lie
+abbrev pub joined : Policy → Layout → List Told
+joined c l = map (λ (i : ℕ). Joined i) (filter (λ part. have_two_groups c l part part) l.parts.items)
+
+-- the joins between parts of two groups
+abbrev pub grants : Policy → Layout → List Join → List Told
+grants c l js = map (λ (j : Join). Grant j) (filter (λ (j : Join). have_two_groups c l j.from j.to) js)
+
+-- the trusted threads whose control blocks parts have
+abbrev pub threads : Policy → Layout → List Told
+threads c l = map (λ (h : Hold). Thread h) (filter_map (hold_of l) c.silent.items ++ filter_map (hold_of l) c.messages.items)
+
+-- the untyped regions in slots of parts that are none of their own
+abbrev pub regions : Policy → Layout → List Told
+regions c l = map (λ (r : HeldRegion). Region r) (filter (is_region_amiss c l) l.regions.items)
+
+-- the uses of endpoints of which the part has no entry
+abbrev pub uses : Policy → Layout → List Told
+uses c l = map (λ (u : PartUse). Use u) (filter (is_unlisted c l) l.uses.items)
+
+-- the uses with another badge than the part's entries with their rights
+abbrev pub badges : Policy → Layout → List Told
+badges c l = map (λ (u : PartUse). Badge u) (filter (has_other_badge c l) l.uses.items)
+
+-- the uses with a right that none of the part's entries has
+abbrev pub rights : Policy → Layout → List Told
+rights c l = map (λ (u : PartUse). Right u) (filter (has_right_too_much c l) l.uses.items)
+
+-- the uses and the waits whose badges are told already
+abbrev pub uses_told : Policy → Layout → List PartUse
+uses_told c l = filter (has_other_badge c l) l.uses.items ++ filter (has_right_too_much c l) l.uses.items
+
+abbrev pub waits_told : Policy → Layout → List Waiting
+waits_told c l = filter (is_wait_amiss c l) l.waits.items
+
+abbrev pub untold_passages : Policy → Layout → List Block → List Passage → List Passage
+untold_passages c l bs ws = filter (is_passage_amiss c l bs (uses_told c l) (waits_told c l)) ws
+
+-- the passages that no way lets be
+abbrev pub ways : Policy → Layout → List Block → List Passage → List Told
+ways c l bs ws = map (λ (w : Passage). Way w) (untold_passages c l bs ws)
+
+-- the threads that wait where no entry lets them
+abbrev pub waits : Policy → Layout → List Told
+waits c l = map (λ (w : Waiting). Waits w) (waits_told c l)
+
+-- ---- what is allowed and not there
+
+-- the ways of which nothing is there
+abbrev pub idle_ways : Policy → Layout → List Told
+idle_ways c l = map (λ (w : PolicyWay). UnusedWay w) (filter (λ (w : PolicyWay). not (is_way_used c l w)) c.ways.items)
+
+-- the entries of `use` of which nothing is there
+abbrev pub idle_uses : Policy → Layout → List Told
+idle_uses c l = map (λ (a : Allowance). UnusedUse a) (filter (λ (a : Allowance). not (is_entry_used l a)) c.uses.items)
+
+abbrev pub idle_in_ways : Policy → Layout → List Told
+idle_in_ways c l = map (λ (w : PolicyWay). IdleInWay w) (filter (has_way_idle_right c l) c.ways.items)
+
+abbrev pub idle_in_uses : Policy → Layout → List Told
+idle_in_uses c l = map (λ (a : Allowance). IdleInUse a) (filter (has_use_idle_right l) c.uses.items)
+
+-- the ways and the entries of `use` that have rights which nothing has
+abbrev pub idle_rights : Policy → Layout → List Told
+idle_rights c l = idle_in_ways c l ++ idle_in_uses c l
+
+-- the regions of groups of which nothing is there
+abbrev pub idle_regions : Policy → Layout → List Told
+idle_regions c l = map (λ (r : OwnRegion). UnusedRegion r) (filter (λ (r : OwnRegion). not (is_region_used l r)) c.regions.items)
+
+abbrev pub idle_group : Layout → List Block → ℕ → List Told
+idle_group l bs group = cond (nat_lt 1 (count_of_parts l bs group)) (UnusedGroup group ∷ []) []
+
+-- the groups whose threads are several parts
+abbrev pub idle_groups : Policy → Layout → List Block → List Told
+idle_groups c l bs = flat_map (idle_group l bs) c.groups.items

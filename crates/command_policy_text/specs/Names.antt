@@ -1,0 +1,58 @@
+-- How objects, groups, badges and rights are told.
+use Rattle.std.specs.Prelude.{codes, ℕ, ◌==◌, Bool, cond, List, [], ◌∷◌, ◌++◌, Option, Some, None, option_map, find, slice_get, string_bytes}
+use Rattle.std.specs.List.{flat_map}
+use Rattle.std.specs.Fmt.{decimal}
+use Rattle.std.specs.declared.string.String.{String}
+use Rattle.command_policy_text.specs.declared.names.Letters.{Letters}
+use Rattle.command_policy_breaches.specs.declared.policy.Label.{Label}
+use Rattle.command_policy_breaches.specs.declared.policy.Layout.{Layout}
+use Rattle.command_policy_breaches.specs.declared.policy.Policy.{Policy}
+use Rattle.command_policy_breaches.specs.Sides.{groups_of}
+
+-- an object by its name, behind a `@`, or by its address
+abbrev pub labelled : ℕ → Option (List ℕ) → List ℕ
+labelled base None = decimal base
+labelled base (Some label) = codes "@" ++ label
+
+-- the name of the object at an address, where it has one
+abbrev pub label_of : List Label → ℕ → Option (List ℕ)
+label_of labels base = option_map (λ (l : Label). string_bytes l.text) (find (λ (l : Label). l.base == base) labels)
+
+abbrev pub object_text : List Label → ℕ → List ℕ
+object_text labels base = labelled base (label_of labels base)
+
+abbrev pub name_in : Option (List ℕ) → List ℕ
+name_in None = []
+name_in (Some name) = name
+
+-- what a group or a trusted thread is called
+abbrev pub actor_name : Policy → ℕ → List ℕ
+actor_name c actor = name_in (option_map string_bytes (slice_get c.actors.items actor))
+
+abbrev pub behind : Policy → ℕ → List ℕ
+behind c actor = codes "+" ++ actor_name c actor
+
+-- groups with a `+` between two of them
+abbrev pub label : Policy → List ℕ → List ℕ
+label c [] = []
+label c (g ∷ gs) = actor_name c g ++ flat_map (behind c) gs
+
+-- the groups of a part, with a `+` between two of them
+abbrev pub part_label : Policy → Layout → ℕ → List ℕ
+part_label c l part = label c (groups_of c l part)
+
+-- numbers with a comma between two of them
+abbrev pub number_behind : ℕ → List ℕ
+number_behind number = codes "," ++ decimal number
+
+-- numbers, with a comma between two of them
+abbrev pub numbers_text : List ℕ → List ℕ
+numbers_text [] = []
+numbers_text (n ∷ ns) = decimal n ++ flat_map number_behind ns
+
+abbrev pub letter : Bool → List ℕ → List ℕ
+letter is_there text = cond is_there text (codes "-")
+
+-- four rights as letters, a `-` for each that is not there
+abbrev pub letters_text : Letters → List ℕ
+letters_text l = letter l.write (codes "w") ++ (letter l.read (codes "r") ++ (letter l.grant (codes "g") ++ letter l.grant_reply (codes "p")))

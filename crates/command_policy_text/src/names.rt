@@ -1,0 +1,161 @@
+//! How objects, groups, badges and rights are told.
+ghost use Rattle.std.specs.Prelude.{◌≡◌, ◌++◌, ◌==◌, Some, IfOk, OnOk, codes, find, option_copied, option_map, string_bytes, slice_get, map, filter};
+ghost use Rattle.std.specs.List.{flat_map};
+ghost use Rattle.command_policy_text.specs.Names as spec;
+
+use command_policy_breaches::{Label, Layout, Policy, groups_of};
+use std::alloc::{AllocError, Global};
+use std::fmt;
+use std::fmt::Write;
+
+/// An object: by its name, behind a `@`, or by its address.
+#[derive(Clone, Copy)]
+pub struct ObjectText<'a> {
+    base: u64,
+    label: Option<&'a str>,
+}
+
+impl fmt::Display for ObjectText<'_> {
+    ghost output = { λ o. Some (spec.labelled o.base (option_copied o.label)) };
+
+    fn fmt<W: fmt::Write>(&self, f: &mut fmt::Formatter<W>) -> fmt::Result {
+        let base = self.base;
+        match self.label {
+            None => write!(f, "{base}"),
+            Some(label) => write!(f, "@{label}"),
+        }
+    }
+}
+
+fn first_label(labels: &[Label], base: u64) -> Option<&Label>
+    ensures { option_copied result ≡ find (λ l. l.base == base) labels.now }
+{
+    labels.iter().find(|label| label.base == base)
+}
+
+fn label_of(labels: &[Label], base: u64) -> Option<&str>
+    ensures { option_copied result ≡ spec.label_of labels.entry.now base }
+{
+    match first_label(labels, base) {
+        None => None,
+        Some(label) => Some(label.text.as_str()),
+    }
+}
+
+/// The object at an address.
+pub fn object(labels: &[Label], base: u64) -> ObjectText<'_>
+    ensures base { result.base ≡ base }
+    ensures label { option_copied result.label ≡ spec.label_of labels.entry.now base }
+{
+    let label = label_of(labels, base);
+    ObjectText { base, label }
+}
+
+/// What an actor is called.
+pub fn actor_name(policy: &Policy, actor: u64) -> &str
+    ensures { result.now ≡ spec.actor_name policy.entry.now actor }
+{
+    match policy.actors.as_slice().get(actor as usize) {
+        None => "",
+        Some(name) => name.as_str(),
+    }
+}
+
+fn add_behind(out: &mut String, policy: &Policy, actor: u64) -> Result<(), AllocError>
+    ensures { OnOk result (string_bytes out.new ≡ string_bytes out.old ++ spec.behind policy.now actor) }
+{
+    let name = actor_name(policy, actor);
+    write!(out, "+{name}")
+}
+
+fn add_all_behind(out: &mut String, policy: &Policy, actors: &[u64]) -> Result<(), AllocError>
+    ensures { OnOk result (string_bytes out.new ≡ string_bytes out.old ++ flat_map (spec.behind policy.now) actors.now) }
+{
+    for actor in actors {
+        add_behind(out, policy, *actor)?;
+    }
+    Ok(())
+}
+
+/// Some groups, with a `+` between two of them.
+pub fn label(alloc: Global, policy: &Policy, groups: &[u64]) -> Result<String, AllocError>
+    ensures { IfOk result (λ s. string_bytes s ≡ spec.label policy.now groups.now) }
+{
+    match groups {
+        [] => Ok(String::new(alloc)),
+        [first, rest @ ..] => {
+            let mut out = String::from_str(alloc, actor_name(policy, *first))?;
+            add_all_behind(&mut out, policy, rest)?;
+            Ok(out)
+        }
+    }
+}
+
+/// The groups of a part.
+pub fn part_label(
+    alloc: Global,
+    policy: &Policy,
+    layout: &Layout,
+    part: u64,
+) -> Result<String, AllocError>
+    ensures { IfOk result (λ s. string_bytes s ≡ spec.part_label policy.now layout.now part) }
+{
+    let groups = groups_of(alloc, policy, layout, part)?;
+    label(alloc, policy, groups.as_slice())
+}
+
+fn add_number_behind(out: &mut String, number: u64) -> Result<(), AllocError>
+    ensures { OnOk result (string_bytes out.new ≡ string_bytes out.old ++ spec.number_behind number) }
+{
+    write!(out, ",{number}")
+}
+
+fn add_numbers_behind(out: &mut String, numbers: &[u64]) -> Result<(), AllocError>
+    ensures { OnOk result (string_bytes out.new ≡ string_bytes out.old ++ flat_map spec.number_behind numbers.now) }
+{
+    for number in numbers {
+        add_number_behind(out, *number)?;
+    }
+    Ok(())
+}
+
+/// Some numbers, with a comma between two of them.
+pub fn numbers_text(alloc: Global, numbers: &[u64]) -> Result<String, AllocError>
+    ensures { IfOk result (λ s. string_bytes s ≡ spec.numbers_text numbers.now) }
+{
+    match numbers {
+        [] => Ok(String::new(alloc)),
+        [first, rest @ ..] => {
+            let mut out = format!(in alloc; "{first}")?;
+            add_numbers_behind(&mut out, rest)?;
+            Ok(out)
+        }
+    }
+}
+
+/// Which of the four rights are there.
+#[derive(Clone, Copy)]
+pub struct Letters {
+    pub write: bool,
+    pub read: bool,
+    pub grant: bool,
+    pub grant_reply: bool,
+}
+
+fn letter(is_there: bool, letter: &'static str) -> &'static str
+    ensures { result.now ≡ spec.letter is_there letter.now }
+{
+    if is_there { letter } else { "-" }
+}
+
+impl fmt::Display for Letters {
+    ghost output = { λ l. Some (spec.letters_text l) };
+
+    fn fmt<W: fmt::Write>(&self, f: &mut fmt::Formatter<W>) -> fmt::Result {
+        let write = letter(self.write, "w");
+        let read = letter(self.read, "r");
+        let grant = letter(self.grant, "g");
+        let grant_reply = letter(self.grant_reply, "p");
+        write!(f, "{write}{read}{grant}{grant_reply}")
+    }
+}

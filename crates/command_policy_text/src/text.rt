@@ -1,0 +1,322 @@
+//! The text of a layout that is held to a policy.
+ghost use Rattle.std.specs.Prelude.{◌≡◌, ◌++◌, ◌≤◌, IfOk, OnOk, Some, length, map, string_bytes};
+ghost use Rattle.std.specs.List.{flat_map};
+ghost use Rattle.setup_report.specs.Report.{terminated};
+ghost use Rattle.command_core.specs.declared.fault.Verdict.{Verdict};
+ghost use Rattle.command_policy_breaches.specs.Joins as join;
+ghost use Rattle.command_policy_breaches.specs.Ways as way;
+ghost use Rattle.command_policy_text.specs.Order.{in_order};
+ghost use Rattle.command_policy_text.specs.Texts as spec;
+
+use crate::calls::call_breaches;
+use crate::kinds;
+use crate::told::{Held, Told, told_text};
+use command_core::Verdict;
+use command_policy_breaches::{Join, Passage, count_between_parts};
+use kernel_core::Reply;
+use setup_format::Setup;
+use setup_values::profile_text;
+use std::alloc::{AllocError, Global};
+use std::collections::BTreeSet;
+use std::fmt;
+use std::fmt::Write;
+
+fn ordered(alloc: Global, held: Held<'_>, told: &[Told]) -> Result<BTreeSet<String>, AllocError>
+    ensures { IfOk result (λ set. map string_bytes set.keys ≡ spec.kind_lines held.entry.policy.now held.entry.layout.now held.entry.labels.now held.entry.blocks.now told.now) }
+{
+    let mut lines = BTreeSet::new(alloc);
+    for one in told {
+        let line = told_text(alloc, held, *one)?;
+        lines.insert(line)?;
+    }
+    Ok(lines)
+}
+
+fn add_all(lines: &mut Vec<String>, more: BTreeSet<String>) -> Result<(), AllocError>
+    ensures { OnOk result (lines.new.items ≡ lines.old.items ++ more.keys) }
+{
+    for line in more {
+        lines.push(line)?;
+    }
+    Ok(())
+}
+
+/// Adds the lines of a kind, each once, in the order of their bytes.
+fn add_kind(
+    alloc: Global,
+    lines: &mut Vec<String>,
+    held: Held<'_>,
+    told: &[Told],
+) -> Result<(), AllocError>
+    ensures { OnOk result (map string_bytes lines.new.items ≡ map string_bytes lines.old.items
+        ++ spec.kind_lines held.entry.policy.now held.entry.layout.now held.entry.labels.now held.entry.blocks.now told.now) }
+{
+    let more = ordered(alloc, held, told)?;
+    add_all(lines, more)
+}
+
+/// Who is trusted, and which groups there are.
+fn first_lines(alloc: Global, held: Held<'_>) -> Result<Vec<String>, AllocError>
+    ensures { IfOk result (λ v. map string_bytes v.items ≡ spec.first_lines held.entry.policy.now held.entry.layout.now held.entry.labels.now held.entry.blocks.now) }
+{
+    let mut lines = Vec::new(alloc);
+    let silent = kinds::silent(alloc, held.policy)?;
+    let messages = kinds::messages(alloc, held.policy)?;
+    let groups = kinds::groups(alloc, held.policy)?;
+    add_kind(alloc, &mut lines, held, silent.as_slice())?;
+    add_kind(alloc, &mut lines, held, messages.as_slice())?;
+    add_kind(alloc, &mut lines, held, groups.as_slice())?;
+    Ok(lines)
+}
+
+fn add_part_breaches(
+    alloc: Global,
+    lines: &mut Vec<String>,
+    held: Held<'_>,
+    joins: &[Join],
+) -> Result<(), AllocError>
+    ensures { OnOk result (map string_bytes lines.new.items ≡ map string_bytes lines.old.items
+        ++ spec.part_breaches held.entry.policy.now held.entry.layout.now held.entry.labels.now held.entry.blocks.now joins.now) }
+{
+    let joined = kinds::joined(alloc, held)?;
+    let grants = kinds::grants(alloc, held, joins)?;
+    let threads = kinds::threads(alloc, held)?;
+    let regions = kinds::regions(alloc, held)?;
+    add_kind(alloc, lines, held, joined.as_slice())?;
+    add_kind(alloc, lines, held, grants.as_slice())?;
+    add_kind(alloc, lines, held, threads.as_slice())?;
+    add_kind(alloc, lines, held, regions.as_slice())
+}
+
+fn add_use_breaches(
+    alloc: Global,
+    lines: &mut Vec<String>,
+    held: Held<'_>,
+) -> Result<(), AllocError>
+    ensures { OnOk result (map string_bytes lines.new.items ≡ map string_bytes lines.old.items
+        ++ spec.use_breaches held.entry.policy.now held.entry.layout.now held.entry.labels.now held.entry.blocks.now) }
+{
+    let uses = kinds::uses(alloc, held)?;
+    let badges = kinds::badges(alloc, held)?;
+    let rights = kinds::rights(alloc, held)?;
+    add_kind(alloc, lines, held, uses.as_slice())?;
+    add_kind(alloc, lines, held, badges.as_slice())?;
+    add_kind(alloc, lines, held, rights.as_slice())
+}
+
+fn add_way_breaches(
+    alloc: Global,
+    lines: &mut Vec<String>,
+    held: Held<'_>,
+    passages: &[Passage],
+) -> Result<(), AllocError>
+    ensures { OnOk result (map string_bytes lines.new.items ≡ map string_bytes lines.old.items
+        ++ spec.way_breaches held.entry.policy.now held.entry.layout.now held.entry.labels.now held.entry.blocks.now passages.now) }
+{
+    let ways = kinds::ways(alloc, held, passages)?;
+    let waits = kinds::waits(alloc, held)?;
+    add_kind(alloc, lines, held, ways.as_slice())?;
+    add_kind(alloc, lines, held, waits.as_slice())
+}
+
+/// What breaks the policy, but calls.
+#[tactic(auto, unfolding(crate::specs::Texts::breaches))]
+fn breaches(
+    alloc: Global,
+    held: Held<'_>,
+    joins: &[Join],
+    passages: &[Passage],
+) -> Result<Vec<String>, AllocError>
+    ensures { IfOk result (λ v. map string_bytes v.items ≡ spec.breaches held.entry.policy.now held.entry.layout.now held.entry.labels.now held.entry.blocks.now joins.now passages.now) }
+{
+    let mut lines = Vec::new(alloc);
+    add_part_breaches(alloc, &mut lines, held, joins)?;
+    add_use_breaches(alloc, &mut lines, held)?;
+    add_way_breaches(alloc, &mut lines, held, passages)?;
+    Ok(lines)
+}
+
+fn add_unused_entries(
+    alloc: Global,
+    lines: &mut Vec<String>,
+    held: Held<'_>,
+) -> Result<(), AllocError>
+    ensures { OnOk result (map string_bytes lines.new.items ≡ map string_bytes lines.old.items
+        ++ spec.unused_entries held.entry.policy.now held.entry.layout.now held.entry.labels.now held.entry.blocks.now) }
+{
+    let ways = kinds::idle_ways(alloc, held)?;
+    let uses = kinds::idle_uses(alloc, held)?;
+    let rights = kinds::idle_rights(alloc, held)?;
+    add_kind(alloc, lines, held, ways.as_slice())?;
+    add_kind(alloc, lines, held, uses.as_slice())?;
+    add_kind(alloc, lines, held, rights.as_slice())
+}
+
+fn add_unused_groups(
+    alloc: Global,
+    lines: &mut Vec<String>,
+    held: Held<'_>,
+) -> Result<(), AllocError>
+    ensures { OnOk result (map string_bytes lines.new.items ≡ map string_bytes lines.old.items
+        ++ spec.unused_groups held.entry.policy.now held.entry.layout.now held.entry.labels.now held.entry.blocks.now) }
+{
+    let regions = kinds::idle_regions(alloc, held)?;
+    let groups = kinds::idle_groups(alloc, held)?;
+    add_kind(alloc, lines, held, regions.as_slice())?;
+    add_kind(alloc, lines, held, groups.as_slice())
+}
+
+/// What the policy allows and is not there.
+#[tactic(auto, unfolding(crate::specs::Texts::unused))]
+fn unused(alloc: Global, held: Held<'_>) -> Result<Vec<String>, AllocError>
+    ensures { IfOk result (λ v. map string_bytes v.items ≡ spec.unused held.entry.policy.now held.entry.layout.now held.entry.labels.now held.entry.blocks.now) }
+{
+    let mut lines = Vec::new(alloc);
+    add_unused_entries(alloc, &mut lines, held)?;
+    add_unused_groups(alloc, &mut lines, held)?;
+    Ok(lines)
+}
+
+/// The calls that break the policy, where it says that calls succeed.
+fn calls(
+    alloc: Global,
+    held: Held<'_>,
+    setup: &Setup,
+    replies: &[Reply],
+) -> Result<Vec<String>, AllocError>
+    requires { length replies.now ≤ length setup.now.calls }
+    ensures { IfOk result (λ v. map string_bytes v.items ≡ spec.calls held.entry.policy.now setup.now replies.now) }
+{
+    if held.policy.calls {
+        call_breaches(alloc, setup, replies)
+    } else {
+        Ok(Vec::new(alloc))
+    }
+}
+
+fn add_line(out: &mut String, line: &str) -> Result<(), AllocError>
+    ensures { OnOk result (string_bytes out.new ≡ string_bytes out.old ++ terminated line.now) }
+{
+    writeln!(out, "{line}")
+}
+
+fn add_lines(out: &mut String, lines: &[String]) -> Result<(), AllocError>
+    ensures { OnOk result (string_bytes out.new ≡ string_bytes out.old ++ flat_map (λ s. terminated (string_bytes s)) lines.now) }
+{
+    for line in lines {
+        add_line(out, line.as_str())?;
+    }
+    Ok(())
+}
+
+/// How many calls a set-up has, and how many of them are made.
+#[derive(Clone, Copy)]
+struct CallsText {
+    calls: usize,
+    made: usize,
+}
+
+impl fmt::Display for CallsText {
+    ghost output = { λ c. Some (spec.calls_text c.calls c.made) };
+
+    fn fmt<W: fmt::Write>(&self, f: &mut fmt::Formatter<W>) -> fmt::Result {
+        let calls = self.calls;
+        let made = self.made;
+        write!(f, " calls {calls} after {made}")
+    }
+}
+
+fn add_head(out: &mut String, setup: &Setup, made: usize) -> Result<(), AllocError>
+    ensures { OnOk result (string_bytes out.new ≡ string_bytes out.old ++ spec.head_line setup.now made) }
+{
+    let profile = profile_text(setup.profile());
+    let memory_bits = setup.plan().memory_bits();
+    let calls = CallsText {
+        calls: setup.calls().len(),
+        made,
+    };
+    writeln!(out, "policy 1 {profile} memory_bits {memory_bits}{calls}")
+}
+
+/// The numbers of the last line.
+#[derive(Clone, Copy)]
+pub struct Counts {
+    pub groups: usize,
+    pub parts: usize,
+    pub ways: usize,
+    pub breaches: usize,
+    pub unused: usize,
+}
+
+fn word(breaches: usize) -> &'static str
+    ensures { result.now ≡ spec.word breaches }
+{
+    if breaches == 0 { "kept" } else { "broken" }
+}
+
+fn add_counts(out: &mut String, counts: Counts) -> Result<(), AllocError>
+    ensures { OnOk result (string_bytes out.new ≡ string_bytes out.old ++ spec.last_line counts) }
+{
+    let Counts {
+        groups,
+        parts,
+        ways,
+        breaches,
+        unused,
+    } = counts;
+    let word = word(breaches);
+    writeln!(
+        out,
+        "{word} groups {groups} parts {parts} ways {ways} breaches {breaches} unused {unused}"
+    )
+}
+
+fn verdict_of(breaches: usize) -> Verdict
+    ensures { result ≡ spec.verdict_of breaches }
+{
+    if breaches == 0 {
+        Verdict::AllMet
+    } else {
+        Verdict::NotMet
+    }
+}
+
+/// The text of a layout that is held to a policy, and the verdict: `AllMet` where nothing breaks it, and else `NotMet`. `joins` are
+/// the parts that Grant joins, `passages` what can pass between them, and `replies` what the first calls of the set-up were answered.
+///
+/// # Errors
+///
+/// Memory was refused.
+pub fn policy_text(
+    alloc: Global,
+    held: Held<'_>,
+    setup: &Setup,
+    replies: &[Reply],
+    joins: &[Join],
+    passages: &[Passage],
+) -> Result<(Vec<u8>, Verdict), AllocError>
+    requires { length replies.now ≤ length setup.now.calls }
+    ensures { IfOk result (λ made. (made.0.items, made.1)
+        ≡ spec.told held.entry.policy.now held.entry.layout.now held.entry.labels.now held.entry.blocks.now joins.now passages.now setup.now replies.now) }
+{
+    let first = first_lines(alloc, held)?;
+    let calls = calls(alloc, held, setup, replies)?;
+    let others = breaches(alloc, held, joins, passages)?;
+    let unused = unused(alloc, held)?;
+    let breaches = calls.len() + others.len();
+    let counts = Counts {
+        groups: held.policy.groups.len(),
+        parts: held.layout.parts.len(),
+        ways: count_between_parts(passages),
+        breaches,
+        unused: unused.len(),
+    };
+    let mut out = String::new(alloc);
+    add_head(&mut out, setup, replies.len())?;
+    add_lines(&mut out, first.as_slice())?;
+    add_lines(&mut out, calls.as_slice())?;
+    add_lines(&mut out, others.as_slice())?;
+    add_lines(&mut out, unused.as_slice())?;
+    add_counts(&mut out, counts)?;
+    Ok((out.into_bytes(), verdict_of(breaches)))
+}
