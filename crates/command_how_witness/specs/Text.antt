@@ -1,0 +1,50 @@
+-- A text that is a witness: what it is read as.
+use Rattle.std.specs.Prelude.{◌≡◌, ◌≤◌, ℕ, nat_le, List, map, take, drop, length, slice_get, option_and_then, is_some, Ok, Some}
+use Rattle.cap_core.specs.declared.profile.ProfileName.{ProfileName}
+use Rattle.kernel_abstract.specs.declared.call.Call.{Call}
+use Rattle.kernel_abstract.specs.declared.call.Reply.{Reply}
+use Rattle.kernel_abstract.specs.Boot.{boot}
+use Rattle.kernel_abstract.specs.Step.{replies_of}
+use Rattle.setup_format.specs.Views.{SetupView, CallView}
+use Rattle.setup_format.specs.Setups.{setup_of_bytes}
+use Rattle.setup_report.specs.Behind.{state_behind}
+use Rattle.setup_report.specs.Report.{met_count, expectation_count}
+use Rattle.command_how_witness.specs.Witness.{Asking, IsShown}
+
+abbrev pub calls_of : SetupView → List Call
+calls_of setup = map (λ (c : CallView). c.call) setup.calls
+
+abbrev pub first_calls : ℕ → SetupView → List Call
+first_calls made setup = take made (calls_of setup)
+
+abbrev pub later_calls : ℕ → SetupView → List Call
+later_calls made setup = drop made (calls_of setup)
+
+abbrev pub replies_to : ProfileName → SetupView → List Reply
+replies_to p setup = replies_of p (boot p setup.plan) (calls_of setup)
+
+-- a set-up has the machine, the boot and the first calls of another
+pub record BeginsAs (setup other : SetupView) (made : ℕ) : Type 0 where
+  pub count : made ≤ length setup.calls
+  pub profile : setup.profile ≡ other.profile
+  pub plan : setup.plan ≡ other.plan
+  pub calls : first_calls made setup ≡ first_calls made other
+
+-- the calls behind the first ones have an expectation, and no others
+abbrev pub ExpectLater : ℕ → SetupView → Type 0
+ExpectLater made setup = (i : ℕ) (call : CallView) → slice_get setup.calls i ≡ Some call → is_some call.expect ≡ nat_le made i
+
+-- all that its calls expect is met
+abbrev pub AreMet : ProfileName → SetupView → Type 0
+AreMet p setup = met_count setup.calls (replies_to p setup) ≡ expectation_count setup.calls (replies_to p setup)
+
+-- a set-up goes on where another stands behind so many calls; from there its calls show what is asked, and it meets all that it expects
+pub record IsWitness (p : ProfileName) (q : Asking) (other : SetupView) (made : ℕ) (setup : SetupView) : Type 0 where
+  pub begins : BeginsAs setup other made
+  pub expects : ExpectLater made setup
+  pub shows : IsShown p q (state_behind p other made) (later_calls made setup)
+  pub met : AreMet p setup
+
+-- a text is read as such a set-up
+abbrev pub IsWitnessText : ProfileName → Asking → SetupView → ℕ → List ℕ → Type 0
+IsWitnessText p q other made text = (setup : SetupView) × ((setup_of_bytes text ≡ Ok setup) × IsWitness p q other made setup)

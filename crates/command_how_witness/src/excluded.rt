@@ -1,0 +1,209 @@
+//! What the laws exclude.
+ghost use Rattle.std.specs.Prelude.{◌≡◌, ℕ, true, IfOk, List, map};
+ghost use Rattle.std.specs.List.{list_all};
+ghost use Rattle.kernel_forest.specs.Forest.{Forest};
+ghost use Rattle.kernel_forest.specs.Entries.{Entry, derivations_of};
+ghost use Rattle.slot_core.specs.Calls.{derivation_view};
+ghost use Rattle.query_parts.specs.declared.listed.PartUse.{PartUse as PartUseOf};
+ghost use Rattle.query_parts.specs.Listed.{parts_listed};
+ghost use Rattle.query_parts.specs.Below.{StandsNoneBelow};
+ghost use Rattle.kernel_abstract.specs.Memory.{IsInMemory};
+ghost use Rattle.command_never_text.specs.declared.never.Never.TheVariants.{Excluded as ExcludedOf};
+ghost use Rattle.command_how_witness.specs.Witness.{asking_of};
+ghost use Rattle.command_how_witness.specs.Excluded.{IsKept, IsOutside};
+ghost use Rattle.command_how_witness.specs.Private as spec;
+
+use crate::asked::{Asked, Happening};
+use cap_core::Profile;
+use command_never_text::{Never, never_gets};
+use command_parts::{Heading, is_in, is_of_part};
+use ipc_core::MakeWaiters;
+use kernel_core::Kernel;
+use query_parts::{PartMemory, PartsFault, part_at};
+use setup_format::Setup;
+use slot_core::{Derivation, DerivationStore, MakeStore};
+use std::alloc::{AllocError, Global};
+
+fn is_excluded_by(answer: Never) -> bool
+    ensures { result ≡ true → answer ≡ ExcludedOf }
+{
+    match answer {
+        Never::Excluded => true,
+        Never::Possible => false,
+    }
+}
+
+/// Whether the part of the one thread is kept from that of the other, but by the endpoints that are named.
+fn is_kept<P: Profile, S: MakeStore<P> + DerivationStore<P>, W: MakeWaiters<P>>(
+    alloc: Global,
+    setup: &Setup,
+    kernel: &Kernel<P, S, W>,
+    asked: &Asked<'_>,
+) -> Result<bool, AllocError>
+    requires { (memory : ℕ) × IsInMemory P.profile memory kernel.now }
+    ensures { IfOk result (λ is. is ≡ true → IsKept P.profile (asking_of asked.now) kernel.now) }
+{
+    let heading = Heading {
+        setup,
+        made: 0,
+        refused: 0,
+        without: asked.without,
+        messages: &[],
+    };
+    match never_gets::<P, S, W>(alloc, &[], &heading, asked.from, asked.to, asked.by, kernel) {
+        Ok((_, answer)) => Ok(is_excluded_by(answer)),
+        Err(PartsFault::Memory) => Err(AllocError),
+        Err(PartsFault::Block) => unreachable!(),
+    }
+}
+
+/// Whether the one thread lies in no part, or the other does not lie in its part.
+fn is_hold_excluded(asked: &Asked<'_>) -> bool
+    ensures { result ≡ spec.is_elsewhere asked.now.memory.now asked.now.from asked.now.to }
+{
+    match part_at(asked.memory, asked.from) {
+        None => true,
+        Some(part) => !is_of_part(asked.memory, part, asked.to),
+    }
+}
+
+/// Whether a slot is of the part, or is listed.
+fn is_above(memory: &[PartMemory], part: u64, below: &[u64], slot: u64) -> bool
+    ensures { result ≡ spec.is_above memory.now part below.now slot }
+{
+    is_of_part(memory, part, slot) || is_in(below, slot)
+}
+
+fn is_parent_above<P: Profile>(
+    memory: &[PartMemory],
+    part: u64,
+    below: &[u64],
+    derivation: &Derivation,
+) -> bool
+    ensures { result ≡ spec.is_parent_above memory.now part below.now (derivation_view P.profile derivation.now).1 }
+{
+    match derivation.parent {
+        None => false,
+        Some(parent) => is_above(memory, part, below, parent.address::<P>()),
+    }
+}
+
+/// The full slots that stand below slots of a part.
+fn slots_below<P: Profile>(
+    alloc: Global,
+    memory: &[PartMemory],
+    derivations: &[Derivation],
+    part: u64,
+) -> Result<Vec<u64>, AllocError> {
+    let mut below = Vec::new(alloc);
+    for derivation in derivations {
+        if is_parent_above::<P>(memory, part, below.as_slice(), derivation) {
+            below.push(derivation.slot.address::<P>())?;
+        }
+    }
+    Ok(below)
+}
+
+/// Whether a full slot is listed where it stands below one of the part or one that is listed, and is none of the other part's where
+/// it is listed.
+fn is_apart<P: Profile>(
+    memory: &[PartMemory],
+    below: &[u64],
+    part: u64,
+    other: u64,
+    derivation: &Derivation,
+) -> bool
+    ensures { result ≡ spec.is_apart memory.now below.now part other (derivation_view P.profile derivation.now) }
+{
+    let slot = derivation.slot.address::<P>();
+    let is_listed = is_in(below, slot);
+    (is_listed || !is_parent_above::<P>(memory, part, below, derivation))
+        && !(is_listed && is_of_part(memory, other, slot))
+}
+
+fn are_apart<P: Profile>(
+    memory: &[PartMemory],
+    below: &[u64],
+    derivations: &[Derivation],
+    part: u64,
+    other: u64,
+) -> bool
+    ensures { result ≡ list_all (λ d. spec.is_apart memory.now below.now part other (derivation_view P.profile d)) derivations.now }
+{
+    derivations
+        .iter()
+        .all(|d| is_apart::<P>(memory, below, part, other, d))
+}
+
+/// Whether no full slot of one part stands below a slot of another, for derivations as a kernel tells them.
+fn stands_none_below<P: Profile>(
+    alloc: Global,
+    memory: &[PartMemory],
+    derivations: &[Derivation],
+    part: u64,
+    other: u64,
+) -> Result<bool, AllocError>
+    ensures { IfOk result (λ is. is ≡ true → (uses : List PartUseOf) (f : Forest Entry) → map (derivation_view P.profile) derivations.now ≡ derivations_of f
+        → StandsNoneBelow (parts_listed memory.now uses) part other f) }
+{
+    let below = slots_below::<P>(alloc, memory, derivations, part)?;
+    Ok(are_apart::<P>(memory, below.as_slice(), derivations, part, other))
+}
+
+/// Whether two parts are two, and no slot of the other stands below one of the one.
+fn are_two_apart<P: Profile, S: MakeStore<P> + DerivationStore<P>, W: MakeWaiters<P>>(
+    alloc: Global,
+    kernel: &Kernel<P, S, W>,
+    memory: &[PartMemory],
+    part: u64,
+    other: u64,
+) -> Result<bool, AllocError>
+    ensures { IfOk result (λ is. is ≡ true → (uses : List PartUseOf) → spec.AreTwoApart memory.now uses kernel.now part other) }
+{
+    if part == other {
+        return Ok(false);
+    }
+    let derivations = kernel.derivations(alloc)?;
+    stands_none_below::<P>(alloc, memory, derivations.as_slice(), part, other)
+}
+
+/// Whether the one thread lies in no part; or both lie in parts, and no slot of the other's part stands below one of the one's.
+fn is_loss_excluded<P: Profile, S: MakeStore<P> + DerivationStore<P>, W: MakeWaiters<P>>(
+    alloc: Global,
+    kernel: &Kernel<P, S, W>,
+    asked: &Asked<'_>,
+) -> Result<bool, AllocError>
+    ensures { IfOk result (λ is. is ≡ true → (uses : List PartUseOf) → spec.IsLossOutside asked.now.memory.now uses kernel.now asked.now.from asked.now.to) }
+{
+    match (
+        part_at(asked.memory, asked.from),
+        part_at(asked.memory, asked.to),
+    ) {
+        (None, _) => Ok(true),
+        (Some(part), Some(other)) => {
+            are_two_apart::<P, S, W>(alloc, kernel, asked.memory, part, other)
+        }
+        (Some(_), None) => Ok(false),
+    }
+}
+
+/// Whether the laws say that it can't happen from the state of a kernel, to which calls of a set-up led.
+///
+/// # Errors
+///
+/// Memory was refused.
+pub fn is_excluded<P: Profile, S: MakeStore<P> + DerivationStore<P>, W: MakeWaiters<P>>(
+    alloc: Global,
+    setup: &Setup,
+    kernel: &Kernel<P, S, W>,
+    asked: &Asked<'_>,
+) -> Result<bool, AllocError>
+    requires { (memory : ℕ) × IsInMemory P.profile memory kernel.now }
+    ensures { IfOk result (λ is. is ≡ true → (uses : List PartUseOf) → IsOutside P.profile (asking_of asked.now) uses kernel.now asked.now.what) }
+{
+    match asked.what {
+        Happening::Message => is_kept::<P, S, W>(alloc, setup, kernel, asked),
+        Happening::Hold => Ok(is_hold_excluded(asked)),
+        Happening::Loss => is_loss_excluded::<P, S, W>(alloc, kernel, asked),
+    }
+}

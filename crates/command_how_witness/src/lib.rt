@@ -1,0 +1,18 @@
+//! What calls show: that a message passes from one thread to another, or that the one holds the other or takes something from it;
+//! the test of a text that is to be a set-up of such calls; and what says that there are none.
+#![tactic(auto)]
+
+mod alike;
+mod asked;
+mod callers;
+mod excluded;
+mod laws;
+mod shown;
+mod text;
+
+pub use asked::{Asked, Happening};
+pub use callers::may_call;
+pub use excluded::is_excluded;
+pub use laws::what_is_excluded_has_no_witness;
+pub use shown::{is_message, is_shown};
+pub use text::is_witness_text;
