@@ -1,0 +1,4 @@
+pub mod Laid
+pub mod Listing
+pub mod Import
+pub mod Private

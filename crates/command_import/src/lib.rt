@@ -1,0 +1,13 @@
+//! A set-up of a layout that is capDL text: its calls are those of a loader, which makes each object and fills each slot. A text is
+//! written only where the program read it, ran it, and found its end laid out as the layout.
+#![tactic(auto)]
+
+mod calls;
+mod laid_out;
+mod listing;
+mod making;
+mod names;
+mod text;
+
+pub use laid_out::is_laid_out;
+pub use making::Importer;

@@ -1,0 +1,160 @@
+//! The engine that makes a set-up of a layout.
+ghost use Rattle.std.specs.Prelude.{◌≡◌, ◌++◌, ℕ, List, [], IfOk, IfSome, IsErr, IsTrue, MatchOption, codes, false, true, length, string_bytes};
+ghost use Rattle.kernel_abstract.specs.Plan.{IsPlan};
+ghost use Rattle.kernel_abstract.specs.State.{shown};
+ghost use Rattle.setup_format.specs.Read.{read_view};
+ghost use Rattle.setup_format.specs.Setups.{read_of_bytes};
+ghost use Rattle.setup_report.specs.Behind.{state_behind};
+ghost use Rattle.command_import.specs.Import.{ComesTo, IsImported};
+ghost use Rattle.command_import.specs.Listing.{lines_of};
+ghost use Rattle.command_import.specs.Laid.{IsLaidOut};
+
+use crate::laid_out::is_laid_out;
+use crate::listing::listing_text;
+use crate::text::setup_text;
+use cap_core::{Narrow, Profile, ProfileName, Wide};
+use command_core::{Answer, Engine, RunFault, Verdict};
+use ipc_core::{LinkedWaiters, MakeWaiters};
+use setup_format::{ReadSetup, Setup, SetupFault, read};
+use setup_layout::{Layout, Places, ReadLayout, read_layout};
+use setup_report::kernel_after;
+use slot_core::{DerivationStore, LinkedStore, MakeStore};
+use std::alloc::{AllocError, Global};
+
+/// Whether the calls of a set-up come to a layout.
+fn comes_to<P: Profile, S: DerivationStore<P> + MakeStore<P>, W: MakeWaiters<P>>(
+    alloc: Global,
+    layout: &Layout,
+    setup: &Setup,
+) -> Result<bool, AllocError>
+    requires { IsPlan P.profile setup.now.plan }
+    ensures { IfOk result (λ is. IsTrue is → IsLaidOut P.profile setup.now.plan layout.now (shown (state_behind P.profile setup.now (length setup.now.calls)))) }
+{
+    let calls = setup.calls().len();
+    let kernel = kernel_after::<P, S, W>(alloc, setup, calls)?;
+    is_laid_out(alloc, setup.plan(), layout, &kernel)
+}
+
+/// What a text is read as; none where it is refused.
+fn accepted(alloc: Global, text: &[u8]) -> Result<Option<ReadSetup>, AllocError>
+    ensures read { IfOk result (λ made. MatchOption made (IsErr (read_of_bytes text.now)) (λ read. read_of_bytes text.now ≡ Ok (read_view read))) }
+    ensures plan { IfOk result (λ made. IfSome made (λ read. IsPlan read.setup.profile read.setup.plan)) }
+{
+    match read(alloc, text) {
+        Ok(read) => Ok(Some(read)),
+        Err(SetupFault::Memory) => Err(AllocError),
+        Err(_) => Ok(None),
+    }
+}
+
+/// Whether a text is read as a set-up of the layout's profile, whose calls come to the layout.
+fn comes_from<P: Profile, S: DerivationStore<P> + MakeStore<P>, W: MakeWaiters<P>>(
+    alloc: Global,
+    layout: &Layout,
+    text: &[u8],
+) -> Result<bool, AllocError>
+    requires { P.profile ≡ layout.now.profile }
+    ensures { IfOk result (λ is. IsTrue is → ComesTo layout.now text.now) }
+{
+    let Some(made) = accepted(alloc, text)? else {
+        return Ok(false);
+    };
+    if made.setup.profile() != layout.profile {
+        return Ok(false);
+    }
+    comes_to::<P, S, W>(alloc, layout, &made.setup)
+}
+
+/// The same, for the layout's machine.
+fn does_come_to(alloc: Global, layout: &Layout, text: &[u8]) -> Result<bool, AllocError>
+    ensures { IfOk result (λ is. IsTrue is → ComesTo layout.now text.now) }
+{
+    match layout.profile {
+        ProfileName::Wide => {
+            comes_from::<Wide, LinkedStore<Wide>, LinkedWaiters<Wide>>(alloc, layout, text)
+        }
+        ProfileName::Narrow => {
+            comes_from::<Narrow, LinkedStore<Narrow>, LinkedWaiters<Narrow>>(alloc, layout, text)
+        }
+    }
+}
+
+/// What is written of a layout with faults.
+fn refused(alloc: Global, layout: &Layout) -> Result<Answer, AllocError>
+    ensures { IfOk result (λ made. made.verdict ≡ Verdict.Refused) }
+{
+    let line = layout.faults.first_line();
+    let text = format!(in alloc; "layout refused at {line}\n")?;
+    Ok(Answer::new(alloc, text.into_bytes(), Verdict::Refused))
+}
+
+/// What is written of a layout whose listing is asked for.
+fn listed(alloc: Global, layout: &Layout) -> Result<Answer, AllocError>
+    ensures { IfOk result (λ made. IsImported true made.text.items made.verdict) }
+{
+    let text = listing_text(alloc, layout, "")?;
+    Ok(Answer::new(alloc, text.into_bytes(), Verdict::AllMet))
+}
+
+/// A text that lists the slots of a layout at its beginning, where it is read as a set-up whose calls come to the layout; else nothing.
+fn tested(alloc: Global, layout: &Layout, text: Vec<u8>) -> Result<Answer, AllocError>
+    requires { (rest : List ℕ) × (text.items ≡ lines_of (codes "# ") layout.now ++ rest) }
+    ensures { IfOk result (λ made. IsImported false made.text.items made.verdict) }
+{
+    let comes = does_come_to(alloc, layout, text.as_slice())?;
+    if comes {
+        return Ok(Answer::new(alloc, text, Verdict::AllMet));
+    }
+    Ok(Answer::new(alloc, Vec::new(alloc), Verdict::Absent))
+}
+
+/// The text of a set-up of a layout, which begins with a list of what its slots hold.
+fn text_of(alloc: Global, layout: &Layout, places: &Places) -> Result<String, AllocError>
+    ensures { IfOk result (λ text. (rest : List ℕ) × (string_bytes text ≡ lines_of (codes "# ") layout.now ++ rest)) }
+{
+    let rest = setup_text(alloc, layout, places)?;
+    let mut text = listing_text(alloc, layout, "# ")?;
+    text.push_str(rest.as_str())?;
+    Ok(text)
+}
+
+/// A set-up of the layout that the input is as capDL text, or, with `listing`, what each slot of it holds. The verdict is `Refused`
+/// where the layout has faults, and `Absent`, with nothing written, where the set-up that was made does not come to the layout.
+#[derive(Clone, Copy)]
+pub struct Importer {
+    /// The bits to which larger untyped regions that cover nothing are cut.
+    pub shrink: Option<u64>,
+    pub listing: bool,
+}
+
+impl Importer {
+    /// What is written of a layout that was read.
+    fn made_of(self, alloc: Global, read: &ReadLayout) -> Result<Answer, AllocError>
+        ensures { IfOk result (λ made. IsImported self.listing made.text.items made.verdict) }
+    {
+        let Some(places) = &read.places else {
+            return refused(alloc, &read.layout);
+        };
+        if self.listing {
+            return listed(alloc, &read.layout);
+        }
+        let text = text_of(alloc, &read.layout, places)?;
+        tested(alloc, &read.layout, text.into_bytes())
+    }
+
+    /// What is written of the input.
+    fn made(self, alloc: Global, input: &[u8]) -> Result<Answer, AllocError>
+        ensures { IfOk result (λ made. IsImported self.listing made.text.items made.verdict) }
+    {
+        let read = read_layout(alloc, input, self.shrink)?;
+        self.made_of(alloc, &read)
+    }
+}
+
+impl Engine for Importer {
+    ghost means = { λ importer input text verdict. IsImported importer.listing text verdict };
+
+    fn make(&self, alloc: Global, input: &[u8]) -> Result<Answer, RunFault> {
+        self.made(alloc, input).map_err(|_| RunFault::Memory)
+    }
+}

@@ -1,0 +1,78 @@
+//! The text of a set-up.
+use crate::calls::Calls;
+use crate::names::add_names;
+use cap_core::ProfileName;
+use setup_layout::{Layout, Places, Remarks};
+use std::alloc::{AllocError, Global};
+use std::fmt::Write;
+
+/// Adds what is said of the layout, as comments.
+fn add_notes(out: &mut String, notes: &Remarks) -> Result<(), AllocError> {
+    for remark in notes.told.as_slice() {
+        writeln!(out, "# line {}: {}", remark.spot.line, remark.words)?;
+    }
+    if notes.more > 0 {
+        writeln!(out, "# and {} more", notes.more)?;
+    }
+    Ok(())
+}
+
+/// Adds the keys of a set-up.
+fn add_sizes(out: &mut String, profile: ProfileName, places: &Places) -> Result<(), AllocError> {
+    writeln!(out, "format = 2")?;
+    if profile == ProfileName::Narrow {
+        writeln!(out, "profile = \"narrow\"")?;
+    }
+    writeln!(
+        out,
+        "memory_bits = {}\nroot_radix = {}",
+        places.memory_bits, places.root_radix
+    )?;
+    writeln!(out, "threads = 1\nendpoints = 0\nuntyped = [")?;
+    for region in places.regions.as_slice() {
+        writeln!(
+            out,
+            "    {{ base = {}, bits = {} }},",
+            region.base, region.bits
+        )?;
+    }
+    writeln!(out, "]")
+}
+
+/// The calls of the loader, in their order.
+fn calls_of<'a>(
+    alloc: Global,
+    layout: &'a Layout,
+    places: &'a Places,
+) -> Result<Calls<'a>, AllocError> {
+    let mut calls = Calls::new(alloc, layout, places)?;
+    calls.add_retypes(alloc)?;
+    calls.add_spaces(alloc)?;
+    calls.add_copies(alloc, false)?;
+    calls.add_copies(alloc, true)?;
+    calls.add_resumes()?;
+    calls.add_moves(alloc, false)?;
+    calls.add_moves(alloc, true)?;
+    calls.add_suspend()?;
+    Ok(calls)
+}
+
+/// The text of a set-up whose calls make a layout.
+///
+/// # Errors
+///
+/// Memory was refused.
+pub fn setup_text(alloc: Global, layout: &Layout, places: &Places) -> Result<String, AllocError> {
+    let calls = calls_of(alloc, layout, places)?;
+    let mut out = String::new(alloc);
+    let (objects, count) = (layout.objects.len(), calls.count);
+    writeln!(
+        &mut out,
+        "#\n# The layout has {objects} objects. The first {count} calls are the loader's, which makes it: above stands what its slots hold then."
+    )?;
+    add_notes(&mut out, &layout.notes)?;
+    add_sizes(&mut out, layout.profile, places)?;
+    add_names(alloc, &mut out, layout, places)?;
+    out.push_str(calls.text.as_str())?;
+    Ok(out)
+}

@@ -1,0 +1,67 @@
+//! A layout: the objects of a system, what their slots hold, and which capability is derived from which.
+use crate::fault::Remarks;
+use crate::scanner::Spot;
+use cap_core::{Guard, Kind, ProfileName, Rights};
+
+/// An object that a kernel has.
+#[derive(Drop)]
+pub struct Object {
+    /// Its name in the layout, with its number where it is one of several.
+    pub name: String,
+    pub kind: Kind,
+    /// The bits of an untyped region's size, and the radix of a CNode; 0 of another object.
+    pub bits: u32,
+    /// The untyped region that covers it, by its place among the objects.
+    pub cover: Option<usize>,
+    /// Whether it is a thread that makes no calls.
+    pub is_inactive: bool,
+    /// Where it is declared.
+    pub spot: Spot,
+    /// The address of its first byte in a set-up.
+    pub place: u32,
+}
+
+/// A full slot, and its capability. The space of a thread begins in slot 0 of the thread.
+#[derive(Clone, Copy, Drop)]
+pub struct Slot {
+    /// The CNode or the thread, by its place among the objects.
+    pub holder: usize,
+    pub index: u32,
+    /// The object of the capability, by its place among the objects.
+    pub object: usize,
+    /// The badge and the rights of an endpoint's capability.
+    pub badge: u64,
+    pub rights: Rights,
+    /// The guard of a CNode's capability.
+    pub guard: Guard,
+    /// The line at which it is said.
+    pub line: usize,
+}
+
+/// What is read of a text: what is left out of it is in the notes.
+#[derive(Drop)]
+pub struct Layout {
+    /// The machine.
+    pub profile: ProfileName,
+    pub objects: Vec<Object>,
+    pub slots: Vec<Slot>,
+    /// Of two slots the first one above the second, which is derived from it, by their places among the slots.
+    pub derived: Vec<(usize, usize)>,
+    /// What is wrong with it.
+    pub faults: Remarks,
+    /// What is left out of it, and what is to be known of it.
+    pub notes: Remarks,
+    /// Where the text names the machine.
+    pub spot: Spot,
+}
+
+impl Layout {
+    /// What is said of it: its faults, or its notes where it has none.
+    pub fn remarks(&self) -> &Remarks {
+        if self.faults.is_empty() {
+            &self.notes
+        } else {
+            &self.faults
+        }
+    }
+}

@@ -1,0 +1,22 @@
+//! Layouts as capDL text: what is read of them, and where their objects stand in a set-up. What is read is tested, and no clause
+//! says what it is.
+#![tactic(auto)]
+
+mod derived;
+mod fault;
+mod grammar;
+mod kinds;
+mod layout;
+mod machine;
+mod objects;
+mod places;
+mod reading;
+mod scanner;
+mod slots;
+
+pub use fault::{Remark, Remarks};
+pub use layout::{Layout, Object, Slot};
+pub use machine::Machine;
+pub use places::{FIRST_REGION_SLOT, Places, Region, Source};
+pub use reading::{ReadLayout, layout_words, read_layout};
+pub use scanner::Spot;

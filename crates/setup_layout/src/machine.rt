@@ -1,0 +1,50 @@
+//! The numbers of a machine.
+use crate::layout::Object;
+use cap_core::{Kind, Narrow, Profile, ProfileName, Wide};
+
+/// The numbers of a profile, by its name.
+#[derive(Clone, Copy)]
+pub struct Machine {
+    pub word_bits: u32,
+    pub slot_bits: u32,
+    pub tcb_bits: u32,
+    pub endpoint_bits: u32,
+    pub guard_size_bits: u32,
+    pub badge_bits: u32,
+}
+
+impl Machine {
+    /// Those of a profile.
+    pub fn of(profile: ProfileName) -> Machine {
+        match profile {
+            ProfileName::Wide => Machine::new::<Wide>(),
+            ProfileName::Narrow => Machine::new::<Narrow>(),
+        }
+    }
+
+    fn new<P: Profile>() -> Machine {
+        Machine {
+            word_bits: P::WORD_BITS,
+            slot_bits: P::SLOT_BITS,
+            tcb_bits: P::TCB_BITS,
+            endpoint_bits: P::ENDPOINT_BITS,
+            guard_size_bits: P::GUARD_SIZE_BITS,
+            badge_bits: P::BADGE_BITS,
+        }
+    }
+
+    /// The bits of an object's size.
+    pub fn size_bits(self, object: &Object) -> u32 {
+        match object.kind {
+            Kind::Untyped => object.bits,
+            Kind::CNode => object.bits.saturating_add(self.slot_bits),
+            Kind::Tcb => self.tcb_bits,
+            Kind::Endpoint => self.endpoint_bits,
+        }
+    }
+
+    /// The bytes of an object.
+    pub fn size(self, object: &Object) -> u64 {
+        1u64.checked_shl(self.size_bits(object)).unwrap_or(u64::MAX)
+    }
+}
