@@ -7,4 +7,4 @@ mod search;
 mod steps;
 
 pub use excerpt::{Excerpt, NamedText};
-pub use search::{Part, SoughtKey, array_of, span_at};
+pub use search::{Part, SoughtKey, array_of, span_at, span_in};

@@ -118,10 +118,14 @@ impl<'t> Search<'t, '_> {
 }
 
 /// The text from the key on; from the head of the table on, where the key is not there.
-fn text_from<'t>(alloc: Global, text: &'t str, sought: SoughtKey<'_>) -> Result<&'t str, Unfound> {
-    let array = array_of(sought.place);
+fn text_from<'t>(
+    alloc: Global,
+    text: &'t str,
+    array: Option<(&'static str, usize)>,
+    name: &str,
+) -> Result<&'t str, Unfound> {
     let mut search = Search {
-        name: sought.key,
+        name,
         array,
         passed: 0,
         is_top: true,
@@ -184,10 +188,25 @@ pub fn span_at(
     text: &str,
     sought: SoughtKey<'_>,
 ) -> Result<Option<Range<usize>>, AllocError> {
-    let Some(at) = found(text_from(alloc, text, sought))? else {
+    span_in(alloc, text, array_of(sought.place), sought.key, sought.part)
+}
+
+/// The same of a key of a table of an array of whatever name, which may be that of another document than a set-up. The tables of an array
+/// count from 1.
+///
+/// # Errors
+/// Where memory was refused.
+pub fn span_in(
+    alloc: Global,
+    text: &str,
+    array: Option<(&'static str, usize)>,
+    key: &str,
+    part: Part,
+) -> Result<Option<Range<usize>>, AllocError> {
+    let Some(at) = found(text_from(alloc, text, array, key))? else {
         return Ok(None);
     };
-    let (from, length) = part_at(alloc, at, sought.part)?;
+    let (from, length) = part_at(alloc, at, part)?;
     let start = text.len().checked_sub(from.len());
     let end = start.and_then(|start| start.checked_add(length));
     Ok(start.zip(end).map(|(start, end)| start..end))
