@@ -1,0 +1,2 @@
+-- A set-up held to a policy.
+pub mod Policies

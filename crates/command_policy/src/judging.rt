@@ -1,0 +1,201 @@
+//! A set-up is held to a policy.
+ghost use Rattle.std.specs.Prelude.{◌≡◌, ◌≤◌, ℕ, IfErr, IfOk, length, map, take};
+ghost use Rattle.kernel_abstract.specs.Boot.{boot as boot_state};
+ghost use Rattle.kernel_abstract.specs.Memory.{IsInMemory};
+ghost use Rattle.kernel_abstract.specs.Plan.{IsPlan};
+ghost use Rattle.kernel_abstract.specs.State.{shown};
+ghost use Rattle.kernel_abstract.specs.Step.{replies_of, state_after};
+ghost use Rattle.setup_report.specs.Behind.{state_behind};
+ghost use Rattle.setup_report.specs.State as state;
+ghost use Rattle.slot_core.specs.Calls.{derivation_view};
+ghost use Rattle.command_policy.specs.Policies as spec;
+
+use crate::objects::{Meaning, Object, Objects, object_of, root_slots};
+use crate::resolve::Resolver;
+use cap_core::Profile;
+use command_core::Answer;
+use command_parts::parts_of_callers;
+use command_policy_breaches::{
+    Block, Join, Labels, Layout, Passage, Policy, blocks, joins, layout_of, passages,
+    trusted_threads,
+};
+use command_policy_text::{Held, policy_text};
+use ipc_core::{MakeWaiters, Waiters};
+use kernel_core::{Call, Kernel, Reply};
+use query_parts::PartsFault;
+use setup_format::Setup;
+use setup_policy::{PolicyFile, Refusal};
+use setup_report::{StateRows, state_rows};
+use setup_values::Name;
+use slot_core::{CapStore, Derivation, DerivationStore, MakeStore};
+use std::alloc::{AllocError, Global};
+
+/// A set-up that is held to a policy.
+#[derive(Drop)]
+pub struct Judged {
+    pub policy: Policy,
+    pub layout: Layout,
+    pub labels: Labels,
+    pub joins: Vec<Join>,
+    pub blocks: Vec<Block>,
+    pub passages: Vec<Passage>,
+    pub replies: Vec<Reply>,
+}
+
+impl Judged {
+    /// What lines are told of.
+    pub fn held(&self) -> Held<'_>
+        ensures { spec.IsHeldOf self.entry.now result }
+    {
+        Held {
+            policy: &self.policy,
+            layout: &self.layout,
+            labels: &self.labels,
+            blocks: self.blocks.as_slice(),
+        }
+    }
+
+    /// The text, and the verdict.
+    ///
+    /// # Errors
+    ///
+    /// Memory was refused.
+    #[tactic(auto, using(crate::proofs::Lines::told_as))]
+    pub fn told(&self, alloc: Global, setup: &Setup) -> Result<Answer, AllocError>
+        requires { length self.now.replies.items ≤ length setup.now.calls }
+        ensures { IfOk result (λ made. (made.text.items, made.verdict) ≡ spec.told_of self.now setup.now) }
+    {
+        let (text, verdict) = policy_text(
+            alloc,
+            self.held(),
+            setup,
+            self.replies.as_slice(),
+            self.joins.as_slice(),
+            self.passages.as_slice(),
+        )?;
+        Ok(Answer::new(alloc, text, verdict))
+    }
+}
+
+/// The first calls of a set-up.
+fn first_calls(setup: &Setup, made: usize) -> &[Call]
+    requires { made ≤ length setup.now.calls }
+    ensures calls { result.now ≡ take made (map (λ c. c.call) setup.entry.now.calls) }
+    ensures count { length result.now ≡ made }
+{
+    &setup.calls()[..made]
+}
+
+/// The kernel of a set-up behind its first calls, and what these were answered.
+fn run_first<P: Profile, S: MakeStore<P>, W: MakeWaiters<P>>(
+    alloc: Global,
+    setup: &Setup,
+    made: usize,
+) -> Result<(Kernel<P, S, W>, Vec<Reply>), AllocError>
+    requires plan { IsPlan P.profile setup.now.plan }
+    requires made { made ≤ length setup.now.calls }
+    ensures shows { IfOk result (λ r. r.0 ≡ shown (state_behind P.profile setup.now made)) }
+    ensures replies { IfOk result (λ r. r.1.items ≡ spec.replies_behind P.profile setup.now made) }
+    ensures within { IfOk result (λ r. (memory : ℕ) × IsInMemory P.profile memory r.0) }
+{
+    let mut kernel = Kernel::<P, S, W>::boot(alloc, setup.plan())?;
+    let mut replies = Vec::with_capacity(alloc, made)?;
+    kernel.run(first_calls(setup, made), &mut replies);
+    Ok((kernel, replies))
+}
+
+fn live_objects<P: Profile>(
+    alloc: Global,
+    slots: &[Derivation],
+) -> Result<Vec<Object>, AllocError> {
+    slots
+        .iter()
+        .filter_map(|slot| object_of::<P>(slot.cap))
+        .collect(alloc)
+}
+
+/// The policy and the labels of a state, where each word of the file means something there.
+fn resolved<'a, P: Profile, S: CapStore<P> + Drop, W: Waiters<P> + Drop>(
+    alloc: Global,
+    file: &'a PolicyFile,
+    text: &'a str,
+    names: &'a [Name],
+    setup: &'a Setup,
+    kernel: &'a Kernel<P, S, W>,
+    slots: &[Derivation],
+) -> Result<(Policy, Labels), Refusal>
+    requires { IsPlan P.profile setup.now.plan }
+{
+    let live = live_objects::<P>(alloc, slots)?;
+    let root = root_slots::<P>(alloc, setup.plan(), slots)?;
+    let objects = Objects {
+        alloc,
+        names,
+        live: live.as_slice(),
+        slots: root.as_slice(),
+    };
+    let resolver = Resolver {
+        file,
+        text,
+        meaning: Meaning::new(objects, setup, kernel),
+    };
+    Ok((resolver.policy()?, objects.labels()?))
+}
+
+fn judged_by<P: Profile, S: DerivationStore<P> + Drop, W: Waiters<P> + Drop>(
+    alloc: Global,
+    policy: Policy,
+    labels: Labels,
+    kernel: &Kernel<P, S, W>,
+    rows: &StateRows,
+    replies: Vec<Reply>,
+) -> Result<Judged, PartsFault>
+    requires threads { rows.now.threads.keys ≡ state.threads P.profile kernel.now }
+    requires endpoints { rows.now.endpoints.keys ≡ state.endpoints P.profile kernel.now }
+    requires slots { map (derivation_view P.profile) rows.now.slots.items ≡ state.slot_rows kernel.now }
+    ensures judged { IfOk result (spec.IsJudgedOf P.profile kernel.now replies.items) }
+    ensures fault { IfErr result (λ fault. fault ≡ PartsFault.Block → (memory : ℕ) → IsInMemory P.profile memory kernel.now → ⊥) }
+{
+    let trusted = trusted_threads(alloc, &policy)?;
+    let parts = parts_of_callers::<P, S, W>(alloc, trusted.as_slice(), kernel, rows)?;
+    let layout = layout_of::<P, S, W>(alloc, &policy, kernel, rows, parts)?;
+    let joins = joins(alloc, &policy, &layout)?;
+    let blocks = blocks(alloc, layout.parts.as_slice(), joins.as_slice())?;
+    let passages = passages(alloc, &policy, &layout, blocks.as_slice())?;
+    Ok(Judged {
+        policy,
+        layout,
+        labels,
+        joins,
+        blocks,
+        passages,
+        replies,
+    })
+}
+
+/// A set-up behind its first calls, held to a policy file, whose text is given.
+///
+/// # Errors
+/// `Memory`, or the first fault of the policy by that state.
+pub fn judge<P: Profile, S: MakeStore<P> + DerivationStore<P>, W: MakeWaiters<P>>(
+    alloc: Global,
+    file: &PolicyFile,
+    text: &str,
+    names: &[Name],
+    setup: &Setup,
+    made: usize,
+) -> Result<Judged, Refusal>
+    requires plan { IsPlan P.profile setup.now.plan }
+    requires made { made ≤ length setup.now.calls }
+    ensures { IfOk result (spec.IsJudged P.profile setup.now made) }
+{
+    let (kernel, replies) = run_first::<P, S, W>(alloc, setup, made)?;
+    let rows = state_rows::<P, S, W>(alloc, &kernel)?;
+    let slots = rows.slots.as_slice();
+    let (policy, labels) = resolved::<P, S, W>(alloc, file, text, names, setup, &kernel, slots)?;
+    match judged_by::<P, S, W>(alloc, policy, labels, &kernel, &rows, replies) {
+        Ok(judged) => Ok(judged),
+        Err(PartsFault::Memory) => Err(Refusal::Memory),
+        Err(PartsFault::Block) => unreachable!(),
+    }
+}

@@ -1,0 +1,501 @@
+//! What standard error tells of a set-up that is held to a policy: each breach and each allowance of which nothing is there, with the
+//! place of the entry, as compilers do.
+ghost use Rattle.std.specs.Prelude.{◌≤◌, length};
+ghost use Rattle.kernel_abstract.specs.Plan.{IsPlan};
+
+use crate::command::{text_of, too_many};
+use crate::judging::{Judged, judge};
+use cap_core::{Narrow, Profile, ProfileName, Wide};
+use command_parts::BadgeText;
+use command_policy_breaches::{
+    Allowance, End, HeldRegion, Hold, Join, Passage, PolicyWay, Waiting, groups_of, is_entry,
+    is_in_part, is_way_between,
+};
+use command_policy_text::{
+    Held, Told, allowed_badges, allowed_rights, call_breaches, capability_text, end_label,
+    is_other_badge, kinds, object, part_label, told_text,
+};
+use ipc_core::{LinkedWaiters, MakeWaiters};
+use query_parts::{PartUse, part_at};
+use setup_format::{ReadSetup, read};
+use setup_policy::{Place, PolicyFile, Refusal, Spot, line_and_column, read_policy};
+use setup_positions::{Part, span_in};
+use setup_report::calls_made;
+use slot_core::{DerivationStore, LinkedStore, MakeStore};
+use std::alloc::{AllocError, Global};
+use std::collections::BTreeMap;
+use std::fmt::Write;
+
+/// The most lines of a kind.
+const MOST: usize = 20;
+
+/// A policy and a set-up, with the names of their files.
+#[derive(Clone, Copy)]
+pub struct Files<'a> {
+    pub policy: &'a [u8],
+    pub policy_name: &'a str,
+    pub setup: &'a [u8],
+    pub setup_name: &'a str,
+    /// How many calls are made, where the command line says so.
+    pub after: Option<u64>,
+}
+
+/// What lines are made of.
+#[derive(Clone, Copy)]
+struct Teller<'a> {
+    alloc: Global,
+    files: Files<'a>,
+    file: &'a PolicyFile,
+    text: &'a str,
+    judged: &'a Judged,
+    held: Held<'a>,
+}
+
+/// What is told, by its line.
+type ByLine = BTreeMap<String, Told>;
+
+impl<'a> Teller<'a> {
+    /// Where a group stands, or the thread that is trusted.
+    fn group_spot(self, actor: Option<u64>) -> Spot<'static> {
+        let groups = self.file.groups.as_slice();
+        match actor {
+            None => Spot::Threads,
+            Some(actor) => match groups.get(actor as usize) {
+                Some(group) => match group.place {
+                    Place::Alone(_) => Spot::Key(Place::Top, "alone"),
+                    place => Spot::Key(place, ""),
+                },
+                None => Spot::Key(Place::Top, "silent"),
+            },
+        }
+    }
+
+    fn first_group(self, part: u64) -> Result<Option<u64>, AllocError> {
+        let groups = groups_of(self.alloc, self.held.policy, self.held.layout, part)?;
+        Ok(groups.as_slice().first().copied())
+    }
+
+    fn part_spot(self, part: u64) -> Result<Spot<'static>, AllocError> {
+        Ok(self.group_spot(self.first_group(part)?))
+    }
+
+    fn end_spot(self, end: End) -> Result<Spot<'static>, AllocError> {
+        if !end.is_part {
+            return Ok(self.group_spot(Some(end.number)));
+        }
+        let mut first = None;
+        for group in self.held.policy.groups.as_slice() {
+            let is_there = self.judged.blocks.as_slice().iter().any(|block| {
+                block.block == end.number && is_in_part(self.held.layout, *group, block.part)
+            });
+            if is_there && first.is_none() {
+                first = Some(*group);
+            }
+        }
+        Ok(self.group_spot(first))
+    }
+
+    /// Where an entry stands, by its place among those of ways and uses.
+    fn entry_spot(self, place: usize) -> Spot<'static> {
+        let ways = self.held.policy.ways.len();
+        if place < ways {
+            return Spot::Key(Place::Way(place.saturating_add(1)), "");
+        }
+        match place.checked_sub(ways.saturating_mul(2)) {
+            Some(place) => Spot::Key(Place::Use(place.saturating_add(1)), ""),
+            None => Spot::Key(Place::Way(place.saturating_sub(ways).saturating_add(1)), ""),
+        }
+    }
+
+    fn is_meant(self, used: &PartUse, entry: &Allowance, by_badge: bool) -> bool {
+        if by_badge {
+            is_other_badge(self.held, used, entry)
+        } else {
+            is_entry(self.held.layout, used.part, used.endpoint, entry)
+        }
+    }
+
+    /// The first entry of a use's endpoint, or, where its badge is amiss, the first with another that stands in its place.
+    fn entry_at(self, used: &PartUse, by_badge: bool) -> Spot<'static> {
+        let mut entries = self.held.policy.allowances.as_slice().iter();
+        match entries.position(|entry| self.is_meant(used, entry, by_badge)) {
+            Some(place) => self.entry_spot(place),
+            None => Spot::Threads,
+        }
+    }
+
+    fn way_spot(self, passage: &Passage) -> Result<Spot<'static>, AllocError> {
+        let ways = self.held.policy.ways.as_slice();
+        let mut ways = ways.iter();
+        let place = ways.position(|way| {
+            is_way_between(self.held.layout, self.held.blocks, passage, way)
+        });
+        match place {
+            Some(place) => Ok(self.entry_spot(place)),
+            None => self.end_spot(passage.from),
+        }
+    }
+
+    fn wait_spot(self, wait: &Waiting) -> Result<Spot<'static>, AllocError> {
+        match part_at(self.held.layout.memory.as_slice(), wait.thread) {
+            Some(part) => self.part_spot(part),
+            None => Ok(Spot::Threads),
+        }
+    }
+
+    /// Where what a line tells stands in the policy.
+    fn spot(self, told: &Told) -> Result<Spot<'static>, AllocError> {
+        match told {
+            Told::Joined(part) => self.part_spot(*part),
+            Told::Grant(join) => self.part_spot(join.from),
+            Told::Thread(hold) => self.part_spot(hold.part),
+            Told::Region(region) => self.part_spot(region.part),
+            Told::Use(used) => self.part_spot(used.part),
+            Told::Badge(used) => Ok(self.entry_at(used, true)),
+            Told::Right(used) => Ok(self.entry_at(used, false)),
+            Told::Way(passage) => self.way_spot(passage),
+            Told::Waits(wait) => self.wait_spot(wait),
+            Told::UnusedWay(way) | Told::IdleInWay(way) => Ok(self.idle_way_spot(way)),
+            Told::UnusedUse(entry) | Told::IdleInUse(entry) => Ok(self.idle_use_spot(entry)),
+            Told::UnusedRegion(own) => Ok(self.group_spot(Some(own.group))),
+            Told::UnusedGroup(group) | Told::Group(group) => Ok(self.group_spot(Some(*group))),
+            Told::Silent(_) | Told::Messages(_) => Ok(Spot::Threads),
+        }
+    }
+
+    fn idle_way_spot(self, way: &PolicyWay) -> Spot<'static> {
+        let mut ways = self.held.policy.ways.as_slice().iter();
+        let place = ways.position(|other| *other == *way).unwrap_or(0);
+        Spot::Key(Place::Way(place.saturating_add(1)), "")
+    }
+
+    fn idle_use_spot(self, entry: &Allowance) -> Spot<'static> {
+        let mut uses = self.held.policy.uses.as_slice().iter();
+        let place = uses.position(|other| *other == *entry).unwrap_or(0);
+        Spot::Key(Place::Use(place.saturating_add(1)), "")
+    }
+
+    /// The names of a part's groups, in order, with a word between two of them.
+    fn joined_words(self, part: u64) -> Result<String, AllocError> {
+        let line = told_text(self.alloc, self.held, Told::Joined(part))?;
+        let names = line.as_str().strip_prefix("breach joined ").unwrap_or("");
+        let names: Vec<&str> = names.split(' ').collect(self.alloc)?;
+        let names = names.as_slice().join(self.alloc, " and ")?;
+        format!(in self.alloc; "{names} are one part: what one of them can get, the other can")
+    }
+
+    fn part(self, part: u64) -> Result<String, AllocError> {
+        part_label(self.alloc, self.held.policy, self.held.layout, part)
+    }
+
+    fn badge_words(self, used: PartUse) -> Result<String, AllocError> {
+        let part = self.part(used.part)?;
+        let endpoint = object(self.held.labels.endpoints.as_slice(), used.endpoint);
+        let badge = BadgeText(used.badge.0);
+        let allowed = allowed_badges(self.alloc, self.held, used)?;
+        let mut words = String::new(self.alloc);
+        for (i, badge) in allowed.as_slice().iter().enumerate() {
+            let comma = if i == 0 { "" } else { ", " };
+            write!(words, "{comma}{badge}")?;
+        }
+        format!(in self.alloc;
+            "{part} may use {endpoint} with badge {badge}; the policy lets it have {words}"
+        )
+    }
+
+    fn way_words(self, passage: &Passage) -> Result<String, AllocError> {
+        let from = end_label(self.alloc, self.held, passage.from)?;
+        let to = end_label(self.alloc, self.held, passage.to)?;
+        let endpoint = object(self.held.labels.endpoints.as_slice(), passage.endpoint);
+        let badge = BadgeText(passage.badge);
+        format!(in self.alloc;
+            "{from} may send to {to} by {endpoint} with badge {badge}; no way lets it"
+        )
+    }
+
+    fn wait_words(self, wait: &Waiting) -> Result<String, AllocError> {
+        let thread = object(self.held.labels.threads.as_slice(), wait.thread);
+        let endpoint = object(self.held.labels.endpoints.as_slice(), wait.endpoint);
+        let badge = wait.badge;
+        if wait.sends {
+            format!(in self.alloc;
+                "a send of {thread} to {endpoint} with badge {badge} waits, and may be delivered; no way lets it"
+            )
+        } else {
+            format!(in self.alloc; "{thread} waits to receive on {endpoint}; no way lets it")
+        }
+    }
+
+    fn use_words(self, used: PartUse) -> Result<String, AllocError> {
+        let part = self.part(used.part)?;
+        let capability = capability_text(self.alloc, self.held, used)?;
+        format!(in self.alloc; "{part} holds {capability}; no way and no use of the policy lets it")
+    }
+
+    fn right_words(self, used: PartUse) -> Result<String, AllocError> {
+        let part = self.part(used.part)?;
+        let capability = capability_text(self.alloc, self.held, used)?;
+        let rights = allowed_rights(self.held, used);
+        format!(in self.alloc; "{part} holds {capability}; the policy lets it have {rights}")
+    }
+
+    fn grant_words(self, join: &Join) -> Result<String, AllocError> {
+        let (from, to) = (self.part(join.from)?, self.part(join.to)?);
+        let endpoint = object(self.held.labels.endpoints.as_slice(), join.endpoint);
+        format!(in self.alloc;
+            "{from} can hand capabilities to {to} by {endpoint}, where it has Grant; so the two are one part in seL4"
+        )
+    }
+
+    fn hold_words(self, hold: &Hold) -> Result<String, AllocError> {
+        let part = self.part(hold.part)?;
+        let thread = object(self.held.labels.threads.as_slice(), hold.thread);
+        format!(in self.alloc; "{part} has hold of the trusted thread {thread}")
+    }
+
+    fn region_words(self, region: &HeldRegion) -> Result<String, AllocError> {
+        let part = self.part(region.part)?;
+        let base = object(self.held.labels.regions.as_slice(), region.base);
+        let bits = region.bits;
+        format!(in self.alloc;
+            "{part} has the untyped region {base} bits {bits}, and may make objects there; add it to its regions, or don't hand it out"
+        )
+    }
+
+    /// What standard error says of a line.
+    fn words(self, line: &str, told: &Told) -> Result<String, AllocError> {
+        match told {
+            Told::Joined(part) => self.joined_words(*part),
+            Told::Grant(join) => self.grant_words(join),
+            Told::Thread(hold) => self.hold_words(hold),
+            Told::Region(region) => self.region_words(region),
+            Told::Use(used) => self.use_words(*used),
+            Told::Badge(used) => self.badge_words(*used),
+            Told::Right(used) => self.right_words(*used),
+            Told::Way(passage) => self.way_words(passage),
+            Told::Waits(wait) => self.wait_words(wait),
+            _ => {
+                let line = line.strip_prefix("unused ").unwrap_or(line);
+                format!(in self.alloc; "unused: {line}")
+            }
+        }
+    }
+
+    /// What is told of a kind, by its lines.
+    fn by_line(self, told: &[Told]) -> Result<ByLine, AllocError> {
+        let mut lines = BTreeMap::new(self.alloc);
+        for one in told {
+            let line = told_text(self.alloc, self.held, *one)?;
+            if !lines.contains_key(&line) {
+                lines.insert(line, *one)?;
+            }
+        }
+        Ok(lines)
+    }
+
+    /// Adds a line for each of a kind.
+    fn add_kind(
+        self,
+        lines: &mut Vec<String>,
+        told: &[Told],
+        word: &str,
+    ) -> Result<(), AllocError> {
+        let by_line = self.by_line(told)?;
+        for (line, one) in &by_line {
+            let (row, column) = line_and_column(self.alloc, self.text, self.spot(one)?)?;
+            let (name, words) = (self.files.policy_name, self.words(line.as_str(), one)?);
+            lines.push(format!(in self.alloc; "{name}:{row}:{column}: {word}: {words}")?)?;
+        }
+        Ok(())
+    }
+
+    /// The number of the call of which a line tells: `breach call N ..`.
+    fn call_of(self, line: &str) -> usize {
+        let behind = line.strip_prefix("breach call ").unwrap_or("");
+        let number = behind.split(' ').next().unwrap_or("");
+        number.parse::<usize>().unwrap_or(1)
+    }
+
+    fn add_calls(self, lines: &mut Vec<String>, read: &ReadSetup) -> Result<(), AllocError> {
+        if !self.held.policy.calls {
+            return Ok(());
+        }
+        let text = text_of(self.files.setup);
+        let replies = self.judged.replies.as_slice();
+        if replies.len() > read.setup.calls().len() {
+            return Ok(());
+        }
+        for line in call_breaches(self.alloc, &read.setup, replies)? {
+            let array = Some(("call", self.call_of(line.as_str())));
+            let span = span_in(self.alloc, text, array, "", Part::Key)?;
+            let (row, column) = place_in(text, span.map_or(0, |span| span.start));
+            let name = self.files.setup_name;
+            let words = line.as_str().strip_prefix("breach ").unwrap_or("");
+            lines.push(format!(in self.alloc; "{name}:{row}:{column}: error: {words}")?)?;
+        }
+        Ok(())
+    }
+
+    /// A line for each breach.
+    fn errors(self, read: &ReadSetup) -> Result<Vec<String>, AllocError> {
+        let (alloc, held) = (self.alloc, self.held);
+        let mut lines = Vec::new(alloc);
+        let joins = self.judged.joins.as_slice();
+        let passages = self.judged.passages.as_slice();
+        self.add_calls(&mut lines, read)?;
+        self.add_kind(&mut lines, kinds::joined(alloc, held)?.as_slice(), "error")?;
+        self.add_kind(
+            &mut lines,
+            kinds::grants(alloc, held, joins)?.as_slice(),
+            "error",
+        )?;
+        self.add_kind(&mut lines, kinds::threads(alloc, held)?.as_slice(), "error")?;
+        self.add_kind(&mut lines, kinds::regions(alloc, held)?.as_slice(), "error")?;
+        self.add_kind(&mut lines, kinds::uses(alloc, held)?.as_slice(), "error")?;
+        self.add_kind(&mut lines, kinds::badges(alloc, held)?.as_slice(), "error")?;
+        self.add_kind(&mut lines, kinds::rights(alloc, held)?.as_slice(), "error")?;
+        self.add_kind(
+            &mut lines,
+            kinds::ways(alloc, held, passages)?.as_slice(),
+            "error",
+        )?;
+        self.add_kind(&mut lines, kinds::waits(alloc, held)?.as_slice(), "error")?;
+        Ok(lines)
+    }
+
+    /// A line for each allowance of which nothing is there.
+    fn warnings(self) -> Result<Vec<String>, AllocError> {
+        let (alloc, held) = (self.alloc, self.held);
+        let mut lines = Vec::new(alloc);
+        self.add_kind(
+            &mut lines,
+            kinds::idle_ways(alloc, held)?.as_slice(),
+            "warning",
+        )?;
+        self.add_kind(
+            &mut lines,
+            kinds::idle_uses(alloc, held)?.as_slice(),
+            "warning",
+        )?;
+        self.add_kind(
+            &mut lines,
+            kinds::idle_rights(alloc, held)?.as_slice(),
+            "warning",
+        )?;
+        self.add_kind(
+            &mut lines,
+            kinds::idle_regions(alloc, held)?.as_slice(),
+            "warning",
+        )?;
+        self.add_kind(
+            &mut lines,
+            kinds::idle_groups(alloc, held)?.as_slice(),
+            "warning",
+        )?;
+        Ok(lines)
+    }
+
+    fn told(self, read: &ReadSetup) -> Result<String, AllocError> {
+        let mut out = String::new(self.alloc);
+        add_lines(&mut out, self.errors(read)?.as_slice())?;
+        add_lines(&mut out, self.warnings()?.as_slice())?;
+        Ok(out)
+    }
+}
+
+/// The line and the column of a byte of a text, both from 1.
+fn place_in(text: &str, at: usize) -> (usize, usize) {
+    let above = text.split_at_checked(at).map_or(text, |(above, _)| above);
+    let before = above.rsplit('\n').next().unwrap_or(above);
+    (
+        above.split('\n').count(),
+        before.chars().count().saturating_add(1),
+    )
+}
+
+/// Adds the first lines of some, and how many more there are.
+fn add_lines(out: &mut String, lines: &[String]) -> Result<(), AllocError> {
+    for line in lines.iter().take(MOST) {
+        writeln!(out, "{line}")?;
+    }
+    match lines.len().checked_sub(MOST) {
+        Some(more) if more > 0 => writeln!(out, "sel4sim: {more} more"),
+        _ => Ok(()),
+    }
+}
+
+/// Why a policy is refused, with its place.
+fn refusal_words(alloc: Global, files: Files<'_>, refusal: &Refusal) -> Result<String, AllocError> {
+    match refusal {
+        Refusal::Memory => Err(AllocError),
+        Refusal::At {
+            line,
+            column,
+            words,
+            ..
+        } => {
+            let name = files.policy_name;
+            format!(in alloc; "{name}:{line}:{column}: error: {words}\n")
+        }
+    }
+}
+
+fn messages_in<P: Profile, S: MakeStore<P> + DerivationStore<P>, W: MakeWaiters<P>>(
+    alloc: Global,
+    files: Files<'_>,
+    file: &PolicyFile,
+    read: &ReadSetup,
+    made: usize,
+) -> Result<String, AllocError>
+    requires plan { IsPlan P.profile read.now.setup.plan }
+    requires made { made ≤ length read.now.setup.calls }
+{
+    let text = text_of(files.policy);
+    let names = read.names.as_slice();
+    match judge::<P, S, W>(alloc, file, text, names, &read.setup, made) {
+        Ok(judged) => {
+            let teller = Teller {
+                alloc,
+                files,
+                file,
+                text,
+                judged: &judged,
+                held: judged.held(),
+            };
+            teller.told(read)
+        }
+        Err(refusal) => refusal_words(alloc, files, &refusal),
+    }
+}
+
+/// What standard error tells of a set-up that was held to a policy; nothing where the set-up is refused.
+///
+/// # Errors
+/// Where memory was refused.
+pub fn policy_messages(alloc: Global, files: Files<'_>) -> Result<String, AllocError> {
+    let Ok(read) = read(alloc, files.setup) else {
+        return Ok(String::new(alloc));
+    };
+    let file = match read_policy(alloc, files.policy) {
+        Ok(file) => file,
+        Err(refusal) => return refusal_words(alloc, files, &refusal),
+    };
+    let after = files.after.or(file.after);
+    match (calls_made(&read.setup, after), read.setup.profile()) {
+        (Some(made), ProfileName::Wide) => {
+            messages_in::<Wide, LinkedStore<Wide>, LinkedWaiters<Wide>>(
+                alloc, files, &file, &read, made,
+            )
+        }
+        (Some(made), ProfileName::Narrow) => {
+            messages_in::<Narrow, LinkedStore<Narrow>, LinkedWaiters<Narrow>>(
+                alloc, files, &file, &read, made,
+            )
+        }
+        (None, _) if files.after.is_some() => Ok(String::new(alloc)),
+        (None, _) => {
+            let (text, calls) = (text_of(files.policy), read.setup.calls().len());
+            refusal_words(alloc, files, &too_many(alloc, text, &file, calls))
+        }
+    }
+}
