@@ -14,6 +14,7 @@ _sel4sim() {
         --messages) COMPREPLY=($(compgen -W '' -- "$word")); return ;;
         --never) COMPREPLY=($(compgen -W '' -- "$word")); return ;;
         --by) COMPREPLY=($(compgen -W '' -- "$word")); return ;;
+        --policy) COMPREPLY=($(compgen -W '' -- "$word")); return ;;
         --states) COMPREPLY=($(compgen -W '' -- "$word")); return ;;
         --witness) COMPREPLY=($(compgen -W '' -- "$word")); return ;;
         --profile) COMPREPLY=($(compgen -W '' -- "$word")); return ;;
@@ -51,7 +52,7 @@ _sel4sim() {
             [[ $word == -* ]] || mapfile -t -O "${#COMPREPLY[@]}" COMPREPLY < <(compgen -f -- "$word")
             ;;
         audit)
-            COMPREPLY=($(compgen -W '--after --slot --ever --without --messages --never --by -h --help' -- "$word"))
+            COMPREPLY=($(compgen -W '--after --slot --ever --without --messages --never --by --policy -h --help' -- "$word"))
             [[ $word == -* ]] || mapfile -t -O "${#COMPREPLY[@]}" COMPREPLY < <(compgen -f -- "$word")
             ;;
         explore)

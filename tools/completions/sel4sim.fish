@@ -31,6 +31,7 @@ complete -c sel4sim -n '__fish_seen_subcommand_from audit' -l without -x -a '' -
 complete -c sel4sim -n '__fish_seen_subcommand_from audit' -l messages -x -a '' -d 'With --ever or --never: these threads go on to send and receive, and do nothing else'
 complete -c sel4sim -n '__fish_seen_subcommand_from audit' -l never -x -a '' -d 'Tell whether FROM'\''s part can never get what TO'\''s part has, nor send to it'
 complete -c sel4sim -n '__fish_seen_subcommand_from audit' -l by -x -a '' -d 'With --never: but by these endpoints, with commas between them'
+complete -c sel4sim -n '__fish_seen_subcommand_from audit' -l policy -x -a '' -d 'Hold the layout to the policy in this file, for all calls to come'
 complete -c sel4sim -n '__fish_seen_subcommand_from audit' -s h -l help -d 'Print help'
 complete -c sel4sim -n '__fish_seen_subcommand_from audit' -F
 complete -c sel4sim -n '__fish_use_subcommand' -a explore -d 'Runs the clients of a set-up in every order of their calls and prints what can happen'

@@ -98,9 +98,9 @@ why_command = with_rule (with_file (codes "why")) (number_rule (codes "call"))
 
 abbrev pub audit_command : App
 audit_command =
-    with_rule (with_rule (with_rule (with_rule (with_rule (with_rule (with_rule (with_file (codes "audit"))
+    with_rule (with_rule (with_rule (with_rule (with_rule (with_rule (with_rule (with_rule (with_file (codes "audit"))
     (number_rule (codes "after"))) (text_rule (codes "slot"))) (flag_rule (codes "ever"))) (text_rule (codes "without")))
-    (text_rule (codes "messages"))) (text_rule (codes "never"))) (text_rule (codes "by"))
+    (text_rule (codes "messages"))) (text_rule (codes "never"))) (text_rule (codes "by"))) (text_rule (codes "policy"))
 
 abbrev pub explore_command : App
 explore_command =
@@ -213,6 +213,7 @@ pub record HasOptions (rows : List Row) (options : Options) : Type 0 where
   pub by : option_map (λ s. s.now) options.by ≡ first_of (codes "by") rows
   pub without : option_map (λ s. s.now) options.without ≡ first_of (codes "without") rows
   pub messages : option_map (λ s. s.now) options.messages ≡ first_of (codes "messages") rows
+  pub policy : option_map (λ s. s.now) options.policy ≡ first_of (codes "policy") rows
   pub first : Says (first_of (codes "first") rows) options.first
   pub states : Says (first_of (codes "states") rows) options.states
   pub witness : option_map (λ s. s.now) options.witness ≡ first_of (codes "witness") rows
@@ -227,12 +228,13 @@ abbrev pub is_of_parts : Options → Bool
 is_of_parts options = options.ever || is_some options.never
 
 -- the options go together: `--ever` and `--never` not with each other, and not with `--slot`; `--without` and `--messages` need one
--- of them, and `--by` needs `--never`
+-- of them, and `--by` needs `--never`; `--policy` goes with none of these
 abbrev pub agrees : Options → Bool
 agrees options =
     not (options.ever && is_some options.never)
     && (not (is_of_parts options && is_some options.slot)
-    && ((is_of_parts options || not (is_some options.without || is_some options.messages)) && (is_some options.never || not (is_some options.by))))
+    && ((is_of_parts options || not (is_some options.without || is_some options.messages)) && ((is_some options.never || not (is_some options.by))
+    && not (is_some options.policy && (is_of_parts options || is_some options.slot)))))
 
 -- the matches of the subcommand that is met
 abbrev pub own_rows : Option (Text × List Row) → List Row

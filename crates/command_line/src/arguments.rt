@@ -50,6 +50,8 @@ pub struct Options<'a> {
     /// `--messages` of `audit --ever` and `audit --never`: the threads that are trusted to go on to send and receive, and to do
     /// nothing else, with commas between them.
     pub messages: Option<&'a str>,
+    /// `--policy` of `audit`: the name of a file, to whose policy the layout is held.
+    pub policy: Option<&'a str>,
     /// `--first` of `explore` and `threads`: how many calls are made before the clients begin.
     pub first: Option<u64>,
     /// `--states` of `explore`: the most states that are kept.

@@ -33,6 +33,8 @@ Examples:
                                  what the clients can never get
   sel4sim audit --never client,server --by endpoint layout.toml
                                  whether one of them is kept from the other
+  sel4sim audit --policy policy.toml layout.toml
+                                 whether it keeps to a policy, for all calls to come
   sel4sim explore layout.toml    what every order of its calls comes to
   sel4sim check - < layout.toml  the set-up on standard input
   sel4sim new > layout.toml      a set-up to start from
@@ -56,6 +58,8 @@ const WITHOUT_ALONE: &str = "--without goes with --ever or --never alone";
 const MESSAGES_ALONE: &str = "--messages goes with --ever or --never alone";
 
 const BY_ALONE: &str = "--by goes with --never alone";
+
+const POLICY_ALONE: &str = "--policy goes with --after alone";
 
 /// What is said where standard input is named twice.
 const TWO_HYPHENS: &str = "- stands for standard input, which can be read once";
@@ -170,12 +174,13 @@ fn why<'a>(alloc: Global) -> Result<Command<'a>, AllocError>
     and_argument(with_file(alloc, "why", about), call)
 }
 
-/// The options of `audit` by which threads are trusted to pass messages, and one thread's part is asked to be kept from another's.
+/// The options of `audit` by which threads are trusted to pass messages, and one thread's part is asked to be kept from another's,
+/// and the one of a policy.
 fn and_never<'a>(
     alloc: Global,
     command: Result<Command<'a>, AllocError>,
 ) -> Result<Command<'a>, AllocError>
-    ensures { Extends (λ app. with_rule (with_rule (with_rule app (text_rule (codes "messages"))) (text_rule (codes "never"))) (text_rule (codes "by"))) command.entry result }
+    ensures { Extends (λ app. with_rule (with_rule (with_rule (with_rule app (text_rule (codes "messages"))) (text_rule (codes "never"))) (text_rule (codes "by"))) (text_rule (codes "policy"))) command.entry result }
 {
     let messages = text(
         alloc,
@@ -196,7 +201,13 @@ fn and_never<'a>(
         "E",
         "With --never: but by these endpoints, with commas between them",
     );
-    and_argument(and_argument(with_messages, never), by)
+    let policy = text(
+        alloc,
+        "policy",
+        "POLICY",
+        "Hold the layout to the policy in this file, for all calls to come",
+    );
+    and_argument(and_argument(and_argument(with_messages, never), by), policy)
 }
 
 /// The subcommand `audit`.
@@ -397,6 +408,7 @@ fn options_in<'a>(matches: &ArgMatches<'a>) -> Options<'a>
         by: text_given(matches, "by"),
         without: text_given(matches, "without"),
         messages: text_given(matches, "messages"),
+        policy: text_given(matches, "policy"),
         first: number_given(matches, "first"),
         states: number_given(matches, "states"),
         witness: text_given(matches, "witness"),
@@ -468,6 +480,7 @@ fn bare_line<'a>(alloc: Global, matches: &ArgMatches<'a>) -> Result<Line<'a>, Al
             by: None,
             without: None,
             messages: None,
+            policy: None,
             first: None,
             states: None,
             witness: None,
@@ -553,6 +566,8 @@ fn conflict_of(options: &Options) -> Option<&'static str>
         Some(MESSAGES_ALONE)
     } else if options.never.is_none() && options.by.is_some() {
         Some(BY_ALONE)
+    } else if options.policy.is_some() && (is_of_parts || options.slot.is_some()) {
+        Some(POLICY_ALONE)
     } else {
         None
     }

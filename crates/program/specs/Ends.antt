@@ -23,7 +23,7 @@ use Rattle.command_marks.specs.Table.{IsMarksOf}
 use Rattle.command_files.specs.declared.inputs.Used.{Used}
 use Rattle.command_files.specs.declared.inputs.Used.TheVariants.{Standard, File, Unopened, Nothing}
 use Rattle.program_messages.specs.declared.ended.Ended.{Ended}
-use Rattle.program_messages.specs.declared.ended.Ended.TheVariants.{Did, Checked, Helped, Refused, Conflict, NoMemory}
+use Rattle.program_messages.specs.declared.ended.Ended.TheVariants.{Did, Checked, Helped, Refused, Conflict, NoMemory, NoPolicy}
 
 -- the name of the file that is to be read, where the words name one; a hyphen stands for standard input
 abbrev pub named_input : Option Text → Option Text
@@ -77,6 +77,7 @@ IsWritten to result old new = (text : List ℕ)
 -- clap takes them, they ask that several files be checked or marked, of which standard input is one at most, and these were.
 -- Helped: their fault can be a call for help. Refused: they have another fault, and nothing is written. Conflict: clap takes
 -- them, their options do not go together or standard input is named twice, and nothing is written. NoMemory: nothing is written.
+-- NoPolicy: clap takes the words, and the file of the policy that they name could not be read; nothing is written.
 abbrev pub IsEnd : {S F E K : Type 0} → (S → Type 0) → (Text → F → Type 0) → (Text → E → Type 0)
     → SourceGhosts S → SourceGhosts F → SinkGhosts K → List Text → Ended S F E → K → K → Type 0
 IsEnd is_standard is_file is_fault from_standard from_file to words (Did done) old new =
@@ -100,3 +101,5 @@ IsEnd is_standard is_file is_fault from_standard from_file to words Refused old 
     (takes command words ≡ false) × HasOtherFault (fault_of command words) × (new ≡ old)
 IsEnd is_standard is_file is_fault from_standard from_file to words (Conflict text) old new = HasConflict words × (new ≡ old)
 IsEnd is_standard is_file is_fault from_standard from_file to words NoMemory old new = new ≡ old
+IsEnd is_standard is_file is_fault from_standard from_file to words (NoPolicy unread) old new =
+    (fault_of command words ≡ []) × (new ≡ old)

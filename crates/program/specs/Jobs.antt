@@ -1,5 +1,5 @@
 -- Which text and which verdict each job has, by its options, for the bytes of an input.
-use Rattle.std.specs.Prelude.{◌≡◌, ℕ, List, Option, Some, None, option_map, unwrap_or, cond, MatchBool}
+use Rattle.std.specs.Prelude.{◌≡◌, ℕ, List, Option, Some, None, option_map, is_some, unwrap_or, cond, MatchBool}
 use Rattle.command_line.specs.declared.arguments.Job.{Job}
 use Rattle.command_line.specs.declared.arguments.Job.TheVariants.{Check, Trace, Threads, Migrate, Why, Audit, Explore, Tree, New, Marks}
 use Rattle.command_line.specs.declared.arguments.Options.{Options}
@@ -10,6 +10,7 @@ use Rattle.command_check.specs.Migrations.{IsMigration}
 use Rattle.command_audit.specs.Audits.{IsAudited, IsSlotAudited}
 use Rattle.command_parts.specs.Told.{IsEver}
 use Rattle.command_parts.specs.Threads.{Trusted}
+use Rattle.command_policy.specs.Policies.{IsPolicyOf}
 use Rattle.command_never.specs.Never.{Asked, IsNever}
 use Rattle.command_explore.specs.Explorations.{IsExploration}
 use Rattle.command_threads.specs.SharedRuns.{IsSharedProgram}
@@ -68,8 +69,13 @@ IsAuditBy options None input text verdict = IsAuditOfState options input text ve
 IsAuditBy options (Some threads) input text verdict =
     IsAnswerTo (IsStateAnswer (IsNever (question_of options threads)) options.after) input text verdict
 
+abbrev pub IsAuditOfParts : Options → List ℕ → List ℕ → Verdict → Type 0
+IsAuditOfParts options input text verdict = IsAuditBy options (option_map (λ s. s.now) options.never) input text verdict
+
+-- or, with `--policy`, what is told of the layout by a policy
 abbrev pub IsAudit : Options → List ℕ → List ℕ → Verdict → Type 0
-IsAudit options input text verdict = IsAuditBy options (option_map (λ s. s.now) options.never) input text verdict
+IsAudit options input text verdict =
+    MatchBool (is_some options.policy) (IsAnswerTo (IsPolicyOf options.after) input text verdict) (IsAuditOfParts options input text verdict)
 
 -- the calls that are made before the clients begin, and the states that are kept at the most
 abbrev pub first_of : Options → ℕ

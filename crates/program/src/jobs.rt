@@ -35,6 +35,7 @@ pub(crate) fn run_work<S: Source, K: Sink>(
     alloc: Global,
     job: Job,
     options: Options<'_>,
+    policy: &[u8],
     source: &mut S,
     sink: &mut K,
 ) -> Result<Found, RunFault>
@@ -44,10 +45,11 @@ pub(crate) fn run_work<S: Source, K: Sink>(
     ensures run { IsRun (meaning job options.entry) S.Source K.Sink source.old source.new sink.old sink.new result }
     ensures never_thread { result ≢ Err RunFault.Thread }
 {
-    run_engine(alloc, &Work::new(job, options), source, sink)
+    run_engine(alloc, &Work::new(job, options, policy), source, sink)
 }
 
-/// Reads the source to its end, and writes to the sink what the job makes of it by the options. The job `Threads` waits until the
+/// Reads the source to its end, and writes to the sink what the job makes of it by the options, of which one may name a policy with
+/// these bytes. The job `Threads` waits until the
 /// set-up's clients have ended.
 ///
 /// # Errors
@@ -59,6 +61,7 @@ pub fn run_job<R: Threads + Wait + Sync, S: Source, K: Sink>(
     alloc: Global,
     job: Job,
     options: Options<'_>,
+    policy: &[u8],
     source: &mut S,
     sink: &mut K,
 ) -> Result<Found, RunFault>
@@ -70,6 +73,6 @@ pub fn run_job<R: Threads + Wait + Sync, S: Source, K: Sink>(
 {
     match job {
         Job::Threads => threads(rt, alloc, options, source, sink),
-        other => run_work(alloc, other, options, source, sink),
+        other => run_work(alloc, other, options, policy, source, sink),
     }
 }

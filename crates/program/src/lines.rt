@@ -6,11 +6,11 @@ ghost use Rattle.program.specs.Ends.{AreDone, is_marks as is_marks_definition, I
 ghost use Rattle.program.specs.NewWords.{IsNewOf};
 
 use crate::jobs::{run_job, run_work};
-use command_core::{ReaderSource, RunFault, Sink, write_all};
+use command_core::{INPUT_LIMIT, ReaderSource, RunFault, Sink, read_below, write_all};
 use command_files::{Inputs, Listener, Used, check_files};
 use command_line::{Job, Line, LineFault, line};
 use command_marks::mark_files;
-use program_messages::{CheckedFiles, Done, Ended};
+use program_messages::{CheckedFiles, Done, Ended, Unread};
 use std::alloc::Global;
 use std::sync::Wait;
 use std::thread::Threads;
@@ -21,6 +21,7 @@ fn run_standard<'a, R: Threads + Wait + Sync, I: Inputs, K: Sink>(
     alloc: Global,
     inputs: &I,
     line: Line<'a>,
+    policy: Vec<u8>,
     sink: &mut K,
 ) -> Done<'a, I::Standard, I::File, I::Fault>
     requires sink { K.failed sink.old ≡ false }
@@ -29,9 +30,18 @@ fn run_standard<'a, R: Threads + Wait + Sync, I: Inputs, K: Sink>(
         I.Standard.Source I.File.Source K.Sink line.entry.job line.entry.options None result.input result.answer sink.old sink.new }
 {
     let mut source = inputs.standard();
-    let answer = run_job(rt, alloc, line.job, line.options, &mut source, sink);
+    let answer = run_job(
+        rt,
+        alloc,
+        line.job,
+        line.options,
+        policy.as_slice(),
+        &mut source,
+        sink,
+    );
     Done {
         line,
+        policy,
         input: Used::Standard(source),
         answer,
     }
@@ -43,6 +53,7 @@ fn run_file<'a, R: Threads + Wait + Sync, I: Inputs, K: Sink>(
     alloc: Global,
     inputs: &I,
     line: Line<'a>,
+    policy: Vec<u8>,
     name: &str,
     sink: &mut K,
 ) -> Done<'a, I::Standard, I::File, I::Fault>
@@ -54,15 +65,25 @@ fn run_file<'a, R: Threads + Wait + Sync, I: Inputs, K: Sink>(
     match inputs.open(name) {
         Ok(file) => {
             let mut source = file;
-            let answer = run_job(rt, alloc, line.job, line.options, &mut source, sink);
+            let answer = run_job(
+                rt,
+                alloc,
+                line.job,
+                line.options,
+                policy.as_slice(),
+                &mut source,
+                sink,
+            );
             Done {
                 line,
+                policy,
                 input: Used::File(source),
                 answer,
             }
         }
         Err(fault) => Done {
             line,
+            policy,
             input: Used::Unopened(fault),
             answer: Err(RunFault::Reading),
         },
@@ -78,9 +99,10 @@ fn run_new<'a, S, F, E, K: Sink>(alloc: Global, line: Line<'a>, sink: &mut K) ->
 {
     let nothing: &[u8] = &[];
     let mut source = ReaderSource::new(nothing);
-    let answer = run_work(alloc, Job::New, line.options, &mut source, sink);
+    let answer = run_work(alloc, Job::New, line.options, nothing, &mut source, sink);
     Done {
         line,
+        policy: Vec::new(alloc),
         input: Used::Nothing,
         answer,
     }
@@ -92,6 +114,7 @@ fn run_setup<'a, R: Threads + Wait + Sync, I: Inputs, K: Sink>(
     alloc: Global,
     inputs: &I,
     line: Line<'a>,
+    policy: Vec<u8>,
     sink: &mut K,
 ) -> Done<'a, I::Standard, I::File, I::Fault>
     requires sink { K.failed sink.old ≡ false }
@@ -101,12 +124,12 @@ fn run_setup<'a, R: Threads + Wait + Sync, I: Inputs, K: Sink>(
         line.entry.job line.entry.options (named_input (option_map (λ s. s.now) line.entry.file)) result.input result.answer sink.old sink.new }
 {
     match line.file {
-        None => run_standard(rt, alloc, inputs, line, sink),
+        None => run_standard(rt, alloc, inputs, line, policy, sink),
         Some(name) => {
             if name == "-" {
-                run_standard(rt, alloc, inputs, line, sink)
+                run_standard(rt, alloc, inputs, line, policy, sink)
             } else {
-                run_file(rt, alloc, inputs, line, name, sink)
+                run_file(rt, alloc, inputs, line, policy, name, sink)
             }
         }
     }
@@ -118,6 +141,7 @@ fn run_line<'a, R: Threads + Wait + Sync, I: Inputs, K: Sink>(
     alloc: Global,
     inputs: &I,
     line: Line<'a>,
+    policy: Vec<u8>,
     sink: &mut K,
 ) -> Done<'a, I::Standard, I::File, I::Fault>
     requires sink { K.failed sink.old ≡ false }
@@ -128,7 +152,36 @@ fn run_line<'a, R: Threads + Wait + Sync, I: Inputs, K: Sink>(
 {
     match line.job {
         Job::New => run_new(alloc, line, sink),
-        _ => run_setup(rt, alloc, inputs, line, sink),
+        _ => run_setup(rt, alloc, inputs, line, policy, sink),
+    }
+}
+
+/// The bytes of the policy that a line names; none where it names none. A file that cannot be opened is a failed read.
+fn read_policy<'a, I: Inputs>(
+    alloc: Global,
+    inputs: &I,
+    name: Option<&'a str>,
+) -> Result<Vec<u8>, Unread<'a, I::Standard, I::File, I::Fault>> {
+    let Some(name) = name else {
+        return Ok(Vec::new(alloc));
+    };
+    match inputs.open(name) {
+        Ok(file) => {
+            let mut source = file;
+            match read_below(alloc, &mut source, INPUT_LIMIT) {
+                Ok(bytes) => Ok(bytes),
+                Err(fault) => Err(Unread {
+                    name,
+                    input: Used::File(source),
+                    fault,
+                }),
+            }
+        }
+        Err(fault) => Err(Unread {
+            name,
+            input: Used::Unopened(fault),
+            fault: RunFault::Reading,
+        }),
     }
 }
 
@@ -186,7 +239,10 @@ pub fn run_words<
     match line(alloc, words) {
         Ok(line) => {
             if line.several.is_empty() {
-                Ended::Did(run_line(rt, alloc, inputs, line, sink))
+                match read_policy(alloc, inputs, line.options.policy) {
+                    Ok(policy) => Ended::Did(run_line(rt, alloc, inputs, line, policy, sink)),
+                    Err(unread) => Ended::NoPolicy(unread),
+                }
             } else {
                 Ended::Checked(run_files(alloc, inputs, listener, line, sink))
             }

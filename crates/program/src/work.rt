@@ -2,7 +2,7 @@
 ghost use Rattle.std.specs.Prelude.{◌≡◌, ◌≢◌, IfErr, IfOk, map};
 ghost use Rattle.command_line.specs.declared.arguments.Job.TheVariants.{Threads};
 ghost use Rattle.command_check.specs.Commands.{IsAnswerTo, IsStateAnswer};
-ghost use Rattle.program.specs.Jobs.{IsAudit, IsAuditNow, IsAuditOfState, IsExplorationBy, by_of, form_of as form_of_options, messages_of, question_of, trust_of, without_of};
+ghost use Rattle.program.specs.Jobs.{IsAudit, IsAuditNow, IsAuditOfParts, IsAuditOfState, IsExplorationBy, by_of, form_of as form_of_options, messages_of, question_of, trust_of, without_of};
 ghost use Rattle.program.specs.NewWords.{IsNewOf};
 ghost use Rattle.program.specs.WitnessWords.{IsNamedWitness};
 ghost use Rattle.command_parts.specs.Told.{IsEver};
@@ -21,6 +21,7 @@ use command_marks::Marks;
 use command_never::Question;
 use command_new::Maker;
 use command_parts::{Ever, Trust};
+use command_policy::HeldTo;
 use command_trace::Trace;
 use command_tree::{Form, Tree};
 use command_why::Why;
@@ -170,13 +171,31 @@ fn make_never(
     )
 }
 
-fn make_audit(alloc: Global, options: Options<'_>, input: &[u8]) -> Result<Answer, RunFault>
-    ensures made { IfOk result (λ made. IsAudit options.entry input.now made.text.items made.verdict) }
+fn make_parts_audit(alloc: Global, options: Options<'_>, input: &[u8]) -> Result<Answer, RunFault>
+    ensures made { IfOk result (λ made. IsAuditOfParts options.entry input.now made.text.items made.verdict) }
     ensures memory { IfErr result (λ fault. fault ≡ RunFault.Memory) }
 {
     match options.never {
         Some(threads) => make_never(alloc, options, threads, input),
         None => make_state_audit(alloc, options, input),
+    }
+}
+
+/// An audit by the options; with `--policy`, the layout held to the policy whose bytes these are.
+fn make_audit(
+    alloc: Global,
+    options: Options<'_>,
+    policy: &[u8],
+    input: &[u8],
+) -> Result<Answer, RunFault>
+    ensures made { IfOk result (λ made. IsAudit options.entry input.now made.text.items made.verdict) }
+    ensures memory { IfErr result (λ fault. fault ≡ RunFault.Memory) }
+{
+    if options.policy.is_some() {
+        let after = options.after;
+        on_setup(alloc, HeldTo { policy, after }, input)
+    } else {
+        make_parts_audit(alloc, options, input)
     }
 }
 
@@ -234,17 +253,22 @@ fn make_new(alloc: Global, options: Options<'_>, input: &[u8]) -> Result<Answer,
 pub(crate) struct Work<'a> {
     job: Job,
     options: Options<'a>,
+    policy: &'a [u8],
     ghost without_threads: { job ≢ Threads },
 }
 
 impl<'a> Work<'a> {
-    /// The job, with its options.
-    pub(crate) fn new(job: Job, options: Options<'a>) -> Work<'a>
+    /// The job, with its options, and the bytes of the policy that they name.
+    pub(crate) fn new(job: Job, options: Options<'a>, policy: &'a [u8]) -> Work<'a>
         requires { job ≢ Job.Threads }
         ensures job { result.job ≡ job }
         ensures options { result.options ≡ options.entry }
     {
-        Work { job, options }
+        Work {
+            job,
+            options,
+            policy,
+        }
     }
 }
 
@@ -261,7 +285,7 @@ impl Engine for Work<'_> {
             Job::Threads => unreachable!(),
             Job::Migrate => Migrator.make(alloc, input),
             Job::Why => on_setup(alloc, Why { call: options.call }, input),
-            Job::Audit => make_audit(alloc, options, input),
+            Job::Audit => make_audit(alloc, options, self.policy, input),
             Job::Explore => make_exploration(alloc, options, input),
             Job::Tree => {
                 let form = form_of(options);

@@ -8,7 +8,7 @@ use Rattle.command_core.specs.declared.fault.RunFault.{RunFault}
 use Rattle.command_files.specs.Files.{files_status}
 use Rattle.command_files.specs.declared.tally.Tally.{Tally}
 use Rattle.program_messages.specs.declared.ended.Ended.{Ended}
-use Rattle.program_messages.specs.declared.ended.Ended.TheVariants.{Did, Checked, Helped, Refused, Conflict, NoMemory}
+use Rattle.program_messages.specs.declared.ended.Ended.TheVariants.{Did, Checked, Helped, Refused, Conflict, NoMemory, NoPolicy}
 
 -- the exit status
 abbrev pub end_status : {S F E : Type 0} → Ended S F E → ℕ
@@ -19,6 +19,7 @@ end_status (Helped (Err fault)) = 3
 end_status Refused = 4
 end_status (Conflict text) = 4
 end_status NoMemory = 3
+end_status (NoPolicy unread) = 3
 
 -- what is said of a fault of a run, and of options that name what the set-up does not have
 abbrev pub verdict_text : Verdict → Option (List ℕ)
@@ -43,3 +44,4 @@ end_text (Helped (Err fault)) = Some (run_fault_text fault)
 end_text Refused = Some (codes "command line refused")
 end_text (Conflict text) = Some (codes "command line refused")
 end_text NoMemory = Some (codes "out of memory")
+end_text (NoPolicy unread) = Some (run_fault_text unread.fault)

@@ -13,6 +13,8 @@ const REFUSED: &str = "command line refused";
 pub struct Done<'a, S, F, E> {
     /// What was asked for.
     pub line: Line<'a>,
+    /// The bytes of the policy that the line names.
+    pub policy: Vec<u8>,
     /// The input, after the job.
     pub input: Used<S, F, E>,
     /// What the job found.
@@ -26,6 +28,17 @@ pub struct CheckedFiles<'a> {
     pub line: Line<'a>,
     /// How many of the files are met, unmet, refused and unread, or why the run ended.
     pub answer: Result<Tally, RunFault>,
+}
+
+/// A policy that could not be read.
+#[derive(Drop)]
+pub struct Unread<'a, S, F, E> {
+    /// The name of its file.
+    pub name: &'a str,
+    /// The file, after the read.
+    pub input: Used<S, F, E>,
+    /// Why it could not be read.
+    pub fault: RunFault,
 }
 
 /// How the program ends.
@@ -43,6 +56,8 @@ pub enum Ended<'a, S, F, E> {
     Conflict(&'static str),
     /// Memory ran out while the line was read.
     NoMemory,
+    /// The line was taken, and the policy that it names could not be read.
+    NoPolicy(Unread<'a, S, F, E>),
 }
 
 impl<S, F, E> Ended<'_, S, F, E> {
@@ -61,6 +76,7 @@ impl<S, F, E> Ended<'_, S, F, E> {
             Ended::Refused => 4,
             Ended::Conflict(_) => 4,
             Ended::NoMemory => 3,
+            Ended::NoPolicy(_) => 3,
         }
     }
 
@@ -100,6 +116,7 @@ impl<S, F, E> Ended<'_, S, F, E> {
             Ended::Refused => Some(REFUSED),
             Ended::Conflict(_) => Some(REFUSED),
             Ended::NoMemory => Some("out of memory"),
+            Ended::NoPolicy(unread) => Some(unread.fault.text()),
         }
     }
 }

@@ -9,5 +9,5 @@ mod messages;
 mod sizes;
 mod words;
 
-pub use ended::{CheckedFiles, Done, Ended};
+pub use ended::{CheckedFiles, Done, Ended, Unread};
 pub use messages::{complain, tell, tell_of_file};

@@ -1,12 +1,13 @@
 //! What is said on standard error. Where that fails too, nothing more is said.
 use crate::absent::absence;
 use crate::calls::{note_on_questions, note_on_refusals, note_on_unmet};
-use crate::ended::{CheckedFiles, Done, Ended};
+use crate::ended::{CheckedFiles, Done, Ended, Unread};
 use crate::words::{is_command, may_be_command, near_command};
 use command_check::CountedText;
 use command_core::{Found, INPUT_LIMIT, KeptReader, Notes, ReaderSource, RunFault, Verdict};
 use command_files::Used;
 use command_line::{Job, Line, refused_line_words};
+use command_policy::{Files, policy_messages};
 use setup_messages::{Formats, refusal_words};
 use setup_positions::NamedText;
 use std::fmt::Display;
@@ -211,6 +212,26 @@ fn note_on_verdict<R: Eprint + AllocGlobal>(rt: &R, line: &Line<'_>, found: &Fou
     }
 }
 
+/// Says what breaks a policy, or why it is refused, in lines that name the place.
+fn note_on_policy<R: Eprint + AllocGlobal>(
+    rt: &R,
+    line: &Line<'_>,
+    policy: &[u8],
+    name: &str,
+    setup: &[u8],
+) {
+    let files = Files {
+        policy,
+        policy_name: name,
+        setup,
+        setup_name: name_of(line.file),
+        after: line.options.after,
+    };
+    if let Ok(text) = policy_messages(rt.alloc(), files) {
+        let _ = eprint!(rt; "{text}");
+    }
+}
+
 /// Says of the calls of a set-up what a command noted of them. `name` is what the input is called, and `file` is its name, with
 /// a space before it, where it has one.
 fn note_on_calls<R: Eprint + AllocGlobal>(
@@ -306,6 +327,9 @@ fn tell_of_line<R: Eprint + AllocGlobal, S, F>(
                 note_on_verdict(rt, &done.line, found, bytes);
                 let is_one_order = !matches!(done.line.job, Job::Explore);
                 note_on_input(rt, done.line.file, &found.notes, is_one_order, bytes);
+                if let Some(name) = done.line.options.policy {
+                    note_on_policy(rt, &done.line, done.policy.as_slice(), name, bytes);
+                }
             }
         }
         Err(RunFault::Reading) => {
@@ -317,6 +341,16 @@ fn tell_of_line<R: Eprint + AllocGlobal, S, F>(
         }
         Err(RunFault::Writing) => explain_writing(rt, failure),
         Err(RunFault::Memory | RunFault::Thread) => {}
+    }
+}
+
+/// Says why a policy could not be read.
+fn tell_of_policy<S, F>(
+    rt: &impl Eprint,
+    unread: &Unread<'_, ReaderSource<KeptReader<S>>, ReaderSource<KeptReader<F>>, io::Error>,
+) {
+    if let RunFault::Reading = unread.fault {
+        explain_reading(rt, unread.name, failure_of(&unread.input));
     }
 }
 
@@ -343,6 +377,7 @@ pub fn tell<R: Eprint + AllocGlobal, S, F>(
             }
         }
         Ended::Conflict(text) => complain(rt, *text),
+        Ended::NoPolicy(unread) => tell_of_policy(rt, unread),
         Ended::Helped(Ok(())) | Ended::NoMemory => {}
     }
 }

@@ -17,8 +17,8 @@ no_items (name ∷ names) none = cc
 some_asked : (ws : List Text) (several : List (Bor Text)) → several_asked ws ≡ texts several → length several ≢ 0 → several_asked ws ≢ []
 some_asked ws several is some none = some (no_items several (sym is ∙ none))
 
-pub returns-else-is_empty : goal.returns-else-is_empty
-returns-else-is_empty g c =
+pub returns-in-Ok : goal.returns-in-Ok
+returns-in-Ok g c =
     let ws = texts c.args.words.now in
     let is = c.in-Ok.ensures in
     let some = some_asked ws c.in-Ok.line.several.items is.several (λ none. grind (arith, none, c.is_empty.ensures, c.if-is_empty.false)) in
