@@ -77,6 +77,7 @@ rows-python:
 	python3 tests/orders_one_by_one.py $(program) 100
 	python3 tests/new_set_ups.py $(program)
 	python3 tests/messages.py $(program)
+	python3 tests/imports.py $(program) tests/layouts 1 300
 	python3 tests/use_address_again.py $(program) 1000
 	python3 tests/devices.py $(program) $(stored)
 	python3 tests/hostile_texts.py $(program) $(setups) $(stored)

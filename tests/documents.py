@@ -3,7 +3,8 @@
 
 A page's blocks are taken in order, in a folder of the page's own that has `crates` and `examples` in it:
 
-- ```toml NAME      is written to the file NAME; with the word `more` behind the name it is added to its end;
+- ```toml NAME, ```capdl NAME
+                    is written to the file NAME; with the word `more` behind the name it is added to its end;
 - ```console        has commands, each behind `$ `, and below each what it writes: standard output alone, or with
                     standard error as a terminal shows both;
 - ```report         stands in what the last command wrote, behind the reports that came before;
@@ -67,6 +68,8 @@ class Runner:
             file.writelines(f"{line}\n" for line in lines)
         return []
 
+    capdl = toml
+
     def run(self, command, errors):
         """What a command writes to standard output, where standard error goes there too or to nothing."""
         return subprocess.run(["sh", "-c", command], cwd=self.folder, env=self.environment, timeout=600, text=True,
@@ -104,7 +107,7 @@ class Runner:
 
 
 # The kinds of block, and whether a file is named behind the kind.
-KINDS = {"toml": True, "console": False, "report": False, "sh": False, "rust": True, "antt": True, "text": False}
+KINDS = {"toml": True, "capdl": True, "console": False, "report": False, "sh": False, "rust": True, "antt": True, "text": False}
 
 
 def prose(page):

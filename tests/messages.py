@@ -242,7 +242,7 @@ SETUPS = [
      ["TOML parse error at line 1, column 1", "invalid UTF-8", "this looks like UTF-16; save the text as UTF-8"]),
 ]
 
-COMMANDS = ["check", "marks", "trace", "threads", "migrate", "why", "audit", "explore", "tree", "new"]
+COMMANDS = ["check", "marks", "trace", "threads", "migrate", "why", "audit", "explore", "tree", "new", "import"]
 
 # the words of a command line, the first line of standard error, and a part of what follows it
 LINES = [

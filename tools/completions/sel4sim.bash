@@ -21,10 +21,11 @@ _sel4sim() {
         --threads) COMPREPLY=($(compgen -W '' -- "$word")); return ;;
         --endpoints) COMPREPLY=($(compgen -W '' -- "$word")); return ;;
         --untyped) COMPREPLY=($(compgen -W '' -- "$word")); return ;;
+        --shrink) COMPREPLY=($(compgen -W '' -- "$word")); return ;;
     esac
     case $command in
         '')
-            COMPREPLY=($(compgen -W 'check marks trace migrate threads why audit explore tree new help -V --version -h --help' -- "$word"))
+            COMPREPLY=($(compgen -W 'check marks trace migrate threads why audit explore tree new import help -V --version -h --help' -- "$word"))
             [[ $word == -* ]] || mapfile -t -O "${#COMPREPLY[@]}" COMPREPLY < <(compgen -f -- "$word")
             ;;
         check)
@@ -66,8 +67,12 @@ _sel4sim() {
         new)
             COMPREPLY=($(compgen -W '--profile --threads --endpoints --untyped -h --help' -- "$word"))
             ;;
+        import)
+            COMPREPLY=($(compgen -W '--shrink --listing -h --help' -- "$word"))
+            [[ $word == -* ]] || mapfile -t -O "${#COMPREPLY[@]}" COMPREPLY < <(compgen -f -- "$word")
+            ;;
         help)
-            COMPREPLY=($(compgen -W 'check marks trace migrate threads why audit explore tree new help' -- "$word"))
+            COMPREPLY=($(compgen -W 'check marks trace migrate threads why audit explore tree new import help' -- "$word"))
             ;;
     esac
 }

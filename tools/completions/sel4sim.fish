@@ -51,5 +51,10 @@ complete -c sel4sim -n '__fish_seen_subcommand_from new' -l threads -x -a '' -d 
 complete -c sel4sim -n '__fish_seen_subcommand_from new' -l endpoints -x -a '' -d 'It has N endpoints'
 complete -c sel4sim -n '__fish_seen_subcommand_from new' -l untyped -x -a '' -d 'It has these untyped regions, with commas between them'
 complete -c sel4sim -n '__fish_seen_subcommand_from new' -s h -l help -d 'Print help'
+complete -c sel4sim -n '__fish_use_subcommand' -a import -d 'Reads a layout as capDL text and prints a set-up whose calls make it'
+complete -c sel4sim -n '__fish_seen_subcommand_from import' -l shrink -x -a '' -d 'Cut untyped regions that cover nothing to N bits'
+complete -c sel4sim -n '__fish_seen_subcommand_from import' -l listing -d 'Print what each slot of the layout holds'
+complete -c sel4sim -n '__fish_seen_subcommand_from import' -s h -l help -d 'Print help'
+complete -c sel4sim -n '__fish_seen_subcommand_from import' -F
 complete -c sel4sim -n '__fish_use_subcommand' -a help -d 'Print this message or the help of the given subcommand(s)'
-complete -c sel4sim -n '__fish_seen_subcommand_from help' -a 'check marks trace migrate threads why audit explore tree new help'
+complete -c sel4sim -n '__fish_seen_subcommand_from help' -a 'check marks trace migrate threads why audit explore tree new import help'

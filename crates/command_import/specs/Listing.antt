@@ -1,5 +1,5 @@
 -- What the slots of a layout hold, a line a slot, in the layout's own names.
-use Rattle.std.specs.Prelude.{ℕ, codes, List, [], ◌++◌, Option, Some, None, slice_get, string_bytes}
+use Rattle.std.specs.Prelude.{ℕ, codes, List, [], ◌++◌, Option, Some, slice_get, string_bytes}
 use Rattle.std.specs.Fmt.{decimal}
 use Rattle.std.specs.List.{flat_map}
 use Rattle.cap_core.specs.declared.capability.Kind.{Kind}

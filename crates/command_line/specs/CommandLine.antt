@@ -14,7 +14,7 @@ use Rattle.clap.specs.declared.builder.value_parser.ValueParser.TheVariants.{Uns
 use Rattle.clap.specs.declared.error.kind.ErrorKind.{ErrorKind}
 use Rattle.clap.specs.declared.error.kind.ErrorKind.TheVariants.{DisplayHelp, OutOfMemory}
 use Rattle.command_line.specs.declared.arguments.Job.{Job}
-use Rattle.command_line.specs.declared.arguments.Job.TheVariants.{Check, Trace, Threads, Migrate, Why, Audit, Explore, Tree, New, Marks}
+use Rattle.command_line.specs.declared.arguments.Job.TheVariants.{Check, Trace, Threads, Migrate, Why, Audit, Explore, Tree, New, Marks, Import}
 use Rattle.command_line.specs.declared.arguments.LineFault.{LineFault}
 use Rattle.command_line.specs.declared.arguments.LineFault.TheVariants.{Help, Refused, Conflict, Memory}
 use Rattle.command_line.specs.declared.arguments.Options.{Options}
@@ -116,6 +116,10 @@ new_command =
     with_rule (with_rule (with_rule (with_rule (new_app (codes "new"))
     (text_rule (codes "profile"))) (number_rule (codes "threads"))) (number_rule (codes "endpoints"))) (text_rule (codes "untyped"))
 
+abbrev pub import_command : App
+import_command =
+    with_rule (with_rule (with_file (codes "import")) (number_rule (codes "shrink"))) (flag_rule (codes "listing"))
+
 -- `sel4sim`, with the subcommands that have no options
 abbrev pub plain_command : App
 plain_command =
@@ -125,10 +129,11 @@ plain_command =
 -- `sel4sim`, with all its subcommands
 unfoldable pub command : App
 command =
-    and_subcommand new_command
+    and_subcommand import_command
+    (and_subcommand new_command
     (and_subcommand tree_command
     (and_subcommand explore_command
-    (and_subcommand audit_command (and_subcommand why_command (and_subcommand threads_command plain_command)))))
+    (and_subcommand audit_command (and_subcommand why_command (and_subcommand threads_command plain_command))))))
 
 -- the job of a subcommand's name
 abbrev pub job_named : Text → Option Job
@@ -143,6 +148,7 @@ job_named name =
     else if bytes_eq name (codes "tree") then Some Tree
     else if bytes_eq name (codes "new") then Some New
     else if bytes_eq name (codes "marks") then Some Marks
+    else if bytes_eq name (codes "import") then Some Import
     else None
 
 -- the jobs that can have several files
@@ -222,6 +228,8 @@ pub record HasOptions (rows : List Row) (options : Options) : Type 0 where
   pub threads : Says (first_of (codes "threads") rows) options.threads
   pub endpoints : Says (first_of (codes "endpoints") rows) options.endpoints
   pub untyped : option_map (λ s. s.now) options.untyped ≡ first_of (codes "untyped") rows
+  pub shrink : Says (first_of (codes "shrink") rows) options.shrink
+  pub listing : options.listing ≡ is_set (first_of (codes "listing") rows)
 
 -- `--ever` and `--never` tell of all calls to come
 abbrev pub is_of_parts : Options → Bool

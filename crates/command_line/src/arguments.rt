@@ -26,6 +26,8 @@ pub enum Job {
     New,
     /// Run a set-up and tell which of its expectations are met, and no reply.
     Marks,
+    /// Write a set-up of a layout.
+    Import,
 }
 
 /// What the options of a command line give; `None` where an option is not there.
@@ -69,6 +71,10 @@ pub struct Options<'a> {
     /// `--untyped` of `new`: the base and the bits of each untyped region, with a colon between them, and commas between the
     /// regions.
     pub untyped: Option<&'a str>,
+    /// `--shrink` of `import`: the bits to which larger untyped regions that cover nothing are cut.
+    pub shrink: Option<u64>,
+    /// Whether `--listing` of `import` is there: the slots of the layout are asked for.
+    pub listing: bool,
 }
 
 /// A command line that was taken: what to do, by which options, and with which file or files; without a file, with standard
@@ -145,6 +151,8 @@ impl Job {
             Some(Job::New)
         } else if name == "marks" {
             Some(Job::Marks)
+        } else if name == "import" {
+            Some(Job::Import)
         } else {
             None
         }

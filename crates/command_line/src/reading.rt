@@ -4,7 +4,7 @@ ghost use Rattle.std.specs.Str.{bytes_eq};
 ghost use Rattle.clap.specs.Words.{App, Rule, app_of, fault_of, first_of, found_of, rows_of, subcommand_of, subcommand_rows_of, with_rule};
 ghost use Rattle.clap.specs.Values.{kind_of};
 ghost use Rattle.clap.specs.Walk.{texts};
-ghost use Rattle.command_line.specs.CommandLine.{Explains, ExplainsMatches, Extends, HasOptions, IsArgument, IsCommand, Says, StandsFor, agrees, and_subcommand as and_command, audit_command, bare_command, check_command, command as definition, explore_command, file_asked, file_of, file_rule, files_of, flag_rule, is_set, job_asked, job_named, job_of, marks_command, more_behind as more_behind_definition, more_files_in, more_files_rule, more_given, new_command, number_rule, own_rows, plain_command, reads_once, several_asked, several_of, text_rule, threads_command, tree_command, version_rule, why_command, with_file as with_file_definition};
+ghost use Rattle.command_line.specs.CommandLine.{Explains, ExplainsMatches, Extends, HasOptions, IsArgument, IsCommand, Says, StandsFor, agrees, and_subcommand as and_command, audit_command, bare_command, check_command, command as definition, explore_command, file_asked, file_of, file_rule, files_of, flag_rule, import_command, is_set, job_asked, job_named, job_of, marks_command, more_behind as more_behind_definition, more_files_in, more_files_rule, more_given, new_command, number_rule, own_rows, plain_command, reads_once, several_asked, several_of, text_rule, threads_command, tree_command, version_rule, why_command, with_file as with_file_definition};
 
 use crate::arguments::{Job, Line, LineFault, Options};
 use clap::builder::ValueParser;
@@ -38,6 +38,7 @@ Examples:
   sel4sim explore layout.toml    what every order of its calls comes to
   sel4sim check - < layout.toml  the set-up on standard input
   sel4sim new > layout.toml      a set-up to start from
+  sel4sim import system.cdl      a set-up of a layout that is capDL text
 
 Exit status:
   0  every expectation is met, or there is none
@@ -322,6 +323,21 @@ fn new<'a>(alloc: Global) -> Result<Command<'a>, AllocError>
     and_sizes(alloc, and_argument(Ok(command), profile))
 }
 
+/// The subcommand `import`.
+fn import<'a>(alloc: Global) -> Result<Command<'a>, AllocError>
+    ensures { IfOk result (IsCommand import_command) }
+{
+    let about = "Reads a layout as capDL text and prints a set-up whose calls make it";
+    let shrink = number(
+        alloc,
+        "shrink",
+        "Cut untyped regions that cover nothing to N bits",
+    );
+    let with_shrink = and_argument(with_file(alloc, "import", about), shrink);
+    let listing = flag(alloc, "listing", "Print what each slot of the layout holds");
+    and_argument(with_shrink, listing)
+}
+
 /// The subcommand `check`, which takes several files.
 fn check<'a>(alloc: Global) -> Result<Command<'a>, AllocError>
     ensures { IfOk result (IsCommand check_command) }
@@ -367,7 +383,8 @@ fn command<'a>(alloc: Global) -> Result<Command<'a>, AllocError>
     let with_audit = and_subcommand(with_why, audit(alloc));
     let with_explore = and_subcommand(with_audit, explore(alloc));
     let with_tree = and_subcommand(with_explore, tree(alloc));
-    and_subcommand(with_tree, new(alloc))
+    let with_new = and_subcommand(with_tree, new(alloc));
+    and_subcommand(with_new, import(alloc))
 }
 
 /// The number that an option gives.
@@ -417,6 +434,8 @@ fn options_in<'a>(matches: &ArgMatches<'a>) -> Options<'a>
         threads: number_given(matches, "threads"),
         endpoints: number_given(matches, "endpoints"),
         untyped: text_given(matches, "untyped"),
+        shrink: number_given(matches, "shrink"),
+        listing: flag_given(matches, "listing"),
     }
 }
 
@@ -489,6 +508,8 @@ fn bare_line<'a>(alloc: Global, matches: &ArgMatches<'a>) -> Result<Line<'a>, Al
             threads: None,
             endpoints: None,
             untyped: None,
+            shrink: None,
+            listing: false,
         },
         file,
         several,

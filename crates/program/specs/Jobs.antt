@@ -1,7 +1,7 @@
 -- Which text and which verdict each job has, by its options, for the bytes of an input.
 use Rattle.std.specs.Prelude.{◌≡◌, ℕ, List, Option, Some, None, option_map, is_some, unwrap_or, cond, MatchBool}
 use Rattle.command_line.specs.declared.arguments.Job.{Job}
-use Rattle.command_line.specs.declared.arguments.Job.TheVariants.{Check, Trace, Threads, Migrate, Why, Audit, Explore, Tree, New, Marks}
+use Rattle.command_line.specs.declared.arguments.Job.TheVariants.{Check, Trace, Threads, Migrate, Why, Audit, Explore, Tree, New, Marks, Import}
 use Rattle.command_line.specs.declared.arguments.Options.{Options}
 use Rattle.command_core.specs.declared.fault.Verdict.{Verdict}
 use Rattle.command_check.specs.Program.{program}
@@ -11,6 +11,7 @@ use Rattle.command_audit.specs.Audits.{IsAudited, IsSlotAudited}
 use Rattle.command_parts.specs.Told.{IsEver}
 use Rattle.command_parts.specs.Threads.{Trusted}
 use Rattle.command_policy.specs.Policies.{IsPolicyOf}
+use Rattle.command_import.specs.Import.{IsImported}
 use Rattle.command_never.specs.Never.{Asked, IsNever}
 use Rattle.command_explore.specs.Explorations.{IsExploration}
 use Rattle.command_threads.specs.SharedRuns.{IsSharedProgram}
@@ -112,3 +113,4 @@ meaning Explore options = IsExplorationBy options
 meaning Tree options = IsAnswerTo (IsStateAnswer (IsTree (form_of options)) options.after)
 meaning New options = λ input text verdict. IsNewOf options text verdict
 meaning Marks options = IsAnswerTo IsMarks
+meaning Import options = λ input text verdict. IsImported options.listing text verdict

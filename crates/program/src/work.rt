@@ -16,6 +16,7 @@ use command_audit::{Audit, SlotAudit};
 use command_check::{Checker, Command, Migrator, OnSetup, OnState, StateCommand};
 use command_core::{Answer, Engine, RunFault};
 use command_explore::{Explore, ExploreOptions, WriteWitness};
+use command_import::Importer;
 use command_line::{Job, Options};
 use command_marks::Marks;
 use command_never::Question;
@@ -293,6 +294,10 @@ impl Engine for Work<'_> {
             }
             Job::New => make_new(alloc, options, input),
             Job::Marks => on_setup(alloc, Marks, input),
+            Job::Import => {
+                let Options { shrink, listing, .. } = options;
+                Importer { shrink, listing }.make(alloc, input)
+            }
         }
     }
 }

@@ -8,6 +8,7 @@ use command_core::{Found, INPUT_LIMIT, KeptReader, Notes, ReaderSource, RunFault
 use command_files::Used;
 use command_line::{Job, Line, refused_line_words};
 use command_policy::{Files, policy_messages};
+use setup_layout::layout_words;
 use setup_messages::{Formats, refusal_words};
 use setup_positions::NamedText;
 use std::fmt::Display;
@@ -197,10 +198,31 @@ fn note_on_absence<R: Eprint + AllocGlobal>(rt: &R, line: &Line<'_>, found: &Fou
     }
 }
 
+/// What is said of a layout of which a set-up was made that does not come to it.
+const NOT_LAID_OUT: &str =
+    "the set-up that was made does not come to the layout, so it is not written";
+
+/// Says what is wrong with a layout, or what is left out of it.
+fn note_on_layout<R: Eprint + AllocGlobal>(
+    rt: &R,
+    line: &Line<'_>,
+    verdict: Verdict,
+    bytes: &[u8],
+) {
+    let (shrink, name) = (line.options.shrink, name_of(line.file));
+    if let Ok(words) = layout_words(rt.alloc(), bytes, shrink, name) {
+        note(rt, words.as_str());
+    }
+    if matches!(verdict, Verdict::Absent) {
+        note(rt, NOT_LAID_OUT);
+    }
+}
+
 /// Says why a set-up is refused, also one that was made, or what the options name and it does not have.
 fn note_on_verdict<R: Eprint + AllocGlobal>(rt: &R, line: &Line<'_>, found: &Found, bytes: &[u8]) {
     match (line.job, found.verdict) {
         (Job::New, Verdict::Refused) => note(rt, REFUSED_TEXT),
+        (Job::Import, verdict) => note_on_layout(rt, line, verdict, bytes),
         (_, Verdict::Refused) => {
             let (formats, name) = (formats_of(line.job), name_of(line.file));
             if let Ok(words) = refusal_words(rt.alloc(), bytes, formats, name) {

@@ -109,6 +109,10 @@ const SUBCOMMANDS: &[(&[&str], Wanted<'_>)] = &[
     ),
     (&["sel4sim", "migrate"], Wanted::Done(0, "format = 2\n")),
     (
+        &["sel4sim", "import"],
+        Wanted::Done(2, "layout refused at 1\n"),
+    ),
+    (
         &["sel4sim", "check", "text.toml"],
         Wanted::Done(2, "set-up refused 200 at text\n"),
     ),

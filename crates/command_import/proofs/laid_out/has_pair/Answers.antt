@@ -1,8 +1,7 @@
 -- A test of the full slots as they are kept is one of what is seen of them.
-use Rattle.std.proofs.Common.{ℕ, Option, ◌∙◌}
-use Rattle.kernel_forest.specs.Entries.{Entry}
+use Rattle.std.proofs.Common.{◌∙◌}
 use Rattle.slot_core.specs.Calls.{derivation_view}
-use Rattle.command_import.specs.Laid.{is_of, is_pair, is_known}
+use Rattle.command_import.specs.Laid.{is_pair}
 use Rattle.command_import.proofs.Rows.{any_seen}
 use Rattle.command_import.proofs.laid_out.has_pair.Goals as goal
 

@@ -2,7 +2,7 @@
 use Rattle.std.proofs.Common.{ℕ, Option, ◌∙◌}
 use Rattle.kernel_forest.specs.Entries.{Entry}
 use Rattle.slot_core.specs.Calls.{derivation_view}
-use Rattle.command_import.specs.Laid.{is_of, is_pair, is_known}
+use Rattle.command_import.specs.Laid.{is_of}
 use Rattle.command_import.proofs.Rows.{any_seen}
 use Rattle.command_import.proofs.laid_out.is_live.Goals as goal
 

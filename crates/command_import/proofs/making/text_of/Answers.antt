@@ -1,5 +1,4 @@
 -- The listing, and behind it the rest.
-use Rattle.std.specs.Prelude.{string_bytes}
 use Rattle.std.proofs.Common.{◌++◌, ap, ◌∙◌}
 use Rattle.command_import.proofs.making.text_of.Goals as goal
 

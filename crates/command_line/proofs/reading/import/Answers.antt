@@ -1,0 +1,6 @@
+-- The subcommand `import` that is built is the definition's.
+use Rattle.command_line.proofs.reading.import.Goals as goal
+
+pub returns : goal.returns
+returns c =
+    c.and_argument.ensures _ c.flag-listing.ensures _ (c.and_argument-with_shrink.ensures _ c.number-shrink.ensures _ c.with_file.ensures)

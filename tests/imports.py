@@ -1,0 +1,191 @@
+#!/usr/bin/env python3
+"""imports.py PROGRAM FOLDER SEED COUNT: imports layouts, runs the set-ups, and compares their ends with what the layouts say.
+
+FOLDER has layouts, each with what its slots hold in a file `.listing`, written by another reader; and in `wrong` layouts with one
+fault each. COUNT random layouts are drawn from SEED. The end of each set-up is
+read off the report of `check`: each slot of the layout holds its capability, no other slot is full but the loader's, threads are ready
+or inactive as asked, and nobody waits on an endpoint; what the slots have to hold is drawn here, or read by a few expressions that know
+nothing of the program. The set-up is also given to `check -`. A call of it is taken out or changed in some: then the end has to differ."""
+import pathlib
+import random
+import re
+import subprocess
+import sys
+
+# The line of the first fault, by the name of the layout.
+FAULTS = {
+    "arch_unknown": 1, "brace_missing": 10, "cspace_is_no_cnode": 13, "declared_twice": 6, "guard_too_long": 13,
+    "guard_value_too_long": 13, "kind_misspelt": 3, "no_arch": 2, "no_end": 15, "no_size": 4, "object_misspelt": 10,
+    "right_unknown": 10, "section_misspelt": 8, "slot_outside": 10, "slot_twice": 11, "slots_of_an_endpoint": 12,
+    "tcb_slot_misspelt": 13, "tcb_slot_of_a_cnode": 10, "too_large": 1, "untyped_twice": 11,
+}
+RIGHTS = (("W", "w"), ("R", "r"), ("G", "g"), ("P", "p"))
+
+
+def drawn(seed):
+    """Returns a random layout as text, and what it says: the objects with kind and size, the slots, and who is inactive."""
+    r = random.Random(seed)
+    arch, word, badge = r.choice([("x86_64", 64, 64), ("aarch64", 64, 64), ("arm11", 32, 28), ("riscv", 64, 64)])
+    objects, lines, inactive = {}, [], set()
+    for i in range(r.randint(1, 8)):
+        objects[f"cn_{i}"] = ("cnode", r.randint(1, 6))
+    for i in range(r.randint(1, 8)):
+        objects[f"T{i}.main"] = ("tcb", 0)
+    for i in range(r.randint(0, 8)):
+        objects[f"ep_{i}"] = ("ep", 0)
+    for i in range(r.randint(0, 4)):
+        objects[f"ut_{i}"] = ("ut", r.randint(8, 14))
+    regions = [name for name, (kind, _) in objects.items() if kind == "ut"]
+    covered = {name: [] for name in regions}
+    for name, (kind, bits) in objects.items():
+        if kind == "ep" and regions and r.random() < 0.3:
+            covered[r.choice(regions)].append(name)
+        elif kind == "tcb" and r.random() < 0.2:
+            inactive.add(name)
+            lines.append(f"{name} = tcb (prio: 100, resume: false)")
+        elif kind != "ut":
+            lines.append(f"{name} = {kind}" + (f" ({bits} bits)" if bits else ""))
+    lines += [f"{u} = ut ({objects[u][1]} bits) {{ " + " ".join(f"{e} = ep" for e in covered[u]) + " }" for u in regions]
+    lines += [f"f{i} = {r.choice(['frame (4k)', 'notification', 'pt'])}" for i in range(r.randint(0, 3))]
+    r.shuffle(lines)
+    return arch, word, badge, objects, lines, inactive, regions, r
+
+
+def capability(r, word, badge, objects, free):
+    """Returns a random capability as it is written in a layout, and what the report has to say of it, by the object's name."""
+    endpoints = [name for name, (kind, _) in objects.items() if kind == "ep"]
+    what = r.random()
+    if what < 0.5 and endpoints:
+        name = r.choice(endpoints)
+        letters = "".join(x for x, _ in RIGHTS if r.random() < 0.5)
+        number = r.choice([0, 1, 7, 0xFF, 2**badge - 1])
+        shown = "".join(y if x in letters or not letters else "-" for x, y in RIGHTS)
+        said = ([letters] if letters else []) + ([f"badge: {number:#x}"] if number else [])
+        return name + (f" ({', '.join(said)})" if said else ""), (name, f"badge {number} rights {shown}")
+    if what < 0.7:
+        name = r.choice([name for name, (kind, _) in objects.items() if kind == "tcb"])
+        return name, (name, "")
+    if what < 0.9 or not free:
+        name = r.choice([name for name, (kind, _) in objects.items() if kind == "cnode"])
+        size = r.choice([0, r.randint(0, word - objects[name][1])])
+        value = r.getrandbits(min(size, 18)) if size else 0
+        return f"{name} (guard: {value}, guard_size: {size})", (name, f"radix {objects[name][1]} guard {value} size {size}")
+    name = free.pop()
+    return name, (name, f"bits {objects[name][1]}")
+
+
+def layout(seed):
+    """Returns the text of a random layout, its slots and the inactive threads."""
+    arch, word, badge, objects, lines, inactive, regions, r = drawn(seed)
+    text, want = [f"arch {arch}", "objects {", *lines, "}", "caps {"], {}
+    for name, (kind, bits) in objects.items():
+        if kind == "cnode":
+            text.append(f"{name} {{")
+            for slot in r.sample(range(2**bits), r.randint(0, min(2**bits, 8))):
+                said, held = capability(r, word, badge, objects, regions)
+                text.append(f"{slot:#x}: {said}" if r.random() < 0.5 else f"{slot}: {said}")
+                want[name, slot] = held
+            text.append("}")
+        if kind == "tcb" and r.random() < 0.9:
+            root = r.choice([other for other, (its, _) in objects.items() if its == "cnode"])
+            size = word - objects[root][1]
+            text.append(f"{name} {{ cspace: {root} (guard: 0, guard_size: {size}) }}")
+            want[name, 0] = (root, f"radix {objects[root][1]} guard 0 size {size}")
+    return "\n".join([*text, "}", ""]), objects, want, inactive, 32 if word == 64 else 16
+
+
+def run(program, words, text):
+    return subprocess.run([program, *words], input=text, capture_output=True, text=True)
+
+
+def named(text):
+    """Returns the addresses of the names of a set-up."""
+    table = text.split("[names]\n")[1].split("\n\n")[0]
+    return {line.split(" = ")[0]: int(line.split(" = ")[1]) for line in table.splitlines()}
+
+
+def plain(name):
+    return re.sub(r"[^a-z0-9_]", "_", name.lower().replace("]", ""))[:36]
+
+
+def shown(report):
+    """Returns what the lines of a report tell: full slots, threads and endpoints by their addresses."""
+    slots, states = {}, {}
+    for line in report.splitlines():
+        word, _, rest = line.partition(" ")
+        at, _, told = rest.partition(" ")
+        if word == "slot":
+            slots[int(at)] = told.replace(" children", "").split(" free")[0]
+        if word in ("thread", "endpoint"):
+            states[int(at)] = told
+    return slots, states
+
+
+def differences(report, text, objects, want, inactive, size):
+    """Yields what in the end of a set-up is not as the layout says. Regions have no name where others stand at their addresses."""
+    places, (slots, states) = named(text), shown(report)
+    end = size * 2 ** int(re.search(r"root_radix = (\d+)", text)[1])
+    expected = {places["loader"]: None}
+    kinds = {"cnode": "cnode", "tcb": "tcb", "ep": "endpoint", "ut": "untyped"}
+    for (holder, slot), (name, told) in want.items():
+        at = places[plain(holder)] + slot * size
+        kind, place = kinds[objects[name][0]], places.get(plain(name))
+        expected[at] = f"{kind} {place} {told}".strip() if place is not None else None
+        if at not in slots or not slots[at].startswith(kind):
+            yield f"{holder}[{slot}] holds {slots.get(at)}"
+        elif expected[at] is not None and slots[at] != expected[at]:
+            yield f"{holder}[{slot}] holds {slots[at]}, and not {expected[at]}"
+    for at in slots:
+        if at >= end and at not in expected:
+            yield f"slot {at} holds {slots[at]}"
+    for name, (kind, _) in objects.items():
+        state = {"tcb": "inactive" if name in inactive else "ready", "ep": "idle"}.get(kind)
+        if state and states.get(places[plain(name)]) != state:
+            yield f"{name} is {states.get(places[plain(name)])}"
+
+
+def faults_of(program, folder):
+    """Yields which layouts of a folder are not imported, or not refused at their lines."""
+    for path in sorted(folder.glob("*.cdl")):
+        made = run(program, ["import", str(path)], "")
+        checked = run(program, ["check", "-"], made.stdout)
+        if made.returncode or checked.returncode or run(program, ["import", "-"], path.read_text()).stdout != made.stdout:
+            yield f"{path.name}: status {made.returncode}, and of its set-up {checked.returncode}"
+        listed = run(program, ["import", "--listing", str(path)], "").stdout
+        if sorted(listed.splitlines()) != sorted(path.with_suffix(".listing").read_text().splitlines()):
+            yield f"{path.name}: its listing has other lines"
+        if not made.stdout.startswith("".join(f"# {line}\n" for line in listed.splitlines()) + "#\n"):
+            yield f"{path.name}: its set-up begins with another listing"
+    for path in sorted((folder / "wrong").glob("*.cdl")):
+        made = run(program, ["import", str(path)], "")
+        line = FAULTS[path.stem]
+        if made.returncode != 2 or made.stdout != f"layout refused at {line}\n" or f"{path.name}:{line}:" not in made.stderr:
+            yield f"{path.name}: {made.returncode} {made.stdout!r} {made.stderr[:200]!r}"
+
+
+def main(program, folder, seed, count):
+    wrong = list(faults_of(program, pathlib.Path(folder)))
+    changed = unseen = 0
+    for number in range(int(count)):
+        text, *said = layout(f"{seed} {number}")
+        made = run(program, ["import"], text)
+        if made.returncode:
+            wrong.append(f"layout {number} of {seed}: {made.returncode} {made.stderr[-200:]}")
+            continue
+        report = run(program, ["check", "-"], made.stdout).stdout
+        wrong += [f"layout {number} of {seed}: {it}" for it in differences(report, made.stdout, *said)]
+        calls = made.stdout.split("\n\n# ")
+        if number % 10 == 0 and len(calls) > 4:
+            # Without one of its calls the end has to be another one.
+            out = random.Random(number).randrange(2, len(calls) - 1)
+            report = run(program, ["check", "-"], "\n\n# ".join(calls[:out] + calls[out + 1 :])).stdout
+            changed += 1
+            unseen += not list(differences(report, made.stdout, *said))
+    for line in wrong[:20]:
+        print(line)
+    print(f"imports: {count} random layouts, {len(wrong)} faults; {changed} set-ups without a call, {unseen} not seen")
+    return bool(wrong) or unseen > 0
+
+
+if __name__ == "__main__":
+    sys.exit(main(*sys.argv[1:]))
