@@ -295,7 +295,11 @@ impl Engine for Work<'_> {
             Job::New => make_new(alloc, options, input),
             Job::Marks => on_setup(alloc, Marks, input),
             Job::Import => {
-                let Options { shrink, listing, .. } = options;
+                let Options {
+                    shrink,
+                    listing,
+                    ..
+                } = options;
                 Importer { shrink, listing }.make(alloc, input)
             }
         }
