@@ -46,7 +46,8 @@ BEGIN_HERE = ("send_then_receive", "guarded_address_space", "revocation_of_badge
 ANSWERS_OF_EXERCISES = ("exercise_answers/", "examples/exercise_copies_and_badges")
 # Set-ups that are told of by another subcommand than check: their folder, and the tab that they are opened in.
 ANSWERS = TOP / "crates" / "test_worked_answers" / "data"
-FOR_TABS = (("explorations", "orders"), ("audits", "audit"), ("parts", "ever"), ("trees", "tree"))
+FOR_TABS = (("explorations", "orders"), ("audits", "audit"), ("parts", "ever"), ("policies", "policy"), ("trees", "tree"))
+POLICY = ".policy.toml"
 FIRST_CALLS = re.compile(r"^#.*--first (\d+)", re.M)
 
 
@@ -97,11 +98,17 @@ def options_of(path, text):
     return options
 
 
+def policy_of(path):
+    """The policy that a set-up is held to, where one is beside it."""
+    policy = path.with_suffix(POLICY)
+    return {"policy": policy.read_text()} if policy.exists() else {}
+
+
 def for_tabs():
     """Yields the set-ups that are opened in a tab of their own, as topics."""
     for kind, tab in FOR_TABS:
-        found = readable((ANSWERS / kind).glob("*.toml"))
-        setups = [{"name": path.stem, "text": text, "options": options_of(path, text)} for path, text in found]
+        found = readable(it for it in (ANSWERS / kind).glob("*.toml") if not it.name.endswith(POLICY))
+        setups = [{"name": path.stem, "text": text, "options": options_of(path, text), **policy_of(path)} for path, text in found]
         if setups:
             yield {"topic": f"for {tab}", "tab": tab, "setups": setups}
 

@@ -5,13 +5,13 @@ const MARGIN = "margin";
 /** Lines that are brought into sight stand at least so many pixels from the edge. */
 const POINTED_FROM_EDGE = 60;
 
-/** An editor in an element; `changed` is told of each change that the reader makes, `moved` of each line that the reader puts
+/** An editor in an element, by the name that is heard of it; `changed` is told of each change that the reader makes, `moved` of each line that the reader puts
     the cursor into, and `asked` of a line whose mark the reader asks for, and whether by a click on the mark. */
 export class Editor {
-  constructor(parent, { changed, moved, asked }) {
+  constructor(parent, name, { changed, moved, asked }) {
     this.mirror = CodeMirror(parent, {
       mode: "toml", lineNumbers: true, gutters: [MARGIN, "CodeMirror-linenumbers"], inputStyle: "contenteditable",
-      screenReaderLabel: "Set-up", lineWrapping: true, tabSize: 2,
+      screenReaderLabel: name, lineWrapping: true, tabSize: 2,
       // Tab leaves the editor, as it leaves every other part of the page.
       extraKeys: { Tab: false, "Shift-Tab": false, Esc: () => this.leave(), F2: () => asked(this.mirror.getCursor().line, false) },
     });

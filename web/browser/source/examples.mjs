@@ -40,7 +40,7 @@ export class Examples {
     });
   }
 
-  /** The set-up of a topic and a name: `{ text, tab, options }`, or undefined. */
+  /** The set-up of a topic and a name: `{ text, tab, options, policy }`, or undefined. */
   find(topic, name) {
     const { tab, setups = [] } = this.topics.find((it) => it.topic === topic) ?? {};
     const found = setups.find((it) => it.name === name);

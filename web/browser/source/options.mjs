@@ -64,10 +64,10 @@ export class Options {
     return this.values[tab.name]?.[name] ?? "";
   }
 
-  /** The words of the command line for a tab. An option may stand in place of one of the tab's own words. */
-  words(tab) {
+  /** The words of the command line for a tab, which may name a policy. An option may stand in place of one of the tab's own words. */
+  words(tab, policy) {
     const given = (tab.options ?? []).filter(({ name }) => this.value(tab, name));
-    const own = tab.words.filter((word) => !given.some(({ replaces }) => replaces === word));
+    const own = [...tab.words, ...(tab.hasPolicy ? [policy] : [])].filter((word) => !given.some(({ replaces }) => replaces === word));
     return [...own, ...given.flatMap(({ name, isAlone }) => [`--${name}`, ...(isAlone ? [] : [this.value(tab, name)])])];
   }
 

@@ -5,7 +5,8 @@ import { Exercise } from "./exercise.mjs";
 import { Options } from "./options.mjs";
 import { Program, STOPPED } from "./program.mjs";
 import { Steps } from "./steps.mjs";
-import { TABS } from "./tabs.mjs";
+import { POLICY, TABS } from "./tabs.mjs";
+import { Policy, isPolicy } from "./policy.mjs";
 import { asExercise } from "./exercise_text.mjs";
 import { callsOf } from "./report.mjs";
 import { element } from "../../page/source/element.mjs";
@@ -13,6 +14,7 @@ import { fragmentOf, readFragment } from "./share.mjs";
 import { callAt, lastLineOf, lineOfFault, placesOf, wordsTold } from "./places.mjs";
 import { drawTerms } from "./terms.mjs";
 import { drawingOf } from "../../page/source/picture.mjs";
+import { drawMade, isLayout, setupNameOf } from "./layout.mjs";
 import { keepLeft, keepState, keptState } from "./kept.mjs";
 import { wordsOf } from "./answer.mjs";
 import { listenToFiles } from "../../page/source/files.mjs";
@@ -24,6 +26,8 @@ const FIRST_EXAMPLE = ["examples", "send_then_receive"];
 const FIRST_EXERCISE = ["exercises", "01_slots_and_words"];
 const [REPORT] = TABS;
 const STEPS = TABS.find(({ name }) => name === "steps");
+/** A layout is shown in the tab of the report, as the program answers it. */
+const LAYOUT = { ...REPORT, show: (page, panel, text) => panel.replaceChildren(element("pre", { tabindex: "0" }, text)) };
 const WHY = TABS.find(({ name }) => name === "why");
 /** The exit statuses of a set-up and of a command line that are refused. */
 const REFUSED = [2, 4];
@@ -82,7 +86,8 @@ class Page {
     this.data = data;
     this.markup = (text) => URLS.createHTML(text);
     this.program = new Program(data.module, data.worker, URLS);
-    this.editor = new Editor(byId("editor"), { changed: () => this.changed(), moved: (line) => this.follow(line),
+    this.policy = new Policy(byId("policy"), () => this.changed());
+    this.editor = new Editor(byId("editor"), "Set-up", { changed: () => this.changed(), moved: (line) => this.follow(line),
       asked: (...mark) => this.hear(...mark) });
     this.options = new Options(byId("options"), () => this.given());
     this.steps = new Steps({ viewer: this.markup(data.viewer), title: "The run, call by call",
@@ -112,30 +117,36 @@ class Page {
   }
 
   get title() {
-    return this.name.replace(/\.toml$/u, "");
+    return this.name.replace(/\.(?:toml|cdl)$/u, "");
+  }
+
+  get policyName() {
+    return `${this.title}.policy.toml`;
   }
 
   /** What is open, as it can be opened again. */
   get setup() {
-    const { name, tab, isChanged, options: { values } } = this;
-    return { text: this.editor.text, name, tab: tab.name, options: values, isChanged };
+    const { name, tab, isChanged, options: { values }, policy } = this;
+    return { text: this.editor.text, name, tab: tab.name, options: values, isChanged,
+      policy: policy.isChanged || tab === POLICY ? policy.text : "" };
   }
 
   /** Whether the set-up is not as it was opened. */
   get isChanged() {
     const { text } = this.editor;
-    return text.trim() !== "" && text !== this.asOpened;
+    return text.trim() !== "" && (text !== this.asOpened || this.policy.isChanged);
   }
 
   /** Takes a set-up in place of the one in the editor, and runs it, or shows it as an exercise, where it is one and was not
       changed; done once that is shown. Where the set-up before it was changed, there is a way back to it. */
-  async open(text, name, options = {}, isEdited = false) {
+  async open(text, name, options = {}, isEdited = false, policy = "") {
     const left = this.isChanged ? this.setup : null;
     byId("welcome").hidden = true;
     this.setName(name);
     this.options.reset(options);
     this.editor.text = text;
     this.asOpened = this.editor.text;
+    this.policy.take(policy);
     this.opened += 1;
     this.firstCall = 0;
     // What runs for the set-up before is not told any more.
@@ -152,8 +163,30 @@ class Page {
   }
 
   /** Opens a set-up once more, in the tab that it was left in. */
-  openAgain({ text, name, tab, options, isChanged }) {
-    return this.openIn(TABS.find((it) => it.name === tab) ?? this.tab, text, name, options, isChanged);
+  openAgain({ text, name, tab, options, isChanged, policy }) {
+    return this.openIn(TABS.find((it) => it.name === tab) ?? this.tab, text, name, options, isChanged, policy);
+  }
+
+  /** Opens a file: a policy beside the set-up, a layout, of which the program makes a set-up, or a set-up. */
+  openFile(text, name) {
+    if (isPolicy(text)) {
+      this.policy.editor.text = text;
+      this.choose(POLICY);
+      return null;
+    }
+    return isLayout(name) ? this.openLayout(text, name) : this.open(text, name);
+  }
+
+  /** Opens the set-up that the program makes of a layout; where it makes none, the layout, with its faults at their lines. */
+  async openLayout(text, name) {
+    const answer = await this.program.run(["import", name], name, new TextEncoder().encode(text));
+    if (answer === STOPPED) return;
+    if (answer.status !== 0) {
+      await this.openIn(REPORT, text, name);
+      return;
+    }
+    await this.openIn(REPORT, decoded(answer.output), setupNameOf(name));
+    this.say(...drawMade(name, decoded(answer.errors), link("see the layout", () => this.openIn(REPORT, text, name))));
   }
 
   /** Keeps a set-up that was changed and is left, and offers the way back to it. */
@@ -221,6 +254,10 @@ class Page {
     const { round, tab } = this;
     const text = this.editor.text;
     const bytes = new TextEncoder().encode(text);
+    if (isLayout(this.name)) {
+      await this.runLayout(text, bytes);
+      return;
+    }
     const late = setTimeout(() => this.tell("running…"), MILLISECONDS_UNTOLD);
     byId("stop").disabled = false;
     const isLast = () => round === this.round;
@@ -242,7 +279,20 @@ class Page {
   }
 
   answerTo(tab, bytes) {
-    return this.program.run([...this.options.words(tab), this.name], this.name, bytes);
+    const policy = { name: this.policyName, bytes: new TextEncoder().encode(this.policy.text) };
+    return this.program.run([...this.options.words(tab, policy.name), this.name], this.name, bytes, tab.hasPolicy ? [policy] : []);
+  }
+
+  /** Says what is wrong with the layout in the editor, at its lines, or offers the set-up that the program makes of it. */
+  async runLayout(text, bytes) {
+    const { round, name } = this;
+    byId("command-line").textContent = `sel4sim import ${quoted(name)}`;
+    const answer = await this.program.run(["import", name], name, bytes);
+    if (answer === STOPPED || round !== this.round) return;
+    this.editor.clear();
+    if (answer.status === 0) this.say("The program makes a set-up of this layout. ", link("open the set-up", () => this.openLayout(text, name)));
+    else wordsTold(decoded(answer.errors)).filter(({ line }) => line >= 0).forEach(({ line, words }) => this.editor.fault(line, words));
+    this.show(LAYOUT, answer);
   }
 
   /** The reasons of the calls that a report tells as refused, by their numbers, where it was quick. */
@@ -285,6 +335,7 @@ class Page {
     const isOld = this.fill(tab, answer, text);
     byId("ended").textContent = isOld ? `${words.ended}; below stands the answer before it. ${firstFault(answer)}` : words.ended;
     byId("ended").title = words.took ?? "";
+    if (tab.hasPolicy) this.policy.mark(decoded(answer.errors), this.policyName);
     this.drawErrors(tab.told ? "" : decoded(answer.errors));
   }
 
@@ -315,7 +366,7 @@ class Page {
   }
 
   commandOf(tab) {
-    return ["sel4sim", ...[...this.options.words(tab), this.name].map(quoted)].join(" ");
+    return ["sel4sim", ...[...this.options.words(tab, this.policyName), this.name].map(quoted)].join(" ");
   }
 
   drawTabs() {
@@ -342,6 +393,7 @@ class Page {
     const before = chosen.offsetLeft - row.offsetLeft;
     row.scrollLeft = Math.min(before, Math.max(row.scrollLeft, before + chosen.offsetWidth - row.clientWidth));
     document.body.dataset.tab = this.tab.name;
+    if (this.tab === POLICY) this.policy.editor.refresh();
     this.options.draw(this.tab);
     byId("command-line").textContent = this.commandOf(this.tab);
   }
@@ -372,8 +424,8 @@ class Page {
   openExample(topic, name) {
     const found = this.examples.find(topic, name);
     if (!found) return;
-    const { text, tab, options } = found;
-    this.openIn(TABS.find((it) => it.name === tab) ?? this.tab, text, `${name}.toml`, tab ? { [tab]: options } : {});
+    const { text, tab, options, policy } = found;
+    this.openIn(TABS.find((it) => it.name === tab) ?? this.tab, text, `${name}.toml`, tab ? { [tab]: options } : {}, false, policy);
     this.examples.show(`${topic}/${name}`);
   }
 
@@ -394,9 +446,9 @@ class Page {
   }
 
   /** Opens a set-up in a tab. */
-  openIn(tab, text, name, options = {}, isEdited = false) {
+  openIn(tab, text, name, options = {}, isEdited = false, policy = "") {
     this.tab = tab;
-    return this.open(text, name, options, isEdited);
+    return this.open(text, name, options, isEdited, policy);
   }
 
   /** Shows the set-up of an exercise as any other one, with a way back to the sheet. */
@@ -473,7 +525,8 @@ class Page {
   get place() {
     if (this.exercise.isOpen || byId("as-exercise").checked) return {};
     const { tab, options: { values }, shownCall } = this;
-    return { tab: tab === REPORT ? "" : tab.name, options: values[tab.name], call: tab === STEPS ? shownCall : 0 };
+    return { tab: tab === REPORT ? "" : tab.name, options: values[tab.name], call: tab === STEPS ? shownCall : 0,
+      policy: tab === POLICY ? this.policy.text : "" };
   }
 
   /** What is shared: the set-up, or as an exercise the same with questions in place of what its calls expect. */
@@ -514,8 +567,8 @@ class Page {
     }
     if (setup === null) return false;
     this.read = fragment;
-    const { text, name, tab, options, call } = setup;
-    this.openAgain({ text, name, tab, options: { [tab]: options } });
+    const { text, name, tab, options, call, policy } = setup;
+    this.openAgain({ text, name, tab, options: { [tab]: options }, policy });
     this.firstCall = call;
     return true;
   }
@@ -645,6 +698,7 @@ class Page {
     on("share", () => this.share());
     on("as-exercise", () => this.drawAddress());
     on("save-shared", () => this.saveText(this.sharedText, this.name));
+    on("save-policy", () => this.saveText(this.policy.text, this.policyName));
     on("welcome-exercise", () => this.openExample(...FIRST_EXERCISE));
     on("wide", () => this.setWide(!document.body.classList.contains("wide")));
     on("project", () => this.project(true));
@@ -670,7 +724,7 @@ class Page {
       if (key === "ArrowDown" || key === "Enter") this.enterPanel(event);
     });
     window.addEventListener("hashchange", () => this.openShared());
-    listenToFiles([byId("open")], (text, name) => this.open(text, name));
+    listenToFiles([byId("open")], (text, name) => this.openFile(text, name));
     this.listenToKeys(document);
   }
 }
@@ -683,7 +737,7 @@ function start() {
   page.listen();
   page.begin();
   // For tests: a run of the program on any bytes, in the page's own worker.
-  window.sel4sim = { page, run: (words, name, bytes) => page.program.run(words, name, bytes) };
+  window.sel4sim = { page, run: (...asked) => page.program.run(...asked) };
 }
 
 start();

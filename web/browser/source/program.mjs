@@ -27,9 +27,9 @@ export class Program {
     return this.give !== null;
   }
 
-  /** Runs the program with words and the file that they may name. The answer is `{ status, output, errors, milliseconds,
-      memory }`, with `trap` in place of `status` where it was ended by the browser, or STOPPED. */
-  async run(words, name, bytes) {
+  /** Runs the program with words and the files that they may name, one and others. The answer is `{ status, output, errors,
+      milliseconds, memory }`, with `trap` in place of `status` where it was ended by the browser, or STOPPED. */
+  async run(words, name, bytes, others = []) {
     this.stop();
     const answer = new Promise((give) => {
       this.give = give;
@@ -37,7 +37,7 @@ export class Program {
     const { give } = this;
     try {
       const module = await this.module;
-      if (this.give === give) this.start(module, { words: [NAME, ...words], name, bytes });
+      if (this.give === give) this.start(module, { words: [NAME, ...words], files: [{ name, bytes }, ...others] });
     } catch (error) {
       this.end({ trap: `${error.name}: ${error.message}`, output: new Uint8Array(), errors: new Uint8Array(),
         milliseconds: 0, memory: 0 });

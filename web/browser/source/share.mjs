@@ -13,20 +13,26 @@ const toBase64 = (bytes) => btoa(Array.from(bytes, (byte) => String.fromCharCode
 const fromBase64 = (text) => Uint8Array.from(atob(text.replace(/-/gu, "+").replace(/_/gu, "/")),
   (letter) => letter.charCodeAt(0));
 
-/** The part of an address that has a set-up and its name, from # on; with the tab, its options and the call that are given. */
-export async function fragmentOf(text, name, { tab = "", options = {}, call = 0 } = {}) {
-  const packed = await through(new TextEncoder().encode(text), new CompressionStream("deflate-raw"));
+const packedText = async (text) => toBase64(await through(new TextEncoder().encode(text), new CompressionStream("deflate-raw")));
+const unpackedText = async (packed) => new TextDecoder("utf-8", { fatal: true })
+  .decode(await through(fromBase64(packed), new DecompressionStream("deflate-raw")));
+
+/** The part of an address that has a set-up and its name, from # on; with the tab, its options, the call and the policy that are
+    given. */
+export async function fragmentOf(text, name, { tab = "", options = {}, call = 0, policy = "" } = {}) {
+  const packed = await packedText(text);
   const given = Object.entries(options).filter(([, value]) => value).map(([option, value]) => [`--${option}`, value]);
-  const words = [["name", name], ...(tab ? [["tab", tab]] : []), ...given, ...(call ? [["call", String(call)]] : [])];
-  return `#${words.map(([word, value]) => `${word}=${encodeURIComponent(value)}`).join("&")}&setup=${toBase64(packed)}`;
+  const words = [["name", name], ...(tab ? [["tab", tab]] : []), ...given, ...(call ? [["call", String(call)]] : []),
+    ...(policy ? [["policy", await packedText(policy)]] : [])];
+  return `#${words.map(([word, value]) => `${word}=${encodeURIComponent(value)}`).join("&")}&setup=${packed}`;
 }
 
-/** What such a part has: `{ text, name, tab, options, call }`, or null where it has no set-up. */
+/** What such a part has: `{ text, name, tab, options, call, policy }`, or null where it has no set-up. */
 export async function readFragment(fragment) {
   const words = new URLSearchParams(fragment.slice(1));
   if (!words.has("setup")) return null;
-  const bytes = await through(fromBase64(words.get("setup")), new DecompressionStream("deflate-raw"));
   const given = [...words].filter(([word]) => OPTION.test(word)).map(([word, value]) => [word.replace(OPTION, ""), value]);
-  return { text: new TextDecoder("utf-8", { fatal: true }).decode(bytes), name: words.get("name") ?? "", tab: words.get("tab") ?? "",
-    options: Object.fromEntries(given), call: Number(words.get("call")) || 0 };
+  return { text: await unpackedText(words.get("setup")), name: words.get("name") ?? "", tab: words.get("tab") ?? "",
+    options: Object.fromEntries(given), call: Number(words.get("call")) || 0,
+    policy: words.has("policy") ? await unpackedText(words.get("policy")) : "" };
 }

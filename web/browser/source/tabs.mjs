@@ -73,9 +73,16 @@ const EVER = {
   show: showEver,
 };
 
+/** The layout held to the policy in the second editor. */
+export const POLICY = {
+  name: "policy", words: ["audit", "--policy"], about: "Whether the layout keeps to a policy, whatever calls are made",
+  missed: "the policy is broken", options: [AFTER], hasPolicy: true, show: showText,
+};
+
 /** A tab: its name, the program's words, what the tab is for, and how to show what the program writes. It may have options
     of its command line (options.mjs), and say what status 1 means. A tab without `show` says why the program cannot do it
-    in a browser. A rare one is in sight where it is chosen, or behind "more". */
+    in a browser. A rare one is in sight where it is chosen, or behind "more". The words of one with a
+    policy end with the name of its file. */
 export const TABS = [
   { name: "report", words: ["check"], about: "What each call is answered, and the state at the end", show: showReport },
   { name: "steps", words: ["trace"], about: "What each call changes, step by step", show: showSteps },
@@ -83,6 +90,7 @@ export const TABS = [
     options: [{ name: "call", about: "The number of a call: the reason of that call alone", least: "all refused" }] },
   AUDIT,
   EVER,
+  POLICY,
   { name: "tree", words: ["tree"], about: "Each slot below the one that it is derived from", show: showText,
     options: [AFTER, { name: "dot", about: "As a graph in DOT, the language of Graphviz, to be saved and drawn", isAlone: true }] },
   { name: "orders", words: ["explore"], about: "Every order of the clients' calls: what can happen, and what cannot",

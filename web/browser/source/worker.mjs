@@ -1,10 +1,11 @@
 // The worker: it runs the program, a WebAssembly module, once for each message, and tells what it wrote. To the program
-// it is the system: its standard input has nothing, and there is one file, the set-up, by its name.
+// it is the system: its standard input has nothing, and there are the set-up and, where a tab has one, a policy, by their names.
 // This file stands alone: the page gives its text to the browser as the worker's script.
 
 const STANDARD_INPUT = 0;
 const STANDARD_ERROR = 2;
-const FILE = 3;
+/** Files are numbered from here on, in their order. */
+const FIRST_FILE = 3;
 const NONE = -1;
 
 /** Thrown where the program ends by itself with a status. */
@@ -17,12 +18,11 @@ class Ended extends Error {
 
 /** What the program sees of the system, and what it wrote. */
 class System {
-  constructor({ words, name, bytes }) {
+  constructor({ words, files }) {
     const encoder = new TextEncoder();
     this.words = words.map((word) => encoder.encode(word));
-    this.name = name;
-    this.unread = { [STANDARD_INPUT]: new Uint8Array(), [FILE]: bytes };
-    this.bytes = bytes;
+    this.files = files;
+    this.unread = { [STANDARD_INPUT]: new Uint8Array() };
     this.written = [[], [], []];
     this.memory = null;
   }
@@ -53,9 +53,10 @@ class System {
   open(address) {
     const rest = new Uint8Array(this.memory.buffer, Number(address));
     const path = new TextDecoder().decode(rest.slice(0, rest.indexOf(0)));
-    if (path !== this.name) return NONE;
-    this.unread[FILE] = this.bytes;
-    return FILE;
+    const at = this.files.findIndex(({ name }) => name === path);
+    if (at < 0) return NONE;
+    this.unread[FIRST_FILE + at] = this.files[at].bytes;
+    return FIRST_FILE + at;
   }
 
   /** All that was written to one of the streams. */

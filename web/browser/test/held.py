@@ -1,0 +1,121 @@
+"""Policies and layouts on the page: the second editor with what breaks a policy at its lines, and set-ups made of layouts."""
+import base64
+import json
+import pathlib
+import subprocess
+
+from tester import TOP, as_answer, pick
+
+POLICIES = TOP / "crates" / "test_worked_answers" / "data" / "policies"
+LAYOUTS = TOP / "tests" / "layouts"
+SECONDS = 600
+# The program in the page with a set-up and a policy, each as base64.
+HELD = """(async () => {
+  const from64 = (text) => Uint8Array.from(atob(text), (letter) => letter.charCodeAt(0));
+  const to64 = (bytes) => btoa(Array.from(bytes, (byte) => String.fromCharCode(byte)).join(""));
+  const [words, name, text, policy, policyText] = ASKED;
+  const { status, trap, output, errors } = await sel4sim.run(words, name, from64(text), [{ name: policy, bytes: from64(policyText) }]);
+  return { status, trap, output: to64(output), errors: to64(errors) };
+})()"""
+FAULTY = "[...document.querySelectorAll('#policy .faulty')].length"
+TITLES = "[...document.querySelectorAll('PLACE .mark-missed')].map((it) => it.title)"
+SETUP = "sel4sim.page.editor.text"
+
+
+def packed(path):
+    return base64.b64encode(path.read_bytes()).decode()
+
+
+def same_as_native(test, _):
+    """Each worked policy, in the page's own worker: standard output, standard error and status of the native program."""
+    count = 0
+    for policy in sorted(POLICIES.glob("*.policy.toml")):
+        setup = policy.with_name(policy.name.replace(".policy.toml", ".toml"))
+        words = ["audit", "--policy", policy.name, setup.name]
+        ran = subprocess.run([test.program, *words], cwd=POLICIES, stdin=subprocess.DEVNULL, capture_output=True, timeout=SECONDS)
+        asked = [words, setup.name, packed(setup), policy.name, packed(policy)]
+        given = as_answer(test.browser.value(HELD.replace("ASKED", json.dumps(asked))))
+        test.wanted(given == (ran.returncode, ran.stdout, ran.stderr), f"{policy.name}: {given}, natively {ran.returncode}, {ran.stdout}, {ran.stderr}")
+        count += 1
+    for layout in sorted((*LAYOUTS.glob("*.cdl"), *LAYOUTS.glob("wrong/*.cdl"))):
+        test.compare("a layout", ["import"], layout.name, layout.read_bytes(), test.run_bytes([["import"]], layout.name, layout.read_bytes())[0])
+        count += 1
+    print(f"{count} policies and layouts compared with the native program's", flush=True)
+
+
+def held(test, _):
+    """A worked policy opens in the tab with its own editor; what breaks it is marked at its line, and goes when it is mended."""
+    browser = test.browser
+    if not pick(test, "for policy", "badge_zero"):
+        return
+    test.wanted(browser.value("document.getElementById('policy').offsetParent !== null"), "the policy is not in sight")
+    test.wanted("status 1" in test.text("status") and "the policy is broken" in test.text("ended"), f"a broken policy: {test.text('status')}, {test.text('ended')}")
+    test.wanted("audit --policy badge_zero.policy.toml badge_zero.toml" in test.text("command-line"), f"the command is {test.text('command-line')}")
+    told = browser.value(TITLES.replace("PLACE", "#policy"))
+    wanted = [line.split(": error: ")[1] for line in (POLICIES / "badge_zero.err").read_text().splitlines() if line.startswith("badge_zero.policy.toml:")]
+    test.wanted(told and all(any(one in it for it in told) for one in wanted), f"the margin of the policy says {told}, and not {wanted}")
+    line = browser.value("sel4sim.page.policy.editor.told.keys().next().value")
+    test.wanted(line == 4, f"the breach is at line {line}, counted from 0")
+    mended = (POLICIES / "badge_zero.policy.toml").read_text().replace("badge = 10", 'badge = "any"')
+    browser.value(f"sel4sim.page.policy.editor.mirror.setValue({json.dumps(mended)})")
+    test.settle(0.6)
+    test.wanted(browser.value(FAULTY) == 0 and "status 0" in test.text("status"), f"the policy is mended, and the page says {test.text('status')}")
+
+
+def kept(test, _):
+    """A policy that was typed comes back after a reload, and is in the address; another set-up has its own."""
+    browser = test.browser
+    if not pick(test, "for policy", "two_clients"):
+        return
+    browser.value("sel4sim.page.policy.editor.mirror.replaceRange('# mine\\n', { line: 0, ch: 0 })")
+    test.settle(0.6)
+    test.open()
+    test.wanted(browser.value("sel4sim.page.policy.text").startswith("# mine\n"), "a reload loses the policy")
+    fragment = browser.value("(async () => { await sel4sim.page.drawAddress(); const { value } = document.getElementById('address');"
+                             " return value.slice(value.indexOf('#')); })()")
+    browser.value("localStorage.clear()")
+    test.open(fragment)
+    test.until("sel4sim.page.policy.text.startsWith('# mine')", "the address has no policy")
+    test.settle()
+    test.wanted(browser.value("sel4sim.page.tab.name") == "policy", "the address opens another tab")
+    pick(test, "examples", "send_then_receive")
+    test.wanted("# mine" not in browser.value("sel4sim.page.policy.text"), "another set-up has the policy of the one before it")
+
+
+def opened(test, _):
+    """A policy that is opened as a file goes beside the set-up, and a layout becomes a set-up."""
+    browser = test.browser
+    pick(test, "for policy", "two_clients")
+    setup = browser.value(SETUP)
+    test.choose(POLICIES / "badge_zero.policy.toml", "open")
+    test.until(f"sel4sim.page.policy.text === {json.dumps((POLICIES / 'badge_zero.policy.toml').read_text())}", "a policy from a file is not opened")
+    test.settle()
+    test.wanted(browser.value(SETUP) == setup, "a policy takes the place of the set-up")
+    test.choose(LAYOUTS / "hello_camkes.cdl", "open")
+    test.until("document.getElementById('name').value === 'hello_camkes.toml'", "a layout from a file makes no set-up")
+    test.settle()
+    ran = subprocess.run([test.program, "import", "hello_camkes.cdl"], cwd=LAYOUTS, stdin=subprocess.DEVNULL, capture_output=True, text=True, timeout=SECONDS)
+    test.wanted(browser.value(SETUP) == ran.stdout, "the set-up of a layout is another one than the program's")
+    test.wanted("status 0" in test.text("status") and "hello_camkes.cdl" in test.text("notice"), f"of a layout the page says {test.text('status')}, {test.text('notice')}")
+    test.wanted("frame left out" in test.text("notice"), "what is left out of a layout is not told")
+    browser.value("[...document.querySelectorAll('#notice button')].at(-1).click()")
+    test.until("document.getElementById('name').value === 'hello_camkes.cdl'", "nothing leads back to the layout")
+    test.settle()
+    test.wanted(browser.value(SETUP) == (LAYOUTS / "hello_camkes.cdl").read_text(), "the layout is another one")
+
+
+def faulty(test, _):
+    """A layout with faults stays in the editor, each fault at its line."""
+    browser = test.browser
+    for layout in sorted(LAYOUTS.glob("wrong/*.cdl"))[:4]:
+        ran = subprocess.run([test.program, "import", layout.name], cwd=layout.parent, stdin=subprocess.DEVNULL, capture_output=True, text=True, timeout=SECONDS)
+        lines = {int(line.rsplit(":", 2)[1]) for line in ran.stderr.splitlines() if line.lstrip().startswith("--> ")}
+        test.choose(layout, "open")
+        test.until(f"document.getElementById('name').value === {json.dumps(layout.name)}", f"{layout.name} is not opened")
+        test.settle()
+        test.until("document.getElementById('status').textContent === 'status 2'", f"{layout.name}: {test.text('status')}")
+        told = set(browser.value("[...sel4sim.page.editor.told.keys()].map((line) => line + 1)"))
+        test.wanted(told == lines and lines, f"{layout.name}: faults are marked at {sorted(told)}, and are at {sorted(lines)}")
+
+
+CHECKS = (same_as_native, held, kept, opened, faulty)
