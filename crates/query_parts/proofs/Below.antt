@@ -1,5 +1,5 @@
 -- What stands below the slots of a part stays such: a new capability stands below its source, or below what its source stands below.
-use Rattle.std.proofs.Common.{◌≡◌, ℕ, ◌^◌, ◌⊎◌, inl, inr, Bool, true, false, cond, ◌==◌, eqb, List, [], ◌∷◌, Some, Result, Ok, Err, refl, sym, ap, subst, ◌∙◌, arith}
+use Rattle.std.proofs.Common.{◌≡◌, ℕ, ◌^◌, inl, inr, Bool, true, false, cond, ◌==◌, eqb, List, [], ◌∷◌, Some, Result, Ok, Err, refl, sym, ap, subst, ◌∙◌, arith}
 use Rattle.std.specs.List.{AllByRecursion as Each, Contains, IsDistinct}
 use Rattle.std.proofs.lemmas.Bool.{false≢true, eqb-true}
 use Rattle.std.proofs.lemmas.Bool.Decides.{nat_tests}
@@ -33,12 +33,12 @@ use Rattle.kernel_abstract.specs.declared.invocation.NewObjects.{NewObjects}
 use Rattle.kernel_abstract.specs.declared.invocation.NewSpace.{NewSpace}
 use Rattle.kernel_abstract.specs.declared.invocation.CapPlacement.{CapPlacement}
 use Rattle.kernel_abstract.specs.Retyping.{new_caps, with_new, with_objects}
-use Rattle.kernel_abstract.specs.CNodes.{with_derived, with_moved}
+use Rattle.kernel_abstract.specs.CNodes.{with_derived}
 use Rattle.kernel_abstract.specs.Threads.{with_space}
 use Rattle.kernel_abstract.specs.Decode.{decoded_call}
 use Rattle.kernel_abstract.specs.State.{State, shown, endpoint_at}
 use Rattle.kernel_abstract.specs.Step.{Outcome, outcome, performed, where_awaited, is_send_awaited, is_receive_awaited, send_accepted, receive_accepted, step, state_after}
-use Rattle.kernel_abstract.specs.Private.Invocations.{IsRetype, IsDerivation, IsMove, IsSpace}
+use Rattle.kernel_abstract.specs.Private.Invocations.{IsRetype, IsDerivation, IsSpace}
 use Rattle.kernel_abstract.specs.Private.Stores.{IsKernelStore}
 use Rattle.kernel_abstract.specs.Reached.{IsReached}
 use Rattle.kernel_abstract.proofs.Capabilities.Descendants.{each-descendants_below, each-descendants_after, bare-below, bare-after}

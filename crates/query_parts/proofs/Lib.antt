@@ -15,6 +15,7 @@ pub mod Taken
 pub mod Turns
 pub mod Joined
 pub mod Numbered
+pub mod Halving
 pub mod Needed
 pub mod Arranging
 pub mod Standing

@@ -6,13 +6,13 @@ use Rattle.std.specs.Cmp.{IsTotalOrder, IsEquivalence, nat_cmp_total, on_total, 
 use Rattle.std.specs.Int.Bits.{and_self}
 use Rattle.std.specs.List.{list_any, filter, dedup, count_by, Contains, AllAdjacentBelow}
 use Rattle.std.specs.List.Sorted.{IsPermutation, IsSorted, IsStrictlySortedBy}
-use Rattle.std.specs.Ordering.{ordering_then, nat_cmp, is_lt, is_eq}
+use Rattle.std.specs.Ordering.{ordering_then, nat_cmp, is_eq}
 use Rattle.std.specs.declared.cmp.Ordering.{Ordering}
 use Rattle.std.specs.declared.cmp.Ordering.TheVariants.{Less, Equal, Greater}
 use Rattle.std.proofs.lemmas.Bool.{false≢true, eqb-true, eq-eqb}
 use Rattle.std.proofs.lemmas.Cmp.{eq_by_cmp_equiv}
-use Rattle.std.proofs.lemmas.List.Kept.{Contains-dedup, Contains-from_dedup, IsSortedBy-filter, IsStrictlySortedBy-dedup}
-use Rattle.std.proofs.lemmas.List.Sorted.{Contains-permutation, IsPermutation-sym, ranks_by}
+use Rattle.std.proofs.lemmas.List.Kept.{Contains-dedup, Contains-from_dedup, IsStrictlySortedBy-filter, IsStrictlySortedBy-dedup}
+use Rattle.std.proofs.lemmas.List.Sorted.{Contains-permutation, IsPermutation-sym}
 use Rattle.std.proofs.lemmas.Nat.{and_assoc}
 use Rattle.cap_core.specs.declared.profile.ProfileName.{ProfileName}
 use Rattle.cap_core.specs.declared.capability.Badge.{Badge}
@@ -217,9 +217,9 @@ strict_rising (u ∷ (w ∷ ws)) s (suc k) d low =
 
 -- ---- those that are left
 
-module _ (p : ProfileName) (memory : List PartMemory) (uses sorted kept told : List PartUse) (same : PartUse → PartUse → Bool)
+module _ (p : ProfileName) (memory : List PartMemory) (uses sorted once told : List PartUse) (same : PartUse → PartUse → Bool)
     (ties : (u w : PartUse) → same u w ≡ is_eq (use_order u w)) (moved : IsPermutation uses sorted) (rising : IsSorted use_order sorted)
-    (is : kept ≡ filter (is_needed p memory sorted) sorted) (once : told ≡ dedup same kept) where
+    (is : once ≡ dedup same sorted) (left : told ≡ filter (is_needed p memory once) once) where
   equal : IsEquivalence same
   equal =
       let e = eq_by_cmp_equiv order_total in
@@ -229,24 +229,26 @@ module _ (p : ProfileName) (memory : List PartMemory) (uses sorted kept told : L
         congr = λ u w x h. ties u x ∙ e.congr u w x (sym (ties u w) ∙ h) ∙ sym (ties w x);
       }
 
-  forth : (u : PartUse) → In u uses → In u sorted
-  forth u i = contains_in sorted u (Contains-permutation uses sorted u moved (in_contains uses u i))
+  forth : (u : PartUse) → In u uses → In u once
+  forth u i =
+      contains_in once u (subst (λ (l : List PartUse). Contains l u) (sym is)
+      (Contains-dedup equal (λ x y h. use_same x y (eq_equal _ (sym (ties x y) ∙ h))) sorted u (Contains-permutation uses sorted u moved (in_contains uses u i))))
 
-  of_kept : (u : PartUse) → In u told → (In u sorted) × (is_needed p memory sorted u ≡ true)
-  of_kept u i =
-      let one = Contains-from_dedup same kept u (subst (λ (l : List PartUse). Contains l u) once (in_contains told u i)) in
-      in_filter (is_needed p memory sorted) sorted u (contains_in _ u (subst (λ (l : List PartUse). Contains l u) is one))
+  back : (u : PartUse) → In u once → In u uses
+  back u i =
+      let there = Contains-from_dedup same sorted u (subst (λ (l : List PartUse). Contains l u) is (in_contains once u i)) in
+      contains_in uses u (Contains-permutation sorted uses u (IsPermutation-sym uses sorted moved) there)
 
-  to_told : (u : PartUse) → In u sorted → is_needed p memory sorted u ≡ true → In u told
-  to_told u i needs =
-      let one = in_contains kept u (subst (λ (l : List PartUse). In u l) (sym is) (filter_in (is_needed p memory sorted) sorted u i needs)) in
-      contains_in told u (subst (λ (l : List PartUse). Contains l u) (sym once)
-      (Contains-dedup equal (λ x y h. use_same x y (eq_equal _ (sym (ties x y) ∙ h))) kept u one))
+  of_told : (u : PartUse) → In u told → (In u once) × (is_needed p memory once u ≡ true)
+  of_told u i = in_filter (is_needed p memory once) once u (subst (λ (l : List PartUse). In u l) left i)
 
-  left_out : (u : PartUse) → In u sorted → (owns_endpoint p memory u.part u.endpoint ≡ true) ⊎ ((w : PartUse) × (In w told × (covers w u ≡ true)))
-  left_out u i = let g = greatest sorted (count_by (says_more u) sorted) u i (omega arith) in by g.0 g.1.0 g.1.1.0 g.1.1.1 (owns_endpoint p memory u.part u.endpoint) refl
+  to_told : (u : PartUse) → In u once → is_needed p memory once u ≡ true → In u told
+  to_told u i needs = subst (λ (l : List PartUse). In u l) (sym left) (filter_in (is_needed p memory once) once u i needs)
+
+  left_out : (u : PartUse) → In u once → (owns_endpoint p memory u.part u.endpoint ≡ true) ⊎ ((w : PartUse) × (In w told × (covers w u ≡ true)))
+  left_out u i = let g = greatest once (count_by (says_more u) once) u i (omega arith) in by g.0 g.1.0 g.1.1.0 g.1.1.1 (owns_endpoint p memory u.part u.endpoint) refl
     where
-      by : (w : PartUse) → In w sorted → covers w u ≡ true → list_any (says_more w) sorted ≡ false → (b : Bool) → owns_endpoint p memory u.part u.endpoint ≡ b →
+      by : (w : PartUse) → In w once → covers w u ≡ true → list_any (says_more w) once ≡ false → (b : Bool) → owns_endpoint p memory u.part u.endpoint ≡ b →
           (b ≡ true) ⊎ ((w : PartUse) × (In w told × (covers w u ≡ true)))
       by w j more none true owned = inl refl
       by w j more none false other =
@@ -258,21 +260,20 @@ module _ (p : ProfileName) (memory : List PartMemory) (uses sorted kept told : L
 
   pub uses_needed : AreNeeded p memory uses told
   uses_needed = record {
-    only = λ u i. contains_in uses u (Contains-permutation sorted uses u (IsPermutation-sym uses sorted moved) (in_contains sorted u (of_kept u i).0));
+    only = λ u i. back u (of_told u i).0;
     covered = λ u i. left_out u (forth u i);
     rising = strict_rising told
-        (subst (IsStrictlySortedBy use_order) (sym once)
-        (IsStrictlySortedBy-dedup order_total ties kept
-        (subst (IsSorted use_order) (sym is)
-        (IsSortedBy-filter (λ u w. is_lt (use_order u w)) (ranks_by order_total (λ (u : PartUse). u)) (is_needed p memory sorted) sorted rising))));
-    needed = all_of (is_needed p memory told) told (λ u i. let k = of_kept u i in needs u (both_true (not (owns_endpoint p memory u.part u.endpoint)) _ k.1));
+        (subst (IsStrictlySortedBy use_order) (sym left)
+        (IsStrictlySortedBy-filter use_order (is_needed p memory once) once
+        (subst (IsStrictlySortedBy use_order) (sym is) (IsStrictlySortedBy-dedup order_total ties sorted rising))));
+    needed = all_of (is_needed p memory told) told (λ u i. let k = of_told u i in needs u (both_true (not (owns_endpoint p memory u.part u.endpoint)) _ k.1));
   }
     where
-      none_more : (u : PartUse) → list_any (says_more u) sorted ≡ false → (b : Bool) → list_any (says_more u) told ≡ b → not b ≡ true
+      none_more : (u : PartUse) → list_any (says_more u) once ≡ false → (b : Bool) → list_any (says_more u) told ≡ b → not b ≡ true
       none_more u none true some =
           let g = any_of (says_more u) told some in
-          absurd (false≢true (sym none ∙ any_in (says_more u) sorted g.0 (of_kept g.0 g.1.0).0 g.1.1))
+          absurd (false≢true (sym none ∙ any_in (says_more u) once g.0 (of_told g.0 g.1.0).0 g.1.1))
       none_more u none false h = refl
 
-      needs : (u : PartUse) → (not (owns_endpoint p memory u.part u.endpoint) ≡ true) × (not (list_any (says_more u) sorted) ≡ true) → is_needed p memory told u ≡ true
-      needs u h = and_true _ _ h.0 (none_more u (opposite (list_any (says_more u) sorted) h.1) (list_any (says_more u) told) refl)
+      needs : (u : PartUse) → (not (owns_endpoint p memory u.part u.endpoint) ≡ true) × (not (list_any (says_more u) once) ≡ true) → is_needed p memory told u ≡ true
+      needs u h = and_true _ _ h.0 (none_more u (opposite (list_any (says_more u) once) h.1) (list_any (says_more u) told) refl)

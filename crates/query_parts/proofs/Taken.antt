@@ -36,7 +36,7 @@ pub record IsKept (p : ProfileName) (cap : Cap) (part : ℕ) (memory : List Part
   pub same : into part ≡ part
   pub more : List PartMemory
   pub memory_is : memory' ≡ map (memory_in into) memory ++ more
-  pub pushed : (length more ≡ 0) ⊎ ((length more ≡ 1) × (is_within p memory' uses' part cap ≡ true))
+  pub pushed : (length more ≡ 0) ⊎ ((length more ≡ 1) × ((is_within p memory' uses' part cap ≡ true) × (is_allowed uses part cap ≡ false)))
 
 pub with_none : (l : List PartMemory) → l ≡ map (memory_in (λ k. k)) l ++ []
 with_none [] = refl
@@ -185,11 +185,11 @@ module _ (p : ProfileName) (part : ℕ) (memory : List PartMemory) (uses : List 
         pushed = inl refl;
       }))
 
-  stretch_kept : (cap : Cap) (first last : ℕ) (memory' : List PartMemory) (uses' : List PartUse) → first ≤ last →
+  stretch_kept : (cap : Cap) (first last : ℕ) (memory' : List PartMemory) (uses' : List PartUse) → first ≤ last → is_allowed uses part cap ≡ false →
       ((other : Parts) (j : ℕ) → IsWithin p other j cap → (address : ℕ) → first ≤ address → address ≤ last → other.part_of address ≡ Some j) →
       ((m : List PartMemory) (u : List PartUse) → owns m part first last ≡ true → is_within p m u part cap ≡ true) →
       IsStretchTaken part first last memory uses memory' uses' → IsKept p cap part memory uses memory' uses'
-  stretch_kept cap first last memory' uses' low lies now T =
+  stretch_kept cap first last memory' uses' low none lies now T =
       let J = T.joins in
       let is : memory' ≡ map (memory_in J.into) memory ++ record { part = part; first = first; last = last } ∷ [] =
       T.memory_is ∙ ap (λ (l : List PartMemory). l ++ record { part = part; first = first; last = last } ∷ []) J.memory_is in
@@ -205,22 +205,22 @@ module _ (p : ProfileName) (part : ℕ) (memory : List PartMemory) (uses : List 
         same = J.joins.same;
         more = record { part = part; first = first; last = last } ∷ [];
         memory_is = refl;
-        pushed = inr (refl, now _ _ (owns_new part first last low memory J.into J.all));
+        pushed = inr (refl, (now _ _ (owns_new part first last low memory J.into J.all), none));
       }))
 
   -- a capability whose object is taken in as memory
   pub range_kept : (cap : Cap) (memory' : List PartMemory) (uses' : List PartUse) →
-      range_named p cap ≡ Some (record { first = base_of cap; bits = bits_of p cap }) →
+      range_named p cap ≡ Some (record { first = base_of cap; bits = bits_of p cap }) → is_allowed uses part cap ≡ false →
       ((other : Parts) (j : ℕ) → IsWithin p other j cap → IsOwned p other j cap) →
       IsRangeTaken part (record { first = base_of cap; bits = bits_of p cap }) memory uses memory' uses' → IsKept p cap part memory uses memory' uses'
-  range_kept cap memory' uses' named own taken = by (nat_lt (bits_of p cap) 64 && nat_lt (base_of cap + (2 ^ bits_of p cap - 1)) (2 ^ 64)) refl taken
+  range_kept cap memory' uses' named none own taken = by (nat_lt (bits_of p cap) 64 && nat_lt (base_of cap + (2 ^ bits_of p cap - 1)) (2 ^ 64)) refl taken
     where
       last : ℕ
       last = base_of cap + (2 ^ bits_of p cap - 1)
 
       by : (t : Bool) → nat_lt (bits_of p cap) 64 && nat_lt (base_of cap + (2 ^ bits_of p cap - 1)) (2 ^ 64) ≡ t →
           IsTakenTo part (base_of cap) (cond t (Some (base_of cap + (2 ^ bits_of p cap - 1))) None) memory uses memory' uses' → IsKept p cap part memory uses memory' uses'
-      by true is taken = stretch_kept cap (base_of cap) (base_of cap + (2 ^ bits_of p cap - 1)) memory' uses' (omega arith)
+      by true is taken = stretch_kept cap (base_of cap) (base_of cap + (2 ^ bits_of p cap - 1)) memory' uses' (omega arith) none
           (λ other j w address lo hi. own other j w address lo (let one = pow_pos (bits_of p cap) in omega (arith, hi, one)))
           (λ m u owned.
           ap (named_within m u part cap) named
@@ -283,9 +283,9 @@ module _ (p : ProfileName) (part : ℕ) (memory : List PartMemory) (uses : List 
   pub cap_kept : (cap : Cap) (memory' : List PartMemory) (uses' : List PartUse) (address : ℕ) → part_at memory address ≡ Some part →
       IsCapTaken p part cap memory uses memory' uses' → IsKept p cap part memory uses memory' uses'
   cap_kept Null memory' uses' address at taken = same_kept Null memory' uses' (λ ends. refl) taken
-  cap_kept (Untyped base bits free) memory' uses' address at taken = range_kept (Untyped base bits free) memory' uses' refl (λ other j w. w) taken
+  cap_kept (Untyped base bits free) memory' uses' address at taken = range_kept (Untyped base bits free) memory' uses' refl refl (λ other j w. w) taken
   cap_kept (Endpoint base badge rights) memory' uses' address at taken =
       subst (λ (m : List PartMemory). IsKept p (Endpoint base badge rights) part memory uses m uses') (sym taken.0)
       (subst (λ (u : List PartUse). IsKept p (Endpoint base badge rights) part memory uses memory u) (sym taken.1) (endpoint_kept base badge rights address at))
-  cap_kept (CNode base radix guard) memory' uses' address at taken = range_kept (CNode base radix guard) memory' uses' refl (λ other j w. w) taken
-  cap_kept (Tcb base) memory' uses' address at taken = range_kept (Tcb base) memory' uses' refl (λ other j w. w) taken
+  cap_kept (CNode base radix guard) memory' uses' address at taken = range_kept (CNode base radix guard) memory' uses' refl refl (λ other j w. w) taken
+  cap_kept (Tcb base) memory' uses' address at taken = range_kept (Tcb base) memory' uses' refl refl (λ other j w. w) taken

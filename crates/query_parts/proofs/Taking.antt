@@ -1,7 +1,5 @@
 -- What a call of a part takes: its own slots, and what stands below them.
-use Rattle.std.proofs.Common.{◌≡◌, ℕ, zero, suc, ◌⊎◌, inl, inr, Bool, true, false, ◌==◌, List, length, Some, None, Option, Result, Ok, Err, refl, sym, ap, subst, ◌∙◌}
-use Rattle.std.specs.List.{AllByRecursion as Each, Contains}
-use Rattle.std.proofs.lemmas.Bool.{eqb-true}
+use Rattle.std.proofs.Common.{◌≡◌, ℕ, zero, suc, inl, inr, Bool, true, false, List, length, Some, Result, Ok, Err, refl, sym, subst, ◌∙◌}
 use Rattle.cap_core.specs.declared.profile.ProfileName.{ProfileName}
 use Rattle.cap_core.specs.declared.refusal.Refusal.{Refusal}
 use Rattle.kernel_forest.specs.Forest.{Forest, preorder, below_those, descendants}
@@ -10,7 +8,6 @@ use Rattle.kernel_forest.proofs.Trees.Forests.{each-contained, each-from_contain
 use Rattle.kernel_forest.proofs.Slots.Edits.{cap-derived_other}
 use Rattle.kernel_delete.specs.Clear.{clear}
 use Rattle.kernel_delete.specs.Revoke.{revoke, revoked}
-use Rattle.kernel_delete.proofs.Members.{tells}
 use Rattle.kernel_delete.proofs.Clearable.{in_contains}
 use Rattle.kernel_delete.proofs.Revoking.{revoked_none, revoked_some, child_or_none}
 use Rattle.kernel_abstract.specs.declared.call.Call.{Call}
@@ -30,8 +27,7 @@ use Rattle.kernel_abstract.proofs.Capabilities.SpacesSet.{space_kept}
 use Rattle.kernel_abstract.proofs.Checks.PassedInvocations.{IsEdit, call_passed}
 use Rattle.kernel_abstract.proofs.Reached.Stores.{checked_edit}
 use Rattle.kernel_abstract.proofs.Reached.Simulation.{reached_is}
-use Rattle.query_parts.specs.Parts.{Parts, IsNear, IsClosed}
-use Rattle.query_parts.specs.Laws.{AreClosed, IsAllowed}
+use Rattle.query_parts.specs.Parts.{Parts, IsClosed}
 use Rattle.query_parts.specs.Below.{TakesNothing, TakesNothingOutside, StayNoneBelow, StayOwnBelow}
 use Rattle.query_parts.proofs.Changes.{IsChange, change_closed, unchanged, change-clear}
 use Rattle.query_parts.proofs.Passed.{IsSpaceIn, StaysIn, op_stays}

@@ -8,16 +8,19 @@ use Rattle.std.specs.List.{list_all, count_by}
 use Rattle.std.proofs.lemmas.Bool.{false≢true}
 use Rattle.std.proofs.lemmas.Bool.Decides.{nat_tests}
 use Rattle.cap_core.specs.declared.profile.ProfileName.{ProfileName}
-use Rattle.cap_core.specs.declared.capability.Cap.TheVariants.{Tcb}
+use Rattle.cap_core.specs.declared.capability.Cap.{Cap}
+use Rattle.cap_core.specs.declared.capability.Cap.TheVariants.{Null, Untyped, Endpoint, CNode, Tcb}
+use Rattle.cap_core.specs.declared.object.Range.{Range}
+use Rattle.cap_core.specs.Ranges.{range_named}
 use Rattle.cap_core.specs.Numbers.{tcb_bits}
 use Rattle.kernel_forest.specs.Entries.{Entry}
 use Rattle.kernel_delete.specs.Members.{In}
-use Rattle.kernel_delete.proofs.Members.{both_true, all_of, in_append, in_left, in_right}
+use Rattle.kernel_delete.proofs.Members.{both_true, either_true, true_left, all_of, in_append, in_left, in_right}
 use Rattle.kernel_delete.proofs.Clearable.{contains_in}
 use Rattle.query_parts.specs.declared.listed.PartMemory.{PartMemory}
 use Rattle.query_parts.specs.declared.listed.PartUse.{PartUse}
 use Rattle.query_parts.specs.Parts.{Parts, IsWithin}
-use Rattle.query_parts.specs.Listed.{lies_in, part_at, is_within, spares, stands_in, entry_stands}
+use Rattle.query_parts.specs.Listed.{lies_in, part_at, owns_range, is_allowed, named_within, is_within, spares, stands_in, entry_stands}
 use Rattle.query_parts.specs.Private.Search.{memory_in, AreSame, IsCapTaken, IsTakenWhere, IsSlotTaken, IsRangeTaken, AreSound, inside_in, is_inside, is_outside, EndsInWords, whose, HoldWithin, AreBounded, AreGrown, AreHeld, AreLooked, AreTaken, block_of, entries_of, AreAround, AreFound, AreFoundSoFar}
 use Rattle.query_parts.proofs.Lists.{in_mapped, from_mapped}
 use Rattle.query_parts.proofs.Joining.{count_le, count_less, map_twice}
@@ -62,6 +65,30 @@ module _ (p : ProfileName) (es : List Entry) (memory : List PartMemory) (uses : 
 
 -- ---- one slot
 
+-- what a part owns may stand there by whatever uses; and what it does not own and no use allows may not
+module _ (p : ProfileName) (memory : List PartMemory) (uses : List PartUse) (part : ℕ) (cap : Cap) where
+  owned_within : (o : Option Range) → named_within memory [] part cap o ≡ true → named_within memory uses part cap o ≡ true
+  owned_within None h = h
+  owned_within (Some range) h = elim (either_true (owns_range memory part range) (is_allowed [] part cap) h) [
+    | inl own ↦ true_left _ _ own
+    | inr none ↦ absurd (by cap none)
+  ]
+    where
+      by : (c : Cap) → is_allowed [] part c ≡ true → ⊥
+      by Null h = false≢true h
+      by (Untyped base bits free) h = false≢true h
+      by (Endpoint base badge rights) h = false≢true h
+      by (CNode base radix guard) h = false≢true h
+      by (Tcb base) h = false≢true h
+
+  not_within : (o : Option Range) → named_within memory [] part cap o ≡ false → is_allowed uses part cap ≡ false → named_within memory uses part cap o ≡ false
+  not_within None h none = h
+  not_within (Some range) h none = ap (λ b. owns_range memory part range || b) none ∙ by (owns_range memory part range) h
+    where
+      by : (b : Bool) → b || is_allowed [] part cap ≡ false → b || false ≡ false
+      by true h = h
+      by false h = refl
+
 module _ (p : ProfileName) (es : List Entry) (m : PartMemory) (e : Entry) (memory : List PartMemory) (uses : List PartUse) (S : AreSound memory uses) (there : In m memory)
     (known : In e es) where
   at_slot : lies_in m e.slot ≡ true → part_at memory e.slot ≡ Some m.part
@@ -81,7 +108,7 @@ module _ (p : ProfileName) (es : List Entry) (m : PartMemory) (e : Entry) (memor
       between : lies_in m e.slot ≡ true → (m.first ≤ e.slot) × (e.slot ≤ m.last)
       between h = (grind (arith, nat_tests), grind (arith, nat_tests))
 
-  new_looked : (memory' : List PartMemory) (uses' : List PartUse) → lies_in m e.slot ≡ true → is_within p memory uses m.part e.cap ≡ false →
+  new_looked : (memory' : List PartMemory) (uses' : List PartUse) → lies_in m e.slot ≡ true → is_within p memory [] m.part e.cap ≡ false →
       IsCapTaken p m.part e.cap memory uses memory' uses' → AreLooked p es m (e ∷ []) memory uses memory' uses'
   new_looked memory' uses' lies new taken =
       let K = cap_kept p m.part memory uses e.cap memory' uses' e.slot (at_slot lies) taken in
@@ -105,15 +132,15 @@ module _ (p : ProfileName) (es : List Entry) (m : PartMemory) (e : Entry) (memor
           (λ last. made_inside p memory' uses' e m.part (K.stays e.slot (at_slot lies)) (K.now last)) ends
       held K a ends (inr none) = absurd none
 
-      fewer : (K : IsKept p e.cap m.part memory uses memory' uses') → (length K.more ≡ 0) ⊎ ((length K.more ≡ 1) × (is_within p memory' uses' m.part e.cap ≡ true)) →
+      fewer : (K : IsKept p e.cap m.part memory uses memory' uses') → (length K.more ≡ 0) ⊎ ((length K.more ≡ 1) × ((is_within p memory' uses' m.part e.cap ≡ true) × (is_allowed uses m.part e.cap ≡ false))) →
           count_by (is_outside p memory' uses') es + length K.more ≤ count_by (is_outside p memory uses) es
       fewer K (inl none) =
           let less = count_le (is_outside p memory' uses') (is_outside p memory uses) (λ a. outside_before _ _ (K.grows a)) es in
           omega (arith, less, none)
       fewer K (inr one) =
           let less = count_less (is_outside p memory' uses') (is_outside p memory uses) (λ a. outside_before _ _ (K.grows a)) es e known
-          (ap not (made_inside p memory' uses' e m.part (K.stays e.slot (at_slot lies)) one.1))
-          (ap not (ap (inside_in p memory uses e.cap) (at_slot lies) ∙ new)) in
+          (ap not (made_inside p memory' uses' e m.part (K.stays e.slot (at_slot lies)) one.1.0))
+          (ap not (ap (inside_in p memory uses e.cap) (at_slot lies) ∙ not_within p memory uses m.part e.cap (range_named p e.cap) new one.1.1)) in
           omega (arith, less, one.0)
 
   old_looked : (memory' : List PartMemory) (uses' : List PartUse) → (lies_in m e.slot ≡ true → is_within p memory uses m.part e.cap ≡ true) →
@@ -130,12 +157,12 @@ module _ (p : ProfileName) (es : List Entry) (m : PartMemory) (e : Entry) (memor
       held a (inr none) = absurd none
 
   pub slot_looked : (memory' : List PartMemory) (uses' : List PartUse) → IsSlotTaken p m e memory uses memory' uses' → AreLooked p es m (e ∷ []) memory uses memory' uses'
-  slot_looked memory' uses' taken = by (lies_in m e.slot) refl (is_within p memory uses m.part e.cap) refl taken
+  slot_looked memory' uses' taken = by (lies_in m e.slot) refl (is_within p memory [] m.part e.cap) refl taken
     where
-      by : (b : Bool) → lies_in m e.slot ≡ b → (c : Bool) → is_within p memory uses m.part e.cap ≡ c →
+      by : (b : Bool) → lies_in m e.slot ≡ b → (c : Bool) → is_within p memory [] m.part e.cap ≡ c →
           IsTakenWhere p m.part e.cap (b && not c) memory uses memory' uses' → AreLooked p es m (e ∷ []) memory uses memory' uses'
       by true lies false new taken = new_looked memory' uses' lies new taken
-      by true lies true within same = old_looked memory' uses' (λ h. within) same
+      by true lies true within same = old_looked memory' uses' (λ h. owned_within p memory uses m.part e.cap (range_named p e.cap) within) same
       by false away c w same = old_looked memory' uses' (λ h. absurd (false≢true (sym away ∙ h))) same
 
 -- ---- one slot after another
@@ -177,7 +204,7 @@ pub around_more : (p : ProfileName) (threads : List ℕ) (t : ℕ) (memory : Lis
     AreAround p threads memory uses → IsRangeTaken t (record { first = t; bits = tcb_bits p }) memory uses memory' uses' →
     AreAround p (threads ++ t ∷ []) memory' uses'
 around_more p threads t memory uses memory' uses' A taken =
-    let K = range_kept p t memory uses (Tcb t) memory' uses' refl (λ other j w. w) taken in
+    let K = range_kept p t memory uses (Tcb t) memory' uses' refl refl (λ other j w. w) taken in
     record {
       sound = K.sound A.sound;
       has = λ s i ends. has K s ends (in_append s threads (t ∷ []) i);

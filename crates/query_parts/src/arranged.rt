@@ -8,6 +8,7 @@ ghost use Rattle.query_parts.specs.Private.Search.{memory_in, use_in};
 ghost use Rattle.query_parts.specs.Private.Arranging.{AreArranged, AreNeeded, joined_all, joined_from, labels_from, number_of};
 ghost use Rattle.query_parts.specs.Private.Arranging as spec;
 
+use crate::keyed::{UseKey, uses_by_key};
 use crate::listed::{PartMemory, PartUse};
 use crate::order::is_needed;
 use crate::parts::Parts;
@@ -147,23 +148,28 @@ fn needed_ones<P: Profile>(
 ) -> Result<Vec<PartUse>, AllocError>
     ensures { IfOk result (λ kept. kept.items ≡ filter (order.is_needed P.profile memory.now uses.now) uses.now) }
 {
-    uses.iter()
-        .filter(|u| is_needed::<P>(memory, uses, u))
-        .copied()
-        .collect(alloc)
+    let by_key = uses_by_key(alloc, uses, UseKey::EndpointAndBadge)?;
+    let mut kept = Vec::new(alloc);
+    for allowed in uses {
+        if is_needed::<P>(memory, by_key.as_slice(), allowed) {
+            kept.push(*allowed)?;
+        }
+    }
+    Ok(kept)
 }
 
 /// The uses that are needed, in their order, each once.
 fn needed<P: Profile>(
     alloc: Global,
     memory: &[PartMemory],
-    uses: &mut [PartUse],
+    uses: Vec<PartUse>,
 ) -> Result<Vec<PartUse>, AllocError>
-    ensures { IfOk result (λ kept. AreNeeded P.profile memory.now uses.old kept.items) }
+    ensures { IfOk result (λ kept. AreNeeded P.profile memory.now uses.items kept.items) }
 {
-    uses.sort_unstable_by_key(|u| (u.part, u.endpoint, u.badge.0, u.rights.0));
-    let mut kept = needed_ones::<P>(alloc, memory, uses)?;
-    kept.dedup();
+    let mut once = uses;
+    once.sort_unstable_by_key(|u| (u.part, u.endpoint, u.badge.0, u.rights.0));
+    once.dedup();
+    let kept = needed_ones::<P>(alloc, memory, once.as_slice())?;
     Ok(kept)
 }
 
@@ -181,6 +187,6 @@ pub fn arranged<P: Profile>(alloc: Global, parts: Parts) -> Result<Parts, AllocE
     let order = labels(alloc, memory.as_slice())?;
     number_memory(order.as_slice(), memory.as_mut_slice());
     number_uses(order.as_slice(), found.uses.as_mut_slice());
-    let uses = needed::<P>(alloc, memory.as_slice(), found.uses.as_mut_slice())?;
+    let uses = needed::<P>(alloc, memory.as_slice(), found.uses)?;
     Ok(Parts { memory, uses })
 }

@@ -115,7 +115,8 @@ fn take_cap<P: Profile>(parts: &mut Parts, part: u64, cap: Cap) -> Result<(), Al
     }
 }
 
-/// Takes in what a full slot in a stretch of a part names, unless it may stand there.
+/// Takes in what a full slot in a stretch of a part names, unless the part owns it. So a use is taken in again for each slot that
+/// holds it: to look for it among those that are there takes longer than to sort them in the end.
 fn take_slot<P: Profile>(
     parts: &mut Parts,
     stretch: PartMemory,
@@ -127,8 +128,7 @@ fn take_slot<P: Profile>(
     if !contains(&stretch, derivation.slot.address::<P>()) {
         return Ok(());
     }
-    let memory = parts.memory.as_slice();
-    if is_within::<P>(memory, parts.uses.as_slice(), part, derivation.cap) {
+    if is_within::<P>(parts.memory.as_slice(), &[], part, derivation.cap) {
         return Ok(());
     }
     take_cap::<P>(parts, part, derivation.cap)

@@ -2,6 +2,7 @@
 #![tactic(auto)]
 
 mod arranged;
+mod keyed;
 mod laws;
 mod least;
 mod listed;

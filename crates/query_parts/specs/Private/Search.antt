@@ -82,10 +82,10 @@ abbrev pub IsTakenWhere : ProfileName → ℕ → Cap → Bool → List PartMemo
 IsTakenWhere p part cap true memory uses memory' uses' = IsCapTaken p part cap memory uses memory' uses'
 IsTakenWhere p part cap false memory uses memory' uses' = AreSame memory uses memory' uses'
 
--- what a slot in a stretch of a part holds and may not stand there is taken in
+-- what a slot in a stretch of a part holds is taken in, unless the part owns it
 abbrev pub IsSlotTaken : ProfileName → PartMemory → Entry → List PartMemory → List PartUse → List PartMemory → List PartUse → Type 0
 IsSlotTaken p m e memory uses memory' uses' =
-    IsTakenWhere p m.part e.cap (lies_in m e.slot && not (is_within p memory uses m.part e.cap)) memory uses memory' uses'
+    IsTakenWhere p m.part e.cap (lies_in m e.slot && not (is_within p memory [] m.part e.cap)) memory uses memory' uses'
 
 -- ---- what is kept
 

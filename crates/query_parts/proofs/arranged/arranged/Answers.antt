@@ -29,5 +29,5 @@ returns g c S =
           moved c.sort_stretches.ensures.rising joins labelled numbered;
       uses_told =
           subst (λ (m : List PartMemory). AreNeeded p m (map (use_in (number_of c.in_ok-order.order.items)) c.args.parts.uses.items) c.in_ok-uses.uses.items) c.as_slice-5.ensures.value
-          (subst (λ (u : List PartUse). AreNeeded p c.as_slice-5.result.now u c.in_ok-uses.uses.items) (c.as_mut_slice-4.ensures.value ∙ used) c.in_ok-uses.ensures);
+          (subst (λ (u : List PartUse). AreNeeded p c.as_slice-5.result.now u c.in_ok-uses.uses.items) used c.in_ok-uses.ensures);
     }
