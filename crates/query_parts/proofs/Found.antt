@@ -69,7 +69,7 @@ chosen_after p base radix front bits c None h f e = cc
 chosen_after p base radix front bits c (Some rest) h f e =
     chosen_where p base radix rest c (nat_lt (length rest) radix) (below-after_front front bits rest h f) refl e
 
-chosen_slot : (p : ProfileName) (cap : Cap) (bits : List ℕ) (c : Choice) → AllBelowBase 2 bits → choice p cap bits ≡ Ok c →
+pub chosen_slot : (p : ProfileName) (cap : Cap) (bits : List ℕ) (c : Choice) → AllBelowBase 2 bits → choice p cap bits ≡ Ok c →
     IsSlotOf p cap c.slot × AllBelowBase 2 c.left
 chosen_slot p Null bits c h e = cc
 chosen_slot p (Untyped base bits' free) bits c h e = cc
@@ -79,7 +79,7 @@ chosen_slot p (CNode base radix guard) bits c h e =
     (found.index, found.below)
 chosen_slot p (Tcb base) bits c h e = cc
 
-named_found : (r : Result Found LookupFault) (slot : ℕ) → slot_found r ≡ Ok slot → (found : Found) × ((r ≡ Ok found) × (found.slot ≡ slot))
+pub named_found : (r : Result Found LookupFault) (slot : ℕ) → slot_found r ≡ Ok slot → (found : Found) × ((r ≡ Ok found) × (found.slot ≡ slot))
 named_found (Err fault) slot h = cc
 named_found (Ok found) slot h = (found, (refl, ok_same found.slot slot h))
 

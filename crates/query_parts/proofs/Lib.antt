@@ -6,6 +6,7 @@ pub mod Spared
 pub mod Messages
 pub mod Runs
 pub mod Below
+pub mod Passing
 pub mod Taking
 pub mod Delivered
 pub mod Lists

@@ -34,16 +34,16 @@ pub some_is : (a b : ℕ) → Some a ≡ Some b → a ≡ b
 some_is a b h = cc
 
 -- the records that a state has beyond those of another
-abbrev More : {X : Type 0} → (X → Type 0) → List X → List X → Type 0
+abbrev pub More : {X : Type 0} → (X → Type 0) → List X → List X → Type 0
 More {X} P old new = (more : List X) × ((new ≡ old ++ more) × Each P more)
 
-no_more : {X : Type 0} (P : X → Type 0) (old : List X) → More P old old
+pub no_more : {X : Type 0} (P : X → Type 0) (old : List X) → More P old old
 no_more P old = ([], (sym (append-nil old), tt))
 
-one_more : {X : Type 0} (P : X → Type 0) (old : List X) (x : X) → P x → More P old (old ++ x ∷ [])
+pub one_more : {X : Type 0} (P : X → Type 0) (old : List X) (x : X) → P x → More P old (old ++ x ∷ [])
 one_more P old x h = (x ∷ [], (refl, (h, tt)))
 
-then_more : {X : Type 0} (P : X → Type 0) (a b c : List X) → More P a b → More P b c → More P a c
+pub then_more : {X : Type 0} (P : X → Type 0) (a b c : List X) → More P a b → More P b c → More P a c
 then_more P a b c h k = (
   h.0 ++ k.0,
   (k.1.0 ∙ ap (λ l. l ++ k.0) h.1.0 ∙ append_assoc a h.0 k.0, each-append P h.0 k.0 h.1.1 k.1.1),

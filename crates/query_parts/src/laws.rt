@@ -13,6 +13,7 @@ ghost use Rattle.query_parts.specs.Laws.{StaysClosed, LeavesOthers, TakesOnlyNea
 ghost use Rattle.query_parts.specs.Least.{LieInEachOther};
 ghost use Rattle.query_parts.specs.Below.{TakesNothing, TakesNothingOutside, StayNoneBelow, StayOwnBelow};
 ghost use Rattle.query_parts.specs.Delivered.{DeliverWithin, TellWithin};
+ghost use Rattle.query_parts.specs.Passing.{GetsNothing, SendsByHeld};
 
 /// A call of a thread of a closed part leaves the part closed, and each slot outside it as it was, or empty. It
 /// empties none outside but of an object of the part, or of an endpoint that the part may use.
@@ -64,4 +65,13 @@ pub fn revokes_take_what_stands_below()
     ensures outside { (p : ProfileName) (parts : Parts) (i : ℕ) (A : State) (call : Call) → TakesNothingOutside p parts i A call }
     ensures stays { (p : ProfileName) (parts : Parts) (i j : ℕ) (A : State) (calls : List Call) → StayNoneBelow p parts i j A calls }
     ensures stays_outside { (p : ProfileName) (parts : Parts) (i : ℕ) (A : State) (calls : List Call) → StayOwnBelow p parts i A calls }
+{}
+
+/// Where each slot of a part's CNodes holds an endpoint's capability or none, the part only passes messages. Whatever calls the
+/// threads of closed parts make, of whatever parts, and whatever messages others send and receive: each slot of such a part holds
+/// what it held, or nothing, where a revoke or a delete in another part has emptied it. And what its threads send they send by a
+/// capability that a slot of the part held in the beginning, with its badge.
+pub fn parts_that_pass_messages_get_nothing()
+    ensures slots { (p : ProfileName) (parts : Parts) (i : ℕ) (A : State) (calls : List Call) → GetsNothing p parts i A calls }
+    ensures sends { (p : ProfileName) (parts : Parts) (i : ℕ) (A : State) (calls : List Call) → SendsByHeld p parts i A calls }
 {}
