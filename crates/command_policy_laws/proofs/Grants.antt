@@ -1,10 +1,8 @@
 -- Where one part hands nothing to another, no slot of it ever holds a capability by which it could.
-use Rattle.std.proofs.Common.{◌≡◌, ℕ, inl, inr, true, false, ◌==◌, ◌&&◌, List, refl, sym, ◌∙◌, arith, eq-eqb, bit_and}
+use Rattle.std.proofs.Common.{◌≡◌, ℕ, inl, inr, true, false, ◌==◌, ◌&&◌, List, refl, sym, ◌∙◌, arith, eq-eqb}
 use Rattle.std.specs.List.{list_any}
-use Rattle.std.specs.Int.{bit_at}
-use Rattle.std.proofs.lemmas.Bool.{false≢true, eqb-true}
+use Rattle.std.proofs.lemmas.Bool.{false≢true}
 use Rattle.std.proofs.lemmas.Nat.{pow_pos}
-use Rattle.std.proofs.lemmas.Nat.Bits.{and_pow}
 use Rattle.cap_core.specs.declared.profile.ProfileName.{ProfileName}
 use Rattle.cap_core.specs.declared.capability.Badge.{Badge}
 use Rattle.cap_core.specs.declared.capability.Cap.{Cap}
@@ -27,15 +25,9 @@ use Rattle.command_never_text.specs.Waits.{waits}
 use Rattle.command_never_text.specs.Never.{may_receive_on, endpoints_met}
 use Rattle.command_policy_laws.specs.Grants.{is_giving, may_give_by, gives_to, are_given, IsKeptIn, AreGrantsKeptEver, is_answering, may_answer_by, may_call_by, answers_to, are_answered, IsKeptFromCallers, AreAnswersKeptEver}
 use Rattle.command_never_text.proofs.Tests.{none_at}
-use Rattle.command_never_text.proofs.Had.{IsKeptRight, bytes_at, used, write_kept, read_kept}
+use Rattle.command_never_text.proofs.Had.{bytes_at, used}
 use Rattle.command_policy_laws.proofs.Held.{weaker}
-
-grant_kept : IsKeptRight grant_bit
-grant_kept few many among has =
-    let four = eqb-true (bit_and few.0 4) 4 has in
-    let set : bit_at few.0 2 ≡ 1 = omega (arith, four, and_pow few.0 2) in
-    let then = among 2 set in
-    eq-eqb (bit_and many.0 4) 4 (omega (arith, then, and_pow many.0 2))
+use Rattle.command_policy_laws.proofs.Rights.{grant_kept, read_kept, write_kept}
 
 module _ (p : ProfileName) (memory : List PartMemory) (uses : List PartUse) (v : Shown) (i j : ℕ) (none : are_given p memory uses v i j ≡ false) where
   given_by : (e : ℕ) → may_give_by p memory uses i e ≡ true → is_in e (endpoints_met uses (waits p v)) ≡ true → may_receive_on p memory uses (waits p v) j e ≡ false

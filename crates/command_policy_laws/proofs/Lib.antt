@@ -2,3 +2,9 @@ pub mod Held
 pub mod Larger
 pub mod Keeps
 pub mod Grants
+pub mod Rights
+pub mod Untold
+pub mod Groups
+pub mod Waiting
+pub mod Unbroken
+pub mod Status

@@ -1,16 +1,23 @@
 //! What it promises that a layout keeps to a policy. Nothing is done.
 ghost use Rattle.std.specs.Prelude.{◌≡◌, ℕ, ◌==◌, true, false, List};
 ghost use Rattle.cap_core.specs.declared.profile.ProfileName.{ProfileName};
+ghost use Rattle.kernel_abstract.specs.declared.call.Reply.{Reply};
 ghost use Rattle.kernel_abstract.specs.Shown.{Shown};
+ghost use Rattle.kernel_abstract.specs.State.{State};
 ghost use Rattle.query_parts.specs.declared.listed.PartMemory.{PartMemory};
 ghost use Rattle.query_parts.specs.declared.listed.PartUse.{PartUse};
 ghost use Rattle.query_parts.specs.Parts.{Parts};
 ghost use Rattle.query_parts.specs.Ever.{AreConfinedEver};
+ghost use Rattle.setup_format.specs.Views.{SetupView};
 ghost use Rattle.command_parts.specs.declared.ways.Way.{Way};
+ghost use Rattle.command_policy_breaches.specs.declared.policy.Labels.{Labels};
+ghost use Rattle.command_policy_breaches.specs.declared.policy.Layout.{Layout};
+ghost use Rattle.command_policy_breaches.specs.declared.policy.Policy.{Policy};
 ghost use Rattle.command_policy_laws.specs.Grants.{are_answered, are_given, AreAnswersKeptEver, AreGrantsKeptEver};
 ghost use Rattle.command_policy_laws.specs.Held.{are_passages_let, AreWaysHeldEver};
 ghost use Rattle.command_policy_laws.specs.Keeps.{LeastKeepMost, WhatIsKeptIsHeld};
 ghost use Rattle.command_policy_laws.specs.Larger.{HoldNoLess};
+ghost use Rattle.command_policy_laws.specs.Unbroken.{IsPromised, WhatIsNotToldIsKept};
 
 /// Where parts are confined, and ways let pass all that the one part may send and the other receive, then, whatever calls the threads
 /// of the parts make, and whatever messages other threads send and receive: each message of a thread of the one that is delivered
@@ -54,4 +61,19 @@ pub fn least_parts_keep_what_larger_keep()
 /// that are of two groups is one that may pass.
 pub fn what_is_kept_is_held()
     ensures { (p : ProfileName) (memory : List PartMemory) (uses : List PartUse) (v : Shown) → WhatIsKeptIsHeld p memory uses v }
+{}
+
+/// Where no line of the text tells of a breach, threads are of the groups that name them, and the parts keep the policy: this is the
+/// premise of `what_is_kept_is_held`.
+pub fn what_is_not_told_is_kept()
+    ensures { (p : ProfileName) (c : Policy) (l : Layout) (n : Labels) (A : State) → WhatIsNotToldIsKept p c l n A }
+{}
+
+/// Status 0 of `audit --policy`. Where the verdict on a layout and a policy is `AllMet`, then, whatever calls the threads of the parts
+/// make, and whatever messages other threads send and receive: each capability to an endpoint in a slot of a group's part is one that
+/// the group's entries allow, with its badge and all its rights, or is to an endpoint in a region of the group or in its part's memory;
+/// and each message that is delivered between threads of two groups passes by an endpoint and with a badge that a way allows.
+pub fn what_status_0_promises()
+    ensures { (p : ProfileName) (c : Policy) (l : Layout) (n : Labels) (setup : SetupView) (replies : List Reply) (text : List ℕ) →
+        IsPromised p c l n setup replies text }
 {}
