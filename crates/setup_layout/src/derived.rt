@@ -1,158 +1,108 @@
 //! Which capability of a layout is derived from which.
-use crate::fault::Remarks;
-use crate::grammar::{LayoutText, NodeText};
-use crate::kinds::SPACE;
 use crate::layout::{Object, Slot};
 use crate::objects::{Found, Objects};
-use crate::scanner::Token;
+use crate::scanner::{Spot, Token};
 use crate::slots::Slots;
+use crate::words::{Reference, Words};
 use cap_core::{Kind, Rights};
 use std::alloc::{AllocError, Global};
 
 /// How deep the derivations of a layout are at the most.
 const MOST_DEPTH: usize = 1024;
 
-/// A slot above another one, from which that is derived.
+/// A slot that a derivation names, by the name of its capability, or as a slot of an object; and the one that it stands right below, by
+/// its place among them.
 #[derive(Clone, Copy)]
-struct Pair<'a> {
-    above: usize,
-    below: usize,
-    at: Token<'a>,
+struct Node<'a> {
+    name: Reference<'a>,
+    slot: Option<Token<'a>>,
+    above: Option<usize>,
 }
 
-/// The token with which a node begins.
-fn token_of<'a>(node: NodeText<'a>) -> Token<'a> {
-    match node {
-        NodeText::Named(name) => name,
-        NodeText::At(holder, _) => holder.name,
-    }
+/// A slot above another one, from which that is derived.
+#[derive(Clone, Copy)]
+struct Pair {
+    above: usize,
+    below: usize,
+    at: Spot,
+}
+
+/// The derivations of a layout.
+#[derive(Drop)]
+pub struct Tree<'a> {
+    nodes: Vec<Node<'a>>,
+    pairs: Vec<Pair>,
+    /// The slot right above each slot, where there is one.
+    parents: Vec<Option<usize>>,
+    /// The slots with the capability that the making of their object gives, by the place of the object: the first that has others
+    /// below it and none above.
+    originals: Vec<Option<usize>>,
+}
+
+/// Reads a slot that a derivation names.
+fn read_node<'a>(words: &mut Words<'a>, above: Option<usize>) -> Node<'a> {
+    let mut slot = None;
+    let name = if words.has("(") {
+        let holder = words.reference();
+        words.need(",");
+        slot = Some(words.name("a slot"));
+        words.need(")");
+        holder
+    } else {
+        let name = words.name("a slot, or the name of a capability,");
+        Reference { name, index: None }
+    };
+    Node { name, slot, above }
 }
 
 /// The slot that a node names, by its place among the slots. One that is empty is told, but not where its capability is left out.
 fn slot_of<'a>(
-    alloc: Global,
-    node: NodeText<'a>,
-    objects: &mut Objects<'a>,
+    words: &mut Words<'a>,
+    objects: &Objects<'a>,
     slots: &Slots<'a>,
-) -> Result<Option<usize>, AllocError> {
-    let key = match node {
-        NodeText::Named(name) => slots.named.get(name.text).copied(),
-        NodeText::At(holder, place) => {
-            let number = if place.is(SPACE) {
-                Some(0)
-            } else {
-                place.number()
-            };
-            match (objects.find(holder.name.text, holder.index), number) {
-                (Found::Kept(object), Some(number)) => Some((object, number)),
-                (Found::LeftOut(_), _) => return Ok(None),
-                _ => None,
-            }
+    node: Node<'a>,
+) -> Option<usize> {
+    let Token { text, spot, .. } = node.name.name;
+    let Some(slot) = node.slot else {
+        let found = slots.named.get(text).copied();
+        if found.is_none() {
+            words
+                .faults
+                .say(spot, format_args!("there is no capability {text}"));
         }
+        return found;
     };
-    let number = match key {
-        Some(key) => slots.places.get(&key).copied(),
-        None => None,
+    let place = if slot.is("cspace") {
+        Some(0)
+    } else {
+        slot.number()
     };
-    if number.is_none() {
-        let at = token_of(node);
-        let words = match node {
-            NodeText::Named(name) => format!(in alloc; "there is no capability {}", name.text)?,
-            NodeText::At(holder, place) => {
-                format!(in alloc;
-                    "slot {} of {} is empty, or its capability is left out",
-                    place.text, holder.name.text
-                )?
-            }
-        };
-        objects.faults.say(at, words)?;
+    let found = match (objects.find(node.name), place) {
+        (Found::Kept(object), Some(place)) => slots.places.get(&(object, place)).copied(),
+        (Found::LeftOut(_), _) => return None,
+        _ => None,
+    };
+    if found.is_none() {
+        let slot = slot.text;
+        words.faults.say(
+            spot,
+            format_args!("slot {slot} of {text} is empty, or its capability is left out"),
+        );
     }
-    Ok(number)
-}
-
-/// The pairs that the text tells.
-fn pairs_of<'a>(
-    alloc: Global,
-    text: &LayoutText<'a>,
-    objects: &mut Objects<'a>,
-    slots: &Slots<'a>,
-) -> Result<Vec<Pair<'a>>, AllocError> {
-    let mut numbers = Vec::new(alloc);
-    let mut pairs = Vec::new(alloc);
-    for derived in text.derived.as_slice() {
-        let below = slot_of(alloc, derived.node, objects, slots)?;
-        numbers.push(below)?;
-        let above = match derived.above {
-            Some(node) => numbers.get(node).copied().unwrap_or(None),
-            None => None,
-        };
-        if let (Some(above), Some(below)) = (above, below) {
-            let at = token_of(derived.node);
-            pairs.push(Pair { above, below, at })?;
-        }
-    }
-    Ok(pairs)
-}
-
-/// The slot right above each slot, where there is one. Two slots above one, and another object, are told.
-fn parents_of<'a>(
-    alloc: Global,
-    pairs: &[Pair<'a>],
-    slots: &[Slot],
-    faults: &mut Remarks,
-) -> Result<Vec<Option<usize>>, AllocError> {
-    let mut parents = vec![in alloc; None; slots.len()]?;
-    for pair in pairs {
-        let (Some(above), Some(below)) = (slots.get(pair.above), slots.get(pair.below)) else {
-            continue;
-        };
-        if above.object != below.object {
-            let words = format!(in alloc;
-                "this slot of line {} holds another object than the one above it, of line {}",
-                below.line, above.line
-            )?;
-            faults.say(pair.at, words)?;
-        }
-        if let Some(parent) = parents.get_mut(pair.below) {
-            if parent.is_some() {
-                let words = format!(in alloc;
-                    "this slot of line {} stands below two slots",
-                    below.line
-                )?;
-                faults.say(pair.at, words)?;
-            }
-            *parent = Some(pair.above);
-        }
-    }
-    Ok(parents)
-}
-
-/// Whether the slots above a slot come to an end, and are not too many.
-fn ends(parents: &[Option<usize>], slot: usize) -> bool {
-    let mut slot = slot;
-    for _above in 0..MOST_DEPTH {
-        match parents.get(slot) {
-            Some(Some(parent)) => slot = *parent,
-            _ => return true,
-        }
-    }
-    false
+    found
 }
 
 /// Whether a slot can hold the capability that the making of its object gives: all rights, no badge and no guard. A CNode whose slots
 /// are filled by that capability is none of these.
 fn can_be_original(slot: &Slot, objects: &[Object]) -> bool {
-    let Some(object) = objects.get(slot.object) else {
+    let (Some(object), Some(holder)) = (objects.get(slot.object), objects.get(slot.holder)) else {
         return false;
     };
     let is_plain = slot.badge == 0 && slot.guard.size == 0 && slot.guard.value == 0;
-    let is_space = objects
-        .get(slot.holder)
-        .is_none_or(|holder| holder.kind != Kind::CNode);
     match object.kind {
         Kind::Endpoint => is_plain && slot.rights == Rights::ALL,
-        Kind::CNode => is_plain && !is_space && slot.holder != slot.object,
-        _ => is_plain && !is_space,
+        Kind::CNode => is_plain && holder.kind == Kind::CNode && slot.holder != slot.object,
+        _ => is_plain && holder.kind == Kind::CNode,
     }
 }
 
@@ -163,69 +113,162 @@ fn is_badge_kept(above: &Slot, below: &Slot) -> bool {
         && above.rights.0 | below.rights.0 == above.rights.0
 }
 
-/// The slots with the capability that the making of their object gives, by the place of the object: the first that has others below
-/// it and none above.
-fn originals_of(
-    alloc: Global,
-    pairs: &[Pair<'_>],
-    parents: &[Option<usize>],
-    slots: &[Slot],
-    objects: &[Object],
-) -> Result<Vec<Option<usize>>, AllocError> {
-    let mut originals = vec![in alloc; None; objects.len()]?;
-    for pair in pairs {
-        let (Some(slot), Some(None)) = (slots.get(pair.above), parents.get(pair.above)) else {
-            continue;
-        };
-        if can_be_original(slot, objects) {
-            if let Some(original) = originals.get_mut(slot.object) {
-                if original.is_none() {
-                    *original = Some(pair.above);
+impl<'a> Tree<'a> {
+    /// No derivation is read yet.
+    pub fn new(alloc: Global) -> Tree<'a> {
+        Tree {
+            nodes: Vec::new(alloc),
+            pairs: Vec::new(alloc),
+            parents: Vec::new(alloc),
+            originals: Vec::new(alloc),
+        }
+    }
+
+    /// Reads the section of the derivations.
+    pub fn read(&mut self, words: &mut Words<'a>) -> Result<(), AllocError> {
+        words.need("{");
+        let mut open = Vec::new(words.alloc);
+        let mut above = None;
+        for _node in 0..words.left() {
+            if words.is_broken {
+                return Ok(());
+            }
+            if words.has("}") {
+                match open.pop() {
+                    None => return Ok(()),
+                    Some(outer) => above = outer,
+                }
+            } else if !words.has(",") {
+                self.nodes.push(read_node(words, above))?;
+                if words.has("{") {
+                    open.push(above)?;
+                    above = self.nodes.len().checked_sub(1);
                 }
             }
         }
+        Ok(())
     }
-    Ok(originals)
-}
 
-/// The pairs of a layout that a kernel can have, by the places of their slots. Another pair is a note, and no pair of the layout.
-pub fn derived_pairs<'a>(
-    alloc: Global,
-    text: &LayoutText<'a>,
-    objects: &mut Objects<'a>,
-    slots: &Slots<'a>,
-) -> Result<Vec<(usize, usize)>, AllocError> {
-    let pairs = pairs_of(alloc, text, objects, slots)?;
-    let (pairs, all) = (pairs.as_slice(), slots.slots.as_slice());
-    let parents = parents_of(alloc, pairs, all, &mut objects.faults)?;
-    let parents = parents.as_slice();
-    let originals = originals_of(alloc, pairs, parents, all, objects.objects.as_slice())?;
-    let mut kept = Vec::new(alloc);
-    for pair in pairs {
-        let (Some(above), Some(below)) = (all.get(pair.above), all.get(pair.below)) else {
-            continue;
-        };
-        if !ends(parents, pair.below) {
-            let words = format!(in alloc;
-                "the derivations go in a circle, or are more than {MOST_DEPTH} deep: slots of lines {} and {}",
-                above.line, below.line
-            )?;
-            objects.faults.say(pair.at, words)?;
-            continue;
+    /// Finds the pairs of slots that the text tells.
+    fn find_pairs(
+        &mut self,
+        words: &mut Words<'a>,
+        objects: &Objects<'a>,
+        slots: &Slots<'a>,
+    ) -> Result<(), AllocError> {
+        let mut found = Vec::new(words.alloc);
+        for node in self.nodes.as_slice() {
+            let below = slot_of(words, objects, slots, *node);
+            let above = match node.above {
+                Some(above) => found.get(above).copied().flatten(),
+                None => None,
+            };
+            found.push(below)?;
+            if let (Some(above), Some(below)) = (above, below) {
+                let at = node.name.name.spot;
+                self.pairs.push(Pair { above, below, at })?;
+            }
         }
-        let original = originals.get(above.object).copied().unwrap_or(None);
-        let is_below_original = original == Some(pair.above);
-        let is_second = parents.get(pair.above).copied().unwrap_or(None) == original
-            || parents.get(pair.above).copied().unwrap_or(None).is_none();
-        if is_below_original || is_second && is_badge_kept(above, below) {
-            kept.push((pair.above, pair.below))?;
-        } else {
-            let words = format!(in alloc;
-                "no kernel has this below the slot of line {}: it is derived from the loader's capability, beside that slot",
-                above.line
-            )?;
-            objects.notes.say(pair.at, words)?;
+        Ok(())
+    }
+
+    /// Finds the slot right above each slot. Two slots above one, and another object, are told.
+    fn find_parents(&mut self, words: &mut Words<'a>, slots: &[Slot]) {
+        for pair in self.pairs.as_slice() {
+            let (Some(above), Some(below), Some(parent)) = (
+                slots.get(pair.above),
+                slots.get(pair.below),
+                self.parents.get_mut(pair.below),
+            ) else {
+                continue;
+            };
+            let (line, upper) = (below.line, above.line);
+            if above.object != below.object {
+                words.faults.say(
+                    pair.at,
+                    format_args!(
+                        "this slot of line {line} holds another object than the one above it, of line {upper}"
+                    ),
+                );
+            }
+            if parent.is_some() {
+                let told = format_args!("this slot of line {line} stands below two slots");
+                words.faults.say(pair.at, told);
+            }
+            *parent = Some(pair.above);
         }
     }
-    Ok(kept)
+
+    /// Finds the slots that hold the originals.
+    fn find_originals(&mut self, slots: &[Slot], objects: &[Object]) {
+        for pair in self.pairs.as_slice() {
+            if let (Some(slot), Some(None)) = (slots.get(pair.above), self.parents.get(pair.above))
+                && can_be_original(slot, objects)
+                && let Some(original) = self.originals.get_mut(slot.object)
+                && original.is_none()
+            {
+                *original = Some(pair.above);
+            }
+        }
+    }
+
+    /// Whether the slots above a slot come to an end, and are not too many.
+    fn ends(&self, slot: usize) -> bool {
+        let mut slot = slot;
+        for _above in 0..MOST_DEPTH {
+            match self.parents.get(slot) {
+                Some(Some(parent)) => slot = *parent,
+                _ => return true,
+            }
+        }
+        false
+    }
+
+    /// Whether a kernel can have one slot derived from the other.
+    fn is_kept(&self, pair: Pair, above: &Slot, below: &Slot) -> bool {
+        let original = self.originals.get(above.object).copied().flatten();
+        let parent = self.parents.get(pair.above).copied().flatten();
+        let is_second = parent == original || parent.is_none();
+        original == Some(pair.above) || is_second && is_badge_kept(above, below)
+    }
+
+    /// The pairs of a layout that a kernel can have, by the places of their slots. Another pair is a note, and no pair of the layout.
+    pub fn pairs(
+        &mut self,
+        words: &mut Words<'a>,
+        objects: &Objects<'a>,
+        slots: &Slots<'a>,
+    ) -> Result<Vec<(usize, usize)>, AllocError> {
+        let all = slots.slots.as_slice();
+        self.find_pairs(words, objects, slots)?;
+        self.parents = vec![in words.alloc; None; all.len()]?;
+        self.originals = vec![in words.alloc; None; objects.objects.len()]?;
+        self.find_parents(words, all);
+        self.find_originals(all, objects.objects.as_slice());
+        let mut kept = Vec::new(words.alloc);
+        for pair in self.pairs.as_slice() {
+            let (Some(above), Some(below)) = (all.get(pair.above), all.get(pair.below)) else {
+                continue;
+            };
+            let (line, lower) = (above.line, below.line);
+            if !self.ends(pair.below) {
+                words.faults.say(
+                    pair.at,
+                    format_args!(
+                        "the derivations go in a circle, or are more than {MOST_DEPTH} deep: slots of lines {line} and {lower}"
+                    ),
+                );
+            } else if self.is_kept(*pair, above, below) {
+                kept.push((pair.above, pair.below))?;
+            } else {
+                words.notes.say(
+                    pair.at,
+                    format_args!(
+                        "no kernel has this below the slot of line {line}: it is derived from the loader's capability, beside that slot"
+                    ),
+                );
+            }
+        }
+        Ok(kept)
+    }
 }

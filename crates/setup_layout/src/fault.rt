@@ -1,8 +1,8 @@
 //! What is said of a layout: its faults, and what a set-up leaves out of it.
-use crate::scanner::{Spot, Token};
+use crate::scanner::Spot;
 use setup_positions::NamedText;
-use std::alloc::{AllocError, AllocFailed, Global};
-use std::fmt::Write;
+use std::alloc::{AllocError, Global};
+use std::fmt::{self, Display, Write};
 use strsim::osa_distance;
 
 /// The most faults, and the most notes, that are told.
@@ -14,27 +14,6 @@ const MAX_EDITS: usize = 2;
 /// The most bytes of a name for which one is looked for that looks like it.
 const MAX_LENGTH: usize = 60;
 
-/// Why the reading of a text ends before the text does.
-#[derive(Clone, Copy, Debug)]
-pub enum Stop {
-    /// A fault was told, behind which nothing can be read.
-    Fault,
-    /// Memory was refused.
-    Memory,
-}
-
-impl From<AllocError> for Stop {
-    fn from(_refused: AllocError) -> Stop {
-        Stop::Memory
-    }
-}
-
-impl<T: Drop> From<AllocFailed<T>> for Stop {
-    fn from(_refused: AllocFailed<T>) -> Stop {
-        Stop::Memory
-    }
-}
-
 /// What is said of a part of the text.
 #[derive(Drop)]
 pub struct Remark {
@@ -43,19 +22,37 @@ pub struct Remark {
     pub words: String,
 }
 
+/// The question whether a name was meant that looks like what was found; nothing where none does.
+#[derive(Clone, Copy)]
+pub struct Hint<'a>(Option<&'a str>);
+
+impl Display for Hint<'_> {
+    fn fmt<W: Write>(&self, f: &mut fmt::Formatter<W>) -> fmt::Result {
+        match self.0 {
+            Some(name) => write!(f, "; did you mean {name}?"),
+            None => Ok(()),
+        }
+    }
+}
+
 /// What is said of the parts of a text, in the order in which it was found: so many remarks at the most, and how many more.
 #[derive(Drop)]
 pub struct Remarks {
+    alloc: Global,
     pub told: Vec<Remark>,
     pub more: usize,
+    /// Whether memory for a remark was refused: then it is missing.
+    pub is_refused: bool,
 }
 
 impl Remarks {
     /// Nothing is said.
     pub fn new(alloc: Global) -> Remarks {
         Remarks {
+            alloc,
             told: Vec::new(alloc),
             more: 0,
+            is_refused: false,
         }
     }
 
@@ -71,22 +68,22 @@ impl Remarks {
 
     /// The line of the first.
     pub fn first_line(&self) -> usize {
-        self.told.first().map_or(1, |remark| remark.spot.line)
-    }
-
-    /// Says something of a word.
-    pub fn say(&mut self, at: Token<'_>, words: String) -> Result<(), AllocError> {
-        self.say_at(at.spot(), words)
+        match self.told.first() {
+            Some(remark) => remark.spot.line,
+            None => 1,
+        }
     }
 
     /// Says something of a part of the text.
-    pub fn say_at(&mut self, spot: Spot, words: String) -> Result<(), AllocError> {
+    pub fn say(&mut self, spot: Spot, words: impl Display + Drop) {
         if self.is_full() {
             self.more = self.more.saturating_add(1);
-            return Ok(());
+            return;
         }
-        self.told.push(Remark { spot, words })?;
-        Ok(())
+        match words.to_string(self.alloc) {
+            Ok(words) => self.is_refused |= self.told.push(Remark { spot, words }).is_err(),
+            Err(_) => self.is_refused = true,
+        }
     }
 
     /// Adds the remarks, each with the line of the text where it stands. `name` is the file's.
@@ -104,24 +101,22 @@ impl Remarks {
         }
         Ok(())
     }
-}
 
-/// The question whether the one of these names was meant that looks most like what was found; nothing where none does.
-pub fn question(alloc: Global, found: &str, names: &[&str]) -> Result<String, AllocError> {
-    let (mut nearest, mut fewest) = ("", MAX_EDITS + 1);
-    if found.len() > MAX_LENGTH {
-        return Ok(String::new(alloc));
-    }
-    for name in names {
-        if name.len().abs_diff(found.len()) <= MAX_EDITS {
-            let edits = osa_distance(alloc, found, *name)?;
-            if edits < fewest {
-                (nearest, fewest) = (*name, edits);
+    /// The one of these names that looks most like what was found.
+    pub fn hint<'n>(&mut self, found: &str, names: &[&'n str]) -> Hint<'n> {
+        let (mut nearest, mut fewest) = (None, MAX_EDITS + 1);
+        if self.is_full() || found.len() > MAX_LENGTH {
+            return Hint(None);
+        }
+        for name in names {
+            if name.len().abs_diff(found.len()) <= MAX_EDITS {
+                match osa_distance(self.alloc, found, *name) {
+                    Ok(edits) if edits < fewest => (nearest, fewest) = (Some(*name), edits),
+                    Ok(_) => {}
+                    Err(_) => self.is_refused = true,
+                }
             }
         }
-    }
-    match nearest {
-        "" => Ok(String::new(alloc)),
-        _ => format!(in alloc; "; did you mean {nearest}?"),
+        Hint(nearest)
     }
 }

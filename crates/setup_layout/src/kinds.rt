@@ -1,7 +1,7 @@
-//! What the words of a layout stand for.
+//! What the words of a layout mean.
 use cap_core::{Kind, ProfileName};
 
-/// The kinds of object: four that a kernel has, and others, which a set-up leaves out.
+/// The kinds of object: first those that a kernel has, in the order of `KINDS`, and then others, which a set-up leaves out.
 #[rattlefmt::skip]
 pub const KIND_WORDS: [&str; 43] = [
     "cnode", "tcb", "ep", "ut",
@@ -12,22 +12,12 @@ pub const KIND_WORDS: [&str; 43] = [
 ];
 
 /// The kinds of object that a kernel has.
-const KINDS: [(&str, Kind); 4] = [
-    ("cnode", Kind::CNode),
-    ("tcb", Kind::Tcb),
-    ("ep", Kind::Endpoint),
-    ("ut", Kind::Untyped),
-];
+pub const KINDS: [Kind; 4] = [Kind::CNode, Kind::Tcb, Kind::Endpoint, Kind::Untyped];
 
 /// The objects that a layout need not declare, and that a set-up leaves out.
+#[rattlefmt::skip]
 pub const BUILT_IN: [&str; 7] = [
-    "irq_control",
-    "asid_control",
-    "sched_control",
-    "domain",
-    "io_space_master",
-    "io_port_control",
-    "smc",
+    "irq_control", "asid_control", "sched_control", "domain", "io_space_master", "io_port_control", "smc",
 ];
 
 /// The slots of a thread. A set-up leaves out all but the first, in which the thread's space begins.
@@ -37,36 +27,22 @@ pub const SLOT_WORDS: [&str; 10] = [
     "bound_notification", "vcpu",
 ];
 
-/// The slot in which a thread's space begins.
-pub const SPACE: &str = "cspace";
-
-/// The machines.
-#[rattlefmt::skip]
+/// The machines: first those whose words have 32 bits.
 pub const ARCHES: [&str; 9] = [
     "arm11", "arm", "aarch32", "ia32", "riscv32", "x86_64", "aarch64", "riscv", "riscv64",
 ];
 
-/// The machines whose words have 64 bits.
-const WIDE: [&str; 4] = ["x86_64", "aarch64", "riscv", "riscv64"];
+/// How many of the machines, the first ones, have words of 32 bits.
+const NARROW_ARCHES: usize = 5;
 
-/// What a kind of object is to a set-up.
-#[derive(Clone, Copy)]
-pub enum KindWord {
-    /// A kernel has it.
-    Kept(Kind),
-    /// A set-up leaves it out.
-    LeftOut,
-    /// There is none of that name.
-    Unknown,
-}
-
-/// The kind of a name.
-pub fn kind_of(word: &str) -> KindWord {
-    match KINDS.iter().find(|(name, _)| *name == word) {
-        Some((_, kind)) => KindWord::Kept(*kind),
-        None if KIND_WORDS.contains(&word) => KindWord::LeftOut,
-        None => KindWord::Unknown,
+/// The place of a word in a list, where it is there.
+pub fn place_of(words: &[&str], word: &str) -> Option<usize> {
+    for (place, known) in words.iter().enumerate() {
+        if *known == word {
+            return Some(place);
+        }
     }
+    None
 }
 
 /// What a kind of object is called in a layout.
@@ -79,18 +55,11 @@ pub fn kind_word(kind: Kind) -> &'static str {
     }
 }
 
-/// Whether a thread has a slot of that name beside the one of its space.
-pub fn is_other_slot(word: &str) -> bool {
-    word != SPACE && SLOT_WORDS.contains(&word)
-}
-
 /// The profile of a machine.
 pub fn profile_of(arch: &str) -> Option<ProfileName> {
-    if WIDE.contains(&arch) {
-        Some(ProfileName::Wide)
-    } else if ARCHES.contains(&arch) {
-        Some(ProfileName::Narrow)
-    } else {
-        None
+    match place_of(&ARCHES, arch) {
+        Some(place) if place < NARROW_ARCHES => Some(ProfileName::Narrow),
+        Some(_) => Some(ProfileName::Wide),
+        None => None,
     }
 }

@@ -4,7 +4,6 @@
 
 mod derived;
 mod fault;
-mod grammar;
 mod kinds;
 mod layout;
 mod machine;
@@ -13,6 +12,7 @@ mod places;
 mod reading;
 mod scanner;
 mod slots;
+mod words;
 
 pub use fault::{Remark, Remarks};
 pub use layout::{Layout, Object, Slot};

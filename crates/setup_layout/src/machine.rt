@@ -33,18 +33,14 @@ impl Machine {
         }
     }
 
-    /// The bits of an object's size.
-    pub fn size_bits(self, object: &Object) -> u32 {
-        match object.kind {
+    /// The bytes of an object.
+    pub fn size(self, object: &Object) -> u64 {
+        let bits = match object.kind {
             Kind::Untyped => object.bits,
             Kind::CNode => object.bits.saturating_add(self.slot_bits),
             Kind::Tcb => self.tcb_bits,
             Kind::Endpoint => self.endpoint_bits,
-        }
-    }
-
-    /// The bytes of an object.
-    pub fn size(self, object: &Object) -> u64 {
-        1u64.checked_shl(self.size_bits(object)).unwrap_or(u64::MAX)
+        };
+        1u64.checked_shl(bits).unwrap_or(u64::MAX)
     }
 }

@@ -1,5 +1,6 @@
 //! Where the objects of a layout stand in the memory of a set-up.
-use crate::layout::Layout;
+use crate::fault::Remarks;
+use crate::layout::{Layout, Object};
 use crate::machine::Machine;
 use cap_core::limits::{MAX_MEMORY_BITS, MAX_ROOT_RADIX, MIN_MEMORY_BITS};
 use std::alloc::{AllocError, Global};
@@ -12,6 +13,9 @@ const LEAST_REGION_BITS: u32 = 12;
 
 /// The radix of the least root CNode that is tried.
 const LEAST_RADIX: u32 = 2;
+
+/// How deep untyped regions cover each other at the most.
+const MOST_LEVELS: usize = 64;
 
 /// How many slots of the root CNode a boot fills before those of the regions, with the empty slot 0: that of the root CNode and
 /// that of the loader.
@@ -33,6 +37,12 @@ pub struct Region {
 }
 
 impl Region {
+    /// A region in which nothing stands yet.
+    fn new(base: u64, bits: u32) -> Region {
+        let free = base;
+        Region { base, bits, free }
+    }
+
     /// The place of an object of this size, behind those that stand there already; none where it has no room.
     fn place(&mut self, size: u64) -> Option<u64> {
         let place = self.free.checked_next_multiple_of(size)?;
@@ -59,37 +69,41 @@ pub struct Places {
     pub order: Vec<usize>,
 }
 
-/// How deep untyped regions cover each other at the most.
-const MOST_LEVELS: usize = 64;
+/// What says where an object stands among others: how many regions cover it, what its size lacks of the largest number, its kind; and
+/// its place among the objects.
+type Key = (usize, u64, u8, usize);
 
-/// An object that has a place: where it is made, and the address.
-#[derive(Clone, Copy)]
-struct Placed {
-    /// How many untyped regions cover it, the one in the other.
-    level: usize,
-    source: Source,
-    place: u64,
-    /// The first address behind what it covers.
-    free: u64,
+/// How many untyped regions cover an object, the one in the other; `None` where they cover each other in a circle, or are too many.
+fn level_of(objects: &[Object], number: usize) -> Option<usize> {
+    let mut object = objects.get(number)?;
+    for level in 0..MOST_LEVELS {
+        match object.cover {
+            None => return Some(level),
+            Some(cover) => object = objects.get(cover)?,
+        }
+    }
+    None
 }
 
-/// The objects of a layout, the largest first, and of one size those of one kind beside each other.
+/// The objects of a layout, each behind what covers it, the largest first, and of one size those of one kind beside each other. An
+/// object with no level stands last.
 fn largest_first(
     alloc: Global,
-    layout: &Layout,
+    objects: &[Object],
     machine: Machine,
-) -> Result<Vec<usize>, AllocError> {
+) -> Result<Vec<Key>, AllocError> {
     let mut keys = Vec::new(alloc);
-    for (number, object) in layout.objects.as_slice().iter().enumerate() {
+    for (number, object) in objects.iter().enumerate() {
+        let level = level_of(objects, number).unwrap_or(MOST_LEVELS);
         let size = u64::MAX - machine.size(object);
-        keys.push((size, object.kind as u8, number))?;
+        keys.push((level, size, object.kind as u8, number))?;
     }
     keys.sort_unstable();
-    keys.iter().map(|key| key.2).collect(alloc)
+    Ok(keys)
 }
 
 /// The regions of a memory above the root CNode and the loader, the largest first: its half, a quarter and so on.
-fn regions_above(alloc: Global, memory_bits: u32, used: u64) -> Result<Vec<Region>, AllocError> {
+fn regions_of(alloc: Global, memory_bits: u32, used: u64) -> Result<Vec<Region>, AllocError> {
     let mut regions = Vec::new(alloc);
     for below in 1..=MOST_REGIONS as u32 {
         let bits = memory_bits.saturating_sub(below);
@@ -97,8 +111,7 @@ fn regions_above(alloc: Global, memory_bits: u32, used: u64) -> Result<Vec<Regio
         if base < used || below > 1 && bits < LEAST_REGION_BITS {
             break;
         }
-        let free = base;
-        regions.push(Region { base, bits, free })?;
+        regions.push(Region::new(base, bits))?;
     }
     Ok(regions)
 }
@@ -113,127 +126,6 @@ fn place_in(regions: &mut [Region], size: u64) -> Option<(usize, u64)> {
     None
 }
 
-/// The places of the objects that none covers, by the places of the objects; `None` where a region lacks the room for one.
-fn place_uncovered(
-    alloc: Global,
-    layout: &Layout,
-    largest: &[usize],
-    regions: &mut [Region],
-) -> Result<Option<Vec<Option<Placed>>>, AllocError> {
-    let machine = Machine::of(layout.profile);
-    let mut placed = vec![in alloc; None; layout.objects.len()]?;
-    for number in largest {
-        let Some(object) = layout.objects.get(*number) else {
-            continue;
-        };
-        if object.cover.is_none() {
-            let Some((region, place)) = place_in(regions, machine.size(object)) else {
-                return Ok(None);
-            };
-            if let Some(entry) = placed.get_mut(*number) {
-                *entry = Some(Placed {
-                    level: 0,
-                    source: Source::Region(region),
-                    place,
-                    free: place,
-                });
-            }
-        }
-    }
-    Ok(Some(placed))
-}
-
-/// Why an object has no place in the one that covers it.
-#[derive(Clone, Copy)]
-enum Covered {
-    /// It has one now.
-    Done,
-    /// It has one already, or none covers it, or what covers it has none yet.
-    NotNow,
-    /// There is no room for it.
-    Full,
-}
-
-/// Gives an object a place in the untyped region that covers it, where that has one.
-fn place_covered(
-    layout: &Layout,
-    number: usize,
-    level: usize,
-    placed: &mut [Option<Placed>],
-) -> Covered {
-    let machine = Machine::of(layout.profile);
-    let Some(object) = layout.objects.get(number) else {
-        return Covered::NotNow;
-    };
-    let (Some(cover), Some(None)) = (object.cover, placed.get(number)) else {
-        return Covered::NotNow;
-    };
-    let (Some(Some(above)), Some(region)) = (placed.get(cover).copied(), layout.objects.get(cover))
-    else {
-        return Covered::NotNow;
-    };
-    if above.level >= level {
-        return Covered::NotNow;
-    }
-    let mut inside = Region {
-        base: above.place,
-        bits: region.bits,
-        free: above.free,
-    };
-    let Some(place) = inside.place(machine.size(object)) else {
-        return Covered::Full;
-    };
-    if let Some(Some(above)) = placed.get_mut(cover) {
-        above.free = inside.free;
-    }
-    if let Some(entry) = placed.get_mut(number) {
-        *entry = Some(Placed {
-            level,
-            source: Source::Cover(cover),
-            place,
-            free: place,
-        });
-    }
-    Covered::Done
-}
-
-/// Says that an object has no room in the untyped region that covers it.
-fn say_full(alloc: Global, layout: &mut Layout, number: usize) -> Result<(), AllocError> {
-    let Some(object) = layout.objects.get(number) else {
-        return Ok(());
-    };
-    let cover = object.cover.and_then(|cover| layout.objects.get(cover));
-    let region = cover.map_or("the region", |cover| cover.name.as_str());
-    let words = format!(in alloc;
-        "{region} is too small for what it covers: {} does not fit",
-        object.name
-    )?;
-    layout.faults.say_at(object.spot, words)
-}
-
-/// Places the objects that are covered, level by level, and says which have no room.
-fn place_levels(
-    alloc: Global,
-    layout: &mut Layout,
-    largest: &[usize],
-    placed: &mut [Option<Placed>],
-) -> Result<(), AllocError> {
-    for level in 1..=MOST_LEVELS {
-        let mut is_done = true;
-        for number in largest {
-            match place_covered(layout, *number, level, placed) {
-                Covered::Done => is_done = false,
-                Covered::NotNow => {}
-                Covered::Full => return say_full(alloc, layout, *number),
-            }
-        }
-        if is_done {
-            break;
-        }
-    }
-    Ok(())
-}
-
 /// The address of the loader: the first behind the root CNode, which stands at 0.
 fn loader_of(machine: Machine, root_radix: u32) -> u64 {
     let node = 1u64
@@ -243,63 +135,45 @@ fn loader_of(machine: Machine, root_radix: u32) -> u64 {
         .unwrap_or(u64::MAX)
 }
 
-/// A memory, its regions, and the objects in them that none covers.
-#[derive(Drop)]
-struct Memory {
-    memory_bits: u32,
-    root_radix: u32,
-    regions: Vec<Region>,
-    placed: Vec<Option<Placed>>,
-}
-
-/// The least memory with room for the objects that none covers, beside a root CNode of that radix.
-fn least_memory(
-    alloc: Global,
-    layout: &Layout,
-    largest: &[usize],
-    root_radix: u32,
-) -> Result<Option<Memory>, AllocError> {
-    let machine = Machine::of(layout.profile);
-    let used = loader_of(machine, root_radix).saturating_add(1 << machine.tcb_bits.min(63));
-    for memory_bits in MIN_MEMORY_BITS..MAX_MEMORY_BITS + 1 {
-        let mut regions = regions_above(alloc, memory_bits, used)?;
-        let placed = place_uncovered(alloc, layout, largest, regions.as_mut_slice())?;
-        let taken = regions.len().saturating_add(layout.objects.len()) as u64;
-        if regions.is_empty()
-            || FIRST_REGION_SLOT.saturating_add(taken) > 1u64.checked_shl(root_radix).unwrap_or(0)
-        {
-            continue;
-        }
-        if let Some(placed) = placed {
-            return Ok(Some(Memory {
-                memory_bits,
-                root_radix,
-                regions,
-                placed,
-            }));
+/// Whether regions have room for the objects that none covers.
+fn have_room(regions: &mut [Region], objects: &[Object], order: &[Key], machine: Machine) -> bool {
+    for (level, _, _, number) in order {
+        if let (0, Some(object)) = (*level, objects.get(*number)) {
+            if place_in(regions, machine.size(object)).is_none() {
+                return false;
+            }
         }
     }
-    Ok(None)
+    true
 }
 
-/// The least root CNode and memory in which the objects have room.
+/// The radix of the least root CNode, the bits of the least memory beside it, and its regions, in which the objects have room.
 fn fitting_memory(
     alloc: Global,
-    layout: &Layout,
-    largest: &[usize],
-) -> Result<Option<Memory>, AllocError> {
-    for root_radix in LEAST_RADIX..MAX_ROOT_RADIX + 1 {
-        let memory = least_memory(alloc, layout, largest, root_radix)?;
-        if memory.is_some() {
-            return Ok(memory);
+    objects: &[Object],
+    order: &[Key],
+    machine: Machine,
+) -> Result<Option<(u32, u32, Vec<Region>)>, AllocError> {
+    let sizes = MAX_MEMORY_BITS + 1 - MIN_MEMORY_BITS;
+    for number in 0..(MAX_ROOT_RADIX + 1 - LEAST_RADIX) * sizes {
+        let (radix, bits) = (
+            LEAST_RADIX + number / sizes,
+            MIN_MEMORY_BITS + number % sizes,
+        );
+        let used = loader_of(machine, radix).saturating_add(1 << machine.tcb_bits.min(63));
+        let mut regions = regions_of(alloc, bits, used)?;
+        let taken = regions.len().saturating_add(objects.len()) as u64;
+        let slots = 1u64.checked_shl(radix).unwrap_or(0);
+        let has_slots = !regions.is_empty() && FIRST_REGION_SLOT.saturating_add(taken) <= slots;
+        if has_slots && have_room(regions.as_mut_slice(), objects, order, machine) {
+            return Ok(Some((radix, bits, regions_of(alloc, bits, used)?)));
         }
     }
     Ok(None)
 }
 
 /// Says that the objects have no room.
-fn say_too_large(alloc: Global, layout: &mut Layout) -> Result<(), AllocError> {
-    let machine = Machine::of(layout.profile);
+fn say_too_large(layout: &mut Layout, machine: Machine) {
     let mut bytes = 0u64;
     for object in layout.objects.as_slice() {
         if object.cover.is_none() {
@@ -307,47 +181,96 @@ fn say_too_large(alloc: Global, layout: &mut Layout) -> Result<(), AllocError> {
         }
     }
     let count = layout.objects.len();
-    let words = format!(in alloc;
-        "the layout takes {bytes} bytes, and {count} slots of the loader; a set-up has {} bytes and {} slots at the most, and the loader and its slots take some of them; --shrink N cuts untyped regions that cover nothing",
-        1u64 << MAX_MEMORY_BITS,
-        1u64 << MAX_ROOT_RADIX
-    )?;
-    layout.faults.say_at(layout.spot, words)
+    let (most, slots) = (1u64 << MAX_MEMORY_BITS, 1u64 << MAX_ROOT_RADIX);
+    layout.faults.say(
+        layout.spot,
+        format_args!(
+            "the layout takes {bytes} bytes, and {count} slots of the loader; a set-up has {most} bytes and {slots} slots at the most, and the loader and its slots take some of them; --shrink N cuts untyped regions that cover nothing"
+        ),
+    );
 }
 
-/// The objects with a place, in the order in which they are made: each behind what covers it, and those of one source together.
-fn order_of(
-    alloc: Global,
-    largest: &[usize],
-    placed: &[Option<Placed>],
-) -> Result<Vec<usize>, AllocError> {
-    let mut keys = Vec::new(alloc);
-    for (rank, number) in largest.iter().enumerate() {
-        if let Some(Some(object)) = placed.get(*number) {
-            let source = match object.source {
-                Source::Region(region) => region,
-                Source::Cover(cover) => cover,
-            };
-            keys.push((object.level, source, rank, *number))?;
+/// Says that an object has no place.
+fn say_unplaced(faults: &mut Remarks, objects: &[Object], level: usize, number: usize) {
+    let Some(object) = objects.get(number) else {
+        return;
+    };
+    let (name, cover) = (object.name.as_str(), object.cover);
+    if level >= MOST_LEVELS {
+        faults.say(
+            object.spot,
+            format_args!(
+                "{name}: the untyped regions above it cover each other in a circle, or are more than {MOST_LEVELS}"
+            ),
+        );
+    } else {
+        let region = match objects.get(cover.unwrap_or(number)) {
+            Some(region) => region.name.as_str(),
+            None => "the region",
+        };
+        faults.say(
+            object.spot,
+            format_args!("{region} is too small for what it covers: {name} does not fit"),
+        );
+    }
+}
+
+/// Gives an object a place: in a region, or in the object that covers it, which has one.
+fn placed(
+    object: &Object,
+    size: u64,
+    regions: &mut [Region],
+    insides: &mut [Region],
+) -> Option<(Source, u64)> {
+    match object.cover {
+        None => {
+            let (region, place) = place_in(regions, size)?;
+            Some((Source::Region(region), place))
+        }
+        Some(cover) => {
+            let place = insides.get_mut(cover)?.place(size)?;
+            Some((Source::Cover(cover), place))
         }
     }
-    keys.sort_unstable();
-    keys.iter().map(|key| key.3).collect(alloc)
 }
 
-/// Says that an object has no place: the regions that cover it cover each other, or are too many.
-fn say_unplaced(alloc: Global, layout: &mut Layout, number: usize) -> Result<(), AllocError> {
-    if !layout.faults.is_empty() {
-        return Ok(());
+/// Gives each object its place, and answers keys by which the objects stand in the order in which they are made: those of one
+/// source together. What has no place is told.
+fn place_all(
+    alloc: Global,
+    layout: &mut Layout,
+    order: &[Key],
+    regions: &mut [Region],
+    sources: &mut [Source],
+) -> Result<Vec<(usize, usize, usize, usize)>, AllocError> {
+    let machine = Machine::of(layout.profile);
+    let mut insides = vec![in alloc; Region::new(0, 0); layout.objects.len()]?;
+    let mut keys = Vec::new(alloc);
+    for (rank, (level, _, _, number)) in order.iter().enumerate() {
+        let Some(object) = layout.objects.get_mut(*number) else {
+            continue;
+        };
+        let size = machine.size(object);
+        let Some((source, place)) = placed(object, size, regions, insides.as_mut_slice()) else {
+            let objects = layout.objects.as_slice();
+            say_unplaced(&mut layout.faults, objects, *level, *number);
+            break;
+        };
+        object.place = u32::try_from(place).unwrap_or(u32::MAX);
+        if let Some(inside) = insides.get_mut(*number) {
+            *inside = Region::new(place, object.bits);
+        }
+        if let Some(entry) = sources.get_mut(*number) {
+            *entry = source;
+        }
+        let from = match source {
+            Source::Region(region) => region,
+            Source::Cover(cover) => cover,
+        };
+        keys.push((*level, from, rank, *number))?;
     }
-    let Some(object) = layout.objects.get(number) else {
-        return Ok(());
-    };
-    let words = format!(in alloc;
-        "{}: the untyped regions above it cover each other in a circle, or are more than {MOST_LEVELS}",
-        object.name
-    )?;
-    layout.faults.say_at(object.spot, words)
+    keys.sort_unstable();
+    Ok(keys)
 }
 
 /// How many of the regions hold objects; one where none does.
@@ -364,30 +287,29 @@ fn regions_used(sources: &[Source]) -> usize {
 /// The places of the objects of a layout; `None` where it has a fault, which is told.
 pub fn places_of(alloc: Global, layout: &mut Layout) -> Result<Option<Places>, AllocError> {
     let machine = Machine::of(layout.profile);
-    let largest = largest_first(alloc, layout, machine)?;
-    let Some(memory) = fitting_memory(alloc, layout, largest.as_slice())? else {
-        say_too_large(alloc, layout)?;
+    let objects = layout.objects.as_slice();
+    let largest = largest_first(alloc, objects, machine)?;
+    let fitting = fitting_memory(alloc, objects, largest.as_slice(), machine)?;
+    let Some((root_radix, memory_bits, mut regions)) = fitting else {
+        say_too_large(layout, machine);
         return Ok(None);
     };
-    let mut placed = memory.placed;
-    place_levels(alloc, layout, largest.as_slice(), placed.as_mut_slice())?;
-    let order = order_of(alloc, largest.as_slice(), placed.as_slice())?;
-    let mut sources = Vec::new(alloc);
-    for (number, entry) in placed.as_slice().iter().enumerate() {
-        let (Some(entry), Some(object)) = (entry, layout.objects.get_mut(number)) else {
-            say_unplaced(alloc, layout, number)?;
-            return Ok(None);
-        };
-        object.place = u32::try_from(entry.place).unwrap_or(u32::MAX);
-        sources.push(entry.source)?;
+    let mut sources = vec![in alloc; Source::Region(0); layout.objects.len()]?;
+    let (free, made) = (regions.as_mut_slice(), sources.as_mut_slice());
+    let keys = place_all(alloc, layout, largest.as_slice(), free, made)?;
+    if !layout.faults.is_empty() {
+        return Ok(None);
     }
-    let mut regions = memory.regions;
     regions.truncate(regions_used(sources.as_slice()));
+    let mut order = Vec::new(alloc);
+    for (_, _, _, number) in keys.as_slice() {
+        order.push(*number)?;
+    }
     Ok(Some(Places {
-        memory_bits: memory.memory_bits,
-        root_radix: memory.root_radix,
+        memory_bits,
+        root_radix,
         regions,
-        loader: loader_of(machine, memory.root_radix),
+        loader: loader_of(machine, root_radix),
         sources,
         order,
     }))

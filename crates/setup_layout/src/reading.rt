@@ -1,14 +1,17 @@
 //! The reading of a layout.
-use crate::derived::derived_pairs;
-use crate::fault::{Remarks, Stop};
-use crate::grammar::{LayoutText, Reader};
+use crate::derived::Tree;
+use crate::kinds::{ARCHES, profile_of};
 use crate::layout::Layout;
 use crate::objects::Objects;
 use crate::places::{Places, places_of};
-use crate::scanner::{Scanner, Spot};
+use crate::scanner::{Spot, Token, TokenKind};
 use crate::slots::Slots;
+use crate::words::Words;
 use cap_core::{Kind, ProfileName};
 use std::alloc::{AllocError, Global};
+
+/// The sections that are read.
+const SECTIONS: [&str; 3] = ["objects", "caps", "cdt"];
 
 /// A layout that was read, and the places of its objects where it has no fault.
 #[derive(Drop)]
@@ -17,75 +20,126 @@ pub struct ReadLayout {
     pub places: Option<Places>,
 }
 
-/// A layout of nothing, with these faults.
-fn faulty(alloc: Global, faults: Remarks, spot: Spot) -> ReadLayout {
-    let layout = Layout {
-        profile: ProfileName::Wide,
-        objects: Vec::new(alloc),
-        slots: Vec::new(alloc),
-        derived: Vec::new(alloc),
-        faults,
-        notes: Remarks::new(alloc),
-        spot,
-    };
-    ReadLayout {
-        layout,
-        places: None,
-    }
+/// A text that is read, and what is read of it.
+#[derive(Drop)]
+struct Reader<'a> {
+    words: Words<'a>,
+    objects: Objects<'a>,
+    slots: Slots<'a>,
+    tree: Tree<'a>,
 }
 
-/// Says which threads have no space.
-fn say_spaceless<'a>(
-    alloc: Global,
-    objects: &mut Objects<'a>,
-    slots: &Slots<'a>,
-) -> Result<(), AllocError> {
-    for (number, object) in objects.objects.as_slice().iter().enumerate() {
-        if object.kind == Kind::Tcb && !slots.places.contains_key(&(number, 0)) {
-            let words = format!(in alloc; "{} has no cspace: it can make no call", object.name)?;
-            objects.notes.say_at(object.spot, words)?;
+impl<'a> Reader<'a> {
+    /// Reads a section.
+    fn read_section(&mut self) -> Result<(), AllocError> {
+        let Token { text, spot, .. } = self.words.advance();
+        match text {
+            "objects" => return self.objects.read(&mut self.words),
+            "caps" => return self.slots.read(&mut self.words),
+            "cdt" => return self.tree.read(&mut self.words),
+            "irq" => {
+                self.words.need("maps");
+                self.words.skip_block();
+            }
+            "asid" => {
+                self.words.need("slots");
+                self.words.skip_block();
+            }
+            _ => {
+                let hint = self.words.faults.hint(text, &SECTIONS);
+                self.words.faults.say(
+                    spot,
+                    format_args!(
+                        "there is no section {text}; there are objects, caps, cdt, irq maps and asid slots{hint}"
+                    ),
+                );
+                self.words.end();
+            }
+        }
+        Ok(())
+    }
+
+    /// Reads the profile of the machine that a text names.
+    fn read_machine(&mut self) -> Result<Token<'a>, AllocError> {
+        self.words.need("arch");
+        let arch = self.words.name("the name of a machine");
+        match profile_of(arch.text) {
+            Some(profile) => self.objects.profile = profile,
+            None if self.words.is_broken => {}
+            None => {
+                let name = arch.text;
+                let hint = self.words.faults.hint(name, &ARCHES);
+                let names = ARCHES.join(self.words.alloc, ", ")?;
+                self.words.faults.say(
+                    arch.spot,
+                    format_args!("there is no machine {name}{hint}; the machines are {names}"),
+                );
+            }
+        }
+        Ok(arch)
+    }
+
+    /// Says which threads have no space.
+    fn say_spaceless(&mut self) {
+        for (number, object) in self.objects.objects.as_slice().iter().enumerate() {
+            if object.kind == Kind::Tcb && !self.slots.places.contains_key(&(number, 0)) {
+                let name = object.name.as_str();
+                let told = format_args!("{name} has no cspace: it can make no call");
+                self.words.notes.say(object.spot, told);
+            }
         }
     }
-    Ok(())
+
+    /// Reads the text to its end. Answers which slots are derived from which.
+    fn read(&mut self) -> Result<Vec<(usize, usize)>, AllocError> {
+        for _section in 0..self.words.left() {
+            if self.words.token.kind == TokenKind::End {
+                break;
+            }
+            self.read_section()?;
+        }
+        if self.words.is_broken {
+            return Ok(Vec::new(self.words.alloc));
+        }
+        self.objects.finish(&mut self.words);
+        self.slots.fill(&mut self.words, &mut self.objects)?;
+        let derived = self
+            .tree
+            .pairs(&mut self.words, &self.objects, &self.slots)?;
+        self.objects.say_left_out(&mut self.words);
+        self.say_spaceless();
+        Ok(derived)
+    }
 }
 
-/// The layout of what a text says.
-fn layout_of(
-    alloc: Global,
-    text: &LayoutText<'_>,
-    shrink: Option<u64>,
-    faults: Remarks,
-) -> Result<Layout, AllocError> {
-    let mut objects = Objects::read(alloc, text, shrink, faults)?;
-    let slots = Slots::read(alloc, text, &mut objects)?;
-    let derived = derived_pairs(alloc, text, &mut objects, &slots)?;
-    objects.say_left_out()?;
-    say_spaceless(alloc, &mut objects, &slots)?;
+/// The layout of a text.
+fn layout_of(alloc: Global, text: &str, shrink: Option<u64>) -> Result<Layout, AllocError> {
+    let mut reader = Reader {
+        words: Words::new(alloc, text),
+        objects: Objects::new(alloc, shrink)?,
+        slots: Slots::new(alloc),
+        tree: Tree::new(alloc),
+    };
+    let arch = reader.read_machine()?;
+    let derived = reader.read()?;
+    let Reader {
+        words,
+        objects,
+        slots,
+        ..
+    } = reader;
+    if words.faults.is_refused || words.notes.is_refused {
+        return Err(AllocError);
+    }
     Ok(Layout {
         profile: objects.profile,
         objects: objects.objects,
         slots: slots.slots,
         derived,
-        faults: objects.faults,
-        notes: objects.notes,
-        spot: text.arch.spot(),
+        faults: words.faults,
+        notes: words.notes,
+        spot: arch.spot,
     })
-}
-
-/// The layout of a text that was read to its end, with the faults that were found so far, and the places of its objects.
-fn read_text(
-    alloc: Global,
-    text: &LayoutText<'_>,
-    shrink: Option<u64>,
-    faults: Remarks,
-) -> Result<ReadLayout, AllocError> {
-    let mut layout = layout_of(alloc, text, shrink, faults)?;
-    let places = if layout.faults.is_empty() {
-        places_of(alloc, &mut layout)?
-    } else {
-        None
-    };
-    Ok(ReadLayout { layout, places })
 }
 
 /// Reads a layout as capDL text. Of untyped regions that cover nothing those of more than `shrink` bits are cut to so many.
@@ -99,20 +153,25 @@ pub fn read_layout(
     bytes: &[u8],
     shrink: Option<u64>,
 ) -> Result<ReadLayout, AllocError> {
-    let Ok(text) = std::str::from_utf8(bytes) else {
-        let start = Scanner::new("").next_token();
-        let mut faults = Remarks::new(alloc);
-        faults.say(start, format!(in alloc; "the bytes are no text in UTF-8")?)?;
-        return Ok(faulty(alloc, faults, start.spot()));
-    };
-    let mut reader = Reader::new(alloc, text);
-    let read = reader.read();
-    let Reader { faults, layout, .. } = reader;
-    match read {
-        Ok(()) => read_text(alloc, &layout, shrink, faults),
-        Err(Stop::Memory) => Err(AllocError),
-        Err(Stop::Fault) => Ok(faulty(alloc, faults, layout.arch.spot())),
+    let text = std::str::from_utf8(bytes);
+    let mut layout = layout_of(alloc, text.unwrap_or("arch x86_64"), shrink)?;
+    let mut places = None;
+    if text.is_err() {
+        let (start, length, line) = (0, 0, 1);
+        let spot = Spot {
+            start,
+            length,
+            line,
+        };
+        layout.faults.say(spot, "the bytes are no text in UTF-8");
     }
+    if layout.faults.is_empty() {
+        places = places_of(alloc, &mut layout)?;
+    }
+    if layout.faults.is_refused {
+        return Err(AllocError);
+    }
+    Ok(ReadLayout { layout, places })
 }
 
 /// What is said of a layout, each remark with the line of the text where it stands: its faults, or its notes where it has none.

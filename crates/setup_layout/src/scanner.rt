@@ -25,25 +25,15 @@ pub enum TokenKind {
     End,
 }
 
-/// A word of the text, with the place of its first byte and the line, which counts from 1.
+/// A word of the text, and where it stands.
 #[derive(Clone, Copy)]
 pub struct Token<'a> {
     pub kind: TokenKind,
     pub text: &'a str,
-    pub start: usize,
-    pub line: usize,
+    pub spot: Spot,
 }
 
 impl Token<'_> {
-    /// Where the word stands.
-    pub fn spot(&self) -> Spot {
-        Spot {
-            start: self.start,
-            length: self.text.len(),
-            line: self.line,
-        }
-    }
-
     /// Whether the word is this mark, or this name.
     pub fn is(&self, text: &str) -> bool {
         self.text == text && self.kind != TokenKind::Quoted
@@ -61,65 +51,55 @@ impl Token<'_> {
     }
 }
 
-/// Whether a byte stands in a name; a name begins with a letter, a digit or `_`.
-fn is_name_byte(byte: u8) -> bool {
-    byte.is_ascii_alphanumeric() || b"_@.-/%".contains(&byte)
-}
-
-/// Whether the letters and digits at the front of a name are a number.
-fn is_number(word: &str) -> bool {
-    match word.strip_prefix("0x") {
-        Some(digits) => !digits.is_empty() && digits.bytes().all(|byte| byte.is_ascii_hexdigit()),
-        None => !word.is_empty() && word.bytes().all(|byte| byte.is_ascii_digit()),
-    }
-}
-
-/// How long a comment in these brackets is, at the front of a text; up to its end where it is not closed.
-fn block_length(text: &str, close: &str) -> usize {
+/// How many bytes of space, or of one comment, stand at the front of a text.
+fn gap_length(text: &str) -> usize {
     let inside = text.get(2..).unwrap_or("");
-    match inside.find(close) {
-        Some(length) => length.saturating_add(4),
+    let behind = match text.get(..2) {
+        Some("--" | "//") => inside.split_once('\n'),
+        Some("/*") => inside.split_once("*/"),
+        Some("{-") => inside.split_once("-}"),
+        _ => Some(("", text.trim_ascii_start())),
+    };
+    match behind {
+        Some((_, rest)) => text.len().saturating_sub(rest.len()),
         None => text.len(),
     }
 }
 
-/// How many bytes of space, or of one comment, stand at the front of a text.
-fn gap_length(text: &str) -> usize {
-    if text.starts_with("--") || text.starts_with("//") {
-        text.find('\n').unwrap_or(text.len())
-    } else if text.starts_with("/*") {
-        block_length(text, "*/")
-    } else if text.starts_with("{-") {
-        block_length(text, "-}")
-    } else {
-        text.bytes()
-            .take_while(|byte| byte.is_ascii_whitespace())
-            .count()
+/// How many letters, digits and bytes of these stand at the front of a text.
+fn front_length(text: &str, others: &[u8]) -> usize {
+    let mut length = 0usize;
+    for byte in text.bytes() {
+        if !byte.is_ascii_alphanumeric() && !others.contains(&byte) {
+            break;
+        }
+        length = length.saturating_add(1);
     }
+    length
+}
+
+/// Whether a text is made of decimal or of hexadecimal digits.
+fn are_digits(text: &str, is_decimal: bool) -> bool {
+    for byte in text.bytes() {
+        if !byte.is_ascii_hexdigit() || is_decimal && !byte.is_ascii_digit() {
+            return false;
+        }
+    }
+    !text.is_empty()
 }
 
 /// The kind and the length of the name or number at the front of a text. A number ends where two points follow.
 fn word_at(text: &str) -> (TokenKind, usize) {
-    let length = text
-        .bytes()
-        .take_while(|byte| byte.is_ascii_alphanumeric() || *byte == b'_')
-        .count();
-    if is_number(text.get(..length).unwrap_or("")) {
+    let length = front_length(text, b"_");
+    let word = text.get(..length).unwrap_or("");
+    let is_number = match word.strip_prefix("0x") {
+        Some(digits) => are_digits(digits, false),
+        None => are_digits(word, true),
+    };
+    if is_number {
         (TokenKind::Number, length)
     } else {
-        (
-            TokenKind::Name,
-            text.bytes().take_while(|byte| is_name_byte(*byte)).count(),
-        )
-    }
-}
-
-/// The kind and the length of the text in quotes at the front of a text.
-fn quoted_at(text: &str) -> (TokenKind, usize) {
-    let inside = text.get(1..).unwrap_or("");
-    match inside.find(|c| c == '"' || c == '\n') {
-        Some(length) => (TokenKind::Quoted, length.saturating_add(2)),
-        None => (TokenKind::Quoted, text.len()),
+        (TokenKind::Name, front_length(text, b"_@.-/%"))
     }
 }
 
@@ -128,7 +108,11 @@ fn token_at(text: &str) -> (TokenKind, usize) {
     match text.chars().next() {
         None => (TokenKind::End, 0),
         Some(c) if c.is_ascii_alphanumeric() || c == '_' => word_at(text),
-        Some('"') => quoted_at(text),
+        Some('"') => {
+            let inside = text.get(1..).unwrap_or("").lines().next().unwrap_or("");
+            let length = inside.find('"').unwrap_or(inside.len());
+            (TokenKind::Quoted, length.saturating_add(2))
+        }
         Some('.') if text.starts_with("..") => (TokenKind::Sign, 2),
         Some('{' | '}' | '(' | ')' | '[' | ']' | ':' | '=' | ',' | ';' | '<' | '>' | '-') => {
             (TokenKind::Sign, 1)
@@ -166,7 +150,7 @@ impl<'a> Scanner<'a> {
             .rest
             .split_at_checked(length)
             .unwrap_or((self.rest, ""));
-        let lines = taken.bytes().filter(|byte| *byte == b'\n').count();
+        let lines = taken.split('\n').count().saturating_sub(1);
         self.start = self.start.saturating_add(taken.len());
         self.line = self.line.saturating_add(lines);
         self.rest = rest;
@@ -189,11 +173,13 @@ impl<'a> Scanner<'a> {
         self.skip_gaps();
         let (kind, length) = token_at(self.rest);
         let (start, line) = (self.start, self.line);
-        Token {
-            kind,
-            text: self.take(length),
+        let text = self.take(length);
+        let length = text.len();
+        let spot = Spot {
             start,
+            length,
             line,
-        }
+        };
+        Token { kind, text, spot }
     }
 }

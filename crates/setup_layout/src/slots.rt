@@ -1,10 +1,10 @@
 //! The slots of a layout, and the capabilities in them.
-use crate::fault::question;
-use crate::grammar::{LayoutText, ObjectsText, PlaceText, Reference, SlotText};
-use crate::kinds::{BUILT_IN, SLOT_WORDS, SPACE, is_other_slot, kind_word};
+use crate::kinds::{BUILT_IN, SLOT_WORDS, kind_word, place_of};
 use crate::layout::Slot;
 use crate::machine::Machine;
 use crate::objects::{Found, Objects};
+use crate::scanner::{Spot, Token, TokenKind};
+use crate::words::{Reference, Words};
 use cap_core::{Guard, Kind, Rights};
 use std::alloc::{AllocError, Global};
 use std::collections::HashMap;
@@ -12,391 +12,551 @@ use std::collections::HashMap;
 /// The most full slots of a layout: as many have room in the largest memory.
 const MOST_SLOTS: usize = 1 << 16;
 
-/// The slots of a layout, and where those stand that have a name or are named by their place.
-#[derive(Drop)]
-pub struct Slots<'a> {
-    alloc: Global,
-    pub slots: Vec<Slot>,
-    /// The place of a slot among the slots, by its holder and its number.
-    pub places: HashMap<(usize, u64), usize>,
-    /// The holder and the number of a slot by the name of its capability.
-    pub named: HashMap<&'a str, (usize, u64)>,
-    /// The line at which the capability of an untyped region stands.
-    regions: HashMap<usize, usize>,
+/// The parameters of capabilities that say nothing of what a set-up has.
+#[rattlefmt::skip]
+const READ_OVER: [&str; 8] = [
+    "uncached", "cached", "mapping", "asid", "ports", "masked", "reply", "master_reply",
+];
+
+/// What a capability allows, as it is written.
+#[derive(Clone, Copy)]
+struct CapText {
+    rights: Option<u8>,
+    badge: u64,
+    guard: u64,
+    guard_size: u64,
 }
 
-/// A slot that is to be filled: the object that holds it, by its place among the objects, and the number.
+/// The capabilities of some slots, as they are written.
 #[derive(Clone, Copy)]
-struct Target {
-    holder: usize,
+pub struct SlotText<'a> {
+    holder: Reference<'a>,
+    /// Where the slot begins in the text.
+    at: Token<'a>,
+    /// The first and the last of the slots; none of a thread's slot, which has a name.
+    numbers: Option<(u64, u64)>,
+    own_name: Option<&'a str>,
+    /// The object, or the first of several.
+    object: Reference<'a>,
+    /// How many objects; none for all of a name.
+    count: Option<u64>,
+    cap: CapText,
+}
+
+/// The object that holds a slot, by its place among the objects.
+#[derive(Clone, Copy)]
+struct Holder {
+    number: usize,
     kind: Kind,
     bits: u32,
     line: usize,
 }
 
+/// The slots of a layout, and where those stand that have a name or are named by their place.
+#[derive(Drop)]
+pub struct Slots<'a> {
+    texts: Vec<SlotText<'a>>,
+    pub slots: Vec<Slot>,
+    /// The place of a slot among the slots, by its holder and its number.
+    pub places: HashMap<(usize, u64), usize>,
+    /// The same, by the name of its capability.
+    pub named: HashMap<&'a str, usize>,
+}
+
+/// The bits of the rights that letters mean; none where one means none. An endpoint has no right to execute.
+fn rights_of(letters: &str) -> Option<u8> {
+    let mut rights = 0;
+    for letter in letters.bytes() {
+        rights |= match letter {
+            b'W' => 1,
+            b'R' => 2,
+            b'G' => 4,
+            b'P' => 8,
+            b'X' => 0,
+            _ => return None,
+        };
+    }
+    Some(rights)
+}
+
+/// Reads what a capability allows.
+fn read_cap(words: &mut Words<'_>) -> Result<CapText, AllocError> {
+    let mut cap = CapText {
+        rights: None,
+        badge: 0,
+        guard: 0,
+        guard_size: 0,
+    };
+    for parameter in words.parameters()?.as_slice() {
+        let [first, second, third] = parameter.words;
+        let is_valued = parameter.count == 3 && second.is(":");
+        let number = if is_valued { third.number() } else { None };
+        match (first.text, number) {
+            ("badge", Some(number)) => cap.badge = number,
+            ("guard", Some(number)) => cap.guard = number,
+            ("guard_size", Some(number)) => cap.guard_size = number,
+            (word, _) if READ_OVER.contains(&word) => {}
+            (word, _) => match rights_of(word) {
+                Some(rights) if parameter.count == 1 => cap.rights = Some(rights),
+                _ => words.faults.say(
+                    first.spot,
+                    format_args!(
+                        "there is no parameter {word} of a capability; there are letters of R, W, G, P and X, badge: N, guard: N and guard_size: N"
+                    ),
+                ),
+            },
+        }
+    }
+    Ok(cap)
+}
+
+/// Reads which of the objects of a name are meant: the number of the first, and how many they are.
+fn read_chosen(words: &mut Words<'_>) -> (Option<u64>, Option<u64>) {
+    if !words.has("[") {
+        return (None, Some(1));
+    }
+    if words.has("]") {
+        return (Some(0), None);
+    }
+    let (first, last) = words.range();
+    let count = last.saturating_sub(first).saturating_add(1);
+    (Some(first), Some(count))
+}
+
+/// Reads a slot of an object.
+fn read_slot<'a>(words: &mut Words<'a>, holder: Reference<'a>) -> Result<SlotText<'a>, AllocError> {
+    let at = words.token;
+    let numbers = if words.has("[") {
+        Some(words.range())
+    } else if at.kind == TokenKind::Name {
+        words.advance();
+        None
+    } else {
+        let number = words.number();
+        Some((number, number))
+    };
+    words.need(":");
+    let mut name = words.name("the name of an object");
+    let mut own_name = None;
+    if words.has("=") {
+        own_name = Some(name.text);
+        name = words.name("the name of an object");
+    }
+    let (index, count) = read_chosen(words);
+    let cap = read_cap(words)?;
+    Ok(SlotText {
+        holder,
+        at,
+        numbers,
+        own_name,
+        object: Reference { name, index },
+        count,
+        cap,
+    })
+}
+
 /// A slot with a capability of an object, which has no badge and rights, or no guard, where its kind has none.
-fn filled(
-    slot: SlotText<'_>,
-    target: Target,
-    place: u64,
-    object: usize,
-    kind: Option<Kind>,
-) -> Slot {
+fn filled(slot: SlotText<'_>, holder: usize, place: u64, object: usize, kind: Kind) -> Slot {
     let (mut badge, mut rights) = (0, Rights(0));
     let mut guard = Guard { value: 0, size: 0 };
-    if kind == Some(Kind::Endpoint) {
+    if kind == Kind::Endpoint {
         badge = slot.cap.badge;
-        rights = slot.cap.rights.map_or(Rights::ALL, |bits| Rights(bits));
+        rights = match slot.cap.rights {
+            Some(bits) => Rights(bits),
+            None => Rights::ALL,
+        };
     }
-    if kind == Some(Kind::CNode) {
+    if kind == Kind::CNode {
         guard.value = slot.cap.guard;
         guard.size = u32::try_from(slot.cap.guard_size).unwrap_or(u32::MAX);
     }
     Slot {
-        holder: target.holder,
+        holder,
         index: u32::try_from(place).unwrap_or(u32::MAX),
         object,
         badge,
         rights,
         guard,
-        line: slot.at.line,
+        line: slot.at.spot.line,
     }
 }
 
 impl<'a> Slots<'a> {
-    /// The full slots of a text.
-    pub fn read(
-        alloc: Global,
-        text: &LayoutText<'a>,
-        objects: &mut Objects<'a>,
-    ) -> Result<Slots<'a>, AllocError> {
-        let mut slots = Slots {
-            alloc,
+    /// No slot is read yet.
+    pub fn new(alloc: Global) -> Slots<'a> {
+        Slots {
+            texts: Vec::new(alloc),
             slots: Vec::new(alloc),
             places: HashMap::new(alloc),
             named: HashMap::new(alloc),
-            regions: HashMap::new(alloc),
-        };
-        for slot in text.slots.as_slice() {
-            slots.add_text(*slot, objects)?;
         }
-        Ok(slots)
     }
 
-    /// Adds the slots that one place of the text tells.
-    fn add_text(
-        &mut self,
-        slot: SlotText<'a>,
-        objects: &mut Objects<'a>,
-    ) -> Result<(), AllocError> {
-        match objects.find(slot.holder.name.text, slot.holder.index) {
-            Found::Unknown => objects.say_unknown(slot.holder),
-            Found::LeftOut(_) => self.leave_out(slot, objects),
-            Found::Kept(holder) => {
-                let Some(object) = objects.objects.get(holder) else {
-                    return Ok(());
-                };
-                let target = Target {
-                    holder,
-                    kind: object.kind,
-                    bits: object.bits,
-                    line: object.spot.line,
-                };
-                match slot.place {
-                    PlaceText::Numbers(first, last) => {
-                        self.add_numbered(slot, target, (first, last), objects)
-                    }
-                    PlaceText::Named(_) => self.add_named(slot, target, objects),
+    /// Reads the section of the slots.
+    pub fn read(&mut self, words: &mut Words<'a>) -> Result<(), AllocError> {
+        words.need("{");
+        let mut holder = None;
+        for _slot in 0..words.left() {
+            if words.is_broken {
+                return Ok(());
+            }
+            match holder {
+                None if words.has("}") => return Ok(()),
+                None => {
+                    holder = Some(words.reference());
+                    words.need("{");
+                }
+                Some(_) if words.has("}") => holder = None,
+                Some(_) if words.has(",") || words.has(";") => {}
+                Some(object) => {
+                    let slot = read_slot(words, object)?;
+                    self.texts.push(slot)?;
                 }
             }
         }
+        Ok(())
     }
 
-    /// Counts the capabilities in a slot of an object that is left out.
-    fn leave_out(
+    /// Fills the slots that were read.
+    pub fn fill(
         &mut self,
-        slot: SlotText<'a>,
+        words: &mut Words<'a>,
         objects: &mut Objects<'a>,
     ) -> Result<(), AllocError> {
-        let name = slot.name.text;
-        let index = match slot.objects {
-            ObjectsText::One(index) => index,
-            ObjectsText::All => Some(0),
-            ObjectsText::Some(first, _) => Some(first),
+        for number in 0..self.texts.len() {
+            if let Some(slot) = self.texts.get(number).copied() {
+                self.add_text(words, objects, slot)?;
+            }
+        }
+        Ok(())
+    }
+
+    /// Fills the slots that one place of the text tells.
+    fn add_text(
+        &mut self,
+        words: &mut Words<'a>,
+        objects: &mut Objects<'a>,
+        slot: SlotText<'a>,
+    ) -> Result<(), AllocError> {
+        let (number, object) = match objects.find(slot.holder) {
+            Found::Unknown => {
+                objects.say_unknown(words, slot.holder);
+                return Ok(());
+            }
+            Found::LeftOut(_) => {
+                leave_out(words, objects, slot, None);
+                return Ok(());
+            }
+            Found::Kept(number) => (number, objects.objects.get(number)),
         };
-        match objects.find(name, index) {
-            Found::LeftOut(declared) => {
-                objects.leave_out(declared);
+        let Some(object) = object else {
+            return Ok(());
+        };
+        let (kind, bits, line) = (object.kind, object.bits, object.spot.line);
+        let holder = Holder {
+            number,
+            kind,
+            bits,
+            line,
+        };
+        match (kind, slot.numbers) {
+            (Kind::CNode, Some(numbers)) => self.add_numbered(
+                words, objects, slot, holder, numbers,
+            ),
+            (Kind::Tcb, None) => self.add_named(words, objects, slot, holder),
+            _ => {
+                say_misplaced(words, slot, kind);
                 Ok(())
             }
-            Found::Unknown if !BUILT_IN.contains(&name) => {
-                objects.say_unknown(Reference {
-                    name: slot.name,
-                    index,
-                })
-            }
-            _ => Ok(()),
         }
     }
 
-    /// Adds the slot of a thread in which its space begins. Its other slots are left out.
+    /// Fills the slot of a thread in which its space begins. Its other slots are left out.
     fn add_named(
         &mut self,
-        slot: SlotText<'a>,
-        target: Target,
+        words: &mut Words<'a>,
         objects: &mut Objects<'a>,
+        slot: SlotText<'a>,
+        holder: Holder,
     ) -> Result<(), AllocError> {
-        let (word, holder) = (slot.at.text, slot.holder.name.text);
-        if target.kind != Kind::Tcb {
-            let kind = kind_word(target.kind);
-            let words = format!(in self.alloc;
-                "{word} is a slot of a tcb, and {holder} is of the kind {kind}"
-            )?;
-            return objects.faults.say(slot.at, words);
-        }
-        if is_other_slot(word) {
-            self.leave_out(slot, objects)?;
-            if let Found::Kept(_) = objects.find(slot.name.text, None) {
-                let words = format!(in self.alloc; "{word} of {holder} is left out")?;
-                objects.notes.say(slot.at, words)?;
+        let (word, spot) = (slot.at.text, slot.at.spot);
+        match place_of(&SLOT_WORDS, word) {
+            Some(0) => self.add(words, objects, slot, holder, 0, slot.object),
+            Some(_) => {
+                leave_out(words, objects, slot, Some(word));
+                Ok(())
             }
-            return Ok(());
+            None => {
+                let hint = words.faults.hint(word, &SLOT_WORDS);
+                let told = format_args!("a tcb has no slot {word}{hint}");
+                words.faults.say(spot, told);
+                Ok(())
+            }
         }
-        if word != SPACE {
-            return self.say_no_slot(slot, objects);
-        }
-        let index = match slot.objects {
-            ObjectsText::One(index) => index,
-            _ => None,
-        };
-        self.add(slot, target, 0, index, objects)
     }
 
-    /// Says that a thread has no slot of that name.
-    fn say_no_slot(&self, slot: SlotText<'a>, objects: &mut Objects<'a>) -> Result<(), AllocError> {
-        let word = slot.at.text;
-        let question = question(self.alloc, word, &SLOT_WORDS)?;
-        let words = format!(in self.alloc; "a tcb has no slot {word}{question}")?;
-        objects.faults.say(slot.at, words)
-    }
-
-    /// Adds slots of a CNode.
+    /// Fills slots of a CNode.
     fn add_numbered(
         &mut self,
-        slot: SlotText<'a>,
-        target: Target,
-        numbers: (u64, u64),
+        words: &mut Words<'a>,
         objects: &mut Objects<'a>,
+        slot: SlotText<'a>,
+        holder: Holder,
+        numbers: (u64, u64),
     ) -> Result<(), AllocError> {
-        let (holder, (first, last)) = (slot.holder.name.text, numbers);
-        if target.kind != Kind::CNode {
-            let kind = kind_word(target.kind);
-            let hint = match target.kind {
-                Kind::Tcb => "its slots have names",
-                _ => "it has no slots",
-            };
-            let words = format!(in self.alloc; "{holder} is of the kind {kind}: {hint}")?;
-            return objects.faults.say(slot.holder.name, words);
-        }
-        let (from, most) = match slot.objects {
-            ObjectsText::One(index) => (index, 1),
-            ObjectsText::All => (Some(0), objects.count_of(slot.name.text).unwrap_or(0)),
-            ObjectsText::Some(from, to) => (Some(from), to.saturating_sub(from).saturating_add(1)),
-        };
+        let ((first, last), name) = (numbers, slot.object.name.text);
+        let most = slot.count.unwrap_or(objects.count_of(name).unwrap_or(0));
         let slots = last.saturating_sub(first).saturating_add(1);
         let count = if slots == 1 { most } else { slots };
         if last < first || most > 1 && count != most {
-            let words = format!(in self.alloc; "these are {slots} slots, and {most} objects")?;
-            return objects.faults.say(slot.at, words);
+            let told = format_args!("these are {slots} slots, and {most} objects");
+            words.faults.say(slot.at.spot, told);
+            return Ok(());
         }
         for number in 0..count {
-            if objects.faults.is_full() {
+            let place = first.saturating_add(number);
+            if words.faults.is_full() {
                 return Ok(());
             }
-            let index = match from {
-                Some(from) if most > 1 => Some(from.saturating_add(number)),
-                other => other,
-            };
-            let place = first.saturating_add(number);
-            if place >> target.bits.min(63) > 0 {
-                return self.say_outside(slot, target, place, objects);
+            if place >> holder.bits.min(63) > 0 {
+                say_outside(words, slot, holder, place);
+                return Ok(());
             }
-            self.add(slot, target, place, index, objects)?;
+            let mut object = slot.object;
+            if most > 1 {
+                let from = object.index.unwrap_or(0);
+                object.index = Some(from.saturating_add(number));
+            }
+            self.add(words, objects, slot, holder, place, object)?;
         }
         Ok(())
     }
 
-    /// Says that a CNode has no slot of that number.
-    fn say_outside(
-        &self,
-        slot: SlotText<'a>,
-        target: Target,
-        place: u64,
-        objects: &mut Objects<'a>,
-    ) -> Result<(), AllocError> {
-        let (holder, line) = (slot.holder.name.text, target.line);
-        let size = 1u64 << target.bits.min(63);
-        let words = format!(in self.alloc;
-            "{holder} has {size} slots, from 0 on, and this is slot {place}; make it larger in line {line}"
-        )?;
-        objects.faults.say(slot.at, words)
-    }
-
-    /// Adds one slot, with one of the objects of the name.
+    /// Fills one slot with a capability of an object, where a set-up has such.
     fn add(
         &mut self,
-        slot: SlotText<'a>,
-        target: Target,
-        place: u64,
-        index: Option<u64>,
+        words: &mut Words<'a>,
         objects: &mut Objects<'a>,
+        slot: SlotText<'a>,
+        holder: Holder,
+        place: u64,
+        object: Reference<'a>,
     ) -> Result<(), AllocError> {
-        let (name, holder) = (slot.name.text, slot.holder.name.text);
-        match objects.find(name, index) {
-            Found::Kept(object) => self.fill(slot, target, place, object, objects),
-            Found::LeftOut(declared) => {
-                objects.leave_out(declared);
+        match objects.find(object) {
+            Found::Kept(object) => self.put(words, objects, slot, holder, place, object),
+            Found::LeftOut(kind) => {
+                objects.leave_out_cap(kind);
                 Ok(())
             }
-            Found::Unknown if BUILT_IN.contains(&name) => {
-                let words = format!(in self.alloc; "slot {place} of {holder}: {name} is left out")?;
-                objects.notes.say(slot.name, words)
+            Found::Unknown if BUILT_IN.contains(&object.name.text) => {
+                say_left_out(words, slot, place);
+                Ok(())
             }
-            Found::Unknown => objects.say_unknown(Reference {
-                name: slot.name,
-                index,
-            }),
+            Found::Unknown => {
+                objects.say_unknown(words, object);
+                Ok(())
+            }
         }
     }
 
-    /// Fills one slot with a capability of an object.
-    fn fill(
+    /// Puts a capability of an object into an empty slot.
+    fn put(
         &mut self,
+        words: &mut Words<'a>,
+        objects: &Objects<'a>,
         slot: SlotText<'a>,
-        target: Target,
+        holder: Holder,
         place: u64,
-        object: usize,
-        objects: &mut Objects<'a>,
-    ) -> Result<(), AllocError> {
-        let key = (target.holder, place);
-        let before = self.places.get(&key).copied();
-        if let Some(before) = before.and_then(|number| self.slots.get(number)) {
-            let words = format!(in self.alloc;
-                "slot {place} of {} is filled twice, first in line {}",
-                slot.holder.name.text, before.line
-            )?;
-            return objects.faults.say(slot.at, words);
-        }
-        if self.slots.len() >= MOST_SLOTS {
-            let words = format!(in self.alloc; "a layout has {MOST_SLOTS} full slots at most")?;
-            return objects.faults.say(slot.at, words);
-        }
-        self.check(slot, target, object, objects)?;
-        self.places.insert(key, self.slots.len())?;
-        if let Some(name) = slot.own_name {
-            self.named.insert(name, key)?;
-        }
-        let kind = objects.objects.get(object).map(|object| object.kind);
-        self.slots.push(filled(slot, target, place, object, kind))?;
-        Ok(())
-    }
-
-    /// Checks a capability, and says what there is to say of it.
-    fn check(
-        &mut self,
-        slot: SlotText<'a>,
-        target: Target,
         number: usize,
-        objects: &mut Objects<'a>,
     ) -> Result<(), AllocError> {
-        let machine = Machine::of(objects.profile);
+        let (key, spot) = ((holder.number, place), slot.at.spot);
+        let before = self.places.get(&key).copied().unwrap_or(usize::MAX);
         let Some(object) = objects.objects.get(number) else {
             return Ok(());
         };
-        let (kind, bits) = (object.kind, object.bits);
-        if target.kind == Kind::Tcb && kind != Kind::CNode {
+        if let Some(before) = self.slots.get(before) {
+            let (name, line) = (slot.holder.name.text, before.line);
+            let told = format_args!("slot {place} of {name} is filled twice, first in line {line}");
+            words.faults.say(spot, told);
+            return Ok(());
+        }
+        if self.slots.len() >= MOST_SLOTS {
+            let told = format_args!("a layout has {MOST_SLOTS} full slots at most");
+            words.faults.say(spot, told);
+            return Ok(());
+        }
+        self.check(words, slot, holder, number, object.kind);
+        check_cap(
+            words,
+            Machine::of(objects.profile),
+            slot,
+            object.kind,
+            object.bits,
+        );
+        self.places.insert(key, self.slots.len())?;
+        if let Some(name) = slot.own_name {
+            self.named.insert(name, self.slots.len())?;
+        }
+        self.slots
+            .push(filled(slot, holder.number, place, number, object.kind))?;
+        Ok(())
+    }
+
+    /// Checks that a thread's space is a CNode, and that an untyped region is in no other slot.
+    fn check(
+        &self,
+        words: &mut Words<'a>,
+        slot: SlotText<'a>,
+        holder: Holder,
+        number: usize,
+        kind: Kind,
+    ) {
+        let Token { text, spot, .. } = slot.object.name;
+        if holder.kind == Kind::Tcb && kind != Kind::CNode {
             let kind = kind_word(kind);
-            let words = format!(in self.alloc;
-                "a cspace is a cnode, and {} is of the kind {kind}",
-                slot.name.text
-            )?;
-            return objects.faults.say(slot.name, words);
+            let told = format_args!("a cspace is a cnode, and {text} is of the kind {kind}");
+            words.faults.say(spot, told);
         }
-        match kind {
-            Kind::CNode => check_guard(self.alloc, slot, bits, machine, objects),
-            Kind::Endpoint => check_endpoint(self.alloc, slot, machine, objects),
-            Kind::Untyped => {
-                if let Some(line) = self.regions.get(&number).copied() {
-                    let words = format!(in self.alloc;
-                        "{} is in two slots, first in line {line}; an untyped capability has no copies here",
-                        slot.name.text
-                    )?;
-                    objects.faults.say(slot.name, words)?;
-                }
-                self.regions.insert(number, slot.at.line)?;
-                Ok(())
+        for before in self.slots.as_slice() {
+            if kind == Kind::Untyped && before.object == number {
+                let line = before.line;
+                words.faults.say(
+                    spot,
+                    format_args!(
+                        "{text} is in two slots, first in line {line}; an untyped capability has no copies here"
+                    ),
+                );
+                return;
             }
-            Kind::Tcb => Ok(()),
         }
+    }
+}
+
+/// Counts the capabilities in a slot of an object that is left out, or in a slot of a thread that is, which has a name.
+fn leave_out<'a>(
+    words: &mut Words<'a>,
+    objects: &mut Objects<'a>,
+    slot: SlotText<'a>,
+    word: Option<&str>,
+) {
+    let name = slot.object.name.text;
+    match (objects.find(slot.object), word) {
+        (Found::LeftOut(kind), _) => objects.leave_out_cap(kind),
+        (Found::Kept(_), Some(word)) => {
+            let holder = slot.holder.name.text;
+            let told = format_args!("{word} of {holder} is left out");
+            words.notes.say(slot.at.spot, told);
+        }
+        (Found::Unknown, _) if !BUILT_IN.contains(&name) => {
+            objects.say_unknown(words, slot.object);
+        }
+        _ => {}
+    }
+}
+
+/// Says that a capability of an object that a layout need not declare is left out.
+fn say_left_out(words: &mut Words<'_>, slot: SlotText<'_>, place: u64) {
+    let (holder, Token { text, spot, .. }) = (slot.holder.name.text, slot.object.name);
+    let told = format_args!("slot {place} of {holder}: {text} is left out");
+    words.notes.say(spot, told);
+}
+
+/// Says that an object has no such slots.
+fn say_misplaced(words: &mut Words<'_>, slot: SlotText<'_>, kind: Kind) {
+    let (word, holder, its) = (slot.at, slot.holder.name, kind_word(kind));
+    let (name, text) = (holder.text, word.text);
+    match slot.numbers {
+        None => words.faults.say(
+            word.spot,
+            format_args!("{text} is a slot of a tcb, and {name} is of the kind {its}"),
+        ),
+        Some(_) => {
+            let hint = if kind == Kind::Tcb {
+                "its slots have names"
+            } else {
+                "it has no slots"
+            };
+            words.faults.say(
+                holder.spot,
+                format_args!("{name} is of the kind {its}: {hint}"),
+            );
+        }
+    }
+}
+
+/// Says that a CNode has no slot of that number.
+fn say_outside(words: &mut Words<'_>, slot: SlotText<'_>, holder: Holder, place: u64) {
+    let (name, line) = (slot.holder.name.text, holder.line);
+    let size = 1u64 << holder.bits.min(63);
+    words.faults.say(
+        slot.at.spot,
+        format_args!(
+            "{name} has {size} slots, from 0 on, and this is slot {place}; make it larger in line {line}"
+        ),
+    );
+}
+
+/// Checks the guard, or the badge and the rights, of a capability of an object of that kind and size.
+fn check_cap(words: &mut Words<'_>, machine: Machine, slot: SlotText<'_>, kind: Kind, bits: u32) {
+    let Token { text, spot, .. } = slot.object.name;
+    match kind {
+        Kind::CNode => check_guard(words, machine, slot.cap, bits, text, spot),
+        Kind::Endpoint => check_endpoint(words, machine, slot.cap, text, spot),
+        Kind::Untyped | Kind::Tcb => {}
     }
 }
 
 /// Checks the guard of a CNode's capability.
 fn check_guard(
-    alloc: Global,
-    slot: SlotText<'_>,
-    bits: u32,
+    words: &mut Words<'_>,
     machine: Machine,
-    objects: &mut Objects<'_>,
-) -> Result<(), AllocError> {
-    let (value, size, word) = (
-        slot.cap.guard,
-        slot.cap.guard_size,
-        u64::from(machine.word_bits),
-    );
+    cap: CapText,
+    bits: u32,
+    name: &str,
+    spot: Spot,
+) {
+    let (value, size, word) = (cap.guard, cap.guard_size, u64::from(machine.word_bits));
     let most = word.saturating_sub(u64::from(machine.guard_size_bits));
-    let name = slot.name.text;
-    let words = if size.saturating_add(u64::from(bits)) > word {
-        format!(in alloc;
-            "a guard of {size} bits and the {bits} bits of {name} are more than the {word} of a word"
-        )?
+    if size.saturating_add(u64::from(bits)) > word {
+        words.faults.say(
+            spot,
+            format_args!(
+                "a guard of {size} bits and the {bits} bits of {name} are more than the {word} of a word"
+            ),
+        );
     } else if value.checked_shr(most.min(63) as u32).unwrap_or(0) > 0 {
-        format!(in alloc; "the value of a guard has {most} bits at the most, and {value} has more")?
+        words.faults.say(
+            spot,
+            format_args!("the value of a guard has {most} bits at the most, and {value} has more"),
+        );
     } else if value.checked_shr(size.min(64) as u32).unwrap_or(0) > 0 {
-        format!(in alloc; "the guard {value} has more than {size} bits")?
-    } else {
-        return Ok(());
-    };
-    objects.faults.say(slot.name, words)
+        words.faults.say(
+            spot,
+            format_args!("the guard {value} has more than {size} bits"),
+        );
+    }
 }
 
 /// Checks the capability of an endpoint, and says what its rights allow in seL4 and not here.
-fn check_endpoint(
-    alloc: Global,
-    slot: SlotText<'_>,
-    machine: Machine,
-    objects: &mut Objects<'_>,
-) -> Result<(), AllocError> {
-    let (name, badge, bits) = (slot.name.text, slot.cap.badge, machine.badge_bits);
+fn check_endpoint(words: &mut Words<'_>, machine: Machine, cap: CapText, name: &str, spot: Spot) {
+    let (badge, bits) = (cap.badge, machine.badge_bits);
     if badge.checked_shr(bits).unwrap_or(0) > 0 {
-        objects.faults.say(
-            slot.name,
-            format!(in alloc; "a badge has {bits} bits at the most, and {badge} has more")?,
-        )?;
-    }
-    let Some(rights) = slot.cap.rights else {
-        return objects.notes.say(
-            slot.name,
-            format!(in alloc; "{name}: no rights are given, so the capability has all")?,
+        words.faults.say(
+            spot,
+            format_args!("a badge has {bits} bits at the most, and {badge} has more"),
         );
-    };
-    if rights & 5 == 5 {
-        objects.notes.say(
-            slot.name,
-            format!(in alloc;
-                "{name}: with G capabilities can be handed over in messages, which is not simulated; audit --ever tells it by lines grant"
-            )?,
-        )?;
     }
-    Ok(())
+    match cap.rights {
+        None => words.notes.say(
+            spot,
+            format_args!("{name}: no rights are given, so the capability has all"),
+        ),
+        Some(rights) if rights & 5 == 5 => words.notes.say(
+            spot,
+            format_args!(
+                "{name}: with G capabilities can be handed over in messages, which is not simulated; audit --ever tells it by lines grant"
+            ),
+        ),
+        Some(_) => {}
+    }
 }
