@@ -6,5 +6,6 @@ pub mod Rights
 pub mod Untold
 pub mod Groups
 pub mod Waiting
+pub mod Live
 pub mod Unbroken
 pub mod Status

@@ -42,5 +42,5 @@ module _ (c : Policy) (l : Layout) (n : Labels) (bs : List Block) (js : List Joi
 pub promised : (p : ProfileName) (c : Policy) (l : Layout) (n : Labels) (setup : SetupView) (replies : List Reply) (text : List ℕ) → IsPromised p c l n setup replies text
 promised p c l n setup replies text A reached is fine told calls of =
     kept_held p l.memory.items l.uses.items (shown A) (group_of l) any_endpoint (may_hold c l) (may_pass c) is.right.ever
-    (kept_where_untold p c l n A is fine (none_told c l n (blocks c l) (joins c l) (passages c l (blocks c l)) setup replies text told)).1
+    (kept_where_untold p c l n A reached is fine (none_told c l n (blocks c l) (joins c l) (passages c l (blocks c l)) setup replies text told)).1
     A reached refl calls of

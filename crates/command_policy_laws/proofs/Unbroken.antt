@@ -1,6 +1,6 @@
 -- Where no line tells of a breach, the parts keep the policy.
 use Rattle.std.proofs.Common.{◌≡◌, ◌≢◌, ◌⊎◌, inl, inr, ℕ, ◌+◌, ◌^◌, ◌<◌, ◌≤◌, Bool, true, false, not, ◌==◌, ◌&&◌, ◌||◌, List, [], map, Option, Some, refl, sym, ap, subst, ◌∙◌, arith, eq-eqb}
-use Rattle.std.specs.List.{filter, filter_map, flat_map, list_any}
+use Rattle.std.specs.List.{Contains, filter, filter_map, flat_map, list_any}
 use Rattle.std.proofs.lemmas.Bool.{eqb-true}
 use Rattle.std.proofs.lemmas.Nat.{pow_pos}
 use Rattle.cap_core.specs.declared.profile.ProfileName.{ProfileName}
@@ -10,19 +10,24 @@ use Rattle.cap_core.specs.declared.message.Message.{Message}
 use Rattle.cap_core.specs.declared.rights.Rights.{Rights}
 use Rattle.cap_core.specs.Numbers.{endpoint_bits}
 use Rattle.cap_core.specs.Rights.{write_bit, read_bit, grant_bit, grant_reply_bit}
+use Rattle.ipc_core.specs.declared.waiter.Waiter.{Waiter}
+use Rattle.ipc_core.specs.declared.waiter.Waiter.TheVariants.{Sender, Receiver}
 use Rattle.kernel_delete.specs.Members.{In}
 use Rattle.kernel_delete.proofs.Clearable.{contains_in}
 use Rattle.kernel_delete.proofs.Members.{all_in, both_true, true_left, true_right, any_in, any_of, in_left, in_right, in_filter, filter_in, tells, eqb_self}
 use Rattle.kernel_abstract.specs.Decode.{has_right}
-use Rattle.kernel_abstract.specs.Shown.{Shown}
+use Rattle.kernel_abstract.specs.Shown.{Shown, waiting_at}
 use Rattle.kernel_abstract.specs.State.{State, shown}
 use Rattle.query_parts.specs.declared.listed.PartUse.{PartUse}
 use Rattle.query_parts.specs.Parts.{Use, AreAmong, Covers, IsCovered, IsWithin}
+use Rattle.kernel_abstract.specs.Reached.{IsReached}
 use Rattle.query_parts.specs.Laws.{MayUse}
+use Rattle.query_parts.specs.Least.{AreLeastAround}
 use Rattle.query_parts.specs.Listed.{part_at, parts_listed, use_of}
 use Rattle.query_parts.proofs.Lists.{in_mapped, from_mapped}
-use Rattle.setup_report.specs.State.{is_in, rising, threads}
+use Rattle.setup_report.specs.State.{rising, threads}
 use Rattle.command_parts.specs.Text.{is_part}
+use Rattle.command_parts.specs.Threads.{callers}
 use Rattle.command_policy_breaches.specs.declared.policy.Allowance.{Allowance}
 use Rattle.command_policy_breaches.specs.declared.policy.Block.{Block}
 use Rattle.command_policy_breaches.specs.declared.policy.Labels.{Labels}
@@ -35,7 +40,7 @@ use Rattle.command_policy_breaches.specs.declared.ways.Passage.{Passage}
 use Rattle.command_policy_breaches.specs.declared.ways.Sending.{Sending as Sent}
 use Rattle.command_policy_breaches.specs.Breaches.{exceeds, has_entry, has_other_badge, has_region, has_right_too_much, is_entry, is_listed, is_own_endpoint, is_unlisted, lets_badge, lets_ever, lets_with, lies_within, meets, strays, strays_somehow}
 use Rattle.command_policy_breaches.specs.Joins.{block_of, blocks, is_in_block, joins}
-use Rattle.command_policy_breaches.specs.Layouts.{IsLayoutOf, wait_of}
+use Rattle.command_policy_breaches.specs.Layouts.{IsLayoutOf, wait_of, trusted_threads}
 use Rattle.command_policy_breaches.specs.Sides.{badges, hears, is_in_part, is_of, may_hear, may_send_any, owns, sends, some_badges, waits_to_hear, waits_to_send}
 use Rattle.command_policy_breaches.specs.Ways.{has_way, have_one_in_common, hearers_on, hears_on, is_apart, is_let, is_let_elsewhere, is_passage_amiss, is_way_between, part_end, part_sends, passage, passages, passages_by, passages_of, sending, sends_to, thread_sends}
 use Rattle.command_policy_laws.specs.Keeps.{KeepPolicy, WaitsOrPartHears, WaitsOrPartSends}
@@ -43,7 +48,8 @@ use Rattle.command_policy_laws.specs.Unbroken.{IsSound, allows_right, any_endpoi
 use Rattle.command_policy_laws.proofs.Groups.{IsAt, are_named, at_home, has_group, home_at, in_flat, in_rising, of_joined, of_number, of_one, part_of_address}
 use Rattle.command_policy_laws.proofs.Rights.{grant_kept, grant_reply_kept, read_kept, write_kept}
 use Rattle.command_policy_laws.proofs.Untold.{IsUnbroken, fails, unbroken}
-use Rattle.command_policy_laws.proofs.Waiting.{is_member, receiver_listed, sender_listed}
+use Rattle.command_policy_laws.proofs.Live.{used_live, waited_live}
+use Rattle.command_policy_laws.proofs.Waiting.{receiver_listed, sender_listed}
 
 -- ---- tests
 
@@ -105,7 +111,7 @@ module _ (l : Layout) (i endpoint : ℕ) (badge : Badge) (rights : Rights) where
 
 -- ---- the law
 
-module _ (p : ProfileName) (c : Policy) (l : Layout) (A : State) (is : IsLayoutOf p c (shown A) l) (fine : IsSound c (shown A) l)
+module _ (p : ProfileName) (c : Policy) (l : Layout) (A : State) (reached : IsReached p A) (is : IsLayoutOf p c (shown A) l) (fine : IsSound c (shown A) l)
     (kept : IsUnbroken c l (blocks c l) (joins c l) (passages c l (blocks c l))) where
   abbrev v : Shown
   v = shown A
@@ -259,11 +265,21 @@ module _ (p : ProfileName) (c : Policy) (l : Layout) (A : State) (is : IsLayoutO
 
   -- ---- what may pass
 
-  live_used : (x : PartUse) (e : ℕ) → In x l.uses.items → x.endpoint ≡ e → In e l.endpoints.items
-  live_used x e there at = subst (λ n. In n l.endpoints.items) at (is_member x.endpoint l.endpoints.items (all_in (λ (u : PartUse). is_in u.endpoint l.endpoints.items) l.uses.items x fine.used there))
+  least : AreLeastAround p (callers p v (trusted_threads c)) v l.memory.items l.uses.items
+  least = record { ever = is.right.ever; around = is.right.callers; least = is.right.least }
 
-  live_waited : (w : Waiting) → In w l.waits.items → In w.endpoint l.endpoints.items
-  live_waited w there = is_member w.endpoint l.endpoints.items (all_in (λ (x : Waiting). is_in x.endpoint l.endpoints.items) l.waits.items w fine.waited there)
+  -- the endpoint of a use of a part that has an address begins in the part, or is live
+  live_used : (t i e : ℕ) (x : PartUse) → part_at l.memory.items t ≡ Some i → In x l.uses.items → x.part ≡ i → x.endpoint ≡ e →
+      (part_at l.memory.items e ≡ Some i) ⊎ In e l.endpoints.items
+  live_used t i e x lies there own at =
+      subst (λ n. (part_at l.memory.items n ≡ Some i) ⊎ In n l.endpoints.items) at
+      (elim (used_live p (callers p v (trusted_threads c)) l.memory.items l.uses.items A reached least t i x lies there own) [
+        | inl begins ↦ inl begins
+        | inr live ↦ inr (subst (In x.endpoint) (sym is.live) live)
+      ])
+
+  live_waited : (e : ℕ) (x : Waiter) → Contains (waiting_at v e) x → In e l.endpoints.items
+  live_waited e x there = subst (In e) (sym is.live) (waited_live p A e x there)
 
   part_is : (o : Option ℕ) (i : ℕ) → o ≡ Some i → is_part i o ≡ true
   part_is o i at = rw at (eqb_self i)
@@ -286,19 +302,22 @@ module _ (p : ProfileName) (c : Policy) (l : Layout) (A : State) (is : IsLayoutO
   abbrev Sends : ℕ → ℕ → Badge → Type 0
   Sends i e badge = (part_at l.memory.items e ≡ Some i) ⊎ HasBadge i e badge
 
-  may_send : (i e : ℕ) (badge : Badge) → MayUse p (parts_listed l.memory.items l.uses.items) write_bit i e badge → Sends i e badge
-  may_send i e badge (rights, (inl owned, has)) = inl (first_byte i e badge rights owned)
-  may_send i e badge (rights, (inr covered, has)) =
+  may_send : (t i e : ℕ) (badge : Badge) → part_at l.memory.items t ≡ Some i → MayUse p (parts_listed l.memory.items l.uses.items) write_bit i e badge → Sends i e badge
+  may_send t i e badge lies (rights, (inl owned, has)) = inl (first_byte i e badge rights owned)
+  may_send t i e badge lies (rights, (inr covered, has)) =
       let x = covered_by l i e badge rights covered in
       let sends_so : sends i e x.0 ≡ true = both_are (is_of i e x.0) (has_right write_bit x.0.rights)
       (both_are (x.0.part == i) (x.0.endpoint == e) (eq-eqb x.0.part i x.1.part) (eq-eqb x.0.endpoint e x.1.endpoint_is)) (write_kept rights x.0.rights x.1.among has) in
-      inr (record {
-        told = x.0.badge.0;
-        there = in_rising x.0.badge.0 _ (in_left x.0.badge.0 (map (λ (u : PartUse). u.badge.0) (filter (sends i e) l.uses.items)) _
-            (in_mapped (λ (u : PartUse). u.badge.0) x.0 (filter (sends i e) l.uses.items) (filter_in (sends i e) l.uses.items x.0 x.1.there sends_so)));
-        meets_too = still_meets l i e badge rights x.0 x.1;
-        live = live_used x.0 e x.1.there x.1.endpoint_is;
-      })
+      elim (live_used t i e x.0 lies x.1.there x.1.part x.1.endpoint_is) [
+        | inl begins ↦ inl begins
+        | inr live ↦ inr (record {
+          told = x.0.badge.0;
+          there = in_rising x.0.badge.0 _ (in_left x.0.badge.0 (map (λ (u : PartUse). u.badge.0) (filter (sends i e) l.uses.items)) _
+              (in_mapped (λ (u : PartUse). u.badge.0) x.0 (filter (sends i e) l.uses.items) (filter_in (sends i e) l.uses.items x.0 x.1.there sends_so)));
+          meets_too = still_meets l i e badge rights x.0 x.1;
+          live = live;
+        })
+      ]
 
   waits_so : (w : Waiting) → In w (filter_map (wait_of v) (threads p v)) → In w l.waits.items
   waits_so w there = subst (In w) (sym is.waits_are) there
@@ -314,10 +333,10 @@ module _ (p : ProfileName) (c : Policy) (l : Layout) (A : State) (is : IsLayoutO
         there = in_rising badge.0 _ (in_right badge.0 (map (λ (u : PartUse). u.badge.0) (filter (sends i e) l.uses.items)) _
             (in_mapped (λ (x : Waiting). x.badge) w (filter (waits_to_send l i e) l.waits.items) (filter_in (waits_to_send l i e) l.waits.items w there sends_so)));
         meets_too = λ allowed h. h;
-        live = live_waited w there;
+        live = live_waited e (Sender t badge message) waits;
       })
   sender t i e badge message at (inr (k, (lies, may))) =
-      may_send i e badge (subst (λ n. MayUse p (parts_listed l.memory.items l.uses.items) write_bit n e badge) (same_part t k i lies at) may)
+      may_send t i e badge at (subst (λ n. MayUse p (parts_listed l.memory.items l.uses.items) write_bit n e badge) (same_part t k i lies at) may)
 
   -- a badge of the part's, of which a way may speak
   record Told (i e : ℕ) (badge : Badge) : Type 0 where
@@ -351,16 +370,19 @@ module _ (p : ProfileName) (c : Policy) (l : Layout) (A : State) (is : IsLayoutO
   abbrev Hears : ℕ → ℕ → Type 0
   Hears j e = (part_at l.memory.items e ≡ Some j) ⊎ HasRead j e
 
-  hears_by : (j e : ℕ) (badge : Badge) → MayUse p (parts_listed l.memory.items l.uses.items) read_bit j e badge → Hears j e
-  hears_by j e badge (rights, (inl owned, has)) = inl (first_byte j e badge rights owned)
-  hears_by j e badge (rights, (inr covered, has)) =
+  hears_by : (u j e : ℕ) (badge : Badge) → part_at l.memory.items u ≡ Some j → MayUse p (parts_listed l.memory.items l.uses.items) read_bit j e badge → Hears j e
+  hears_by u j e badge lies (rights, (inl owned, has)) = inl (first_byte j e badge rights owned)
+  hears_by u j e badge lies (rights, (inr covered, has)) =
       let x = covered_by l j e badge rights covered in
       let hears_so : hears j e x.0 ≡ true = both_are (is_of j e x.0) (has_right read_bit x.0.rights)
       (both_are (x.0.part == j) (x.0.endpoint == e) (eq-eqb x.0.part j x.1.part) (eq-eqb x.0.endpoint e x.1.endpoint_is)) (read_kept rights x.0.rights x.1.among has) in
-      inr (record {
-        reads = true_left _ (list_any (waits_to_hear l j e) l.waits.items) (any_in (hears j e) l.uses.items x.0 x.1.there hears_so);
-        live = live_used x.0 e x.1.there x.1.endpoint_is;
-      })
+      elim (live_used u j e x.0 lies x.1.there x.1.part x.1.endpoint_is) [
+        | inl begins ↦ inl begins
+        | inr live ↦ inr (record {
+          reads = true_left _ (list_any (waits_to_hear l j e) l.waits.items) (any_in (hears j e) l.uses.items x.0 x.1.there hears_so);
+          live = live;
+        })
+      ]
 
   hearer : (u j e : ℕ) → part_at l.memory.items u ≡ Some j → WaitsOrPartHears p (parts_listed l.memory.items l.uses.items) v e u → Hears j e
   hearer u j e at (inl waits) =
@@ -369,10 +391,10 @@ module _ (p : ProfileName) (c : Policy) (l : Layout) (A : State) (is : IsLayoutO
       let hears_so : waits_to_hear l j e w ≡ true = both_are (e == e) (is_part j (part_at l.memory.items u)) (eqb_self e) (part_is (part_at l.memory.items u) j at) in
       inr (record {
         reads = true_right (list_any (hears j e) l.uses.items) _ (any_in (waits_to_hear l j e) l.waits.items w there hears_so);
-        live = live_waited w there;
+        live = live_waited e (Receiver u) waits;
       })
   hearer u j e at (inr (k, (lies, (badge, may)))) =
-      hears_by j e badge (subst (λ n. MayUse p (parts_listed l.memory.items l.uses.items) read_bit n e badge) (same_part u k j lies at) may)
+      hears_by u j e badge at (subst (λ n. MayUse p (parts_listed l.memory.items l.uses.items) read_bit n e badge) (same_part u k j lies at) may)
 
   heard : (j e : ℕ) → In e l.endpoints.items → Hears j e → may_hear l j e ≡ true
   heard j e live (inl at) = true_left (owns l j e) _ (owner j e live at)
@@ -480,6 +502,6 @@ module _ (p : ProfileName) (c : Policy) (l : Layout) (A : State) (is : IsLayoutO
   }
 
 pub kept_where_untold : (p : ProfileName) (c : Policy) (l : Layout) (n : Labels) (A : State) → WhatIsNotToldIsKept p c l n A
-kept_where_untold p c l n A is fine none =
+kept_where_untold p c l n A reached is fine none =
     let kept = unbroken c l n (blocks c l) (joins c l) (passages c l (blocks c l)) none in
-    (are_named p c (shown A) l is fine kept.joined kept.grants, keep_policy p c l A is fine kept)
+    (are_named p c (shown A) l is fine kept.joined kept.grants, keep_policy p c l A reached is fine kept)

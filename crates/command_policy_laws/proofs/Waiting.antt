@@ -33,7 +33,7 @@ use Rattle.command_policy_breaches.specs.Layouts.{wait_in, wait_of}
 
 -- ---- the live threads
 
-abbrev seen : Entry × Option Entry → Entry × Option ℕ
+abbrev pub seen : Entry × Option Entry → Entry × Option ℕ
 seen e = (e.0, option_map slot_of e.1)
 
 named_above : (p : ProfileName) (above : Option Entry) (f : Forest Entry) →

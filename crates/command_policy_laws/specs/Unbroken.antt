@@ -12,11 +12,9 @@ use Rattle.kernel_abstract.specs.Shown.{Shown}
 use Rattle.kernel_abstract.specs.State.{State, shown}
 use Rattle.kernel_abstract.specs.Waiting.{AreStatesAndLists}
 use Rattle.kernel_abstract.specs.Reached.{IsReached}
-use Rattle.query_parts.specs.declared.listed.PartUse.{PartUse}
 use Rattle.query_parts.specs.Listed.{part_at, parts_listed}
 use Rattle.query_parts.specs.Laws.{IsAllowed}
 use Rattle.setup_format.specs.Views.{SetupView}
-use Rattle.setup_report.specs.State.{is_in}
 use Rattle.command_core.specs.declared.fault.Verdict.TheVariants.{AllMet}
 use Rattle.command_policy_breaches.specs.declared.policy.Allowance.{Allowance}
 use Rattle.command_policy_breaches.specs.declared.policy.Home.{Home}
@@ -26,7 +24,6 @@ use Rattle.command_policy_breaches.specs.declared.policy.Member.{Member}
 use Rattle.command_policy_breaches.specs.declared.policy.OwnRegion.{OwnRegion}
 use Rattle.command_policy_breaches.specs.declared.policy.Policy.{Policy}
 use Rattle.command_policy_breaches.specs.declared.policy.PolicyWay.{PolicyWay}
-use Rattle.command_policy_breaches.specs.declared.policy.Waiting.{Waiting}
 use Rattle.command_policy_breaches.specs.Breaches.{lies_within, meets}
 use Rattle.command_policy_breaches.specs.Joins.{blocks, joins}
 use Rattle.command_policy_breaches.specs.Layouts.{IsLayoutOf}
@@ -111,15 +108,12 @@ abbrev pub is_group : Policy → ℕ → Bool
 is_group c actor = list_any (λ g. g == actor) c.groups.items
 
 -- What the program sees to, and what is not proved of it: each thread that the policy puts into a group is in a group of the policy,
--- and each part has a thread of one; the endpoints that parts may use, and on which threads wait, are live; and a live endpoint that
--- begins in a part's memory lies there wholly. Who waits does what the waiting lists of endpoints have him do: of each kernel's state
+-- and each part has a thread of one; and a live endpoint that begins in a part's memory lies there wholly. Who waits does what the waiting lists of endpoints have him do: of each kernel's state
 -- that is proved
 pub record IsSound (c : Policy) (v : Shown) (l : Layout) : Type 0 where
   pub agree : AreStatesAndLists v
   pub named : list_all (λ (m : Member). is_group c m.actor) c.members.items ≡ true
   pub grouped : list_all (λ part. list_any (is_in_part l part) c.groups.items) l.parts.items ≡ true
-  pub used : list_all (λ (u : PartUse). is_in u.endpoint l.endpoints.items) l.uses.items ≡ true
-  pub waited : list_all (λ (w : Waiting). is_in w.endpoint l.endpoints.items) l.waits.items ≡ true
   pub whole : list_all (is_whole l) l.endpoints.items ≡ true
 
 -- ---- the laws
@@ -133,7 +127,7 @@ AreNamed c l =
 -- where no line tells of a breach, threads are of the groups that name them, and the parts keep the policy
 abbrev pub WhatIsNotToldIsKept : ProfileName → Policy → Layout → Labels → State → Type 0
 WhatIsNotToldIsKept p c l n A =
-    IsLayoutOf p c (shown A) l → IsSound c (shown A) l → breaches c l n (blocks c l) (joins c l) (passages c l (blocks c l)) ≡ [] →
+    IsReached p A → IsLayoutOf p c (shown A) l → IsSound c (shown A) l → breaches c l n (blocks c l) (joins c l) (passages c l (blocks c l)) ≡ [] →
     AreNamed c l × KeepPolicy p (group_of l) any_endpoint (may_hold c l) (may_pass c) (shown A) (parts_listed l.memory.items l.uses.items)
 
 -- what is promised where the verdict on a layout is `AllMet`, which is status 0: it is held to the policy, whatever calls the threads
