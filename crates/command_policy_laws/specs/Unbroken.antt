@@ -107,9 +107,9 @@ is_whole l endpoint = is_whole_in l endpoint (part_at l.memory.items endpoint)
 abbrev pub is_group : Policy → ℕ → Bool
 is_group c actor = list_any (λ g. g == actor) c.groups.items
 
--- What the program sees to, and what is not proved of it: each thread that the policy puts into a group is in a group of the policy,
--- and each part has a thread of one; and a live endpoint that begins in a part's memory lies there wholly. Who waits does what the waiting lists of endpoints have him do: of each kernel's state
--- that is proved
+-- What layouts are, which is not proved of them: each thread that the policy puts into a group is in a group of the policy, and each
+-- part has a thread of one; and a live endpoint that begins in a part's memory lies there wholly. And each thread that waits does what
+-- the waiting lists of endpoints have it do, as is proved of each kernel's state
 pub record IsSound (c : Policy) (v : Shown) (l : Layout) : Type 0 where
   pub agree : AreStatesAndLists v
   pub named : list_all (λ (m : Member). is_group c m.actor) c.members.items ≡ true
