@@ -1,3 +1,5 @@
 pub mod Marked
 pub mod Sequences
 pub mod Reports
+pub mod Same
+pub mod Questions

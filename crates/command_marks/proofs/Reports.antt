@@ -6,8 +6,9 @@ use Rattle.setup_format.specs.Views.{CallView}
 use Rattle.setup_report.specs.Report.{met_count, one_met}
 use Rattle.setup_report.specs.Text.{begins_as, reply_text}
 use Rattle.command_marks.specs.declared.mark.Mark.{Mark}
-use Rattle.command_marks.specs.declared.mark.Mark.TheVariants.{Right, Open, Wrong}
-use Rattle.command_marks.specs.Laws.{AreThoseOfTheReport}
+use Rattle.command_marks.specs.declared.mark.Mark.TheVariants.{Right, Short, Open, Wrong}
+use Rattle.command_marks.specs.Against.{is_short, shortened}
+use Rattle.command_marks.specs.Laws.{AreThoseOfTheExercise, AreThoseOfTheReport}
 use Rattle.setup_format.specs.Expectations.{asks}
 use Rattle.command_marks.specs.Marks.{is_mark, mark_of, marks_of, numbers_of}
 
@@ -59,3 +60,18 @@ those_of_the_report = record {
   count = as_many 1;
   blind = λ expected one other same. ap (λ met. by met (asks expected)) same;
 }
+
+-- ---- by an exercise
+
+met_is_not : (expected : List ℕ) → told expected false ≡ codes " [met]" → ⊥
+met_is_not expected e = cc
+
+right_where_enough : (expected : List ℕ) (met asked short : Bool)
+    → (shortened (by met asked) short ≡ Right) ↔ ((told expected met ≡ codes " [met]") × (short ≡ false))
+right_where_enough expected true asked true = (λ e. absurd cc, λ e. absurd cc)
+right_where_enough expected true asked false = (λ e. (refl, refl), λ e. refl)
+right_where_enough expected false true short = (λ e. absurd cc, λ e. absurd (met_is_not expected e.0))
+right_where_enough expected false false short = (λ e. absurd cc, λ e. absurd (met_is_not expected e.0))
+
+pub those_of_the_exercise : AreThoseOfTheExercise
+those_of_the_exercise question answer reply = right_where_enough answer (begins_as (reply_text reply) answer) (asks answer) (is_short question answer reply)

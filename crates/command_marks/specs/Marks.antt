@@ -5,7 +5,7 @@ use Rattle.setup_format.specs.Expectations.{asks}
 use Rattle.setup_format.specs.Views.{CallView}
 use Rattle.setup_report.specs.Text.{begins_as, reply_text}
 use Rattle.command_marks.specs.declared.mark.Mark.{Mark}
-use Rattle.command_marks.specs.declared.mark.Mark.TheVariants.{Nothing, Right, Open, Wrong}
+use Rattle.command_marks.specs.declared.mark.Mark.TheVariants.{Nothing, Right, Short, Open, Wrong}
 
 -- right where the reply is as expected, and else open where the expectation asks, or wrong
 abbrev pub mark_by : Bool → Bool → Mark
@@ -24,6 +24,7 @@ marks_of (call ∷ calls) (reply ∷ replies) = mark_of call.expect (reply_text 
 abbrev pub is_mark : Mark → Mark → Bool
 is_mark Nothing Nothing = true
 is_mark Right Right = true
+is_mark Short Short = true
 is_mark Open Open = true
 is_mark Wrong Wrong = true
 is_mark mark other = false

@@ -10,13 +10,14 @@ use Rattle.setup_report.specs.Report.{terminated, met_count, expectation_count}
 use Rattle.command_check.specs.Program.{replies_to, verdict_of}
 use Rattle.command_core.specs.declared.fault.Verdict.{Verdict}
 use Rattle.command_marks.specs.declared.mark.Mark.{Mark}
-use Rattle.command_marks.specs.declared.mark.Mark.TheVariants.{Nothing, Right, Open, Wrong}
+use Rattle.command_marks.specs.declared.mark.Mark.TheVariants.{Nothing, Right, Short, Open, Wrong}
 use Rattle.command_marks.specs.Marks.{marks_of, numbers_of}
 
 -- of a call that expects that text
 abbrev pub mark_text : List ℕ → Mark → List ℕ
 mark_text expected Nothing = []
 mark_text expected Right = codes "right"
+mark_text expected Short = codes "too short"
 mark_text expected Open = codes "open"
 mark_text expected Wrong = codes "not " ++ expected
 

@@ -1,8 +1,14 @@
 //! Laws of the marks, over the definitions alone. Nothing is done.
-ghost use Rattle.command_marks.specs.Laws.{AreThoseOfTheReport};
+ghost use Rattle.command_marks.specs.Laws.{AreThoseOfTheExercise, AreThoseOfTheReport};
 
 /// A call is right exactly where the report says ` [met]` of it, and as many are right as the report counts. Of two replies
 /// that are both as expected, or both not, a mark is the same.
 pub fn marks_are_those_of_the_report()
     ensures { AreThoseOfTheReport }
+{}
+
+/// By the questions of an exercise an answer is right exactly where the report says ` [met]` of it, and the answer says as much
+/// as is asked for.
+pub fn answers_are_right_where_they_say_enough()
+    ensures { AreThoseOfTheExercise }
 {}

@@ -2,6 +2,8 @@
 //! is told.
 #![tactic(auto)]
 
+mod against;
+mod answers;
 mod command;
 mod field;
 mod laws;
@@ -10,7 +12,8 @@ mod marking;
 mod table;
 mod text;
 
+pub use answers::mark_answers;
 pub use command::Marks;
-pub use laws::marks_are_those_of_the_report;
+pub use laws::{answers_are_right_where_they_say_enough, marks_are_those_of_the_report};
 pub use mark::Mark;
 pub use table::mark_files;

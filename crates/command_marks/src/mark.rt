@@ -15,6 +15,8 @@ pub enum Mark {
     Nothing,
     /// The reply is as expected: the report says `[met]`.
     Right,
+    /// The reply is as expected, and the expectation says less of it than is asked for.
+    Short,
     /// The expectation asks: it begins with `?`.
     Open,
     /// The reply is another.
@@ -54,7 +56,7 @@ pub(crate) fn mark_of(
 }
 
 /// Whether a mark is the other.
-fn is_mark(mark: Mark, other: Mark) -> bool
+pub(crate) fn is_mark(mark: Mark, other: Mark) -> bool
     ensures { result ≡ spec.is_mark mark other }
 {
     mark == other

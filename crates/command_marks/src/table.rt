@@ -30,7 +30,7 @@ const UNREAD: &[u8] = b",,,,cannot be read";
 
 /// Numbers, with a space between them.
 #[derive(Clone, Copy)]
-struct ListText<'a>(&'a [u64]);
+pub(crate) struct ListText<'a>(pub(crate) &'a [u64]);
 
 impl fmt::Display for ListText<'_> {
     ghost output = { λ l. Some (spec.list_text l.0.now) };

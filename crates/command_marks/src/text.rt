@@ -24,6 +24,7 @@ impl fmt::Display for MarkText<'_> {
         match self.mark {
             Mark::Nothing => Ok(()),
             Mark::Right => write!(f, "right"),
+            Mark::Short => write!(f, "too short"),
             Mark::Open => write!(f, "open"),
             Mark::Wrong => write!(f, "not {expected}"),
         }

@@ -1,0 +1,233 @@
+//! The marks of answers that were handed in, as a table: a row for each file.
+ghost use Rattle.std.specs.Prelude.{◌≡◌, [], false, map, option_map, IfOk, Some, length};
+ghost use Rattle.kernel_abstract.specs.Plan.{IsPlan};
+ghost use Rattle.setup_format.specs.Setups.{setup_of_bytes};
+ghost use Rattle.command_check.specs.Program.{HasCounts, replies_to};
+ghost use Rattle.command_files.specs.Files.{HasCountOf, IsInput};
+ghost use Rattle.command_marks.specs.Answers as spec;
+
+use crate::against::{is_same, marks_by};
+use crate::field::add_field;
+use crate::mark::{Mark, is_mark, numbers_of};
+use crate::table::ListText;
+use cap_core::{Narrow, Profile, ProfileName, Wide};
+use command_check::{CountedText, run_calls};
+use command_core::{Notes, RunFault, Sink};
+use command_files::{Inputs, Listener, Tally, Telling, tell_files};
+use ipc_core::{LinkedWaiters, MakeWaiters};
+use kernel_core::Reply;
+use setup_format::{Setup, SetupFault, read_setup};
+use setup_report::expectations;
+use slot_core::{LinkedStore, MakeStore};
+use std::alloc::{AllocError, Global};
+use std::fmt::Write;
+
+/// The first row, which names the columns.
+const HEAD: &[u8] = b"file,right,of,wrong,too short,open,note\n";
+
+/// What stands behind the name of a file of which nothing is marked, and why.
+const EXERCISE_REFUSED: &[u8] = b",,,,,exercise refused";
+
+const DIFFERS: &[u8] = b",,,,,differs";
+
+const REFUSED: &[u8] = b",,,,,refused";
+
+const UNREAD: &[u8] = b",,,,,cannot be read";
+
+/// How many calls are right.
+fn right_count(marks: &[Mark]) -> usize
+    ensures { result ≡ spec.right_count marks.now }
+{
+    marks
+        .iter()
+        .filter(|mark| is_mark(**mark, Mark::Right))
+        .count()
+}
+
+/// Of how many calls something is asked.
+fn asked_count(marks: &[Mark]) -> usize
+    ensures { result ≡ spec.asked_count marks.now }
+{
+    marks
+        .iter()
+        .filter(|mark| !is_mark(**mark, Mark::Nothing))
+        .count()
+}
+
+/// What stands behind the name of a file whose answers were marked.
+fn cells(alloc: Global, marks: &[Mark]) -> Result<Vec<u8>, AllocError>
+    ensures { IfOk result (λ text. text.items ≡ spec.cells_of marks.now) }
+{
+    let right = right_count(marks);
+    let asked = asked_count(marks);
+    let wrong = numbers_of(alloc, marks, Mark::Wrong)?;
+    let short = numbers_of(alloc, marks, Mark::Short)?;
+    let open = numbers_of(alloc, marks, Mark::Open)?;
+    let wrong = ListText(wrong.as_slice());
+    let short = ListText(short.as_slice());
+    let open = ListText(open.as_slice());
+    let mut out = String::new(alloc);
+    write!(out, "{right},{asked},{wrong},{short},{open},")?;
+    Ok(out.into_bytes())
+}
+
+/// What stands behind the name of a file whose set-up was run, given the replies to its calls.
+#[tactic(auto, using(crate::proofs::Same::same_lengths))]
+fn cells_by(
+    alloc: Global,
+    exercise: Option<&Setup>,
+    setup: &Setup,
+    replies: &[Reply],
+) -> Result<Vec<u8>, AllocError>
+    requires { length replies.now ≡ length setup.now.calls }
+    ensures { IfOk result (λ text. text.items ≡ spec.cells_by (option_map (λ s. s.now) exercise.entry) setup.now replies.now) }
+{
+    let Some(exercise) = exercise else {
+        return Vec::from_slice(alloc, EXERCISE_REFUSED);
+    };
+    if !is_same(exercise, setup) {
+        return Vec::from_slice(alloc, DIFFERS);
+    }
+    let marks = marks_by(alloc, exercise, setup, replies)?;
+    cells(alloc, marks.as_slice())
+}
+
+/// Runs the set-up in a profile: what stands behind the name of its file, and how many of its expectations are met.
+#[tactic(auto, using(crate::proofs::Sequences::replies_length))]
+fn run_setup<P: Profile, S: MakeStore<P>, W: MakeWaiters<P>>(
+    alloc: Global,
+    exercise: Option<&Setup>,
+    setup: &Setup,
+) -> Result<CountedText, AllocError>
+    requires { IsPlan P.profile setup.now.plan }
+    ensures text { IfOk result (λ made. made.text.items ≡ spec.cells_in P.profile (option_map (λ s. s.now) exercise.entry) setup.now) }
+    ensures count { IfOk result (λ made. HasCounts P.profile setup.now made.count) }
+{
+    let (_, replies) = run_calls::<P, S, W>(alloc, setup)?;
+    let count = expectations(alloc, setup, replies.as_slice())?;
+    Ok(CountedText {
+        text: cells_by(alloc, exercise, setup, replies.as_slice())?,
+        count: Some(count),
+        notes: Notes::none(alloc),
+    })
+}
+
+/// What stands behind the name of a file with these bytes, and how many of its expectations are met.
+fn run_bytes(
+    alloc: Global,
+    exercise: Option<&Setup>,
+    bytes: &[u8],
+) -> Result<CountedText, AllocError>
+    ensures text { IfOk result (λ made. made.text.items ≡ spec.cells_for (option_map (λ s. s.now) exercise.entry) (setup_of_bytes bytes.now)) }
+    ensures count { IfOk result (λ made. HasCountOf (setup_of_bytes bytes.now) made.count) }
+{
+    match read_setup(alloc, bytes) {
+        Ok(setup) => match setup.profile() {
+            ProfileName::Wide => {
+                run_setup::<Wide, LinkedStore<Wide>, LinkedWaiters<Wide>>(alloc, exercise, &setup)
+            }
+            ProfileName::Narrow => {
+                run_setup::<Narrow, LinkedStore<Narrow>, LinkedWaiters<Narrow>>(
+                    alloc, exercise, &setup,
+                )
+            }
+        },
+        Err(SetupFault::Memory) => Err(AllocError),
+        Err(_) => Ok(CountedText {
+            text: Vec::from_slice(alloc, REFUSED)?,
+            count: None,
+            notes: Notes::none(alloc),
+        }),
+    }
+}
+
+/// A row for each file, by the questions of an exercise; of one that is refused there is no set-up.
+#[derive(Clone, Copy)]
+struct Answers<'a> {
+    exercise: Option<&'a Setup>,
+}
+
+impl Telling for Answers<'_> {
+    ghost is_made = { λ table bytes made. made.text.items ≡ spec.cells_for (option_map (λ s. s.now) table.exercise) (setup_of_bytes bytes) };
+
+    ghost head = { λ table. spec.head };
+
+    ghost line = { λ table. spec.row (option_map (λ s. s.now) table.exercise) };
+
+    ghost last = { λ table files tally. [] };
+
+    fn make(&self, alloc: Global, bytes: &[u8]) -> Result<CountedText, AllocError> {
+        run_bytes(alloc, self.exercise, bytes)
+    }
+
+    fn add_head(&self, out: &mut Vec<u8>) -> Result<(), AllocError> {
+        out.extend_from_slice(HEAD)
+    }
+
+    fn add_line(
+        &self,
+        _alloc: Global,
+        out: &mut Vec<u8>,
+        name: &str,
+        found: Option<&CountedText>,
+    ) -> Result<(), AllocError> {
+        add_field(out, name)?;
+        out.extend_from_slice(b",")?;
+        match found {
+            None => out.extend_from_slice(UNREAD)?,
+            Some(made) => out.extend_from_slice(made.text.as_slice())?,
+        }
+        out.extend_from_slice(b"\n")
+    }
+
+    fn add_last(
+        &self,
+        _alloc: Global,
+        _out: &mut Vec<u8>,
+        _files: usize,
+        _tally: Tally,
+    ) -> Result<(), AllocError> {
+        Ok(())
+    }
+}
+
+/// The set-up of an exercise, where it is not refused.
+fn exercise_in(alloc: Global, bytes: &[u8]) -> Result<Option<Setup>, AllocError>
+    ensures { IfOk result (λ found. found ≡ spec.exercise_in (setup_of_bytes bytes.now)) }
+{
+    match read_setup(alloc, bytes) {
+        Ok(setup) => Ok(Some(setup)),
+        Err(SetupFault::Memory) => Err(AllocError),
+        Err(_) => Ok(None),
+    }
+}
+
+/// Runs the set-up in each of the files, as `mark_files` does, and writes a table to the sink in which they are marked by the
+/// questions of the exercise whose set-up these bytes are, or by its key: how many answers are right, of how many, and the
+/// numbers of the calls whose answers are wrong, say less than is asked for, or are not given. Nothing is marked of a set-up that
+/// is another one in more than what its calls expect, and nothing where the exercise is refused.
+///
+/// # Errors
+/// As of `mark_files`.
+pub fn mark_answers<I: Inputs, L: Listener<I::Standard, I::File, I::Fault>, K: Sink>(
+    alloc: Global,
+    inputs: &I,
+    listener: &L,
+    exercise: &[u8],
+    names: &[&str],
+    sink: &mut K,
+) -> Result<Tally, RunFault>
+    requires sink { K.failed sink.old ≡ false }
+    ensures { spec.AreMarkedBy exercise.now (IsInput (I.is_standard inputs.now) (I.is_file inputs.now) (I.is_fault inputs.now) I.Standard.Source I.File.Source)
+        K.Sink (map (λ s. s.now) names.now) sink.old sink.new result }
+{
+    match exercise_in(alloc, exercise) {
+        Ok(found) => {
+            let table = Answers {
+                exercise: found.as_ref(),
+            };
+            tell_files(alloc, inputs, listener, &table, names, sink)
+        }
+        Err(_) => Err(RunFault::Memory),
+    }
+}
