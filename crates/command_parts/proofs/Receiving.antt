@@ -1,8 +1,8 @@
 -- Ways by the uses that a part has, and by the parts that may receive on each endpoint.
-use Rattle.std.proofs.Common.{◌≡◌, ℕ, ◌+◌, ◌<◌, Bool, true, false, not, cond, ◌==◌, ◌&&◌, ◌||◌, List, [], ◌∷◌, ◌++◌, filter, map, length, take, get_or, append_assoc, Vec, Global, refl, sym, ap, ◌∙◌, arith}
+use Rattle.std.proofs.Common.{◌≡◌, ℕ, ◌+◌, ◌<◌, ◌≤◌, Bool, true, false, not, cond, ◌==◌, ◌&&◌, ◌||◌, List, [], ◌∷◌, ◌++◌, filter, map, length, take, get_or, append_assoc, Vec, Global, refl, sym, ap, ◌∙◌, arith}
 use Rattle.std.specs.List.{list_any, flat_map}
 use Rattle.std.proofs.lemmas.Bool.{false≢true}
-use Rattle.std.proofs.lemmas.List.{append-nil, get_or-map, length-map, take_more}
+use Rattle.std.proofs.lemmas.List.{append-nil, get_or-map, length-map, take_more, take_all}
 use Rattle.std.proofs.lemmas.List.Concat.{flat_map-append}
 use Rattle.std.proofs.lemmas.List.Elements.{filter_agree}
 use Rattle.cap_core.specs.declared.profile.ProfileName.{ProfileName}
@@ -55,13 +55,24 @@ exchanged false false = refl
 -- ---- a part's own uses
 
 module _ (p : ProfileName) (memory : List PartMemory) (uses : List PartUse) where
-  own_badges : (from endpoint : ℕ) → badges p memory (filter (is_of_part from) uses) from endpoint ≡ badges p memory uses from endpoint
-  own_badges from endpoint =
+  -- what has a right to an endpoint is kept by each of two filters: of the part, and of the endpoint
+  abbrev KeepsUses : (PartUse → Bool) → ℕ → ℕ → Type 0
+  KeepsUses keep from endpoint = (right : ℕ) (u : PartUse) → is_use right from endpoint u ≡ true → keep u ≡ true
+
+  of_part : (from endpoint : ℕ) → KeepsUses (is_of_part from) from endpoint
+  of_part from endpoint right u h = left_true _ _ h
+
+  of_endpoint : (from endpoint : ℕ) → KeepsUses (is_of_endpoint endpoint) from endpoint
+  of_endpoint from endpoint right u h = left_true _ _ (right_true (u.part == from) _ h)
+
+  kept_badges : (keep : PartUse → Bool) (from endpoint : ℕ) → KeepsUses keep from endpoint → (l : List PartUse) →
+      badges p memory (filter keep l) from endpoint ≡ badges p memory l from endpoint
+  kept_badges keep from endpoint keeps l =
       ap (λ b. cond (owns_endpoint p memory from endpoint || b) (0 ∷ [])
-      (rising (map (λ (u : PartUse). u.badge.0) (filter (is_use write_bit from endpoint) (filter (is_of_part from) uses)))))
-      (any_kept (sends_with_any from endpoint) (is_of_part from) (λ u h. left_true _ _ (left_true _ _ h)) uses)
-      ∙ ap (λ (l : List PartUse). cond (may_send_any p memory uses from endpoint) (0 ∷ []) (rising (map (λ (u : PartUse). u.badge.0) l)))
-      (filter_kept (is_use write_bit from endpoint) (is_of_part from) (λ u h. left_true _ _ h) uses)
+      (rising (map (λ (u : PartUse). u.badge.0) (filter (is_use write_bit from endpoint) (filter keep l)))))
+      (any_kept (sends_with_any from endpoint) keep (λ u h. keeps write_bit u (left_true _ _ h)) l)
+      ∙ ap (λ (l' : List PartUse). cond (may_send_any p memory l from endpoint) (0 ∷ []) (rising (map (λ (u : PartUse). u.badge.0) l')))
+      (filter_kept (is_use write_bit from endpoint) keep (λ u h. keeps write_bit u h) l)
 
   pub receivers_here : (endpoint : ℕ) (here : List PartUse) (parts : List ℕ) → here ≡ filter (is_of_endpoint endpoint) uses → parts ≡ parts_of memory →
       filter (may_receive p memory here endpoint) parts ≡ receivers_on p memory uses endpoint
@@ -78,32 +89,58 @@ module _ (p : ProfileName) (memory : List PartMemory) (uses : List PartUse) wher
       ∙ filter_agree (λ other. may_receive p memory uses endpoint other && not (other == from)) (λ other. not (other == from) && may_receive p memory uses endpoint other)
       (λ other. exchanged (may_receive p memory uses endpoint other) (not (other == from))) (parts_of memory)
 
-  passes_in_part : (passing : Passing) (from endpoint : ℕ) (u : PartUse) → passes passing from endpoint u ≡ true → is_of_part from u ≡ true
-  passes_in_part Message from endpoint u h = left_true _ _ h
-  passes_in_part Grant from endpoint u h = left_true _ _ (left_true _ _ h)
-  passes_in_part Answer from endpoint u h = left_true _ _ (left_true _ _ h)
+  used : (passing : Passing) (from endpoint : ℕ) (u : PartUse) → passes passing from endpoint u ≡ true → is_use write_bit from endpoint u ≡ true
+  used Message from endpoint u h = h
+  used Grant from endpoint u h = left_true _ _ h
+  used Answer from endpoint u h = left_true _ _ h
 
-  passed_here : (passing : Passing) (from endpoint : ℕ) →
-      may_pass passing p memory (filter (is_of_part from) uses) from endpoint ≡ may_pass passing p memory uses from endpoint
-  passed_here passing from endpoint =
+  kept_passes : (keep : PartUse → Bool) (passing : Passing) (from endpoint : ℕ) → KeepsUses keep from endpoint → (l : List PartUse) →
+      may_pass passing p memory (filter keep l) from endpoint ≡ may_pass passing p memory l from endpoint
+  kept_passes keep passing from endpoint keeps l =
       ap (λ b. owns_endpoint p memory from endpoint || b)
-      (any_kept (passes passing from endpoint) (is_of_part from) (λ u h. passes_in_part passing from endpoint u h) uses)
+      (any_kept (passes passing from endpoint) keep (λ u h. keeps write_bit u (used passing from endpoint u h)) l)
 
-  badges_here : (passing : Passing) (from endpoint : ℕ) →
-      badges_by passing p memory (filter (is_of_part from) uses) from endpoint ≡ badges_by passing p memory uses from endpoint
-  badges_here Message from endpoint = own_badges from endpoint
-  badges_here Grant from endpoint = ap (λ b. cond b (0 ∷ []) []) (passed_here Grant from endpoint)
-  badges_here Answer from endpoint = ap (λ b. cond b (0 ∷ []) []) (passed_here Answer from endpoint)
+  kept_by : (keep : PartUse → Bool) (passing : Passing) (from endpoint : ℕ) → KeepsUses keep from endpoint → (l : List PartUse) →
+      badges_by passing p memory (filter keep l) from endpoint ≡ badges_by passing p memory l from endpoint
+  kept_by keep Message from endpoint keeps l = kept_badges keep from endpoint keeps l
+  kept_by keep Grant from endpoint keeps l = ap (λ b. cond b (0 ∷ []) []) (kept_passes keep Grant from endpoint keeps l)
+  kept_by keep Answer from endpoint keeps l = ap (λ b. cond b (0 ∷ []) []) (kept_passes keep Answer from endpoint keeps l)
 
-  -- the ways from a part by an endpoint
-  pub ways_here : (passing : Passing) (from endpoint : ℕ) (own : List PartUse) (heard : List ℕ) → own ≡ filter (is_of_part from) uses → heard ≡ receivers_on p memory uses endpoint →
-      flat_map (λ badge. map (way from endpoint badge) (filter (λ other. not (other == from)) heard)) (badges_by passing p memory own from endpoint)
+  -- the ways from a part by an endpoint, by the part's uses of it
+  pub ways_here : (passing : Passing) (from endpoint : ℕ) (here : List PartUse) (heard : List ℕ) →
+      here ≡ filter (is_of_endpoint endpoint) (filter (is_of_part from) uses) → heard ≡ receivers_on p memory uses endpoint →
+      flat_map (λ badge. map (way from endpoint badge) (filter (λ other. not (other == from)) heard)) (badges_by passing p memory here from endpoint)
       ≡ ways_on passing p memory uses from endpoint
-  ways_here passing from endpoint own heard own_is heard_is =
-      ap (λ (l : List PartUse). flat_map (λ badge. map (way from endpoint badge) (filter (λ other. not (other == from)) heard)) (badges_by passing p memory l from endpoint)) own_is
-      ∙ ap (flat_map (λ badge. map (way from endpoint badge) (filter (λ other. not (other == from)) heard))) (badges_here passing from endpoint)
+  ways_here passing from endpoint here heard here_is heard_is =
+      ap (λ (l : List PartUse). flat_map (λ badge. map (way from endpoint badge) (filter (λ other. not (other == from)) heard)) (badges_by passing p memory l from endpoint)) here_is
+      ∙ ap (flat_map (λ badge. map (way from endpoint badge) (filter (λ other. not (other == from)) heard)))
+      (kept_by (is_of_endpoint endpoint) passing from endpoint (of_endpoint from endpoint) (filter (is_of_part from) uses)
+      ∙ kept_by (is_of_part from) passing from endpoint (of_part from endpoint) uses)
       ∙ ap (λ (r : List ℕ). flat_map (λ badge. map (way from endpoint badge) r) (badges_by passing p memory uses from endpoint))
       (ap (filter (λ other. not (other == from))) heard_is ∙ others_are from endpoint)
+
+  -- by uses that are the same of each endpoint
+  pub receivers_same : (list : List PartUse) → ((n : ℕ) → filter (is_of_endpoint n) list ≡ filter (is_of_endpoint n) uses) → (endpoint : ℕ) →
+      receivers_on p memory list endpoint ≡ receivers_on p memory uses endpoint
+  receivers_same list same endpoint =
+      filter_agree (may_receive p memory list endpoint) (may_receive p memory uses endpoint) (λ part.
+      ap (λ b. owns_endpoint p memory part endpoint || b)
+      (sym (any_kept (is_use read_bit part endpoint) (is_of_endpoint endpoint) (λ u h. of_endpoint part endpoint read_bit u h) list)
+      ∙ ap (list_any (is_use read_bit part endpoint)) (same endpoint)
+      ∙ any_kept (is_use read_bit part endpoint) (is_of_endpoint endpoint) (λ u h. of_endpoint part endpoint read_bit u h) uses)) (parts_of memory)
+
+  pub heard_same : (list : List PartUse) → ((n : ℕ) → filter (is_of_endpoint n) list ≡ filter (is_of_endpoint n) uses) → (endpoints : List ℕ) →
+      map (receivers_on p memory list) endpoints ≡ map (receivers_on p memory uses) endpoints
+  heard_same list same [] = refl
+  heard_same list same (e ∷ es) =
+      ap (λ (r : List ℕ). r ∷ map (receivers_on p memory list) es) (receivers_same list same e)
+      ∙ ap (λ (rs : List (List ℕ)). receivers_on p memory uses e ∷ rs) (heard_same list same es)
+
+  pub heard_all : (list : List PartUse) → ((n : ℕ) → filter (is_of_endpoint n) list ≡ filter (is_of_endpoint n) uses) → (endpoints : List ℕ) (i : ℕ)
+      (all : List (Vec ℕ Global)) → length endpoints ≤ i → map (λ (v : Vec ℕ Global). v.items) all ≡ map (receivers_on p memory list) (take i endpoints) →
+      map (λ (v : Vec ℕ Global). v.items) all ≡ map (receivers_on p memory uses) endpoints
+  heard_all list same endpoints i all low so =
+      so ∙ ap (map (receivers_on p memory list)) (take_all i endpoints low) ∙ heard_same list same endpoints
 
   -- what was found of the endpoint at a place
   pub heard_at : (endpoints : List ℕ) (all : List (Vec ℕ Global)) (i : ℕ) (r : Vec ℕ Global) → i < length endpoints →

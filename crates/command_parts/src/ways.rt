@@ -2,13 +2,15 @@
 ghost use Rattle.std.specs.Prelude.{◌≡◌, ◌++◌, ◌==◌, ◌∷◌, [], cond, not, IfOk, OnOk, filter, map, string_bytes};
 ghost use Rattle.std.specs.List.{flat_map, list_any};
 ghost use Rattle.cap_core.specs.Rights.{write_bit, read_bit};
+ghost use Rattle.query_parts.specs.Keyed.{AreByKey};
+ghost use Rattle.query_parts.specs.declared.keyed.UseKey.TheVariants.{Endpoint};
 ghost use Rattle.command_parts.specs.Text as spec;
 
 use crate::parts::BadgeText;
 use crate::sets::rising;
 use bitflags::Flags;
 use cap_core::{Profile, Rights};
-use query_parts::{PartMemory, PartUse, owns_endpoint};
+use query_parts::{PartMemory, PartUse, UseKey, owns_endpoint, uses_at, uses_by_key};
 use std::alloc::{AllocError, Global};
 use std::fmt::Write;
 
@@ -225,14 +227,12 @@ fn uses_of(alloc: Global, uses: &[PartUse], part: u64) -> Result<Vec<PartUse>, A
         .collect(alloc)
 }
 
-/// The uses of an endpoint.
-fn uses_on(alloc: Global, uses: &[PartUse], endpoint: u64) -> Result<Vec<PartUse>, AllocError>
-    ensures { IfOk result (λ v. v.items ≡ filter (spec.is_of_endpoint endpoint) uses.now) }
+/// The uses of an endpoint, of uses by rising endpoint.
+fn uses_on(uses: &[PartUse], endpoint: u64) -> &[PartUse]
+    requires { AreByKey Endpoint uses.now }
+    ensures { result.now ≡ filter (spec.is_of_endpoint endpoint) uses.entry.now }
 {
-    uses.iter()
-        .filter(|u| u.endpoint == endpoint)
-        .copied()
-        .collect(alloc)
+    uses_at(uses, UseKey::Endpoint, u128::from(endpoint))
 }
 
 /// Those of some parts that may receive on an endpoint.
@@ -252,7 +252,7 @@ fn parts_that_receive<P: Profile>(
         .collect(alloc)
 }
 
-/// The parts that may receive on an endpoint.
+/// The parts that may receive on an endpoint, by uses by rising endpoint.
 fn receivers_on<P: Profile>(
     alloc: Global,
     memory: &[PartMemory],
@@ -260,11 +260,11 @@ fn receivers_on<P: Profile>(
     parts: &[u64],
     endpoint: u64,
 ) -> Result<Vec<u64>, AllocError>
-    requires { parts.now ≡ spec.parts_of memory.now }
+    requires order { AreByKey Endpoint uses.now }
+    requires parts { parts.now ≡ spec.parts_of memory.now }
     ensures { IfOk result (λ v. v.items ≡ spec.receivers_on P.profile memory.now uses.now endpoint) }
 {
-    let here = uses_on(alloc, uses, endpoint)?;
-    parts_that_receive::<P>(alloc, memory, here.as_slice(), parts, endpoint)
+    parts_that_receive::<P>(alloc, memory, uses_on(uses, endpoint), parts, endpoint)
 }
 
 /// The parts that may receive on each of some endpoints.
@@ -278,9 +278,10 @@ fn all_receivers<P: Profile>(
     requires { parts.now ≡ spec.parts_of memory.now }
     ensures { IfOk result (λ all. map (λ v. v.items) all.items ≡ map (spec.receivers_on P.profile memory.now uses.now) endpoints.now) }
 {
+    let list = uses_by_key(alloc, uses, UseKey::Endpoint)?;
     let mut all = Vec::new(alloc);
     for endpoint in endpoints {
-        all.push(receivers_on::<P>(alloc, memory, uses, parts, *endpoint)?)?;
+        all.push(receivers_on::<P>(alloc, memory, list.as_slice(), parts, *endpoint)?)?;
     }
     Ok(all)
 }
@@ -332,7 +333,7 @@ fn add_ways_with(
     Ok(())
 }
 
-/// Adds the ways from a part by an endpoint, by the uses that the part has and the parts that may receive there.
+/// Adds the ways from a part by an endpoint, by the uses that the part has of it and the parts that may receive there.
 fn add_ways_on<P: Profile>(
     alloc: Global,
     ways: &mut Vec<Way>,
@@ -376,18 +377,11 @@ fn add_ways_from<P: Profile>(
     ensures { OnOk result (ways.new.items ≡ ways.old.items ++ spec.ways_from passing P.profile memory.now uses.now from) }
 {
     let own = uses_of(alloc, uses, from)?;
+    let by_endpoint = uses_by_key(alloc, own.as_slice(), UseKey::Endpoint)?;
     for (place, endpoint) in endpoints.iter().enumerate() {
-        let here = receivers[place].as_slice();
-        add_ways_on::<P>(
-            alloc,
-            ways,
-            memory,
-            own.as_slice(),
-            here,
-            passing,
-            from,
-            *endpoint,
-        )?;
+        let here = uses_on(by_endpoint.as_slice(), *endpoint);
+        let heard = receivers[place].as_slice();
+        add_ways_on::<P>(alloc, ways, memory, here, heard, passing, from, *endpoint)?;
     }
     Ok(())
 }

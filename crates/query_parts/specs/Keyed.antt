@@ -10,9 +10,11 @@ abbrev pub key : UseKey → ℕ → ℕ → ℕ
 key keys.Endpoint endpoint badge = endpoint
 key keys.EndpointAndBadge endpoint badge = endpoint * 2 ^ 64 + badge
 
+-- the key of a use
 abbrev pub key_of : UseKey → PartUse → ℕ
 key_of by u = key by u.endpoint u.badge.0
 
+-- a use has this key
 abbrev pub has_key : UseKey → ℕ → PartUse → Bool
 has_key by n u = key_of by u == n
 

@@ -9,6 +9,7 @@ mod listed;
 mod order;
 mod parts;
 
+pub use keyed::{UseKey, uses_at, uses_by_key};
 pub use laws::{
     calls_keep_within_their_part, closed_parts_stay_closed, deliveries_stay_within_uses,
     least_parts_are_the_same, live_threads_are_addressed, parts_that_pass_messages_get_nothing,

@@ -5,4 +5,4 @@ use Rattle.command_parts.proofs.ways.all_receivers.Given as goal
 
 abbrev pub invariant-loop-endpoint : goal.invariant-loop-endpoint
 invariant-loop-endpoint g l =
-    map (λ (v : Vec ℕ Global). v.items) l.all.items ≡ map (receivers_on g.P.Profile.profile l.memory l.uses) (take l.endpoint-index l.endpoints)
+    map (λ (v : Vec ℕ Global). v.items) l.all.items ≡ map (receivers_on g.P.Profile.profile l.memory l.list.items) (take l.endpoint-index l.endpoints)
