@@ -6,7 +6,7 @@ use Rattle.setup_format.specs.Views.{CallView}
 use Rattle.setup_report.specs.Report.{met_count, one_met}
 use Rattle.setup_report.specs.Text.{begins_as, reply_text}
 use Rattle.command_marks.specs.declared.mark.Mark.{Mark}
-use Rattle.command_marks.specs.declared.mark.Mark.TheVariants.{Right, Short, Open, Wrong}
+use Rattle.command_marks.specs.declared.mark.Mark.TheVariants.{Right, Open, Wrong}
 use Rattle.command_marks.specs.Against.{is_short, shortened}
 use Rattle.command_marks.specs.Laws.{AreThoseOfTheExercise, AreThoseOfTheReport}
 use Rattle.setup_format.specs.Expectations.{asks}

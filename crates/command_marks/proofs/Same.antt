@@ -1,10 +1,9 @@
 -- A set-up that is the exercise has as many calls.
-use Rattle.std.proofs.Common.{◌≡◌, ◌∙◌, ◌&&◌, suc, List, [], ◌∷◌, length, map, Bool, true, false, refl, sym, ap}
+use Rattle.std.proofs.Common.{◌≡◌, ◌∙◌, ◌&&◌, suc, List, [], ◌∷◌, length, Bool, true, false, refl, sym, ap}
 use Rattle.std.specs.Cmp.Lexicographic.{pointwise}
 use Rattle.std.proofs.lemmas.List.{length-map}
-use Rattle.kernel_abstract.specs.declared.call.Call.{Call}
 use Rattle.setup_format.specs.Views.{CallView, SetupView}
-use Rattle.command_marks.specs.Against.{is_same, same_calls}
+use Rattle.command_marks.specs.Against.{is_same}
 
 second : (a b : Bool) → a && b ≡ true → b ≡ true
 second true b e = e

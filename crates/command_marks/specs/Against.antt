@@ -1,5 +1,5 @@
 -- The marks of a set-up's answers by the questions of another: of the exercise that was handed out, or of its key.
-use Rattle.std.specs.Prelude.{codes, ℕ, ◌==◌, ◌&&◌, nat_lt, count_by, Bool, not, true, false, if◌then◌else◌, List, [], ◌∷◌, map, Option, Some, None}
+use Rattle.std.specs.Prelude.{codes, ℕ, ◌==◌, ◌&&◌, nat_lt, count_by, Bool, if◌then◌else◌, List, [], ◌∷◌, map, Option, Some, None}
 use Rattle.std.specs.Cmp.Lexicographic.{pointwise}
 use Rattle.std.specs.Str.{bytes_eq}
 use Rattle.cap_core.specs.contracts.profile.ProfileNamePartialEq.TheImpl as profile_eq

@@ -1,5 +1,5 @@
 -- The marks of a set-up's calls: whether the reply to each is as expected.
-use Rattle.std.specs.Prelude.{ℕ, ◌+◌, ◌==◌, List, [], ◌∷◌, Bool, true, false, if◌then◌else◌, Option, Some, None}
+use Rattle.std.specs.Prelude.{ℕ, ◌+◌, List, [], ◌∷◌, Bool, true, false, if◌then◌else◌, Option, Some, None}
 use Rattle.kernel_abstract.specs.declared.call.Reply.{Reply}
 use Rattle.setup_format.specs.Expectations.{asks}
 use Rattle.setup_format.specs.Views.{CallView}
