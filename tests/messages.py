@@ -3,9 +3,11 @@
 
 The first line after a fault of the run or a refused command line is fixed; the others help to understand it.
 """
+import pathlib
 import re
 import subprocess
 import sys
+import tempfile
 import unicodedata
 
 SIZES = "memory_bits = 16\nroot_radix = 4\nthreads = 2\nendpoints = 1\n"
@@ -264,6 +266,7 @@ LINES = [
     (["threads", "--first", "x"], "sel4sim: command line refused", "invalid value 'x' for '--first <N>': invalid digit found in string"),
     (["threads", "--first"], "sel4sim: command line refused", "a value is required for '--first <N>' but none was supplied"),
     (["threads", "--first", "18446744073709551616"], "sel4sim: command line refused", "number too large to fit in target type"),
+    (["marks", "--strict"], "sel4sim: command line refused", "unexpected argument '--strict' found"),
     (["check", "--first", "1"], "sel4sim: command line refused", "unexpected argument '--first' found"),
     (["explore", "--states", "18446744073709551616"], "sel4sim: command line refused", "number too large to fit in target type"),
     (["help", "nosuch"], "sel4sim: command line refused", "unrecognized subcommand 'nosuch'"),
@@ -485,10 +488,35 @@ def wrong_places(program):
 
 
 def wrong_setups(program):
+    """With --strict the same is said, and a warning is status 1."""
     for setup, status, wanted in SETUPS:
-        answer, error = said(program, ["check"], setup)
-        if answer != status or not fits(error.splitlines(), wanted):
-            yield f"{setup}status {answer}, said\n{error}"
+        is_warned = any((words or "").startswith("warning:") for words in wanted)
+        for options, status in [([], status), (["--strict"], max(status, int(is_warned)))]:
+            answer, error = said(program, ["check", *options], setup)
+            if answer != status or not fits(error.splitlines(), wanted):
+                yield f"{options} {setup}status {answer}, said\n{error}"
+
+
+def wrong_strict_files(program):
+    """Of several files one in which a call is refused that has no expectation is unmet with --strict, and met without."""
+    refused = FIRST + CALL.replace("cap = 4", "cap = 9") + 'op = "send"\n'
+    expected = refused + 'expect = "refused 2"\n'
+    unmet = refused + 'expect = "done"\n'
+    lines = ["refused.toml: expected 0 of 0", "expected.toml: expected 1 of 1"]
+    last = "unmet.toml: expected 0 of 1"
+    with tempfile.TemporaryDirectory() as folder:
+        for name, text in [("refused", refused), ("expected", expected), ("unmet", unmet)]:
+            pathlib.Path(folder, f"{name}.toml").write_text(text)
+        for words, status, wanted in [
+                (["refused", "expected"], 0, [*lines, "files 2 met 2 unmet 0 refused 0 unread 0"]),
+                (["--strict", "refused", "expected"], 1, [*lines, "files 2 met 1 unmet 1 refused 0 unread 0"]),
+                (["--strict", "expected"], 0, None),
+                (["--strict", "expected", "expected"], 0, [lines[1], lines[1], "files 2 met 2 unmet 0 refused 0 unread 0"]),
+                (["--strict", "refused", "unmet"], 1, [lines[0], last, "files 2 met 0 unmet 2 refused 0 unread 0"])]:
+            words = [word if word.startswith("-") else f"{word}.toml" for word in words]
+            done = subprocess.run([program, "check", *words], cwd=folder, capture_output=True, text=True, timeout=600)
+            if done.returncode != status or wanted and done.stdout.splitlines() != wanted:
+                yield f"{words}: status {done.returncode}, wrote\n{done.stdout}"
 
 
 def wrong_expectations(program):
@@ -559,7 +587,7 @@ def wrong_streams(program):
 
 def main():
     program = sys.argv[1]
-    wrong = [*wrong_setups(program), *wrong_expectations(program), *wrong_words(program), *wrong_places(program),
+    wrong = [*wrong_setups(program), *wrong_strict_files(program), *wrong_expectations(program), *wrong_words(program), *wrong_places(program),
              *wrong_many(program), *wrong_lines(program), *wrong_helps(program), *wrong_streams(program)]
     for text in wrong:
         print(text)

@@ -29,7 +29,7 @@ _sel4sim() {
             [[ $word == -* ]] || mapfile -t -O "${#COMPREPLY[@]}" COMPREPLY < <(compgen -f -- "$word")
             ;;
         check)
-            COMPREPLY=($(compgen -W '-h --help' -- "$word"))
+            COMPREPLY=($(compgen -W '--strict -h --help' -- "$word"))
             [[ $word == -* ]] || mapfile -t -O "${#COMPREPLY[@]}" COMPREPLY < <(compgen -f -- "$word")
             ;;
         marks)

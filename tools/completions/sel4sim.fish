@@ -4,6 +4,7 @@ complete -c sel4sim -n '__fish_use_subcommand' -s V -l version -d 'Print help, w
 complete -c sel4sim -n '__fish_use_subcommand' -s h -l help -d 'Print help'
 complete -c sel4sim -n '__fish_use_subcommand' -F
 complete -c sel4sim -n '__fish_use_subcommand' -a check -d 'Runs a set-up and prints its report'
+complete -c sel4sim -n '__fish_seen_subcommand_from check' -l strict -d 'End with status 1 also where a call is refused and has no expectation'
 complete -c sel4sim -n '__fish_seen_subcommand_from check' -s h -l help -d 'Print help'
 complete -c sel4sim -n '__fish_seen_subcommand_from check' -F
 complete -c sel4sim -n '__fish_use_subcommand' -a marks -d 'Runs a set-up and prints which of its expectations are met, and no reply'

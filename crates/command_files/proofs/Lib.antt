@@ -1,3 +1,4 @@
+pub mod Verdicts
 pub mod Tallies
 pub mod Sequences
 mod Writes

@@ -1,5 +1,5 @@
 -- The lines and the tally of the files so far, with one more.
-use Rattle.std.proofs.Common.{◌≡◌, ◌∙◌, ℕ, ◌+◌, ◌<◌, ◌≤◌, List, [], ◌∷◌, ◌++◌, map, take, length, get_or, Option, Some, None, Result, Ok, Err, refl, sym, ap, ap₂, subst, append_assoc, arith}
+use Rattle.std.proofs.Common.{◌≡◌, ◌∙◌, ℕ, Bool, ◌+◌, ◌<◌, ◌≤◌, List, [], ◌∷◌, ◌++◌, map, take, length, get_or, Option, Some, None, Result, Ok, Err, refl, sym, ap, ap₂, subst, append_assoc, arith}
 use Rattle.std.proofs.lemmas.List.{append-nil, map-append, take_more}
 use denote.Ref.{Bor}
 use Rattle.setup_format.specs.Faults.{Fault}
@@ -55,19 +55,19 @@ found_is (Some bytes) (Some made) is = made_is (setup_of_bytes bytes) made is
 
 -- ---- the files so far
 
-made_of : (IsMade : List ℕ → CountedText → Type 0) (contents : Option (List ℕ)) (found : Option CountedText) → IsCountedFound IsMade contents found → IsFound IsMade contents found
-made_of IsMade None None is = tt
-made_of IsMade None (Some made) is = absurd is
-made_of IsMade (Some bytes) None is = absurd is
-made_of IsMade (Some bytes) (Some made) is = is.0
+made_of : (strict : Bool) (IsMade : List ℕ → CountedText → Type 0) (contents : Option (List ℕ)) (found : Option CountedText) → IsCountedFound strict IsMade contents found → IsFound IsMade contents found
+made_of strict IsMade None None is = tt
+made_of strict IsMade None (Some made) is = absurd is
+made_of strict IsMade (Some bytes) None is = absurd is
+made_of strict IsMade (Some bytes) (Some made) is = is.0
 
 -- the lines and the tally are those of the files of these names, of which there are no more than so many
-pub record SoFar (head : List ℕ) (line : List ℕ → Option (List ℕ) → List ℕ) (Is : List ℕ → Option (List ℕ) → Type 0) (names : List (List ℕ)) (size : ℕ)
+pub record SoFar (strict : Bool) (head : List ℕ) (line : List ℕ → Option (List ℕ) → List ℕ) (Is : List ℕ → Option (List ℕ) → Type 0) (names : List (List ℕ)) (size : ℕ)
     (out : List ℕ) (tally : Tally) : Type 0 where
   pub files : List (Option (List ℕ))
   pub each : Each Is names files
   pub lines : out ≡ head ++ lines_of line names files
-  pub tally_is : tally ≡ tally_of files
+  pub tally_is : tally ≡ tally_of strict files
   pub counted : tally_size tally ≤ size
 
 names_more : (names : List (Bor (List ℕ))) (i : ℕ) (d : Bor (List ℕ)) → i < length names
@@ -75,33 +75,33 @@ names_more : (names : List (Bor (List ℕ))) (i : ℕ) (d : Bor (List ℕ)) → 
 names_more names i d within =
     ap (map (λ (s : Bor (List ℕ)). s.now)) (take_more names i d within) ∙ map-append (λ (s : Bor (List ℕ)). s.now) (take i names) (get_or names i d ∷ [])
 
-module _ (head : List ℕ) (line : List ℕ → Option (List ℕ) → List ℕ) (Is : List ℕ → Option (List ℕ) → Type 0) where
+module _ (strict : Bool) (head : List ℕ) (line : List ℕ → Option (List ℕ) → List ℕ) (Is : List ℕ → Option (List ℕ) → Type 0) where
   with_found : (IsMade : List ℕ → CountedText → Type 0) (names : List (List ℕ)) (size : ℕ) (out out' : List ℕ) (tally tally' : Tally)
       (name : List ℕ) (contents : Option (List ℕ)) (found : Option CountedText)
-      → SoFar head line Is names size out tally → Is name contents → IsCountedFound IsMade contents found → out' ≡ out ++ line name contents → tally' ≡ with_status (found_status found) tally
-      → SoFar head line Is (names ++ name ∷ []) (size + 1) out' tally'
+      → SoFar strict head line Is names size out tally → Is name contents → IsCountedFound strict IsMade contents found → out' ≡ out ++ line name contents → tally' ≡ with_status (found_status strict found) tally
+      → SoFar strict head line Is (names ++ name ∷ []) (size + 1) out' tally'
   with_found IsMade names size out out' tally tally' name contents found so_far is was written counts = record {
     files = so_far.files ++ contents ∷ [];
     each = one_more Is names so_far.files name contents so_far.each is;
     lines = written ∙ ap (λ o. o ++ line name contents) so_far.lines ∙ append_assoc head (lines_of line names so_far.files) (line name contents)
         ∙ ap (λ l. head ++ l) (sym (lines_more line Is names so_far.files name contents so_far.each));
-    tally_is = counts ∙ ap₂ with_status (found_status_is IsMade contents found was) so_far.tally_is ∙ sym (tally_more so_far.files contents);
-    counted = subst (λ t. tally_size t ≤ size + 1) (sym counts) (omega (arith, size_more found tally, so_far.counted));
+    tally_is = counts ∙ ap₂ with_status (found_status_is strict IsMade contents found was) so_far.tally_is ∙ sym (tally_more strict so_far.files contents);
+    counted = subst (λ t. tally_size t ≤ size + 1) (sym counts) (omega (arith, size_more strict found tally, so_far.counted));
   }
 
   -- one of some names more, where the line was made of what was found, and so was the tally
   pub more : (IsMade : List ℕ → CountedText → Type 0) (names : List (Bor (List ℕ))) (i : ℕ) (d : Bor (List ℕ)) (out out' : List ℕ) (tally tally' : Tally)
       (contents : Option (List ℕ)) (found shown counted : Option CountedText) → shown ≡ found → counted ≡ found → i < length names
-      → SoFar head line Is (map (λ (s : Bor (List ℕ)). s.now) (take i names)) i out tally → Is (get_or names i d).now contents → IsCountedFound IsMade contents found
-      → ((c : Option (List ℕ)) → IsFound IsMade c shown → out' ≡ out ++ line (get_or names i d).now c) → tally' ≡ with_status (found_status counted) tally
-      → SoFar head line Is (map (λ (s : Bor (List ℕ)). s.now) (take (i + 1) names)) (i + 1) out' tally'
+      → SoFar strict head line Is (map (λ (s : Bor (List ℕ)). s.now) (take i names)) i out tally → Is (get_or names i d).now contents → IsCountedFound strict IsMade contents found
+      → ((c : Option (List ℕ)) → IsFound IsMade c shown → out' ≡ out ++ line (get_or names i d).now c) → tally' ≡ with_status (found_status strict counted) tally
+      → SoFar strict head line Is (map (λ (s : Bor (List ℕ)). s.now) (take (i + 1) names)) (i + 1) out' tally'
   more IsMade names i d out out' tally tally' contents found shown counted shows counts within so_far is was written has =
-      subst (λ ns. SoFar head line Is ns (i + 1) out' tally') (sym (names_more names i d within))
+      subst (λ ns. SoFar strict head line Is ns (i + 1) out' tally') (sym (names_more names i d within))
       (with_found IsMade (map (λ (s : Bor (List ℕ)). s.now) (take i names)) i out out' tally tally' (get_or names i d).now contents found so_far is was
-      (written contents (subst (λ f. IsFound IsMade contents f) (sym shows) (made_of IsMade contents found was))) (has ∙ ap (λ f. with_status (found_status f) tally) counts))
+      (written contents (subst (λ f. IsFound IsMade contents f) (sym shows) (made_of strict IsMade contents found was))) (has ∙ ap (λ f. with_status (found_status strict f) tally) counts))
 
   -- no names
-  pub none : (out out' : List ℕ) → out ≡ [] → out' ≡ out ++ head → SoFar head line Is [] 0 out' (tally_of [])
+  pub none : (out out' : List ℕ) → out ≡ [] → out' ≡ out ++ head → SoFar strict head line Is [] 0 out' (tally_of strict [])
   none out out' empty written = record {
     files = [];
     each = tt;

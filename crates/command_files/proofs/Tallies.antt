@@ -7,23 +7,26 @@ use Rattle.setup_format.specs.Setups.{setup_of_bytes}
 use Rattle.setup_format.specs.Views.{SetupView}
 use Rattle.setup_report.specs.Report.{met_count, expectation_count}
 use Rattle.setup_report.specs.declared.calls.ExpectationCount.{ExpectationCount}
+use Rattle.command_check.specs.Notes.{unexpected_in}
 use Rattle.command_check.specs.Program.{outcome_in, outcome_of, program, replies_to, verdict_in, verdict_on}
 use Rattle.command_check.specs.declared.run.CountedText.{CountedText}
 use Rattle.command_core.specs.Statuses.{verdict_status}
-use Rattle.command_core.specs.declared.fault.Verdict.TheVariants.{AllMet, NotMet}
+use Rattle.command_core.specs.declared.fault.Verdict.{Verdict}
+use Rattle.command_core.specs.declared.fault.Verdict.TheVariants.{AllMet, NotMet, Refused, Absent}
 use Rattle.command_files.specs.Files.{HasCountOf, count_with, greatest, status_alone, tally_of, tally_status}
+use Rattle.command_files.specs.Strict.{strict_verdict}
 use Rattle.command_files.specs.Private.{IsCountedFound, found_status, tally_size, with_status}
 use Rattle.command_files.specs.declared.tally.Tally.{Tally}
 
 -- ---- one more file
 
-count_more : (status : ℕ) (files : List (Option (List ℕ))) (contents : Option (List ℕ))
-    → count_with status (files ++ contents ∷ []) ≡ count_with status files + cond (status_alone contents == status) 1 0
-count_more status files contents = omega (arith, sum_by-append (λ c. cond (status_alone c == status) 1 0) files (contents ∷ []))
+count_more : (strict : Bool) (status : ℕ) (files : List (Option (List ℕ))) (contents : Option (List ℕ))
+    → count_with strict status (files ++ contents ∷ []) ≡ count_with strict status files + cond (status_alone strict contents == status) 1 0
+count_more strict status files contents = omega (arith, sum_by-append (λ c. cond (status_alone strict c == status) 1 0) files (contents ∷ []))
 
-count_before : (status : ℕ) (files : List (Option (List ℕ))) (contents : Option (List ℕ))
-    → count_with status (contents ∷ files) ≡ count_with status files + cond (status_alone contents == status) 1 0
-count_before status files contents = omega (arith, sum_by-append (λ c. cond (status_alone c == status) 1 0) (contents ∷ []) files)
+count_before : (strict : Bool) (status : ℕ) (files : List (Option (List ℕ))) (contents : Option (List ℕ))
+    → count_with strict status (contents ∷ files) ≡ count_with strict status files + cond (status_alone strict contents == status) 1 0
+count_before strict status files contents = omega (arith, sum_by-append (λ c. cond (status_alone strict c == status) 1 0) (contents ∷ []) files)
 
 abbrev tally : ℕ → ℕ → ℕ → ℕ → Tally
 tally met unmet refused unread = record { met = met; unmet = unmet; refused = refused; unread = unread }
@@ -31,15 +34,15 @@ tally met unmet refused unread = record { met = met; unmet = unmet; refused = re
 four : (a b c d a' b' c' d' : ℕ) → a ≡ a' → b ≡ b' → c ≡ c' → d ≡ d' → tally a b c d ≡ tally a' b' c' d'
 four a b c d a' b' c' d' p q r s = rw (p, q, r, s) refl
 
-pub tally_more : (files : List (Option (List ℕ))) (contents : Option (List ℕ))
-    → tally_of (files ++ contents ∷ []) ≡ with_status (status_alone contents) (tally_of files)
-tally_more files contents =
-    four _ _ _ _ _ _ _ _ (count_more 0 files contents) (count_more 1 files contents) (count_more 2 files contents) (count_more 3 files contents)
+pub tally_more : (strict : Bool) (files : List (Option (List ℕ))) (contents : Option (List ℕ))
+    → tally_of strict (files ++ contents ∷ []) ≡ with_status (status_alone strict contents) (tally_of strict files)
+tally_more strict files contents =
+    four _ _ _ _ _ _ _ _ (count_more strict 0 files contents) (count_more strict 1 files contents) (count_more strict 2 files contents) (count_more strict 3 files contents)
 
-tally_before : (files : List (Option (List ℕ))) (contents : Option (List ℕ))
-    → tally_of (contents ∷ files) ≡ with_status (status_alone contents) (tally_of files)
-tally_before files contents =
-    four _ _ _ _ _ _ _ _ (count_before 0 files contents) (count_before 1 files contents) (count_before 2 files contents) (count_before 3 files contents)
+tally_before : (strict : Bool) (files : List (Option (List ℕ))) (contents : Option (List ℕ))
+    → tally_of strict (contents ∷ files) ≡ with_status (status_alone strict contents) (tally_of strict files)
+tally_before strict files contents =
+    four _ _ _ _ _ _ _ _ (count_before strict 0 files contents) (count_before strict 1 files contents) (count_before strict 2 files contents) (count_before strict 3 files contents)
 
 -- ---- what was found
 
@@ -50,27 +53,31 @@ counted (Ok setup) None has = absurd has
 counted (Ok setup) (Some count) has = ap₂ verdict_on has.0 has.1
 counted (Err fault) count is = ap verdict_in is
 
+judged : (strict : Bool) (setup : Result SetupView Fault) (made : CountedText) → HasCountOf setup made.count
+    → (strict ≡ true → made.notes.refused.items ≡ unexpected_in setup)
+    → strict_verdict strict made.notes.refused.items (verdict_in made.count) ≡ strict_verdict strict (unexpected_in setup) (outcome_in setup).1
+judged false setup made has same = counted setup made.count has
+judged true setup made has same = ap₂ (strict_verdict true) (same refl) (counted setup made.count has)
+
 -- what was found has the exit status of the contents
-pub found_status_is : (IsMade : List ℕ → CountedText → Type 0) (contents : Option (List ℕ)) (found : Option CountedText) → IsCountedFound IsMade contents found
-    → found_status found ≡ status_alone contents
+pub found_status_is : (strict : Bool) (IsMade : List ℕ → CountedText → Type 0) (contents : Option (List ℕ)) (found : Option CountedText)
+    → IsCountedFound strict IsMade contents found → found_status strict found ≡ status_alone strict contents
 unfolding program
-found_status_is IsMade None None is = refl
-found_status_is IsMade None (Some made) is = absurd is
-found_status_is IsMade (Some bytes) None is = absurd is
-found_status_is IsMade (Some bytes) (Some made) is = ap verdict_status (counted (setup_of_bytes bytes) made.count is.1)
+found_status_is strict IsMade None None is = refl
+found_status_is strict IsMade None (Some made) is = absurd is
+found_status_is strict IsMade (Some bytes) None is = absurd is
+found_status_is strict IsMade (Some bytes) (Some made) is = ap verdict_status (judged strict (setup_of_bytes bytes) made is.1 is.2)
 
-run_size : (b : Bool) (t : Tally) → tally_size (with_status (verdict_status (cond b AllMet NotMet)) t) ≤ tally_size t + 1
-run_size true t = omega arith
-run_size false t = omega arith
-
-counted_size : (count : Option ExpectationCount) (t : Tally) → tally_size (with_status (verdict_status (verdict_in count)) t) ≤ tally_size t + 1
-counted_size None t = omega arith
-counted_size (Some count) t = run_size (count.met == count.expected) t
+verdict_size : (verdict : Verdict) (t : Tally) → tally_size (with_status (verdict_status verdict) t) ≤ tally_size t + 1
+verdict_size AllMet t = omega arith
+verdict_size NotMet t = omega arith
+verdict_size Refused t = omega arith
+verdict_size Absent t = omega arith
 
 -- one file more is counted
-pub size_more : (found : Option CountedText) (t : Tally) → tally_size (with_status (found_status found) t) ≤ tally_size t + 1
-size_more None t = omega arith
-size_more (Some made) t = counted_size made.count t
+pub size_more : (strict : Bool) (found : Option CountedText) (t : Tally) → tally_size (with_status (found_status strict found) t) ≤ tally_size t + 1
+size_more strict None t = omega arith
+size_more strict (Some made) t = verdict_size (strict_verdict strict made.notes.refused.items (verdict_in made.count)) t
 
 -- ---- the exit status
 
@@ -86,23 +93,34 @@ refused_more t = grind arith
 unread_more : (t : Tally) → tally_status (with_status 3 t) ≡ max 3 (tally_status t)
 unread_more t = grind arith
 
-run_more : (b : Bool) (t : Tally) → tally_status (with_status (verdict_status (cond b AllMet NotMet)) t) ≡ max (verdict_status (cond b AllMet NotMet)) (tally_status t)
-run_more true t = met_more t
-run_more false t = unmet_more t
+run_more : (strict : Bool) (refused : List ℕ) (b : Bool) (t : Tally)
+    → tally_status (with_status (verdict_status (strict_verdict strict refused (cond b AllMet NotMet))) t)
+    ≡ max (verdict_status (strict_verdict strict refused (cond b AllMet NotMet))) (tally_status t)
+run_more false refused true t = met_more t
+run_more false refused false t = unmet_more t
+run_more true [] true t = met_more t
+run_more true [] false t = unmet_more t
+run_more true (call ∷ calls) true t = unmet_more t
+run_more true (call ∷ calls) false t = unmet_more t
 
-outcome_more : (setup : Result SetupView Fault) (t : Tally)
-    → tally_status (with_status (verdict_status (outcome_in setup).1) t) ≡ max (verdict_status (outcome_in setup).1) (tally_status t)
+outcome_more : (strict : Bool) (setup : Result SetupView Fault) (t : Tally)
+    → tally_status (with_status (verdict_status (strict_verdict strict (unexpected_in setup) (outcome_in setup).1)) t)
+    ≡ max (verdict_status (strict_verdict strict (unexpected_in setup) (outcome_in setup).1)) (tally_status t)
 unfolding outcome_of
-outcome_more (Ok setup) t =
-    run_more (met_count setup.calls (replies_to setup.profile setup) == expectation_count setup.calls (replies_to setup.profile setup)) t
-outcome_more (Err fault) t = refused_more t
+outcome_more strict (Ok setup) t =
+    run_more strict (unexpected_in (Ok setup))
+    (met_count setup.calls (replies_to setup.profile setup) == expectation_count setup.calls (replies_to setup.profile setup)) t
+outcome_more false (Err fault) t = refused_more t
+outcome_more true (Err fault) t = refused_more t
 
-status_more : (contents : Option (List ℕ)) (t : Tally) → tally_status (with_status (status_alone contents) t) ≡ max (status_alone contents) (tally_status t)
+status_more : (strict : Bool) (contents : Option (List ℕ)) (t : Tally)
+    → tally_status (with_status (status_alone strict contents) t) ≡ max (status_alone strict contents) (tally_status t)
 unfolding program
-status_more None t = unread_more t
-status_more (Some bytes) t = outcome_more (setup_of_bytes bytes) t
+status_more strict None t = unread_more t
+status_more strict (Some bytes) t = outcome_more strict (setup_of_bytes bytes) t
 
-pub status_is : (files : List (Option (List ℕ))) → tally_status (tally_of files) ≡ greatest (map status_alone files)
-status_is [] = refl
-status_is (contents ∷ files) =
-    ap tally_status (tally_before files contents) ∙ status_more contents (tally_of files) ∙ ap (max (status_alone contents)) (status_is files)
+pub status_is : (strict : Bool) (files : List (Option (List ℕ))) → tally_status (tally_of strict files) ≡ greatest (map (status_alone strict) files)
+status_is strict [] = refl
+status_is strict (contents ∷ files) =
+    ap tally_status (tally_before strict files contents) ∙ status_more strict contents (tally_of strict files)
+    ∙ ap (max (status_alone strict contents)) (status_is strict files)

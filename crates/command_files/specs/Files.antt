@@ -1,5 +1,5 @@
 -- What the check of several files writes, and its exit status.
-use Rattle.std.specs.Prelude.{◌≡◌, ◌⊎◌, ◌+◌, ◌<◌, ◌==◌, ⊤, ℕ, max, nat_lt, codes, true, List, [], ◌∷◌, ◌++◌, length, count_by, Option, Some, None, Result, Ok, Err, IfOk, IfErr, MatchBool, if◌then◌else◌}
+use Rattle.std.specs.Prelude.{◌≡◌, ◌⊎◌, ◌+◌, ◌<◌, ◌==◌, ⊤, ℕ, Bool, max, nat_lt, codes, true, List, [], ◌∷◌, ◌++◌, length, count_by, Option, Some, None, Result, Ok, Err, IfOk, IfErr, MatchBool, if◌then◌else◌}
 use Rattle.std.specs.Fmt.{decimal}
 use Rattle.std.specs.Str.{bytes_eq}
 use Rattle.setup_format.specs.Faults.{Fault}
@@ -8,7 +8,7 @@ use Rattle.setup_format.specs.Setups.{setup_of_bytes}
 use Rattle.setup_format.specs.Views.{SetupView}
 use Rattle.setup_report.specs.Report.{expectation_line, terminated}
 use Rattle.setup_report.specs.declared.calls.ExpectationCount.{ExpectationCount}
-use Rattle.command_check.specs.Program.{HasCounts, program, replies_to}
+use Rattle.command_check.specs.Program.{HasCounts, replies_to}
 use Rattle.command_check.specs.declared.run.CountedText.{CountedText}
 use Rattle.command_core.specs.Devices.{Gave, GaveAsMany, Took, TookFront}
 use Rattle.command_core.specs.Statuses.{run_status, verdict_status}
@@ -17,6 +17,7 @@ use Rattle.command_core.specs.declared.fault.RunFault.TheVariants.{Reading, Writ
 use Rattle.command_core.specs.Limits.{input_limit}
 use Rattle.command_core.specs.declared.sink.Sink.{Ghosts as SinkGhosts}
 use Rattle.command_core.specs.declared.source.Source.{Ghosts as SourceGhosts}
+use Rattle.command_files.specs.Strict.{checked}
 use Rattle.command_files.specs.declared.tally.Tally.{Tally}
 
 -- ---- the contents of a file: its bytes, or none where it cannot be read
@@ -86,22 +87,22 @@ lines_of line (name ∷ names) (contents ∷ files) = line name contents ++ line
 
 -- ---- the summary
 
--- the exit status of `check` for a file alone: a read fails, or it is that of the verdict
-abbrev pub status_alone : Option (List ℕ) → ℕ
-status_alone None = run_status (Err Reading)
-status_alone (Some bytes) = verdict_status (program bytes).1
+-- the exit status of `check` for a file alone, strict or not: a read fails, or it is that of the verdict
+abbrev pub status_alone : Bool → Option (List ℕ) → ℕ
+status_alone strict None = run_status (Err Reading)
+status_alone strict (Some bytes) = verdict_status (checked strict bytes).1
 
 -- how many of the files have that exit status
-abbrev pub count_with : ℕ → List (Option (List ℕ)) → ℕ
-count_with status files = count_by (λ contents. status_alone contents == status) files
+abbrev pub count_with : Bool → ℕ → List (Option (List ℕ)) → ℕ
+count_with strict status files = count_by (λ contents. status_alone strict contents == status) files
 
 -- how many files have each exit status
-abbrev pub tally_of : List (Option (List ℕ)) → Tally
-tally_of files = record {
-  met = count_with 0 files;
-  unmet = count_with 1 files;
-  refused = count_with 2 files;
-  unread = count_with 3 files;
+abbrev pub tally_of : Bool → List (Option (List ℕ)) → Tally
+tally_of strict files = record {
+  met = count_with strict 0 files;
+  unmet = count_with strict 1 files;
+  refused = count_with strict 2 files;
+  unread = count_with strict 3 files;
 }
 
 abbrev pub tally_line : ℕ → Tally → List ℕ
@@ -110,12 +111,12 @@ tally_line files tally =
     ++ (codes " refused " ++ (decimal tally.refused ++ (codes " unread " ++ decimal tally.unread)))))))))
 
 -- a text of several files: what stands before, the line of each file, and what stands behind, by how many there are and their tally
-abbrev pub told_text : List ℕ → (List ℕ → Option (List ℕ) → List ℕ) → (ℕ → Tally → List ℕ) → List (List ℕ) → List (Option (List ℕ)) → List ℕ
-told_text head line last names files = (head ++ lines_of line names files) ++ last (length names) (tally_of files)
+abbrev pub told_text : Bool → List ℕ → (List ℕ → Option (List ℕ) → List ℕ) → (ℕ → Tally → List ℕ) → List (List ℕ) → List (Option (List ℕ)) → List ℕ
+told_text strict head line last names files = (head ++ lines_of line names files) ++ last (length names) (tally_of strict files)
 
 -- what `check` writes: the line of each file, and the summary
-abbrev pub files_text : List (List ℕ) → List (Option (List ℕ)) → List ℕ
-files_text = told_text [] file_line tally_line
+abbrev pub files_text : Bool → List (List ℕ) → List (Option (List ℕ)) → List ℕ
+files_text strict = told_text strict [] file_line tally_line
 
 -- ---- the exit status
 
@@ -136,14 +137,15 @@ greatest (n ∷ rest) = max n (greatest rest)
 
 -- ---- a run over several files
 
--- what is answered, and what the sink took, where `text` is what is written, and `Is` says which contents a name has
-pub record IsToldOf {K : Type 0} (text : List (List ℕ) → List (Option (List ℕ)) → List ℕ) (Is : List ℕ → Option (List ℕ) → Type 0)
+-- what is answered, and what the sink took, where `text` is what is written, and `Is` says which contents a name has; a strict tally
+-- counts a file with a call that is refused and has no expectation as one that is not met
+pub record IsToldOf {K : Type 0} (strict : Bool) (text : List (List ℕ) → List (Option (List ℕ)) → List ℕ) (Is : List ℕ → Option (List ℕ) → Type 0)
     (to : SinkGhosts K) (names : List (List ℕ)) (sink_old sink_new : K) (result : Result Tally RunFault) : Type 0 where
   -- Ok: the sink took just the text for the contents of the files, and the tally is theirs
   pub ok : IfOk result (λ tally. (files : List (Option (List ℕ)))
       × Each Is names files
       × Took to.taken to.written sink_old sink_new (text names files)
-      × (tally ≡ tally_of files))
+      × (tally ≡ tally_of strict files))
   -- Writing: a write failed; the sink took a beginning of the text
   pub writing : result ≡ Err Writing → to.failed sink_new ≡ true
   pub writing_front : result ≡ Err Writing → (files : List (Option (List ℕ)))
@@ -154,6 +156,6 @@ pub record IsToldOf {K : Type 0} (text : List (List ℕ) → List (Option (List 
   pub memory_keeps : result ≡ Err Memory → sink_new ≡ sink_old
   pub faults : IfErr result (λ fault. (fault ≡ Writing) ⊎ (fault ≡ Memory))
 
--- a run of `check` over several files
-abbrev pub IsCheckOf : {K : Type 0} → (List ℕ → Option (List ℕ) → Type 0) → SinkGhosts K → List (List ℕ) → K → K → Result Tally RunFault → Type 0
-IsCheckOf = IsToldOf files_text
+-- a run of `check` over several files, strict or not
+abbrev pub IsCheckOf : {K : Type 0} → Bool → (List ℕ → Option (List ℕ) → Type 0) → SinkGhosts K → List (List ℕ) → K → K → Result Tally RunFault → Type 0
+IsCheckOf strict = IsToldOf strict (files_text strict)

@@ -14,9 +14,13 @@ use std::alloc::{AllocError, Global};
 
 /// Of each file the last line of its report, and a summary.
 #[derive(Clone, Copy)]
-struct Summary;
+struct Summary {
+    strict: bool,
+}
 
 impl Telling for Summary {
+    ghost strict = { λ summary. summary.strict };
+
     ghost is_made = { λ summary bytes made. IsTextOfSetup (setup_of_bytes bytes) made };
 
     ghost head = { λ summary. [] };
@@ -24,6 +28,10 @@ impl Telling for Summary {
     ghost line = { λ summary. file_line };
 
     ghost last = { λ summary. tally_line };
+
+    fn is_strict(&self) -> bool {
+        self.strict
+    }
 
     fn make(&self, alloc: Global, bytes: &[u8]) -> Result<CountedText, AllocError> {
         checked_text(alloc, bytes)
@@ -57,7 +65,8 @@ impl Telling for Summary {
 
 /// Runs the set-up in each of the files, of which `-` is standard input, and writes a line for each to the sink, and a
 /// summary. A file that cannot be read has its line too, and the others are still run. The listener hears of each file in
-/// turn; the lines are written at the end.
+/// turn; the lines are written at the end. If `strict` is set, a file with a call that is refused, and of which nothing was
+/// expected, counts as one that is not met.
 ///
 /// # Errors
 /// `Writing` where a write failed or took no byte; a front of the text was written then. `Memory`; nothing is written
@@ -66,12 +75,13 @@ pub fn check_files<I: Inputs, L: Listener<I::Standard, I::File, I::Fault>, K: Si
     alloc: Global,
     inputs: &I,
     listener: &L,
+    strict: bool,
     names: &[&str],
     sink: &mut K,
 ) -> Result<Tally, RunFault>
     requires sink { K.failed sink.old ≡ false }
-    ensures { IsCheckOf (IsInput (I.is_standard inputs.now) (I.is_file inputs.now) (I.is_fault inputs.now) I.Standard.Source I.File.Source)
+    ensures { IsCheckOf strict (IsInput (I.is_standard inputs.now) (I.is_file inputs.now) (I.is_fault inputs.now) I.Standard.Source I.File.Source)
         K.Sink (map (λ s. s.now) names.now) sink.old sink.new result }
 {
-    tell_files(alloc, inputs, listener, &Summary, names, sink)
+    tell_files(alloc, inputs, listener, &Summary { strict }, names, sink)
 }

@@ -16,7 +16,7 @@ fn make_source<T: Telling, S: Source>(
     source: &mut S,
 ) -> Result<Option<CountedText>, AllocError>
     requires source { S.failed source.old ≡ false }
-    ensures { IfOk result (λ found. (contents : Option (List ℕ)) × HasContents S.Source source.old source.new contents × IsCountedFound (T.is_made telling.now) contents found) }
+    ensures { IfOk result (λ found. (contents : Option (List ℕ)) × HasContents S.Source source.old source.new contents × IsCountedFound (T.strict telling.now) (T.is_made telling.now) contents found) }
 {
     match read_below(alloc, source, INPUT_LIMIT) {
         Ok(input) => Ok(Some(telling.make(alloc, input.as_slice())?)),
@@ -34,7 +34,7 @@ fn make_standard<I: Inputs, L: Listener<I::Standard, I::File, I::Fault>, T: Tell
     name: &str,
 ) -> Result<Option<CountedText>, AllocError>
     ensures { IfOk result (λ found. (contents : Option (List ℕ))
-        × IsStandard (I.is_standard inputs.now) I.Standard.Source contents × IsCountedFound (T.is_made telling.now) contents found) }
+        × IsStandard (I.is_standard inputs.now) I.Standard.Source contents × IsCountedFound (T.strict telling.now) (T.is_made telling.now) contents found) }
 {
     let mut source = inputs.standard();
     let found = make_source(alloc, telling, &mut source)?;
@@ -51,7 +51,7 @@ fn make_named<I: Inputs, L: Listener<I::Standard, I::File, I::Fault>, T: Telling
     name: &str,
 ) -> Result<Option<CountedText>, AllocError>
     ensures { IfOk result (λ found. (contents : Option (List ℕ))
-        × IsFile (I.is_file inputs.now) (I.is_fault inputs.now) I.File.Source name.now contents × IsCountedFound (T.is_made telling.now) contents found) }
+        × IsFile (I.is_file inputs.now) (I.is_fault inputs.now) I.File.Source name.now contents × IsCountedFound (T.strict telling.now) (T.is_made telling.now) contents found) }
 {
     match inputs.open(name) {
         Ok(file) => {
@@ -77,7 +77,7 @@ pub(crate) fn make_file<I: Inputs, L: Listener<I::Standard, I::File, I::Fault>, 
 ) -> Result<Option<CountedText>, AllocError>
     ensures { IfOk result (λ found. (contents : Option (List ℕ))
         × IsInput (I.is_standard inputs.now) (I.is_file inputs.now) (I.is_fault inputs.now) I.Standard.Source I.File.Source name.now contents
-        × IsCountedFound (T.is_made telling.now) contents found) }
+        × IsCountedFound (T.strict telling.now) (T.is_made telling.now) contents found) }
 {
     if name == "-" {
         make_standard(alloc, inputs, listener, telling, name)

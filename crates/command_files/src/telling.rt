@@ -11,11 +11,15 @@ use std::alloc::{AllocError, Global};
 
 /// What is told of several files.
 pub trait Telling {
-    ghost use Rattle.std.specs.Prelude.{◌≡◌, ◌++◌, ℕ, List, Option, option_map, IfOk, OnOk};
+    ghost use Rattle.std.specs.Prelude.{◌≡◌, ◌++◌, ℕ, Bool, true, List, Option, option_map, IfOk, OnOk};
     ghost use Rattle.setup_format.specs.Setups.{setup_of_bytes};
+    ghost use Rattle.command_check.specs.Notes.{unexpected_in};
     ghost use Rattle.command_check.specs.declared.run.CountedText.{CountedText};
     ghost use Rattle.command_files.specs.declared.tally.Tally.{Tally};
     ghost use Rattle.command_files.specs.Files.{HasCountOf, IsFound};
+
+    /// A file with a call that is refused, and of which nothing was expected, counts as one that is not met.
+    ghost strict: { Self → Bool };
 
     /// It is what is made of these bytes.
     ghost is_made: { Self → List ℕ → CountedText → Type 0 };
@@ -29,14 +33,20 @@ pub trait Telling {
     /// What stands behind the lines of so many files, with that tally.
     ghost last: { Self → ℕ → Tally → List ℕ };
 
-    /// What is made of the bytes of a file, with the count of its expectations.
+    /// Whether a file with a call that is refused, and of which nothing was expected, counts as one that is not met.
+    fn is_strict(&self) -> bool
+        ensures { result ≡ strict self.now };
+
+    /// What is made of the bytes of a file, with the count of its expectations, and, if that counts, with the calls that are refused
+    /// and of which nothing was expected.
     ///
     /// # Errors
     ///
     /// Memory was refused.
     fn make(&self, alloc: Global, bytes: &[u8]) -> Result<CountedText, AllocError>
         ensures made { IfOk result (is_made self.now bytes.now) }
-        ensures count { IfOk result (λ made. HasCountOf (setup_of_bytes bytes.now) made.count) };
+        ensures count { IfOk result (λ made. HasCountOf (setup_of_bytes bytes.now) made.count) }
+        ensures refused { IfOk result (λ made. strict self.now ≡ true → made.notes.refused.items ≡ unexpected_in (setup_of_bytes bytes.now)) };
 
     /// Adds what stands before the lines.
     ///
@@ -87,7 +97,7 @@ fn tell_each<I: Inputs, L: Listener<I::Standard, I::File, I::Fault>, T: Telling>
     ensures { IfOk result (λ made. (files : List (Option (List ℕ)))
         × Each (IsInput (I.is_standard inputs.now) (I.is_file inputs.now) (I.is_fault inputs.now) I.Standard.Source I.File.Source) (map (λ s. s.now) names.now) files
         × (made.0.items ≡ T.head telling.now ++ lines_of (T.line telling.now) (map (λ s. s.now) names.now) files)
-        × (made.1 ≡ tally_of files)) }
+        × (made.1 ≡ tally_of (T.strict telling.now) files)) }
 {
     let mut out = Vec::new(alloc);
     telling.add_head(&mut out)?;
@@ -95,7 +105,7 @@ fn tell_each<I: Inputs, L: Listener<I::Standard, I::File, I::Fault>, T: Telling>
     for name in names {
         let found = make_file(alloc, inputs, listener, telling, *name)?;
         telling.add_line(alloc, &mut out, *name, found.as_ref())?;
-        tally.count(found.as_ref());
+        tally.count(telling.is_strict(), found.as_ref());
     }
     Ok((out, tally))
 }
@@ -110,8 +120,8 @@ fn tell_all<I: Inputs, L: Listener<I::Standard, I::File, I::Fault>, T: Telling>(
 ) -> Result<(Vec<u8>, Tally), AllocError>
     ensures { IfOk result (λ made. (files : List (Option (List ℕ)))
         × Each (IsInput (I.is_standard inputs.now) (I.is_file inputs.now) (I.is_fault inputs.now) I.Standard.Source I.File.Source) (map (λ s. s.now) names.now) files
-        × (made.0.items ≡ told_text (T.head telling.now) (T.line telling.now) (T.last telling.now) (map (λ s. s.now) names.now) files)
-        × (made.1 ≡ tally_of files)) }
+        × (made.0.items ≡ told_text (T.strict telling.now) (T.head telling.now) (T.line telling.now) (T.last telling.now) (map (λ s. s.now) names.now) files)
+        × (made.1 ≡ tally_of (T.strict telling.now) files)) }
 {
     let (lines, tally) = tell_each(alloc, inputs, listener, telling, names)?;
     let mut out = lines;
@@ -135,7 +145,7 @@ pub fn tell_files<I: Inputs, L: Listener<I::Standard, I::File, I::Fault>, T: Tel
     sink: &mut K,
 ) -> Result<Tally, RunFault>
     requires sink { K.failed sink.old ≡ false }
-    ensures { IsToldOf (told_text (T.head telling.now) (T.line telling.now) (T.last telling.now))
+    ensures { IsToldOf (T.strict telling.now) (told_text (T.strict telling.now) (T.head telling.now) (T.line telling.now) (T.last telling.now))
         (IsInput (I.is_standard inputs.now) (I.is_file inputs.now) (I.is_fault inputs.now) I.Standard.Source I.File.Source)
         K.Sink (map (λ s. s.now) names.now) sink.old sink.new result }
 {

@@ -81,15 +81,14 @@ text_rule name = record (new_rule name) {
   value_names = 1;
 }
 
--- the subcommand `check`, which takes several files
+-- the subcommands that take several files
 abbrev pub check_command : App
-check_command = with_rule (with_file (codes "check")) more_files_rule
+check_command = with_rule (with_rule (with_file (codes "check")) more_files_rule) (flag_rule (codes "strict"))
 
--- the subcommand `marks`, which does so too
 abbrev pub marks_command : App
 marks_command = with_rule (with_file (codes "marks")) more_files_rule
 
--- the subcommands that have options
+-- the other subcommands that have options
 abbrev pub threads_command : App
 threads_command = with_rule (with_file (codes "threads")) (number_rule (codes "first"))
 
@@ -120,7 +119,7 @@ abbrev pub import_command : App
 import_command =
     with_rule (with_rule (with_file (codes "import")) (number_rule (codes "shrink"))) (flag_rule (codes "listing"))
 
--- `sel4sim`, with the subcommands that have no options
+-- `sel4sim`, with the subcommands that take several files or have no options
 abbrev pub plain_command : App
 plain_command =
     and_subcommand (with_file (codes "migrate"))
@@ -211,6 +210,7 @@ is_set (Some text) = bytes_eq text (codes "true")
 
 -- what a subcommand's matches give to its options
 pub record HasOptions (rows : List Row) (options : Options) : Type 0 where
+  pub strict : options.strict ≡ is_set (first_of (codes "strict") rows)
   pub call : Says (first_of (codes "call") rows) options.call
   pub after : Says (first_of (codes "after") rows) options.after
   pub slot : option_map (λ s. s.now) options.slot ≡ first_of (codes "slot") rows

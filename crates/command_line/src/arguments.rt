@@ -33,6 +33,8 @@ pub enum Job {
 /// What the options of a command line give; `None` where an option is not there.
 #[derive(Clone, Copy, Drop)]
 pub struct Options<'a> {
+    /// Whether `--strict` of `check` is there: a call that is refused and of which nothing is expected counts as not met.
+    pub strict: bool,
     /// `--call` of `why`: the call that is told of, from 1.
     pub call: Option<u64>,
     /// `--after` of `audit` and `tree`: how many calls are made.

@@ -343,7 +343,13 @@ fn check<'a>(alloc: Global) -> Result<Command<'a>, AllocError>
     ensures { IfOk result (IsCommand check_command) }
 {
     let command = with_file(alloc, "check", "Runs a set-up and prints its report");
-    and_argument(command, more_files(alloc))
+    let with_more = and_argument(command, more_files(alloc));
+    let strict = flag(
+        alloc,
+        "strict",
+        "End with status 1 also where a call is refused and has no expectation",
+    );
+    and_argument(with_more, strict)
 }
 
 /// The subcommand `marks`, which takes several files too.
@@ -354,7 +360,7 @@ fn marks<'a>(alloc: Global) -> Result<Command<'a>, AllocError>
     and_argument(with_file(alloc, "marks", about), more_files(alloc))
 }
 
-/// The command with the subcommands that have no options.
+/// The command with the subcommands that take several files or have no options.
 fn plain<'a>(alloc: Global) -> Result<Command<'a>, AllocError>
     ensures { IfOk result (IsCommand plain_command) }
 {
@@ -417,6 +423,7 @@ fn options_in<'a>(matches: &ArgMatches<'a>) -> Options<'a>
     ensures { HasOptions (rows_of (found_of matches.now)) result }
 {
     Options {
+        strict: flag_given(matches, "strict"),
         call: number_given(matches, "call"),
         after: number_given(matches, "after"),
         slot: text_given(matches, "slot"),
@@ -491,6 +498,7 @@ fn bare_line<'a>(alloc: Global, matches: &ArgMatches<'a>) -> Result<Line<'a>, Al
     Ok(Line {
         job: Job::Check,
         options: Options {
+            strict: false,
             call: None,
             after: None,
             slot: None,

@@ -1,5 +1,5 @@
 -- The marks of several files: a table in the form of CSV.
-use Rattle.std.specs.Prelude.{codes, ℕ, ◌==◌, ◌||◌, Bool, if◌then◌else◌, List, [], ◌∷◌, ◌++◌, Option, Some, None, Result, Ok, Err}
+use Rattle.std.specs.Prelude.{codes, ℕ, ◌==◌, ◌||◌, Bool, false, if◌then◌else◌, List, [], ◌∷◌, ◌++◌, Option, Some, None, Result, Ok, Err}
 use Rattle.std.specs.List.{flat_map, list_any}
 use Rattle.std.specs.Fmt.{decimal}
 use Rattle.cap_core.specs.declared.profile.ProfileName.{ProfileName}
@@ -71,8 +71,8 @@ abbrev pub head : List ℕ
 head = codes "file,right,of,wrong,open,note\n"
 
 abbrev pub table_text : List (List ℕ) → List (Option (List ℕ)) → List ℕ
-table_text = told_text head row (λ files tally. [])
+table_text = told_text false head row (λ files tally. [])
 
 -- a run of `marks` over several files
 abbrev pub IsMarksOf : {K : Type 0} → (List ℕ → Option (List ℕ) → Type 0) → SinkGhosts K → List (List ℕ) → K → K → Result Tally RunFault → Type 0
-IsMarksOf = IsToldOf table_text
+IsMarksOf = IsToldOf false table_text

@@ -107,6 +107,8 @@ fn run_bytes(alloc: Global, bytes: &[u8]) -> Result<CountedText, AllocError>
 struct Table;
 
 impl Telling for Table {
+    ghost strict = { λ table. false };
+
     ghost is_made = { λ table bytes made. made.text.items ≡ spec.cells_for (setup_of_bytes bytes) };
 
     ghost head = { λ table. spec.head };
@@ -114,6 +116,10 @@ impl Telling for Table {
     ghost line = { λ table. spec.row };
 
     ghost last = { λ table files tally. [] };
+
+    fn is_strict(&self) -> bool {
+        false
+    }
 
     fn make(&self, alloc: Global, bytes: &[u8]) -> Result<CountedText, AllocError> {
         run_bytes(alloc, bytes)

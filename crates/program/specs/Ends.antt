@@ -62,9 +62,10 @@ abbrev pub is_marks : Job → Bool
 is_marks Marks = true
 is_marks job = false
 
--- several files were marked, where that is the job, or checked
-abbrev pub AreDone : {K : Type 0} → Job → (Text → Option Text → Type 0) → SinkGhosts K → List Text → K → K → Result Tally RunFault → Type 0
-AreDone job Is to names old new answer = MatchBool (is_marks job) (IsMarksOf Is to names old new answer) (IsCheckOf Is to names old new answer)
+-- several files were marked, where that is the job, or checked, strictly or not
+abbrev pub AreDone : {K : Type 0} → Job → Bool → (Text → Option Text → Type 0) → SinkGhosts K → List Text → K → K → Result Tally RunFault → Type 0
+AreDone job strict Is to names old new answer =
+    MatchBool (is_marks job) (IsMarksOf Is to names old new answer) (IsCheckOf strict Is to names old new answer)
 
 -- a text was written, or a front of it where a write failed
 abbrev pub IsWritten : {K : Type 0} → SinkGhosts K → Result Unit RunFault → K → K → Type 0
@@ -91,10 +92,11 @@ IsEnd is_standard is_file is_fault from_standard from_file to words (Did done) o
 IsEnd is_standard is_file is_fault from_standard from_file to words (Checked checked) old new =
     (fault_of command words ≡ [])
     × (job_asked words ≡ Some checked.line.job)
+    × HasOptions (own_rows (subcommand_of command words)) checked.line.options
     × (takes_several checked.line.job ≡ true)
     × (several_asked words ≢ [])
     × (reads_once (several_asked words) ≡ true)
-    × AreDone checked.line.job (IsInput is_standard is_file is_fault from_standard from_file) to (several_asked words) old new checked.answer
+    × AreDone checked.line.job checked.line.options.strict (IsInput is_standard is_file is_fault from_standard from_file) to (several_asked words) old new checked.answer
 IsEnd is_standard is_file is_fault from_standard from_file to words (Helped answer) old new =
     (takes command words ≡ false) × IsAmong DisplayHelp (fault_of command words) × IsWritten to answer old new
 IsEnd is_standard is_file is_fault from_standard from_file to words Refused old new =

@@ -4,7 +4,7 @@ use Rattle.command_line.specs.declared.arguments.Job.{Job}
 use Rattle.command_line.specs.declared.arguments.Job.TheVariants.{Check, Trace, Threads, Migrate, Why, Audit, Explore, Tree, New, Marks, Import}
 use Rattle.command_line.specs.declared.arguments.Options.{Options}
 use Rattle.command_core.specs.declared.fault.Verdict.{Verdict}
-use Rattle.command_check.specs.Program.{program}
+use Rattle.command_files.specs.Strict.{checked}
 use Rattle.command_check.specs.Commands.{IsAnswerTo, IsStateAnswer}
 use Rattle.command_check.specs.Migrations.{IsMigration}
 use Rattle.command_audit.specs.Audits.{IsAudited, IsSlotAudited}
@@ -103,7 +103,7 @@ form_of options = cond options.dot Dot Lines
 
 -- what each command writes for an input: its text and its verdict
 abbrev pub meaning : Job → Options → List ℕ → List ℕ → Verdict → Type 0
-meaning Check options = λ input text verdict. program input ≡ (text, verdict)
+meaning Check options = λ input text verdict. checked options.strict input ≡ (text, verdict)
 meaning Trace options = IsAnswerTo IsTrace
 meaning Threads options = IsShared options
 meaning Migrate options = IsMigration

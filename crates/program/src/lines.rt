@@ -202,14 +202,15 @@ fn run_files<'a, I: Inputs, L: Listener<I::Standard, I::File, I::Fault>, K: Sink
 ) -> CheckedFiles<'a>
     requires sink { K.failed sink.old ≡ false }
     ensures line { result.line ≡ line.entry }
-    ensures done { AreDone line.entry.job (IsInput (I.is_standard inputs.now) (I.is_file inputs.now) (I.is_fault inputs.now) I.Standard.Source I.File.Source)
+    ensures done { AreDone line.entry.job line.entry.options.strict (IsInput (I.is_standard inputs.now) (I.is_file inputs.now) (I.is_fault inputs.now) I.Standard.Source I.File.Source)
         K.Sink (texts line.entry.several.items) sink.old sink.new result.answer }
 {
     let names = line.several.as_slice();
     let answer = if is_marks(line.job) {
         mark_files(alloc, inputs, listener, names, sink)
     } else {
-        check_files(alloc, inputs, listener, names, sink)
+        let strict = line.options.strict;
+        check_files(alloc, inputs, listener, strict, names, sink)
     };
     CheckedFiles { line, answer }
 }

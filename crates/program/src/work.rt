@@ -13,9 +13,10 @@ use crate::marks::around;
 use crate::new_setup::asked_by;
 use crate::witness::witness_named;
 use command_audit::{Audit, SlotAudit};
-use command_check::{Checker, Command, Migrator, OnSetup, OnState, StateCommand};
+use command_check::{Command, Migrator, OnSetup, OnState, StateCommand};
 use command_core::{Answer, Engine, RunFault};
 use command_explore::{Explore, ExploreOptions, WriteWitness};
+use command_files::FileCheck;
 use command_import::Importer;
 use command_line::{Job, Options};
 use command_marks::Marks;
@@ -281,7 +282,10 @@ impl Engine for Work<'_> {
     fn make(&self, alloc: Global, input: &[u8]) -> Result<Answer, RunFault> {
         let options = self.options;
         match self.job {
-            Job::Check => Checker.make(alloc, input),
+            Job::Check => {
+                let strict = options.strict;
+                FileCheck { strict }.make(alloc, input)
+            }
             Job::Trace => on_setup(alloc, Trace, input),
             Job::Threads => unreachable!(),
             Job::Migrate => Migrator.make(alloc, input),

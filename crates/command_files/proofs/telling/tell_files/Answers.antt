@@ -8,5 +8,5 @@ returns-in_err-write_all-in-Ok g c =
     let told = c.in-Ok.ensures in
     let fault = c.in_err-write_all-in-Ok in
     let is : c.from_residual.result ≡ Err fault.field-0.0 = search rules in
-    failed _ _ g.K.Sink _ c.args.sink.now c.write_all.new.sink c.from_residual.result told.0 c.as_slice.result.now told.1 (c.as_slice.ensures.value ∙ told.2)
+    failed _ _ _ g.K.Sink _ c.args.sink.now c.write_all.new.sink c.from_residual.result told.0 c.as_slice.result.now told.1 (c.as_slice.ensures.value ∙ told.2)
     (is ∙ ap (λ f. Err f) fault.ensures.writing) fault.ensures.err fault.ensures.front

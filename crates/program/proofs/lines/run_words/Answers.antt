@@ -3,8 +3,8 @@ use Rattle.std.proofs.Common.{◌≡◌, ◌≢◌, ◌∙◌, List, [], ◌∷�
 use Rattle.std.specs.Borrow.{Bor}
 use Rattle.clap.specs.Walk.{texts}
 use Rattle.clap.specs.Words.{Text, matches_of, subcommand_of}
-use Rattle.command_line.specs.CommandLine.{command, reads_once, several_asked, takes_several}
-use Rattle.command_line.specs.declared.arguments.Job.{Job}
+use Rattle.command_line.specs.CommandLine.{HasOptions, command, own_rows, reads_once, several_asked, takes_several}
+use Rattle.command_line.specs.declared.arguments.Line.{Line}
 use Rattle.command_line.proofs.CommandLines.{several_are_taken}
 use Rattle.command_files.specs.Files.{IsInput}
 use Rattle.program.specs.Ends.{AreDone}
@@ -23,14 +23,15 @@ returns-in-Ok g c =
     let is = c.in-Ok.ensures in
     let some = some_asked ws c.in-Ok.line.several.items is.several (λ none. grind (arith, none, c.is_empty.ensures, c.if-is_empty.false)) in
     let takes = several_are_taken (matches_of command ws) (subcommand_of command ws) c.in-Ok.line.job some is.job in
-    let job = ap (λ l. l.job) (sym c.run_files.ensures.line) in (
+    let line = sym c.run_files.ensures.line in (
       is.taken,
-      is.job ∙ ap (λ j. Some j) job,
-      subst (λ (j : Job). takes_several j ≡ true) job takes,
+      is.job ∙ ap (λ (l : Line). Some l.job) line,
+      subst (λ (l : Line). HasOptions (own_rows (subcommand_of command ws)) l.options) line is.options,
+      subst (λ (l : Line). takes_several l.job ≡ true) line takes,
       some,
       subst (λ names. reads_once names ≡ true) (sym is.several) is.once,
-      subst (λ (j : Job). AreDone j (IsInput (g.I.Inputs.is_standard c.args.inputs.now) (g.I.Inputs.is_file c.args.inputs.now) (g.I.Inputs.is_fault c.args.inputs.now) g.I.Standard.Source g.I.File.Source)
-          g.K.Sink (several_asked ws) c.args.sink.now c.run_files.new.sink c.run_files.result.answer) job
-          (subst (λ names. AreDone c.in-Ok.line.job (IsInput (g.I.Inputs.is_standard c.args.inputs.now) (g.I.Inputs.is_file c.args.inputs.now) (g.I.Inputs.is_fault c.args.inputs.now) g.I.Standard.Source g.I.File.Source)
+      subst (λ (l : Line). AreDone l.job l.options.strict (IsInput (g.I.Inputs.is_standard c.args.inputs.now) (g.I.Inputs.is_file c.args.inputs.now) (g.I.Inputs.is_fault c.args.inputs.now) g.I.Standard.Source g.I.File.Source)
+          g.K.Sink (several_asked ws) c.args.sink.now c.run_files.new.sink c.run_files.result.answer) line
+          (subst (λ names. AreDone c.in-Ok.line.job c.in-Ok.line.options.strict (IsInput (g.I.Inputs.is_standard c.args.inputs.now) (g.I.Inputs.is_file c.args.inputs.now) (g.I.Inputs.is_fault c.args.inputs.now) g.I.Standard.Source g.I.File.Source)
           g.K.Sink names c.args.sink.now c.run_files.new.sink c.run_files.result.answer) (sym is.several) c.run_files.ensures.done),
     )

@@ -1,0 +1,18 @@
+-- The verdict of a check, strict or not.
+use Rattle.std.specs.Prelude.{ℕ, Bool, true, false, List, [], ◌∷◌}
+use Rattle.setup_format.specs.Setups.{setup_of_bytes}
+use Rattle.command_check.specs.Notes.{unexpected_in}
+use Rattle.command_check.specs.Program.{program}
+use Rattle.command_core.specs.declared.fault.Verdict.{Verdict}
+use Rattle.command_core.specs.declared.fault.Verdict.TheVariants.{AllMet, NotMet}
+
+-- by the calls that are refused and of which nothing was expected: a strict check counts one as a call that is not met
+abbrev pub strict_verdict : Bool → List ℕ → Verdict → Verdict
+strict_verdict false refused verdict = verdict
+strict_verdict true [] verdict = verdict
+strict_verdict true (call ∷ calls) AllMet = NotMet
+strict_verdict true (call ∷ calls) verdict = verdict
+
+-- what the program writes for the bytes of a file, and the verdict
+abbrev pub checked : Bool → List ℕ → List ℕ × Verdict
+checked strict bytes = ((program bytes).0, strict_verdict strict (unexpected_in (setup_of_bytes bytes)) (program bytes).1)
