@@ -5,6 +5,9 @@ Of each the marks have to be what its report says of its expectations: `right` w
 with `?`, else `not` and what was expected; and the counts. The exit status is that of `check`, and so is the text of a refusal. Each key
 of FOLDER/exercise_answers is all right, each exercise of FOLDER/exercises all open, and a key with one answer changed tells that one
 alone. The table is read as CSV, also with file names that have commas, quotation marks and line ends.
+
+`marks --of` each exercise, and of each key in its place, is asked for the key, for the exercise, and for keys with answers that are
+cut short, taken out or wrong, and with a call more; its rows have to be those that a model here makes of the files and the report.
 """
 import csv
 import io
@@ -14,12 +17,15 @@ import re
 import subprocess
 import sys
 import tempfile
+import tomllib
 
 SECONDS = 600
 CALL = re.compile(r"(\d+ \d+ [a-z_]+): [a-z0-9 /]+?(?: \[(met|not met: (.*))\])?")
 COUNT = re.compile(r"expected (\d+) of (\d+)")
 EXPECT = re.compile(r'(\bexpect\s*=\s*)"[^"\n]*"')
 HEAD = ["file", "right", "of", "wrong", "open", "note"]
+HEAD_OF = ["file", "right", "of", "wrong", "too short", "open", "note"]
+REPLY = re.compile(r"\d+ \d+ [a-z_]+: ([a-z0-9 /]+?)(?: \[(?:met|not met: .*)\])?")
 NAMES = ["a, b.toml", 'a "b".toml', "a\nb.toml", "\u00e9 \u4e2d.toml"]
 
 
@@ -104,11 +110,83 @@ def faults_of_names(program, key):
             yield "files with such names have other rows"
 
 
+def without_answers(setup):
+    calls = [{key: value for key, value in call.items() if key != "expect"} for call in setup["call"]]
+    return {**setup, "call": calls}
+
+
+def is_whole(question, answer, reply):
+    """Whether an answer that is met says as much of the reply as is asked for."""
+    if not question.startswith("?"):
+        return len(answer) >= len(question)
+    if not reply.startswith("delivered ") or question == "? words":
+        return answer == reply
+    return question == "?" or f" {question[2:]} " in answer
+
+
+def mark_of(question, answer, reply):
+    if answer is None:
+        return "open"
+    if reply == answer or reply.startswith(answer + " "):
+        return "right" if is_whole(question, answer, reply) else "too short"
+    return "open" if answer.startswith("?") else "wrong"
+
+
+def row_of(program, exercise, answers):
+    """The row of answers by an exercise, without the name."""
+    asked, given = tomllib.loads(exercise), tomllib.loads(answers)
+    if without_answers(asked) != without_answers(given):
+        return ["", "", "", "", "", "differs"]
+    report = run(program, "check", "-", text=answers.encode())[1].splitlines()
+    marks = [(number, mark_of(question["expect"], call.get("expect"), REPLY.fullmatch(line)[1]))
+             for number, (question, call, line) in enumerate(zip(asked["call"], given["call"], report), 1) if "expect" in question]
+    numbers = [" ".join(str(number) for number, mark in marks if mark == kind) for kind in ("wrong", "too short", "open")]
+    return [str(sum(mark == "right" for _, mark in marks)), str(len(marks)), *numbers, ""]
+
+
+def answers_of(key, exercise):
+    """Answers that may be handed in: their names and texts."""
+    yield "key", key
+    yield "exercise", exercise
+    yield "short", re.sub(r'"(delivered|refused) [^"]*"', r'"\1"', key)
+    yield "shorter", re.sub(r'"(delivered \d+ from \d+)[^"]*"', r'"\1"', key)
+    yield "named", re.sub(r'"(delivered \d+ from \d+ to \d+ badge) [^"]*"', r'"\1"', key)
+    yield "wrong", EXPECT.sub(r'\1"dropped by nobody"', key, count=2)
+    yield "taken out", re.sub(r',\s*expect = "[^"]*"', "", key, count=1)
+    end = key.rindex("]")
+    yield "more", key[:end] + '{ thread = 2048, op = "suspend", cap = 2 },\n' + key[end:]
+    yield "client", key.replace("format = 2", "format = 2\nlimit = 60000", 1)
+
+
+def faults_by_exercises(program, folder):
+    for path in sorted(folder.glob("exercise_answers/*.toml")):
+        key, exercise = path.read_text(), (folder / "exercises" / path.name).read_text()
+        with tempfile.TemporaryDirectory() as place:
+            files = [(pathlib.Path(place, name), text) for name, text in answers_of(key, exercise)]
+            for file, text in files:
+                file.write_text(text)
+            for asked in (exercise, key):
+                of = pathlib.Path(place, "of.toml")
+                of.write_text(asked)
+                rows = [[str(file), *row_of(program, asked, text)] for file, text in files if file.name != "client"]
+                rows.append([str(files[-1][0]), *rows[0][1:]])
+                if table(program, ["--of", of, *(file for file, _ in files)])[1] != [HEAD_OF, *rows]:
+                    yield f"{path}: other marks by {'the key' if asked == key else 'the exercise'}"
+                alone = table(program, ["--of", of], text=key.encode())[1]
+                if alone != [HEAD_OF, ["-", *rows[0][1:]]]:
+                    yield f"{path}: other marks of standard input"
+            of.write_text("format = 3")
+            if table(program, ["--of", of, files[0][0]])[1] != [HEAD_OF, [str(files[0][0]), "", "", "", "", "", "exercise refused"]]:
+                yield f"{path}: an exercise that is refused marks"
+            if run(program, "marks", "--of", pathlib.Path(place, "none"), files[0][0]) != (3, ""):
+                yield f"{path}: an exercise that cannot be read marks"
+
+
 def main():
     program, folder = os.path.abspath(sys.argv[1]), pathlib.Path(sys.argv[2])
     paths = sorted(folder.glob("*/*.toml"))
     key = next(iter(sorted(folder.glob("exercise_answers/*.toml"))))
-    wrong = [*faults_of_all(program, paths), *faults_of_exercises(program, folder), *faults_of_names(program, key)]
+    wrong = [*faults_of_all(program, paths), *faults_of_exercises(program, folder), *faults_by_exercises(program, folder), *faults_of_names(program, key)]
     print("\n".join([*wrong, f"{len(paths)} set-ups marked, {len(wrong)} wrong"]))
     return 1 if wrong or not paths else 0
 

@@ -6,6 +6,7 @@ _sel4sim() {
     done
     COMPREPLY=()
     case ${COMP_WORDS[COMP_CWORD-1]} in
+        --of) COMPREPLY=($(compgen -W '' -- "$word")); return ;;
         --first) COMPREPLY=($(compgen -W '' -- "$word")); return ;;
         --call) COMPREPLY=($(compgen -W '' -- "$word")); return ;;
         --after) COMPREPLY=($(compgen -W '' -- "$word")); return ;;
@@ -33,7 +34,7 @@ _sel4sim() {
             [[ $word == -* ]] || mapfile -t -O "${#COMPREPLY[@]}" COMPREPLY < <(compgen -f -- "$word")
             ;;
         marks)
-            COMPREPLY=($(compgen -W '-h --help' -- "$word"))
+            COMPREPLY=($(compgen -W '--of -h --help' -- "$word"))
             [[ $word == -* ]] || mapfile -t -O "${#COMPREPLY[@]}" COMPREPLY < <(compgen -f -- "$word")
             ;;
         trace)

@@ -8,6 +8,7 @@ complete -c sel4sim -n '__fish_seen_subcommand_from check' -l strict -d 'End wit
 complete -c sel4sim -n '__fish_seen_subcommand_from check' -s h -l help -d 'Print help'
 complete -c sel4sim -n '__fish_seen_subcommand_from check' -F
 complete -c sel4sim -n '__fish_use_subcommand' -a marks -d 'Runs a set-up and prints which of its expectations are met, and no reply'
+complete -c sel4sim -n '__fish_seen_subcommand_from marks' -l of -x -a '' -d 'Mark the files by the questions of this one, and print a table'
 complete -c sel4sim -n '__fish_seen_subcommand_from marks' -s h -l help -d 'Print help'
 complete -c sel4sim -n '__fish_seen_subcommand_from marks' -F
 complete -c sel4sim -n '__fish_use_subcommand' -a trace -d 'Runs a set-up and prints what each of its calls changed'

@@ -6,7 +6,7 @@ use Rattle.std.proofs.lemmas.Slice.Eq.{bytes_eq-Decides}
 use Rattle.std.specs.Prelude.{not, unwrap_or, IfErr, IfOk, OnOk, Result, Ok, Err}
 use Rattle.std.specs.Str.{bytes_eq}
 use Rattle.std.specs.List.{list_all}
-use Rattle.clap.specs.Words.{App, HasMatchesOf, Row, Kinds, IsAmong, HasKind, Shape, Text, app_of, found_of, is_simple, is_simple_and_free, matches_of, rows_of, subcommand_name_of, subcommand_of, subcommand_rows, subcommand_rows_of, takes, fault_of}
+use Rattle.clap.specs.Words.{App, HasMatchesOf, Row, Kinds, IsAmong, HasKind, Shape, Text, app_of, found_of, is_simple, is_simple_and_free, first_of, matches_of, rows_of, subcommand_name_of, subcommand_of, subcommand_rows, subcommand_rows_of, takes, fault_of}
 use Rattle.clap.specs.Values.{kind_of}
 use Rattle.clap.specs.Simple.{argument_words, built, entered, label_of, names_of, rows_at}
 use Rattle.clap.specs.Faults.{walk_fault}
@@ -20,7 +20,7 @@ use Rattle.clap.specs.declared.parser.matches.ArgMatches.{ArgMatches}
 use Rattle.clap.specs.declared.parser.matches.ArgMatches.TheViews.{out-ArgMatches, out-SubCommand}
 use Rattle.clap.proofs.OnLiterals.{clap_on_literals}
 use Rattle.clap.proofs.WalkLemmas.{both}
-use Rattle.command_line.specs.CommandLine.{IsCommand, command, file_of, files_of, job_named, job_of, more_behind, more_given, several_of, takes_several, Explains, ExplainsMatches, StandsFor}
+use Rattle.command_line.specs.CommandLine.{IsCommand, command, file_of, files_of, job_named, job_of, lists_one, more_behind, more_given, several_of, takes_several, Explains, ExplainsMatches, StandsFor}
 use Rattle.command_line.proofs.NoHelp.{IsNoHelp, walk_stops}
 use Rattle.command_line.specs.declared.arguments.Job.{Job}
 use Rattle.command_line.specs.declared.arguments.Job.TheVariants.{Check, Marks}
@@ -168,6 +168,10 @@ named_takes name job is named = go (true_or_false (bytes_eq name (codes "check")
         let found : job_named name ≡ Some Marks = ap job_named same in
         subst (λ j. takes_several j ≡ true) (some_is Marks job (sym found ∙ named)) refl
 
+second : (a b : Bool) → a || b ≡ false → b ≡ false
+second true b e = absurd cc
+second false b e = e
+
 -- where several files are named, the job takes them
 pub several_are_taken : (above : List Row) (met : Option (Text × List Row)) (job : Job) → (files_of above met ≢ []) → job_of met ≡ Some job → takes_several job ≡ true
 several_are_taken above None job some is =
@@ -180,7 +184,8 @@ several_are_taken above (Some met) job some is = go (true_or_false (bytes_eq met
     go (inl takes) = named_takes met.0 job takes is
     go (inr other) =
         let none : more_behind met.0 met.1 ≡ [] = rw other refl in
-        absurd (some (ap (several_of (file_of above (Some met))) none))
+        let no_one : lists_one met.0 met.1 ≡ false = ap (λ is. is && is_some (first_of (codes "of") met.1)) (second _ _ other) in
+        absurd (some (ap₂ (λ one more. several_of one (file_of above (Some met)) more) no_one none))
 
 pub on_ok : {V E : Type 0} (r : Result V E) (P : Type 0) → P → OnOk r P
 on_ok (Ok v) P p = p

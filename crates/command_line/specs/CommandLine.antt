@@ -85,8 +85,9 @@ text_rule name = record (new_rule name) {
 abbrev pub check_command : App
 check_command = with_rule (with_rule (with_file (codes "check")) more_files_rule) (flag_rule (codes "strict"))
 
+-- the subcommand `marks`, whose files can be marked by the questions of another
 abbrev pub marks_command : App
-marks_command = with_rule (with_file (codes "marks")) more_files_rule
+marks_command = with_rule (with_rule (with_file (codes "marks")) more_files_rule) (text_rule (codes "of"))
 
 -- the other subcommands that have options
 abbrev pub threads_command : App
@@ -178,16 +179,20 @@ more_given (Some names) = texts names
 abbrev pub more_behind : Text → List Row → List Text
 more_behind name rows = if bytes_eq name (codes "check") || bytes_eq name (codes "marks") then more_files_in rows else []
 
--- the names of all files, where there is more than one; else none
-abbrev pub several_of : Option Text → List Text → List Text
-several_of file [] = []
-several_of None (name ∷ more) = name ∷ more
-several_of (Some first) (name ∷ more) = first ∷ name ∷ more
+-- a subcommand of that name with these matches lists one file as it lists several: `marks` with `--of`
+abbrev pub lists_one : Text → List Row → Bool
+lists_one name rows = bytes_eq name (codes "marks") && is_some (first_of (codes "of") rows)
+
+-- the names of all files, where there is more than one; where one is listed too that of it, or a hyphen where none is named; else none
+abbrev pub several_of : Bool → Option Text → List Text → List Text
+several_of one file [] = if one then unwrap_or file (codes "-") ∷ [] else []
+several_of one None (name ∷ more) = name ∷ more
+several_of one (Some first) (name ∷ more) = first ∷ name ∷ more
 
 -- the same by the command's own matches and those of the subcommand
 abbrev pub files_of : List Row → Option (Text × List Row) → List Text
-files_of above None = several_of (file_of above None) (more_files_in above)
-files_of above (Some met) = several_of (file_of above (Some met)) (more_behind met.0 met.1)
+files_of above None = several_of false (file_of above None) (more_files_in above)
+files_of above (Some met) = several_of (lists_one met.0 met.1) (file_of above (Some met)) (more_behind met.0 met.1)
 
 -- a hyphen, which stands for standard input, is there at most once
 abbrev pub reads_once : List Text → Bool
@@ -230,6 +235,7 @@ pub record HasOptions (rows : List Row) (options : Options) : Type 0 where
   pub untyped : option_map (λ s. s.now) options.untyped ≡ first_of (codes "untyped") rows
   pub shrink : Says (first_of (codes "shrink") rows) options.shrink
   pub listing : options.listing ≡ is_set (first_of (codes "listing") rows)
+  pub of : option_map (λ s. s.now) options.of ≡ first_of (codes "of") rows
 
 -- `--ever` and `--never` tell of all calls to come
 abbrev pub is_of_parts : Options → Bool
@@ -257,7 +263,7 @@ job_asked words = job_of (subcommand_of command words)
 abbrev pub file_asked : List Text → Option Text
 file_asked words = file_of (matches_of command words) (subcommand_of command words)
 
--- the names of all files, where there is more than one
+-- the names of all files that are listed
 abbrev pub several_asked : List Text → List Text
 several_asked words = files_of (matches_of command words) (subcommand_of command words)
 

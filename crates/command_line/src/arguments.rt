@@ -77,6 +77,8 @@ pub struct Options<'a> {
     pub shrink: Option<u64>,
     /// Whether `--listing` of `import` is there: the slots of the layout are asked for.
     pub listing: bool,
+    /// `--of` of `marks`: the name of a file, whose set-up has the questions.
+    pub of: Option<&'a str>,
 }
 
 /// A command line that was taken: what to do, by which options, and with which file or files; without a file, with standard
@@ -89,7 +91,7 @@ pub struct Line<'a> {
     pub options: Options<'a>,
     /// The file's name; the first one's, where there are several.
     pub file: Option<&'a str>,
-    /// The names of all files where there is more than one, which are to be checked or marked; else nothing.
+    /// The names of all files that are to be checked or marked, where there is more than one or `--of` is there; else nothing.
     pub several: Vec<&'a str>,
 }
 

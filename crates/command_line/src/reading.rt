@@ -4,7 +4,7 @@ ghost use Rattle.std.specs.Str.{bytes_eq};
 ghost use Rattle.clap.specs.Words.{App, Rule, app_of, fault_of, first_of, found_of, rows_of, subcommand_of, subcommand_rows_of, with_rule};
 ghost use Rattle.clap.specs.Values.{kind_of};
 ghost use Rattle.clap.specs.Walk.{texts};
-ghost use Rattle.command_line.specs.CommandLine.{Explains, ExplainsMatches, Extends, HasOptions, IsArgument, IsCommand, Says, StandsFor, agrees, and_subcommand as and_command, audit_command, bare_command, check_command, command as definition, explore_command, file_asked, file_of, file_rule, files_of, flag_rule, import_command, is_set, job_asked, job_named, job_of, marks_command, more_behind as more_behind_definition, more_files_in, more_files_rule, more_given, new_command, number_rule, own_rows, plain_command, reads_once, several_asked, several_of, text_rule, threads_command, tree_command, version_rule, why_command, with_file as with_file_definition};
+ghost use Rattle.command_line.specs.CommandLine.{Explains, ExplainsMatches, Extends, HasOptions, IsArgument, IsCommand, Says, StandsFor, agrees, and_subcommand as and_command, audit_command, bare_command, check_command, command as definition, explore_command, file_asked, file_of, file_rule, files_of, flag_rule, import_command, is_set, job_asked, job_named, job_of, lists_one as lists_one_definition, marks_command, more_behind as more_behind_definition, more_files_in, more_files_rule, more_given, new_command, number_rule, own_rows, plain_command, reads_once, several_asked, several_of, text_rule, threads_command, tree_command, version_rule, why_command, with_file as with_file_definition};
 
 use crate::arguments::{Job, Line, LineFault, Options};
 use clap::builder::ValueParser;
@@ -25,6 +25,8 @@ Examples:
   sel4sim layout.toml            the report of a set-up
   sel4sim a.toml b.toml          a line for each of several, and a summary
   sel4sim marks layout.toml      which of its expectations are met, and no reply
+  sel4sim marks --of exercise.toml a.toml b.toml
+                                 the marks of answers that were handed in, as a table
   sel4sim trace layout.toml      what each of its calls changed
   sel4sim why layout.toml        why its calls are refused
   sel4sim tree layout.toml       which slot is derived from which
@@ -357,7 +359,14 @@ fn marks<'a>(alloc: Global) -> Result<Command<'a>, AllocError>
     ensures { IfOk result (IsCommand marks_command) }
 {
     let about = "Runs a set-up and prints which of its expectations are met, and no reply";
-    and_argument(with_file(alloc, "marks", about), more_files(alloc))
+    let with_more = and_argument(with_file(alloc, "marks", about), more_files(alloc));
+    let of = text(
+        alloc,
+        "of",
+        "EXERCISE",
+        "Mark the files by the questions of this one, and print a table",
+    );
+    and_argument(with_more, of)
 }
 
 /// The command with the subcommands that take several files or have no options.
@@ -443,6 +452,7 @@ fn options_in<'a>(matches: &ArgMatches<'a>) -> Options<'a>
         untyped: text_given(matches, "untyped"),
         shrink: number_given(matches, "shrink"),
         listing: flag_given(matches, "listing"),
+        of: text_given(matches, "of"),
     }
 }
 
@@ -453,16 +463,21 @@ fn more_in<'m, 'a>(matches: &'m ArgMatches<'a>) -> Option<&'m [&'a str]>
     matches.get_raw("FILES")
 }
 
-/// The names of the first file and of those behind it, where there are any behind it.
+/// The names of the first file and of those behind it, where there are any behind it; and else that of the one file, a hyphen
+/// where it has none, if one is listed too.
 fn with_first<'a>(
     alloc: Global,
+    lists_one: bool,
     file: Option<&'a str>,
     more: &[&'a str],
 ) -> Result<Vec<&'a str>, AllocError>
-    ensures { IfOk result (λ v. texts v.items ≡ several_of (option_map (λ s. s.now) file.entry) (texts more.now)) }
+    ensures { IfOk result (λ v. texts v.items ≡ several_of lists_one (option_map (λ s. s.now) file.entry) (texts more.now)) }
 {
     let mut several = Vec::new(alloc);
     if more.is_empty() {
+        if lists_one {
+            several.push(file.unwrap_or("-"))?;
+        }
         return Ok(several);
     }
     if let Some(name) = file {
@@ -472,18 +487,26 @@ fn with_first<'a>(
     Ok(several)
 }
 
-/// The same; where no files are behind the first, none.
+/// The same, where clap may give no files behind the first.
 fn several_in<'a>(
     alloc: Global,
+    lists_one: bool,
     file: Option<&'a str>,
     more: Option<&[&'a str]>,
 ) -> Result<Vec<&'a str>, AllocError>
-    ensures { IfOk result (λ v. texts v.items ≡ several_of (option_map (λ s. s.now) file.entry) (more_given (option_map (λ v. v.now) more.entry))) }
+    ensures { IfOk result (λ v. texts v.items ≡ several_of lists_one (option_map (λ s. s.now) file.entry) (more_given (option_map (λ v. v.now) more.entry))) }
 {
     match more {
-        Some(more) => with_first(alloc, file, more),
-        None => Ok(Vec::new(alloc)),
+        Some(more) => with_first(alloc, lists_one, file, more),
+        None => with_first(alloc, lists_one, file, &[]),
     }
+}
+
+/// Whether a subcommand of that name lists one file as it lists several: `marks` where `--of` is there.
+fn lists_one(name: &str, matches: &ArgMatches) -> bool
+    ensures { result ≡ lists_one_definition name.now (rows_of (found_of matches.now)) }
+{
+    name == "marks" && text_given(matches, "of").is_some()
 }
 
 /// What the matches ask for where they name no subcommand.
@@ -494,7 +517,7 @@ fn bare_line<'a>(alloc: Global, matches: &ArgMatches<'a>) -> Result<Line<'a>, Al
     ensures several { IfOk result (λ l. files_of (rows_of (found_of matches.now)) None ≡ texts l.several.items) }
 {
     let file = matches.get_str("FILE");
-    let several = several_in(alloc, file, more_in(matches))?;
+    let several = several_in(alloc, false, file, more_in(matches))?;
     Ok(Line {
         job: Job::Check,
         options: Options {
@@ -518,6 +541,7 @@ fn bare_line<'a>(alloc: Global, matches: &ArgMatches<'a>) -> Result<Line<'a>, Al
             untyped: None,
             shrink: None,
             listing: false,
+            of: None,
         },
         file,
         several,
@@ -555,7 +579,8 @@ fn subcommand_line<'a>(
     };
     let first = matches.get_str("FILE");
     let file = first.or(above.get_str("FILE"));
-    let several = several_in(alloc, file, more_behind(name, matches))?;
+    let lists_one = lists_one(name, matches);
+    let several = several_in(alloc, lists_one, file, more_behind(name, matches))?;
     Ok(Line {
         job,
         options: options_in(matches),

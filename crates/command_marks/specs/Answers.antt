@@ -64,8 +64,8 @@ exercise_in (Ok setup) = Some setup
 exercise_in (Err fault) = None
 
 abbrev pub table_text : List ℕ → List (List ℕ) → List (Option (List ℕ)) → List ℕ
-table_text exercise = told_text head (row (exercise_in (setup_of_bytes exercise))) (λ files tally. [])
+table_text exercise = told_text false head (row (exercise_in (setup_of_bytes exercise))) (λ files tally. [])
 
 -- a run of `marks --of` over files, by the bytes of an exercise
 abbrev pub AreMarkedBy : {K : Type 0} → List ℕ → (List ℕ → Option (List ℕ) → Type 0) → SinkGhosts K → List (List ℕ) → K → K → Result Tally RunFault → Type 0
-AreMarkedBy exercise = IsToldOf (table_text exercise)
+AreMarkedBy exercise = IsToldOf false (table_text exercise)

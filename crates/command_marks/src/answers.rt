@@ -148,6 +148,8 @@ struct Answers<'a> {
 }
 
 impl Telling for Answers<'_> {
+    ghost strict = { λ table. false };
+
     ghost is_made = { λ table bytes made. made.text.items ≡ spec.cells_for (option_map (λ s. s.now) table.exercise) (setup_of_bytes bytes) };
 
     ghost head = { λ table. spec.head };
@@ -155,6 +157,10 @@ impl Telling for Answers<'_> {
     ghost line = { λ table. spec.row (option_map (λ s. s.now) table.exercise) };
 
     ghost last = { λ table files tally. [] };
+
+    fn is_strict(&self) -> bool {
+        false
+    }
 
     fn make(&self, alloc: Global, bytes: &[u8]) -> Result<CountedText, AllocError> {
         run_bytes(alloc, self.exercise, bytes)

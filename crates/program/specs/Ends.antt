@@ -1,5 +1,5 @@
 -- What the program does with the words of its command line.
-use Rattle.std.specs.Prelude.{◌≡◌, ◌≢◌, ℕ, List, [], codes, Option, Some, None, Result, Err, true, false, if◌then◌else◌, IfOk, IfErr, OnOk, OnErr, Bool, MatchBool}
+use Rattle.std.specs.Prelude.{◌≡◌, ◌≢◌, ℕ, List, [], codes, Option, Some, None, option_map, Result, Err, true, false, if◌then◌else◌, IfOk, IfErr, OnOk, OnErr, Bool, MatchBool}
 use Rattle.std.specs.Str.{bytes_eq}
 use Rattle.clap.specs.Words.{Text, subcommand_of, takes, fault_of, IsAmong}
 use Rattle.clap.specs.declared.error.kind.ErrorKind.TheVariants.{DisplayHelp}
@@ -17,8 +17,9 @@ use Rattle.command_core.specs.declared.sink.Sink.{Ghosts as SinkGhosts}
 use Rattle.command_core.specs.declared.source.Source.{Ghosts as SourceGhosts}
 use Rattle.program.specs.Jobs.{meaning}
 use Rattle.program.specs.NewWords.{IsNewOf}
-use Rattle.command_files.specs.Files.{IsCheckOf, IsInput}
+use Rattle.command_files.specs.Files.{IsCheckOf, IsFile, IsInput}
 use Rattle.command_files.specs.declared.tally.Tally.{Tally}
+use Rattle.command_marks.specs.Answers.{AreMarkedBy}
 use Rattle.command_marks.specs.Table.{IsMarksOf}
 use Rattle.command_files.specs.declared.inputs.Used.{Used}
 use Rattle.command_files.specs.declared.inputs.Used.TheVariants.{Standard, File, Unopened, Nothing}
@@ -62,10 +63,21 @@ abbrev pub is_marks : Job → Bool
 is_marks Marks = true
 is_marks job = false
 
--- several files were marked, where that is the job, or checked, strictly or not
-abbrev pub AreDone : {K : Type 0} → Job → Bool → (Text → Option Text → Type 0) → SinkGhosts K → List Text → K → K → Result Tally RunFault → Type 0
-AreDone job strict Is to names old new answer =
-    MatchBool (is_marks job) (IsMarksOf Is to names old new answer) (IsCheckOf strict Is to names old new answer)
+-- the bytes of the file that an option names; nothing, where it is not there
+abbrev pub IsSecond : {F E : Type 0} → (Text → F → Type 0) → (Text → E → Type 0) → SourceGhosts F → Option Text → List ℕ → Type 0
+IsSecond is_file is_fault from_file None bytes = bytes ≡ []
+IsSecond is_file is_fault from_file (Some name) bytes = IsFile is_file is_fault from_file name (Some bytes)
+
+-- files were marked, by the exercise with these bytes where `--of` names one
+abbrev pub AreMarked : {K : Type 0} → Option Text → List ℕ → (Text → Option Text → Type 0) → SinkGhosts K → List Text → K → K → Result Tally RunFault → Type 0
+AreMarked None exercise = IsMarksOf
+AreMarked (Some name) exercise = AreMarkedBy exercise
+
+-- so they were where that is the job, or checked, strictly or not
+abbrev pub AreDone : {K : Type 0} → Job → Options → List ℕ → (Text → Option Text → Type 0) → SinkGhosts K → List Text → K → K → Result Tally RunFault → Type 0
+AreDone job options exercise Is to names old new answer =
+    MatchBool (is_marks job) (AreMarked (option_map (λ s. s.now) options.of) exercise Is to names old new answer)
+    (IsCheckOf options.strict Is to names old new answer)
 
 -- a text was written, or a front of it where a write failed
 abbrev pub IsWritten : {K : Type 0} → SinkGhosts K → Result Unit RunFault → K → K → Type 0
@@ -75,10 +87,11 @@ IsWritten to result old new = (text : List ℕ)
     × OnErr result (TookFront to.taken to.written old new text)
 
 -- Did: clap takes the words, their options go together, and their job was done with the one input that they name. Checked:
--- clap takes them, they ask that several files be checked or marked, of which standard input is one at most, and these were.
+-- clap takes them, they list files that are to be checked or marked, of which standard input is one at most, and these were, by the
+-- exercise that they name where they name one.
 -- Helped: their fault can be a call for help. Refused: they have another fault, and nothing is written. Conflict: clap takes
 -- them, their options do not go together or standard input is named twice, and nothing is written. NoMemory: nothing is written.
--- NoPolicy: clap takes the words, and the file of the policy that they name could not be read; nothing is written.
+-- NoPolicy: clap takes the words, and the file of the policy or of the exercise that they name could not be read; nothing is written.
 abbrev pub IsEnd : {S F E K : Type 0} → (S → Type 0) → (Text → F → Type 0) → (Text → E → Type 0)
     → SourceGhosts S → SourceGhosts F → SinkGhosts K → List Text → Ended S F E → K → K → Type 0
 IsEnd is_standard is_file is_fault from_standard from_file to words (Did done) old new =
@@ -96,7 +109,8 @@ IsEnd is_standard is_file is_fault from_standard from_file to words (Checked che
     × (takes_several checked.line.job ≡ true)
     × (several_asked words ≢ [])
     × (reads_once (several_asked words) ≡ true)
-    × AreDone checked.line.job checked.line.options.strict (IsInput is_standard is_file is_fault from_standard from_file) to (several_asked words) old new checked.answer
+    × (exercise : List ℕ) × IsSecond is_file is_fault from_file (option_map (λ s. s.now) checked.line.options.of) exercise
+    × AreDone checked.line.job checked.line.options exercise (IsInput is_standard is_file is_fault from_standard from_file) to (several_asked words) old new checked.answer
 IsEnd is_standard is_file is_fault from_standard from_file to words (Helped answer) old new =
     (takes command words ≡ false) × IsAmong DisplayHelp (fault_of command words) × IsWritten to answer old new
 IsEnd is_standard is_file is_fault from_standard from_file to words Refused old new =

@@ -1,15 +1,15 @@
 //! A command line, from its words to its end.
-ghost use Rattle.std.specs.Prelude.{◌≡◌, false, Some, None, option_map};
+ghost use Rattle.std.specs.Prelude.{◌≡◌, false, Some, None, option_map, IfOk};
 ghost use Rattle.clap.specs.Walk.{texts};
 ghost use Rattle.command_files.specs.Files.{IsInput};
-ghost use Rattle.program.specs.Ends.{AreDone, is_marks as is_marks_definition, IsDone, IsEnd, IsWriting, named_input};
+ghost use Rattle.program.specs.Ends.{AreDone, AreMarked, is_marks as is_marks_definition, IsDone, IsEnd, IsSecond, IsWriting, named_input};
 ghost use Rattle.program.specs.NewWords.{IsNewOf};
 
 use crate::jobs::{run_job, run_work};
 use command_core::{INPUT_LIMIT, ReaderSource, RunFault, Sink, read_below, write_all};
-use command_files::{Inputs, Listener, Used, check_files};
+use command_files::{Inputs, Listener, Tally, Used, check_files};
 use command_line::{Job, Line, LineFault, line};
-use command_marks::mark_files;
+use command_marks::{mark_answers, mark_files};
 use program_messages::{CheckedFiles, Done, Ended, Unread};
 use std::alloc::Global;
 use std::sync::Wait;
@@ -156,12 +156,15 @@ fn run_line<'a, R: Threads + Wait + Sync, I: Inputs, K: Sink>(
     }
 }
 
-/// The bytes of the policy that a line names; none where it names none. A file that cannot be opened is a failed read.
-fn read_policy<'a, I: Inputs>(
+/// The bytes of the policy or of the exercise that a line names; none where it names none. A file that cannot be opened is a
+/// failed read.
+fn read_second<'a, I: Inputs>(
     alloc: Global,
     inputs: &I,
     name: Option<&'a str>,
-) -> Result<Vec<u8>, Unread<'a, I::Standard, I::File, I::Fault>> {
+) -> Result<Vec<u8>, Unread<'a, I::Standard, I::File, I::Fault>>
+    ensures { IfOk result (λ bytes. IsSecond (I.is_file inputs.now) (I.is_fault inputs.now) I.File.Source (option_map (λ s. s.now) name.entry) bytes.items) }
+{
     let Some(name) = name else {
         return Ok(Vec::new(alloc));
     };
@@ -192,31 +195,52 @@ fn is_marks(job: Job) -> bool
     matches!(job, Job::Marks)
 }
 
-/// Checks or marks the files of a line that names several.
+/// Marks the files of a line, by the exercise with these bytes where it names one.
+fn mark<I: Inputs, L: Listener<I::Standard, I::File, I::Fault>, K: Sink>(
+    alloc: Global,
+    inputs: &I,
+    listener: &L,
+    line: &Line<'_>,
+    exercise: &[u8],
+    sink: &mut K,
+) -> Result<Tally, RunFault>
+    requires sink { K.failed sink.old ≡ false }
+    ensures done { AreMarked (option_map (λ s. s.now) line.now.options.of) exercise.now
+        (IsInput (I.is_standard inputs.now) (I.is_file inputs.now) (I.is_fault inputs.now) I.Standard.Source I.File.Source)
+        K.Sink (texts line.now.several.items) sink.old sink.new result }
+{
+    let names = line.several.as_slice();
+    match line.options.of {
+        None => mark_files(alloc, inputs, listener, names, sink),
+        Some(_) => mark_answers(alloc, inputs, listener, exercise, names, sink),
+    }
+}
+
+/// Checks or marks the files of a line that lists them.
 fn run_files<'a, I: Inputs, L: Listener<I::Standard, I::File, I::Fault>, K: Sink>(
     alloc: Global,
     inputs: &I,
     listener: &L,
     line: Line<'a>,
+    exercise: &[u8],
     sink: &mut K,
 ) -> CheckedFiles<'a>
     requires sink { K.failed sink.old ≡ false }
     ensures line { result.line ≡ line.entry }
-    ensures done { AreDone line.entry.job line.entry.options.strict (IsInput (I.is_standard inputs.now) (I.is_file inputs.now) (I.is_fault inputs.now) I.Standard.Source I.File.Source)
+    ensures done { AreDone line.entry.job line.entry.options exercise.now (IsInput (I.is_standard inputs.now) (I.is_file inputs.now) (I.is_fault inputs.now) I.Standard.Source I.File.Source)
         K.Sink (texts line.entry.several.items) sink.old sink.new result.answer }
 {
-    let names = line.several.as_slice();
     let answer = if is_marks(line.job) {
-        mark_files(alloc, inputs, listener, names, sink)
+        mark(alloc, inputs, listener, &line, exercise, sink)
     } else {
         let strict = line.options.strict;
-        check_files(alloc, inputs, listener, strict, names, sink)
+        check_files(alloc, inputs, listener, strict, line.several.as_slice(), sink)
     };
     CheckedFiles { line, answer }
 }
 
 /// Does what the words of a command line ask for, of which the first is the program's name: the job, with the file that
-/// they name or with standard input, the check or the marks of several files, of each of which the listener hears, or the help
+/// they name or with standard input, the check or the marks of files that are listed, of each of which the listener hears, or the help
 /// text.
 /// Nothing is written where they are not taken.
 pub fn run_words<
@@ -240,12 +264,18 @@ pub fn run_words<
     match line(alloc, words) {
         Ok(line) => {
             if line.several.is_empty() {
-                match read_policy(alloc, inputs, line.options.policy) {
+                match read_second(alloc, inputs, line.options.policy) {
                     Ok(policy) => Ended::Did(run_line(rt, alloc, inputs, line, policy, sink)),
                     Err(unread) => Ended::NoPolicy(unread),
                 }
             } else {
-                Ended::Checked(run_files(alloc, inputs, listener, line, sink))
+                match read_second(alloc, inputs, line.options.of) {
+                    Ok(exercise) => {
+                        let exercise = exercise.as_slice();
+                        Ended::Checked(run_files(alloc, inputs, listener, line, exercise, sink))
+                    }
+                    Err(unread) => Ended::NoPolicy(unread),
+                }
             }
         }
         Err(LineFault::Help(text)) => Ended::Helped(write_all(sink, text.as_bytes())),

@@ -21,7 +21,7 @@ pub struct Done<'a, S, F, E> {
     pub answer: Result<Found, RunFault>,
 }
 
-/// A line whose several files were checked or marked, and what came of it.
+/// A line whose files were checked or marked, and what came of it.
 #[derive(Drop)]
 pub struct CheckedFiles<'a> {
     /// What was asked for.
@@ -30,7 +30,7 @@ pub struct CheckedFiles<'a> {
     pub answer: Result<Tally, RunFault>,
 }
 
-/// A policy that could not be read.
+/// A policy, or an exercise, that could not be read.
 #[derive(Drop)]
 pub struct Unread<'a, S, F, E> {
     /// The name of its file.
@@ -46,7 +46,7 @@ pub struct Unread<'a, S, F, E> {
 pub enum Ended<'a, S, F, E> {
     /// The line was taken, and its job done.
     Did(Done<'a, S, F, E>),
-    /// The line was taken, and its several files checked or marked.
+    /// The line was taken, and the files that it lists checked or marked.
     Checked(CheckedFiles<'a>),
     /// The line calls for help, whose text was written, or a front of it.
     Helped(Result<(), RunFault>),
@@ -56,7 +56,7 @@ pub enum Ended<'a, S, F, E> {
     Conflict(&'static str),
     /// Memory ran out while the line was read.
     NoMemory,
-    /// The line was taken, and the policy that it names could not be read.
+    /// The line was taken, and the policy or the exercise that it names could not be read.
     NoPolicy(Unread<'a, S, F, E>),
 }
 

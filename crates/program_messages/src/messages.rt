@@ -366,7 +366,7 @@ fn tell_of_line<R: Eprint + AllocGlobal, S, F>(
     }
 }
 
-/// Says why a policy could not be read.
+/// Says why a policy or an exercise could not be read.
 fn tell_of_policy<S, F>(
     rt: &impl Eprint,
     unread: &Unread<'_, ReaderSource<KeptReader<S>>, ReaderSource<KeptReader<F>>, io::Error>,

@@ -29,7 +29,7 @@ enum Told<'a> {
     Job(&'a str, Option<&'a str>),
     /// They ask for a check of these files; of none, where there is at most one.
     Several(&'a [&'a str]),
-    /// They ask for the marks of these files; of none, where there is at most one.
+    /// They ask for the marks of these files; of none, where there is at most one and no exercise.
     Marks(&'a [&'a str]),
     /// They ask for reasons, of the call with this number or of all.
     Why(Option<u64>),
@@ -127,6 +127,13 @@ const JOBS: &[(&[&str], Told)] = &[
     (&["sel4sim", "marks", "a"], Told::Marks(&[])),
     (&["sel4sim", "marks", "a", "b"], Told::Marks(&["a", "b"])),
     (&["sel4sim", "marks", "-", "a"], Told::Marks(&["-", "a"])),
+    // by an exercise, also one file alone
+    (
+        &["sel4sim", "marks", "--of", "e", "a", "b"],
+        Told::Marks(&["a", "b"]),
+    ),
+    (&["sel4sim", "marks", "--of", "e", "a"], Told::Marks(&["a"])),
+    (&["sel4sim", "marks", "--of", "e"], Told::Marks(&["-"])),
 ];
 
 /// Words that are taken, each with what their options ask for.
@@ -288,6 +295,7 @@ const FAULTS_OF_LINES: &[(&[&str], Told)] = &[
     (&["sel4sim", "explore", "--states", ""], Told::Refused),
     (&["sel4sim", "explore", "--after", "1"], Told::Refused),
     (&["sel4sim", "check", "--ever"], Told::Refused),
+    (&["sel4sim", "check", "--of", "e", "a"], Told::Refused),
 ];
 
 /// Whether words that are taken ask for what they should.

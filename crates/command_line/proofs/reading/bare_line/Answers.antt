@@ -1,5 +1,5 @@
 -- The file is clap's value of FILE, and those behind it are its values of FILES; no option is there.
-use Rattle.std.proofs.Common.{◌∙◌, ap₂, codes, refl, sym}
+use Rattle.std.proofs.Common.{◌∙◌, ap₂, codes, false, refl, sym}
 use Rattle.clap.proofs.WalkLemmas.{first_value-rows}
 use Rattle.clap.specs.Words.{found_of}
 use Rattle.command_line.specs.CommandLine.{several_of}
@@ -7,7 +7,7 @@ use Rattle.command_line.proofs.reading.bare_line.Goals as goal
 
 pub returns-clause-options : goal.returns-clause-options
 returns-clause-options c =
-    record { strict = refl; call = refl; after = refl; slot = refl; ever = refl; never = refl; by = refl; without = refl; messages = refl; policy = refl; first = refl; states = refl; witness = refl; dot = refl; profile = refl; threads = refl; endpoints = refl; untyped = refl; shrink = refl; listing = refl }
+    record { strict = refl; call = refl; after = refl; slot = refl; ever = refl; never = refl; by = refl; without = refl; messages = refl; policy = refl; first = refl; states = refl; witness = refl; dot = refl; profile = refl; threads = refl; endpoints = refl; untyped = refl; shrink = refl; listing = refl; of = refl }
 
 pub returns-clause-file : goal.returns-clause-file
 returns-clause-file c = sym (c.get_str-file.ensures ∙ first_value-rows (found_of c.args.matches.now) (codes "FILE"))
@@ -15,4 +15,4 @@ returns-clause-file c = sym (c.get_str-file.ensures ∙ first_value-rows (found_
 pub returns-clause-several : goal.returns-clause-several
 returns-clause-several c =
     sym (c.in_ok-several.ensures
-    ∙ ap₂ several_of (c.get_str-file.ensures ∙ first_value-rows (found_of c.args.matches.now) (codes "FILE")) c.more_in.ensures)
+    ∙ ap₂ (several_of false) (c.get_str-file.ensures ∙ first_value-rows (found_of c.args.matches.now) (codes "FILE")) c.more_in.ensures)
