@@ -1,0 +1,40 @@
+-- What is told of two threads is told by parts that may be told.
+use Rattle.std.proofs.Common.{◌≡◌, ℕ, List, subst}
+use Rattle.cap_core.specs.declared.profile.ProfileName.{ProfileName}
+use Rattle.kernel_abstract.specs.Shown.{Shown}
+use Rattle.query_parts.specs.declared.listed.PartMemory.{PartMemory}
+use Rattle.query_parts.specs.declared.listed.PartUse.{PartUse}
+use Rattle.setup_values.specs.Names.{Names}
+use Rattle.setup_format.specs.Views.{SetupView}
+use Rattle.setup_objects.specs.declared.meant.ObjectKind.TheVariants.{Thread, Endpoint}
+use Rattle.command_parts.specs.Threads.{named}
+use Rattle.command_parts.specs.Ever.{AreRightParts}
+use Rattle.command_core.specs.declared.fault.Verdict.{Verdict}
+use Rattle.command_how_witness.specs.Witness.{Asking}
+use Rattle.command_how.specs.How.{Words, IsToldOf, IsToldByParts}
+
+abbrev asking_with : Words → ℕ → ℕ → List PartMemory → List ℕ → List ℕ → Asking
+asking_with w from to memory by without = record {
+  what = w.what;
+  from = from;
+  to = to;
+  by = by;
+  badge = w.badge;
+  memory = memory;
+  without = without;
+}
+
+pub told_by_parts : (p : ProfileName) (w : Words) (names : Names) (setup : SetupView) (made : ℕ) (v : Shown) (from to : ℕ) (text : List ℕ) (verdict : Verdict)
+    (without by : List ℕ) (memory : List PartMemory) (uses : List PartUse) →
+    without ≡ named Thread p names setup.plan v w.without → by ≡ named Endpoint p names setup.plan v w.by →
+    AreRightParts p v without memory uses →
+    IsToldOf p names (asking_with w from to memory by without) uses v setup made text verdict →
+    IsToldByParts p w names setup made v from to text verdict
+told_by_parts p w names setup made v from to text verdict without by memory uses without_is by_is right told = record {
+  memory = memory;
+  uses = uses;
+  right = subst (λ (l : List ℕ). AreRightParts p v l memory uses) without_is right;
+  told =
+      subst (λ (l : List ℕ). IsToldOf p names (asking_with w from to memory (named Endpoint p names setup.plan v w.by) l) uses v setup made text verdict) without_is
+      (subst (λ (l : List ℕ). IsToldOf p names (asking_with w from to memory l without) uses v setup made text verdict) by_is told);
+}

@@ -1,0 +1,112 @@
+-- What is written of how it could happen, and the verdict.
+use Rattle.std.specs.Prelude.{◌≡◌, ◌⊎◌, ℕ, ◌==◌, ◌&&◌, Bool, false, not, List, [], map, Option, Some, None, is_some, MatchBool}
+use Rattle.std.specs.Borrow.{Bor}
+use Rattle.cap_core.specs.declared.profile.ProfileName.{ProfileName}
+use Rattle.kernel_abstract.specs.Plan.{Plan}
+use Rattle.kernel_abstract.specs.Shown.{Shown, state_at}
+use Rattle.kernel_abstract.specs.State.{State, shown}
+use Rattle.query_parts.specs.declared.listed.PartMemory.{PartMemory}
+use Rattle.query_parts.specs.declared.listed.PartUse.{PartUse}
+use Rattle.setup_values.specs.Names.{Names}
+use Rattle.setup_format.specs.Views.{SetupView}
+use Rattle.setup_objects.specs.declared.meant.ObjectKind.TheVariants.{Thread, Endpoint}
+use Rattle.setup_objects.specs.Meant.{object_meant, are_meant}
+use Rattle.command_parts.specs.Threads.{named}
+use Rattle.command_parts.specs.Ever.{AreRightParts}
+use Rattle.command_core.specs.declared.fault.Verdict.{Verdict}
+use Rattle.command_core.specs.declared.fault.Verdict.TheVariants.{AllMet, NotMet, Absent}
+use Rattle.command_how_witness.specs.declared.asked.Happening.{Happening}
+use Rattle.command_how_witness.specs.Witness.{Asking}
+use Rattle.command_how_witness.specs.Excluded.{IsExcluded}
+use Rattle.command_how_witness.specs.Text.{IsWitnessText}
+use Rattle.command_how.specs.declared.asking.How.{How}
+use Rattle.command_how.specs.declared.line.NoWitness.{NoWitness}
+use Rattle.command_how.specs.declared.line.NoWitness.TheVariants.{Excluded}
+use Rattle.command_how.specs.Line.{how_line, says_excluded}
+
+-- what is asked, by the words of a command line
+pub record Words : Type 0 where
+  pub what : Happening
+  pub from : List ℕ
+  pub to : List ℕ
+  pub by : List (List ℕ)
+  pub badge : Option ℕ
+  pub without : List (List ℕ)
+
+-- a question, with its words as lists of characters
+abbrev pub words_of : How → Words
+words_of h = record {
+  what = h.what;
+  from = h.from.now;
+  to = h.to.now;
+  by = map (λ (w : Bor (List ℕ)). w.now) h.by.now;
+  badge = h.badge;
+  without = map (λ (w : Bor (List ℕ)). w.now) h.without.now;
+}
+
+-- of two threads, with this memory of parts
+abbrev pub asking : ProfileName → Names → Plan → Shown → Words → ℕ → ℕ → List PartMemory → Asking
+asking p names plan v w from to memory = record {
+  what = w.what;
+  from = from;
+  to = to;
+  by = named Endpoint p names plan v w.by;
+  badge = w.badge;
+  memory = memory;
+  without = named Thread p names plan v w.without;
+}
+
+-- nothing is written
+abbrev pub IsNothing : List ℕ → Verdict → Type 0
+IsNothing text verdict = (text ≡ []) × (verdict ≡ Absent)
+
+-- the line of an answer that is no witness
+abbrev pub IsLine : Names → Asking → NoWitness → List ℕ → Verdict → Type 0
+IsLine names q answer text verdict = (text ≡ how_line names q answer) × (verdict ≡ NotMet)
+
+-- what was looked for: a witness, or a line that does not say that it is excluded
+abbrev pub IsSought : ProfileName → Names → Asking → SetupView → ℕ → List ℕ → Verdict → Type 0
+IsSought p names q setup made text verdict =
+    ((verdict ≡ AllMet) × IsWitnessText p q setup made text)
+    ⊎ ((answer : NoWitness) × ((says_excluded answer ≡ false) × IsLine names q answer text verdict))
+
+-- the line that it is excluded, where it is; or what was looked for
+abbrev pub IsToldOf : ProfileName → Names → Asking → List PartUse → Shown → SetupView → ℕ → List ℕ → Verdict → Type 0
+IsToldOf p names q uses v setup made text verdict =
+    (IsExcluded p q uses v × IsLine names q Excluded text verdict) ⊎ IsSought p names q setup made text verdict
+
+-- the same by parts that may be told
+pub record IsToldByParts (p : ProfileName) (w : Words) (names : Names) (setup : SetupView) (made : ℕ) (v : Shown) (from to : ℕ) (text : List ℕ) (verdict : Verdict) : Type 0 where
+  pub memory : List PartMemory
+  pub uses : List PartUse
+  pub right : AreRightParts p v (named Thread p names setup.plan v w.without) memory uses
+  pub told : IsToldOf p names (asking p names setup.plan v w from to memory) uses v setup made text verdict
+
+-- two threads, and both are live
+abbrev pub are_two_live : Shown → ℕ → ℕ → Bool
+are_two_live v from to = not (from == to) && (is_some (state_at v from) && is_some (state_at v to))
+
+abbrev pub IsToldOfThreads : ProfileName → Words → Names → SetupView → ℕ → Shown → ℕ → ℕ → List ℕ → Verdict → Type 0
+IsToldOfThreads p w names setup made v from to text verdict =
+    MatchBool (are_two_live v from to) (IsToldByParts p w names setup made v from to text verdict) (IsNothing text verdict)
+
+-- of two threads, where each text stands for one
+abbrev pub IsToldOfMeant : ProfileName → Words → Names → SetupView → ℕ → Shown → Option ℕ → Option ℕ → List ℕ → Verdict → Type 0
+IsToldOfMeant p w names setup made v None to text verdict = IsNothing text verdict
+IsToldOfMeant p w names setup made v (Some from) None text verdict = IsNothing text verdict
+IsToldOfMeant p w names setup made v (Some from) (Some to) text verdict = IsToldOfThreads p w names setup made v from to text verdict
+
+-- each text for a trusted thread stands for a thread, and each for an endpoint that is allowed for an endpoint
+abbrev pub has_asked : ProfileName → Names → Plan → Shown → Words → Bool
+has_asked p names plan v w = are_meant Thread p names plan v w.without && are_meant Endpoint p names plan v w.by
+
+-- the text and the verdict of what is shown behind so many calls: nothing, where a word stands for nothing
+abbrev pub IsHowBy : Words → ProfileName → Names → SetupView → ℕ → Shown → List ℕ → Verdict → Type 0
+IsHowBy w p names setup made v text verdict =
+    MatchBool (has_asked p names setup.plan v w)
+    (IsToldOfMeant p w names setup made v (object_meant Thread p names setup.plan v w.from) (object_meant Thread p names setup.plan v w.to) text verdict)
+    (IsNothing text verdict)
+
+-- the same of the state behind the first calls
+abbrev pub IsHow : Words → ProfileName → Names → SetupView → ℕ → State → List ℕ → Verdict → Type 0
+IsHow w p names setup made A text verdict = IsHowBy w p names setup made (shown A) text verdict

@@ -1,0 +1,173 @@
+//! What is told of two threads: calls that were found, as a set-up, or a line.
+ghost use Rattle.std.specs.Prelude.{◌≡◌, ◌≤◌, ◌++◌, ℕ, false, IfOk, List, OnOk, length, string_bytes};
+ghost use Rattle.kernel_abstract.specs.Memory.{IsInMemory};
+ghost use Rattle.kernel_abstract.specs.Plan.{IsPlan};
+ghost use Rattle.query_parts.specs.declared.listed.PartUse.{PartUse as PartUseOf};
+ghost use Rattle.setup_values.specs.Names.{names_view};
+ghost use Rattle.command_parts.specs.Ever.{AreRightParts};
+ghost use Rattle.command_how_witness.specs.Witness.{asking_of};
+ghost use Rattle.command_how.specs.How as spec;
+ghost use Rattle.command_how.specs.Line.{how_line, says_excluded};
+
+use crate::line::{NoWitness, PartText, happening_word};
+use crate::table::with_calls;
+use cap_core::Profile;
+use command_check::table_text;
+use command_core::Verdict;
+use command_how_search::{Found, find, shortened};
+use command_how_witness::{Asked, is_excluded, is_witness_text};
+use ipc_core::MakeWaiters;
+use kernel_core::{Call, Kernel};
+use query_parts::part_at;
+use setup_format::Setup;
+use setup_values::{Name, thread_name};
+use slot_core::{DerivationStore, MakeStore};
+use std::alloc::{AllocError, Global};
+use std::fmt::Write;
+use toml::Table;
+
+/// A set-up that was read, with its names and its table, and how many of its calls are made.
+#[derive(Clone, Copy)]
+pub struct Behind<'a> {
+    pub names: &'a [Name],
+    pub setup: &'a Setup,
+    pub table: &'a Table,
+    pub made: usize,
+}
+
+/// Adds the line of an answer that is no witness.
+fn add_line(
+    out: &mut String,
+    names: &[Name],
+    asked: &Asked<'_>,
+    answer: NoWitness,
+) -> Result<(), AllocError>
+    ensures { OnOk result (string_bytes out.new ≡ string_bytes out.old ++ how_line (names_view names.now) (asking_of asked.now) answer) }
+{
+    let what = happening_word(asked.what);
+    let from = thread_name(names, asked.from);
+    let to = thread_name(names, asked.to);
+    let first = PartText(part_at(asked.memory, asked.from));
+    let second = PartText(part_at(asked.memory, asked.to));
+    writeln!(
+        out,
+        "how {what} {from} part {first} -> {to} part {second} {answer}"
+    )
+}
+
+/// The line of an answer that is no witness.
+fn line(
+    alloc: Global,
+    names: &[Name],
+    asked: &Asked<'_>,
+    answer: NoWitness,
+) -> Result<(Vec<u8>, Verdict), AllocError>
+    ensures { IfOk result (λ made. spec.IsLine (names_view names.now) (asking_of asked.now) answer made.0.items made.1) }
+{
+    let mut text = String::new(alloc);
+    add_line(&mut text, names, asked, answer)?;
+    Ok((text.into_bytes(), Verdict::NotMet))
+}
+
+/// The text of a set-up that makes the first calls of another and then those that were found, without those that are not needed.
+fn text_of<P: Profile, S: MakeStore<P> + DerivationStore<P>, W: MakeWaiters<P>>(
+    alloc: Global,
+    behind: &Behind<'_>,
+    kernel: &Kernel<P, S, W>,
+    asked: &Asked<'_>,
+    found: Vec<Call>,
+) -> Result<Vec<u8>, AllocError>
+    requires { (memory : ℕ) × IsInMemory P.profile memory kernel.now }
+{
+    let calls = shortened::<P, S, W>(alloc, kernel, asked, found)?;
+    let mut at = kernel.copy(alloc)?;
+    let mut replies = Vec::with_capacity(alloc, calls.len())?;
+    at.run(calls.as_slice(), &mut replies);
+    let table = with_calls::<P>(
+        alloc,
+        behind.table,
+        behind.names,
+        behind.made,
+        calls.as_slice(),
+        replies.as_slice(),
+    )?;
+    table_text(alloc, &table)
+}
+
+/// The line that no calls are found.
+fn not_found<P: Profile>(
+    alloc: Global,
+    behind: &Behind<'_>,
+    asked: &Asked<'_>,
+    answer: NoWitness,
+) -> Result<(Vec<u8>, Verdict), AllocError>
+    requires { says_excluded answer ≡ false }
+    ensures { IfOk result (λ made. spec.IsSought P.profile (names_view behind.now.names.now) (asking_of asked.now) behind.now.setup.now behind.now.made made.0.items made.1) }
+{
+    let made = line(alloc, behind.names, asked, answer)?;
+    Ok(made)
+}
+
+/// The text of a witness, where it passes the test when it is read again; the line that none is found, where it does not.
+fn tested<P: Profile, S: MakeStore<P> + DerivationStore<P>, W: MakeWaiters<P>>(
+    alloc: Global,
+    behind: &Behind<'_>,
+    asked: &Asked<'_>,
+    text: Vec<u8>,
+) -> Result<(Vec<u8>, Verdict), AllocError>
+    requires plan { IsPlan P.profile behind.now.setup.now.plan }
+    requires made { behind.now.made ≤ length behind.now.setup.now.calls }
+    ensures { IfOk result (λ answer. spec.IsSought P.profile (names_view behind.now.names.now) (asking_of asked.now) behind.now.setup.now behind.now.made answer.0.items answer.1) }
+{
+    let (setup, made) = (behind.setup, behind.made);
+    if is_witness_text::<P, S, W>(alloc, text.as_slice(), setup, made, asked)? {
+        Ok((text, Verdict::AllMet))
+    } else {
+        not_found::<P>(alloc, behind, asked, NoWitness::NotFound)
+    }
+}
+
+/// What is told where it is not excluded, by so many copies of the kernel at most.
+fn sought<P: Profile, S: MakeStore<P> + DerivationStore<P>, W: MakeWaiters<P>>(
+    alloc: Global,
+    behind: &Behind<'_>,
+    kernel: &Kernel<P, S, W>,
+    asked: &Asked<'_>,
+    most: u64,
+) -> Result<(Vec<u8>, Verdict), AllocError>
+    requires plan { IsPlan P.profile behind.now.setup.now.plan }
+    requires made { behind.now.made ≤ length behind.now.setup.now.calls }
+    requires memory { (memory : ℕ) × IsInMemory P.profile memory kernel.now }
+    ensures { IfOk result (λ answer. spec.IsSought P.profile (names_view behind.now.names.now) (asking_of asked.now) behind.now.setup.now behind.now.made answer.0.items answer.1) }
+{
+    match find::<P, S, W>(alloc, kernel, asked, most)? {
+        Found::Calls(found) => {
+            let text = text_of::<P, S, W>(alloc, behind, kernel, asked, found)?;
+            tested::<P, S, W>(alloc, behind, asked, text)
+        }
+        Found::None => not_found::<P>(alloc, behind, asked, NoWitness::NotFound),
+        Found::Limit => not_found::<P>(alloc, behind, asked, NoWitness::NotFoundOf(most)),
+    }
+}
+
+/// What is told of two threads, by so many copies of the kernel at most.
+pub fn told<P: Profile, S: MakeStore<P> + DerivationStore<P>, W: MakeWaiters<P>>(
+    alloc: Global,
+    behind: &Behind<'_>,
+    kernel: &Kernel<P, S, W>,
+    asked: &Asked<'_>,
+    most: u64,
+) -> Result<(Vec<u8>, Verdict), AllocError>
+    requires plan { IsPlan P.profile behind.now.setup.now.plan }
+    requires made { behind.now.made ≤ length behind.now.setup.now.calls }
+    requires memory { (memory : ℕ) × IsInMemory P.profile memory kernel.now }
+    ensures { IfOk result (λ answer. (uses : List PartUseOf) → AreRightParts P.profile kernel.now asked.now.without.now asked.now.memory.now uses
+        → spec.IsToldOf P.profile (names_view behind.now.names.now) (asking_of asked.now) uses kernel.now behind.now.setup.now behind.now.made answer.0.items answer.1) }
+{
+    if is_excluded::<P, S, W>(alloc, behind.setup, kernel, asked)? {
+        let made = line(alloc, behind.names, asked, NoWitness::Excluded)?;
+        return Ok(made);
+    }
+    let made = sought::<P, S, W>(alloc, behind, kernel, asked, most)?;
+    Ok(made)
+}
