@@ -16,6 +16,8 @@ _sel4sim() {
         --never) COMPREPLY=($(compgen -W '' -- "$word")); return ;;
         --by) COMPREPLY=($(compgen -W '' -- "$word")); return ;;
         --policy) COMPREPLY=($(compgen -W '' -- "$word")); return ;;
+        --how) COMPREPLY=($(compgen -W '' -- "$word")); return ;;
+        --badge) COMPREPLY=($(compgen -W '' -- "$word")); return ;;
         --states) COMPREPLY=($(compgen -W '' -- "$word")); return ;;
         --witness) COMPREPLY=($(compgen -W '' -- "$word")); return ;;
         --profile) COMPREPLY=($(compgen -W '' -- "$word")); return ;;
@@ -54,7 +56,7 @@ _sel4sim() {
             [[ $word == -* ]] || mapfile -t -O "${#COMPREPLY[@]}" COMPREPLY < <(compgen -f -- "$word")
             ;;
         audit)
-            COMPREPLY=($(compgen -W '--after --slot --ever --without --messages --never --by --policy -h --help' -- "$word"))
+            COMPREPLY=($(compgen -W '--after --slot --ever --without --messages --never --by --policy --how --message --hold --loss --badge --states -h --help' -- "$word"))
             [[ $word == -* ]] || mapfile -t -O "${#COMPREPLY[@]}" COMPREPLY < <(compgen -f -- "$word")
             ;;
         explore)

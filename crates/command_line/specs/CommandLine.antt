@@ -98,9 +98,11 @@ why_command = with_rule (with_file (codes "why")) (number_rule (codes "call"))
 
 abbrev pub audit_command : App
 audit_command =
-    with_rule (with_rule (with_rule (with_rule (with_rule (with_rule (with_rule (with_rule (with_file (codes "audit"))
+    with_rule (with_rule (with_rule (with_rule (with_rule (with_rule (with_rule (with_rule (with_rule (with_rule (with_rule (with_rule (with_rule (with_rule (with_file (codes "audit"))
     (number_rule (codes "after"))) (text_rule (codes "slot"))) (flag_rule (codes "ever"))) (text_rule (codes "without")))
-    (text_rule (codes "messages"))) (text_rule (codes "never"))) (text_rule (codes "by"))) (text_rule (codes "policy"))
+    (text_rule (codes "messages"))) (text_rule (codes "never"))) (text_rule (codes "by"))) (text_rule (codes "policy")))
+    (text_rule (codes "how"))) (flag_rule (codes "message"))) (flag_rule (codes "hold"))) (flag_rule (codes "loss")))
+    (number_rule (codes "badge"))) (number_rule (codes "states"))
 
 abbrev pub explore_command : App
 explore_command =
@@ -221,6 +223,11 @@ pub record HasOptions (rows : List Row) (options : Options) : Type 0 where
   pub slot : option_map (λ s. s.now) options.slot ≡ first_of (codes "slot") rows
   pub ever : options.ever ≡ is_set (first_of (codes "ever") rows)
   pub never : option_map (λ s. s.now) options.never ≡ first_of (codes "never") rows
+  pub how : option_map (λ s. s.now) options.how ≡ first_of (codes "how") rows
+  pub message : options.message ≡ is_set (first_of (codes "message") rows)
+  pub hold : options.hold ≡ is_set (first_of (codes "hold") rows)
+  pub loss : options.loss ≡ is_set (first_of (codes "loss") rows)
+  pub badge : Says (first_of (codes "badge") rows) options.badge
   pub by : option_map (λ s. s.now) options.by ≡ first_of (codes "by") rows
   pub without : option_map (λ s. s.now) options.without ≡ first_of (codes "without") rows
   pub messages : option_map (λ s. s.now) options.messages ≡ first_of (codes "messages") rows
@@ -241,14 +248,29 @@ pub record HasOptions (rows : List Row) (options : Options) : Type 0 where
 abbrev pub is_of_parts : Options → Bool
 is_of_parts options = options.ever || is_some options.never
 
--- the options go together: `--ever` and `--never` not with each other, and not with `--slot`; `--without` and `--messages` need one
--- of them, and `--by` needs `--never`; `--policy` goes with none of these
+-- calls are asked for after which a message was delivered
+abbrev pub asks_message : Options → Bool
+asks_message options = is_some options.how && (not options.hold && not options.loss)
+
+-- `--how` goes with none of the others; at most one thing is to happen, and with `--how` alone; and so does a badge of a message
+abbrev pub agrees_how : Options → Bool
+agrees_how options =
+    not (is_some options.how && (is_of_parts options || (is_some options.slot || is_some options.policy)))
+    && (not ((options.message && options.hold) || ((options.message && options.loss) || (options.hold && options.loss)))
+    && ((is_some options.how || not (options.message || (options.hold || options.loss)))
+    && (asks_message options || not (is_some options.badge))))
+
+-- the options go together: `--ever` and `--never` not with each other, and not with `--slot`; `--without` needs one of them or
+-- `--how`, `--messages` one of the two, and `--by` needs `--never` or a question of messages; `--policy` goes with none of
+-- these
 abbrev pub agrees : Options → Bool
 agrees options =
     not (options.ever && is_some options.never)
     && (not (is_of_parts options && is_some options.slot)
-    && ((is_of_parts options || not (is_some options.without || is_some options.messages)) && ((is_some options.never || not (is_some options.by))
-    && not (is_some options.policy && (is_of_parts options || is_some options.slot)))))
+    && (((is_of_parts options || is_some options.how) || not (is_some options.without))
+    && ((is_of_parts options || not (is_some options.messages))
+    && (((is_some options.never || asks_message options) || not (is_some options.by))
+    && (not (is_some options.policy && (is_of_parts options || is_some options.slot)) && agrees_how options)))))
 
 -- the matches of the subcommand that is met
 abbrev pub own_rows : Option (Text × List Row) → List Row

@@ -46,10 +46,19 @@ pub struct Options<'a> {
     /// `--never` of `audit`: two threads, with a comma between them. Whether the first one's part is kept from the other's is asked
     /// for.
     pub never: Option<&'a str>,
-    /// `--by` of `audit --never`: the endpoints by which the parts may have to do with each other, with commas between them.
-    pub by: Option<&'a str>,
-    /// `--without` of `audit --ever` and `audit --never`: the threads that are trusted to make no more calls, with commas
+    /// `--how` of `audit`: two threads, with a comma between them. Calls are asked for after which it has happened.
+    pub how: Option<&'a str>,
+    /// Whether `--message`, `--hold` and `--loss` of `audit --how` are there: what is to happen.
+    pub message: bool,
+    pub hold: bool,
+    pub loss: bool,
+    /// `--badge` of `audit --how`: the badge of the message.
+    pub badge: Option<u64>,
+    /// `--by` of `audit --never` and `audit --how`: the endpoints by which the parts may have to do with each other, with commas
     /// between them.
+    pub by: Option<&'a str>,
+    /// `--without` of `audit --ever`, `audit --never` and `audit --how`: the threads that are trusted to make no more calls, with
+    /// commas between them.
     pub without: Option<&'a str>,
     /// `--messages` of `audit --ever` and `audit --never`: the threads that are trusted to go on to send and receive, and to do
     /// nothing else, with commas between them.
@@ -58,7 +67,7 @@ pub struct Options<'a> {
     pub policy: Option<&'a str>,
     /// `--first` of `explore` and `threads`: how many calls are made before the clients begin.
     pub first: Option<u64>,
-    /// `--states` of `explore`: the most states that are kept.
+    /// `--states` of `explore`: the most states that are kept; of `audit --how`: the most copies of the kernel that are tried.
     pub states: Option<u64>,
     /// `--witness` of `explore`: the order whose set-up is written, by the report's name of what it tells.
     pub witness: Option<&'a str>,

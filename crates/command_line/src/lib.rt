@@ -2,6 +2,7 @@
 #![tactic(auto)]
 
 mod arguments;
+mod how;
 mod reading;
 
 pub use arguments::{Job, Line, LineFault, Options};

@@ -7,6 +7,7 @@ ghost use Rattle.clap.specs.Walk.{texts};
 ghost use Rattle.command_line.specs.CommandLine.{Explains, ExplainsMatches, Extends, HasOptions, IsArgument, IsCommand, Says, StandsFor, agrees, and_subcommand as and_command, audit_command, bare_command, check_command, command as definition, explore_command, file_asked, file_of, file_rule, files_of, flag_rule, import_command, is_set, job_asked, job_named, job_of, lists_one as lists_one_definition, marks_command, more_behind as more_behind_definition, more_files_in, more_files_rule, more_given, new_command, number_rule, own_rows, plain_command, reads_once, several_asked, several_of, text_rule, threads_command, tree_command, version_rule, why_command, with_file as with_file_definition};
 
 use crate::arguments::{Job, Line, LineFault, Options};
+use crate::how::{and_how, asks_message, conflict_of_how};
 use clap::builder::ValueParser;
 use clap::error::ErrorKind;
 use clap::{Arg, ArgAction, ArgMatches, Command, Error};
@@ -56,11 +57,11 @@ const EVER_WITH_NEVER: &str = "--ever and --never do not go together";
 
 const SLOT_WITH_PARTS: &str = "--slot goes neither with --ever nor with --never";
 
-const WITHOUT_ALONE: &str = "--without goes with --ever or --never alone";
+const WITHOUT_ALONE: &str = "--without goes with --ever, --never or --how alone";
 
 const MESSAGES_ALONE: &str = "--messages goes with --ever or --never alone";
 
-const BY_ALONE: &str = "--by goes with --never alone";
+const BY_ALONE: &str = "--by goes with --never alone, and with --how for messages";
 
 const POLICY_ALONE: &str = "--policy goes with --after alone";
 
@@ -87,7 +88,7 @@ fn more_files<'a>(alloc: Global) -> Arg<'a>
 }
 
 /// A command with one more argument, where there is memory for both.
-fn and_argument<'a>(
+pub fn and_argument<'a>(
     command: Result<Command<'a>, AllocError>,
     argument: Arg<'a>,
 ) -> Result<Command<'a>, AllocError>
@@ -138,7 +139,7 @@ fn bare<'a>(alloc: Global) -> Result<Command<'a>, AllocError>
 }
 
 /// An option that takes a number, by its long name.
-fn number<'a>(alloc: Global, name: &'a str, about: &'a str) -> Arg<'a>
+pub fn number<'a>(alloc: Global, name: &'a str, about: &'a str) -> Arg<'a>
     ensures { IsArgument (number_rule name.now) result }
 {
     Arg::new(alloc, name)
@@ -149,7 +150,7 @@ fn number<'a>(alloc: Global, name: &'a str, about: &'a str) -> Arg<'a>
 }
 
 /// An option that takes no value, by its long name.
-fn flag<'a>(alloc: Global, name: &'a str, about: &'a str) -> Arg<'a>
+pub fn flag<'a>(alloc: Global, name: &'a str, about: &'a str) -> Arg<'a>
     ensures { IsArgument (flag_rule name.now) result }
 {
     Arg::new(alloc, name)
@@ -159,7 +160,7 @@ fn flag<'a>(alloc: Global, name: &'a str, about: &'a str) -> Arg<'a>
 }
 
 /// An option that takes a text, by its long name.
-fn text<'a>(alloc: Global, name: &'a str, value: &'a str, about: &'a str) -> Arg<'a>
+pub fn text<'a>(alloc: Global, name: &'a str, value: &'a str, about: &'a str) -> Arg<'a>
     ensures { IsArgument (text_rule name.now) result }
 {
     Arg::new(alloc, name)
@@ -202,7 +203,7 @@ fn and_never<'a>(
         alloc,
         "by",
         "E",
-        "With --never: but by these endpoints, with commas between them",
+        "With --never or --how: but by these endpoints, with commas between them",
     );
     let policy = text(
         alloc,
@@ -238,9 +239,9 @@ fn audit<'a>(alloc: Global) -> Result<Command<'a>, AllocError>
         alloc,
         "without",
         "WHO",
-        "With --ever or --never: these threads, with commas between them, make no more calls",
+        "With --ever, --never or --how: these threads, with commas between them, make no more calls",
     );
-    and_never(alloc, and_argument(with_ever, without))
+    and_how(alloc, and_never(alloc, and_argument(with_ever, without)))
 }
 
 /// The option `--first`.
@@ -438,6 +439,11 @@ fn options_in<'a>(matches: &ArgMatches<'a>) -> Options<'a>
         slot: text_given(matches, "slot"),
         ever: flag_given(matches, "ever"),
         never: text_given(matches, "never"),
+        how: text_given(matches, "how"),
+        message: flag_given(matches, "message"),
+        hold: flag_given(matches, "hold"),
+        loss: flag_given(matches, "loss"),
+        badge: number_given(matches, "badge"),
         by: text_given(matches, "by"),
         without: text_given(matches, "without"),
         messages: text_given(matches, "messages"),
@@ -527,6 +533,11 @@ fn bare_line<'a>(alloc: Global, matches: &ArgMatches<'a>) -> Result<Line<'a>, Al
             slot: None,
             ever: false,
             never: None,
+            how: None,
+            message: false,
+            hold: false,
+            loss: false,
+            badge: None,
             by: None,
             without: None,
             messages: None,
@@ -614,16 +625,16 @@ fn conflict_of(options: &Options) -> Option<&'static str>
         Some(EVER_WITH_NEVER)
     } else if is_of_parts && options.slot.is_some() {
         Some(SLOT_WITH_PARTS)
-    } else if !is_of_parts && options.without.is_some() {
+    } else if !is_of_parts && options.how.is_none() && options.without.is_some() {
         Some(WITHOUT_ALONE)
     } else if !is_of_parts && options.messages.is_some() {
         Some(MESSAGES_ALONE)
-    } else if options.never.is_none() && options.by.is_some() {
+    } else if options.never.is_none() && !asks_message(options) && options.by.is_some() {
         Some(BY_ALONE)
     } else if options.policy.is_some() && (is_of_parts || options.slot.is_some()) {
         Some(POLICY_ALONE)
     } else {
-        None
+        conflict_of_how(options)
     }
 }
 

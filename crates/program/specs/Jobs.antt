@@ -14,6 +14,9 @@ use Rattle.command_policy.specs.Policies.{IsPolicyOf}
 use Rattle.command_import.specs.Import.{IsImported}
 use Rattle.command_never.specs.Never.{Asked, IsNever}
 use Rattle.command_explore.specs.Explorations.{IsExploration}
+use Rattle.command_how_witness.specs.declared.asked.Happening.{Happening}
+use Rattle.command_how_witness.specs.declared.asked.Happening.TheVariants.{Message, Hold, Loss}
+use Rattle.command_how.specs.How.{Words, IsHow}
 use Rattle.command_threads.specs.SharedRuns.{IsSharedProgram}
 use Rattle.command_trace.specs.Traces.{IsTrace}
 use Rattle.command_tree.specs.Trees.{IsTree}
@@ -64,9 +67,29 @@ IsAuditOfState options input text verdict =
     (IsAnswerTo (IsStateAnswer (IsEver (trust_of options)) options.after) input text verdict)
     (IsAuditNow options input text verdict)
 
+-- what is to happen: a message, where nothing else is named
+abbrev pub happening_in : Options → Happening
+happening_in options = cond options.hold Hold (cond options.loss Loss Message)
+
+-- what is asked of the threads before and behind the comma (44) with `--how`
+abbrev pub how_of : Options → List ℕ → Words
+how_of options threads = record {
+  what = happening_in options;
+  from = before_mark 44 threads;
+  to = behind_mark 44 threads;
+  by = by_of options;
+  badge = options.badge;
+  without = without_of options;
+}
+
+-- or, with `--how`, calls after which it has happened
+abbrev pub IsAuditByHow : Options → Option (List ℕ) → List ℕ → List ℕ → Verdict → Type 0
+IsAuditByHow options None input text verdict = IsAuditOfState options input text verdict
+IsAuditByHow options (Some threads) input text verdict = IsAnswerTo (IsStateAnswer (IsHow (how_of options threads)) options.after) input text verdict
+
 -- or, with `--never`, whether the first thread's part is kept from the other's
 abbrev pub IsAuditBy : Options → Option (List ℕ) → List ℕ → List ℕ → Verdict → Type 0
-IsAuditBy options None input text verdict = IsAuditOfState options input text verdict
+IsAuditBy options None input text verdict = IsAuditByHow options (option_map (λ s. s.now) options.how) input text verdict
 IsAuditBy options (Some threads) input text verdict =
     IsAnswerTo (IsStateAnswer (IsNever (question_of options threads)) options.after) input text verdict
 

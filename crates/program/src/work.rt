@@ -1,12 +1,13 @@
 //! The job of a command line as an engine: what it makes of an input, by the options.
-ghost use Rattle.std.specs.Prelude.{◌≡◌, ◌≢◌, IfErr, IfOk, map};
+ghost use Rattle.std.specs.Prelude.{◌≡◌, ◌≢◌, IfErr, IfOk, map, option_map};
 ghost use Rattle.command_line.specs.declared.arguments.Job.TheVariants.{Threads};
 ghost use Rattle.command_check.specs.Commands.{IsAnswerTo, IsStateAnswer};
-ghost use Rattle.program.specs.Jobs.{IsAudit, IsAuditNow, IsAuditOfParts, IsAuditOfState, IsExplorationBy, by_of, form_of as form_of_options, messages_of, question_of, trust_of, without_of};
+ghost use Rattle.program.specs.Jobs.{IsAudit, IsAuditByHow, IsAuditNow, IsAuditOfParts, IsAuditOfState, IsExplorationBy, by_of, form_of as form_of_options, happening_in, how_of, messages_of, question_of, trust_of, without_of};
 ghost use Rattle.program.specs.NewWords.{IsNewOf};
 ghost use Rattle.program.specs.WitnessWords.{IsNamedWitness};
 ghost use Rattle.command_parts.specs.Told.{IsEver};
 ghost use Rattle.command_never.specs.Never.{IsNever};
+ghost use Rattle.command_how.specs.How.{IsHow};
 
 use crate::commas::words_in;
 use crate::marks::around;
@@ -17,6 +18,7 @@ use command_check::{Command, Migrator, OnSetup, OnState, StateCommand};
 use command_core::{Answer, Engine, RunFault};
 use command_explore::{Explore, ExploreOptions, WriteWitness};
 use command_files::FileCheck;
+use command_how::{Happening, How};
 use command_import::Importer;
 use command_line::{Job, Options};
 use command_marks::Marks;
@@ -173,13 +175,91 @@ fn make_never(
     )
 }
 
+/// What is to happen: a message, where nothing else is named.
+fn happening_of(options: &Options<'_>) -> Happening
+    ensures { result ≡ happening_in options.now }
+{
+    if options.hold {
+        Happening::Hold
+    } else if options.loss {
+        Happening::Loss
+    } else {
+        Happening::Message
+    }
+}
+
+/// How it could happen between two threads, but by the endpoints `by`, where those of `without` make no more calls.
+fn make_how_between(
+    alloc: Global,
+    options: Options<'_>,
+    threads: &str,
+    without: &[&str],
+    by: &[&str],
+    input: &[u8],
+) -> Result<Answer, RunFault>
+    requires without { map (λ w. w.now) without.now ≡ without_of options }
+    requires by { map (λ w. w.now) by.now ≡ by_of options }
+    ensures made { IfOk result (λ made. IsAnswerTo (IsStateAnswer (IsHow (how_of options.entry threads.now)) options.entry.after) input.now made.text.items made.verdict) }
+    ensures memory { IfErr result (λ fault. fault ≡ RunFault.Memory) }
+{
+    let ends = around(threads, ',');
+    let how = How {
+        what: happening_of(&options),
+        from: ends.0,
+        to: ends.1,
+        by,
+        badge: options.badge,
+        without,
+        after: options.after,
+        states: options.states,
+    };
+    on_setup(alloc, how, input)
+}
+
+/// The same, by the options.
+fn make_how(
+    alloc: Global,
+    options: Options<'_>,
+    threads: &str,
+    input: &[u8],
+) -> Result<Answer, RunFault>
+    ensures made { IfOk result (λ made. IsAnswerTo (IsStateAnswer (IsHow (how_of options.entry threads.now)) options.entry.after) input.now made.text.items made.verdict) }
+    ensures memory { IfErr result (λ fault. fault ≡ RunFault.Memory) }
+{
+    let Ok(without) = words_in(alloc, options.without) else {
+        return Err(RunFault::Memory);
+    };
+    let Ok(allowed) = words_in(alloc, options.by) else {
+        return Err(RunFault::Memory);
+    };
+    make_how_between(
+        alloc,
+        options,
+        threads,
+        without.as_slice(),
+        allowed.as_slice(),
+        input,
+    )
+}
+
+/// The audit where nothing is asked with `--never`.
+fn make_other_audit(alloc: Global, options: Options<'_>, input: &[u8]) -> Result<Answer, RunFault>
+    ensures made { IfOk result (λ made. IsAuditByHow options.entry (option_map (λ s. s.now) options.entry.how) input.now made.text.items made.verdict) }
+    ensures memory { IfErr result (λ fault. fault ≡ RunFault.Memory) }
+{
+    match options.how {
+        Some(threads) => make_how(alloc, options, threads, input),
+        None => make_state_audit(alloc, options, input),
+    }
+}
+
 fn make_parts_audit(alloc: Global, options: Options<'_>, input: &[u8]) -> Result<Answer, RunFault>
     ensures made { IfOk result (λ made. IsAuditOfParts options.entry input.now made.text.items made.verdict) }
     ensures memory { IfErr result (λ fault. fault ≡ RunFault.Memory) }
 {
     match options.never {
         Some(threads) => make_never(alloc, options, threads, input),
-        None => make_state_audit(alloc, options, input),
+        None => make_other_audit(alloc, options, input),
     }
 }
 

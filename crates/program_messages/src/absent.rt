@@ -40,22 +40,23 @@ fn absent_word(
     Ok(None)
 }
 
-/// What is absent of the two threads of `--never`: one of them is asked for, where no word is at fault.
+/// What is absent of the two threads of `--never` or `--how`: one of them is asked for, where no word is at fault.
 fn absent_threads(
     alloc: Global,
     named: &ReadSetup,
+    option: &str,
     threads: &str,
 ) -> Result<Option<String>, AllocError> {
     if threads.split(',').count() != 2 {
         let text = format!(in alloc;
-            "--never {threads}: two threads are accepted, with a comma between them"
+            "{option} {threads}: two threads are accepted, with a comma between them"
         )?;
         return Ok(Some(text));
     }
-    if let Some(text) = absent_word(alloc, named, "--never", threads)? {
+    if let Some(text) = absent_word(alloc, named, option, threads)? {
         return Ok(Some(text));
     }
-    let text = format!(in alloc; "--never {threads}: one of them is no live thread there")?;
+    let text = format!(in alloc; "{option} {threads}: one of them is no live thread there")?;
     Ok(Some(text))
 }
 
@@ -85,9 +86,10 @@ fn absent_in_audit(
     if let Some(text) = absent_words(alloc, named, options)? {
         return Ok(Some(text));
     }
-    match options.never {
-        None => Ok(None),
-        Some(threads) => absent_threads(alloc, named, threads),
+    match (options.never, options.how) {
+        (Some(threads), _) => absent_threads(alloc, named, "--never", threads),
+        (None, Some(threads)) => absent_threads(alloc, named, "--how", threads),
+        (None, None) => Ok(None),
     }
 }
 
