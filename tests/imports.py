@@ -1,8 +1,8 @@
 #!/usr/bin/env python3
 """imports.py PROGRAM FOLDER SEED COUNT: imports layouts, runs the set-ups, and compares their ends with what the layouts say.
 
-FOLDER has layouts, each with what its slots hold in a file `.listing`, written by another reader; and in `wrong` layouts with one
-fault each. COUNT random layouts are drawn from SEED. The end of each set-up is
+FOLDER has layouts, each with what its slots hold in a file `.listing`, and with `--flows` in a file `.flows`, written by another
+reader; and in `wrong` layouts with one fault each. COUNT random layouts are drawn from SEED. The end of each set-up is
 read off the report of `check`: each slot of the layout holds its capability, no other slot is full but the loader's, threads are ready
 or inactive as asked, and nobody waits on an endpoint; what the slots have to hold is drawn here, or read by a few expressions that know
 nothing of the program. The set-up is also given to `check -`. A call of it is taken out or changed in some: then the end has to differ."""
@@ -144,6 +144,31 @@ def differences(report, text, objects, want, inactive, size):
             yield f"{name} is {states.get(places[plain(name)])}"
 
 
+def held(line):
+    """Returns a line of a listing without the number of its slot: with `--flows` slots are numbered anew."""
+    return re.sub(r"^(\S+)\[\d+\] ", r"\1 ", line)
+
+
+def flows_of(program, folder):
+    """Yields which layouts of a folder are not imported with `--flows`, or answer `--never` as without it where two share a frame."""
+    for path in sorted(folder.glob("*.cdl")):
+        made = run(program, ["import", "--flows", str(path)], "")
+        checked = run(program, ["check", "-"], made.stdout)
+        if made.returncode or checked.returncode:
+            yield f"{path.name}: with --flows status {made.returncode}, and of its set-up {checked.returncode}"
+        listed = run(program, ["import", "--flows", "--listing", str(path)], "").stdout.splitlines()
+        wanted = path.with_suffix(".flows").read_text().splitlines()
+        if sorted(map(held, listed)) != sorted(map(held, wanted)):
+            yield f"{path.name}: with --flows its listing has other lines"
+        if len({line.split()[0] for line in listed}) != len(listed):
+            yield f"{path.name}: with --flows a slot has two lines"
+    for flows, answer in (([], "excluded"), (["--flows"], "possible")):
+        made = run(program, ["import", *flows, str(folder / "microkit_hello.cdl")], "").stdout
+        words = ["audit", "--never", "hello_tcb,serial_tcb", "--without", "loader,monitor_tcb", "-"]
+        if f" {answer}\n" not in run(program, words, made).stdout:
+            yield f"microkit_hello.cdl: it is not {answer} that hello leads to serial, with {flows}"
+
+
 def faults_of(program, folder):
     """Yields which layouts of a folder are not imported, or not refused at their lines."""
     for path in sorted(folder.glob("*.cdl")):
@@ -164,7 +189,7 @@ def faults_of(program, folder):
 
 
 def main(program, folder, seed, count):
-    wrong = list(faults_of(program, pathlib.Path(folder)))
+    wrong = [*faults_of(program, pathlib.Path(folder)), *flows_of(program, pathlib.Path(folder))]
     changed = unseen = 0
     for number in range(int(count)):
         text, *said = layout(f"{seed} {number}")
@@ -175,6 +200,10 @@ def main(program, folder, seed, count):
         report = run(program, ["check", "-"], made.stdout).stdout
         wrong += [f"layout {number} of {seed}: {it}" for it in differences(report, made.stdout, *said)]
         calls = made.stdout.split("\n\n# ")
+        if number % 10 == 5:
+            flows = run(program, ["import", "--flows"], text)
+            status = flows.returncode or run(program, ["check", "-"], flows.stdout).returncode
+            wrong += [f"layout {number} of {seed}, with --flows: {status} {flows.stderr[-200:]}"] if status else []
         if number % 10 == 0 and len(calls) > 4:
             # Without one of its calls the end has to be another one.
             out = random.Random(number).randrange(2, len(calls) - 1)

@@ -62,6 +62,7 @@ complete -c sel4sim -n '__fish_seen_subcommand_from new' -s h -l help -d 'Print 
 complete -c sel4sim -n '__fish_use_subcommand' -a import -d 'Reads a layout as capDL text and prints a set-up whose calls make it'
 complete -c sel4sim -n '__fish_seen_subcommand_from import' -l shrink -x -a '' -d 'Cut untyped regions that cover nothing to N bits'
 complete -c sel4sim -n '__fish_seen_subcommand_from import' -l listing -d 'Print what each slot of the layout holds'
+complete -c sel4sim -n '__fish_seen_subcommand_from import' -l flows -d 'Count each object that a set-up lacks, each answer and each Grant'
 complete -c sel4sim -n '__fish_seen_subcommand_from import' -s h -l help -d 'Print help'
 complete -c sel4sim -n '__fish_seen_subcommand_from import' -F
 complete -c sel4sim -n '__fish_use_subcommand' -a help -d 'Print this message or the help of the given subcommand(s)'

@@ -11,3 +11,4 @@ mod text;
 
 pub use laid_out::is_laid_out;
 pub use making::Importer;
+pub use setup_layout::Reading;

@@ -16,7 +16,7 @@ use cap_core::{Narrow, Profile, ProfileName, Wide};
 use command_core::{Answer, Engine, RunFault, Verdict};
 use ipc_core::{LinkedWaiters, MakeWaiters};
 use setup_format::{ReadSetup, Setup, SetupFault, read};
-use setup_layout::{Layout, Places, ReadLayout, read_layout};
+use setup_layout::{Layout, Places, ReadLayout, Reading, read_layout};
 use setup_report::kernel_after;
 use slot_core::{DerivationStore, LinkedStore, MakeStore};
 use std::alloc::{AllocError, Global};
@@ -122,8 +122,7 @@ fn text_of(alloc: Global, layout: &Layout, places: &Places) -> Result<String, Al
 /// where the layout has faults, and `Absent`, with nothing written, where the set-up that was made does not come to the layout.
 #[derive(Clone, Copy)]
 pub struct Importer {
-    /// The bits to which larger untyped regions that cover nothing are cut.
-    pub shrink: Option<u64>,
+    pub reading: Reading,
     pub listing: bool,
 }
 
@@ -146,7 +145,7 @@ impl Importer {
     fn made(self, alloc: Global, input: &[u8]) -> Result<Answer, AllocError>
         ensures { IfOk result (λ made. IsImported self.listing made.text.items made.verdict) }
     {
-        let read = read_layout(alloc, input, self.shrink)?;
+        let read = read_layout(alloc, input, self.reading)?;
         self.made_of(alloc, &read)
     }
 }

@@ -120,7 +120,8 @@ new_command =
 
 abbrev pub import_command : App
 import_command =
-    with_rule (with_rule (with_file (codes "import")) (number_rule (codes "shrink"))) (flag_rule (codes "listing"))
+    with_rule (with_rule (with_rule (with_file (codes "import")) (number_rule (codes "shrink"))) (flag_rule (codes "listing")))
+    (flag_rule (codes "flows"))
 
 -- `sel4sim`, with the subcommands that take several files or have no options
 abbrev pub plain_command : App
@@ -243,6 +244,7 @@ pub record HasOptions (rows : List Row) (options : Options) : Type 0 where
   pub shrink : Says (first_of (codes "shrink") rows) options.shrink
   pub listing : options.listing ≡ is_set (first_of (codes "listing") rows)
   pub of : option_map (λ s. s.now) options.of ≡ first_of (codes "of") rows
+  pub flows : options.flows ≡ is_set (first_of (codes "flows") rows)
 
 -- `--ever` and `--never` tell of all calls to come
 abbrev pub is_of_parts : Options → Bool

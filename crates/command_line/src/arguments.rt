@@ -88,6 +88,8 @@ pub struct Options<'a> {
     pub listing: bool,
     /// `--of` of `marks`: the name of a file, whose set-up has the questions.
     pub of: Option<&'a str>,
+    /// Whether `--flows` of `import` is there: each object that a kernel here lacks counts.
+    pub flows: bool,
 }
 
 /// A command line that was taken: what to do, by which options, and with which file or files; without a file, with standard

@@ -338,7 +338,13 @@ fn import<'a>(alloc: Global) -> Result<Command<'a>, AllocError>
     );
     let with_shrink = and_argument(with_file(alloc, "import", about), shrink);
     let listing = flag(alloc, "listing", "Print what each slot of the layout holds");
-    and_argument(with_shrink, listing)
+    let with_listing = and_argument(with_shrink, listing);
+    let flows = flag(
+        alloc,
+        "flows",
+        "Count each object that a set-up lacks, each answer and each Grant",
+    );
+    and_argument(with_listing, flows)
 }
 
 /// The subcommand `check`, which takes several files.
@@ -459,6 +465,7 @@ fn options_in<'a>(matches: &ArgMatches<'a>) -> Options<'a>
         shrink: number_given(matches, "shrink"),
         listing: flag_given(matches, "listing"),
         of: text_given(matches, "of"),
+        flows: flag_given(matches, "flows"),
     }
 }
 
@@ -553,6 +560,7 @@ fn bare_line<'a>(alloc: Global, matches: &ArgMatches<'a>) -> Result<Line<'a>, Al
             shrink: None,
             listing: false,
             of: None,
+            flows: false,
         },
         file,
         several,

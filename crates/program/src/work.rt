@@ -19,7 +19,7 @@ use command_core::{Answer, Engine, RunFault};
 use command_explore::{Explore, ExploreOptions, WriteWitness};
 use command_files::FileCheck;
 use command_how::{Happening, How};
-use command_import::Importer;
+use command_import::{Importer, Reading};
 use command_line::{Job, Options};
 use command_marks::Marks;
 use command_never::Question;
@@ -382,9 +382,11 @@ impl Engine for Work<'_> {
                 let Options {
                     shrink,
                     listing,
+                    flows,
                     ..
                 } = options;
-                Importer { shrink, listing }.make(alloc, input)
+                let reading = Reading { shrink, flows };
+                Importer { reading, listing }.make(alloc, input)
             }
         }
     }

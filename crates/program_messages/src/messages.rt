@@ -6,9 +6,9 @@ use crate::words::{is_command, may_be_command, near_command};
 use command_check::CountedText;
 use command_core::{Found, INPUT_LIMIT, KeptReader, Notes, ReaderSource, RunFault, Verdict};
 use command_files::Used;
-use command_line::{Job, Line, refused_line_words};
+use command_line::{Job, Line, Options, refused_line_words};
 use command_policy::{Files, policy_messages};
-use setup_layout::layout_words;
+use setup_layout::{Reading, layout_words};
 use setup_messages::{Formats, refusal_words};
 use setup_positions::NamedText;
 use std::fmt::Display;
@@ -209,8 +209,8 @@ fn note_on_layout<R: Eprint + AllocGlobal>(
     verdict: Verdict,
     bytes: &[u8],
 ) {
-    let (shrink, name) = (line.options.shrink, name_of(line.file));
-    if let Ok(words) = layout_words(rt.alloc(), bytes, shrink, name) {
+    let (Options { shrink, flows, .. }, name) = (line.options, name_of(line.file));
+    if let Ok(words) = layout_words(rt.alloc(), bytes, Reading { shrink, flows }, name) {
         note(rt, words.as_str());
     }
     if matches!(verdict, Verdict::Absent) {

@@ -38,6 +38,18 @@ pub struct Slot {
     pub line: usize,
 }
 
+/// The bits that an object has while it is read which no kernel here has, and which counts as an endpoint or a CNode.
+pub(crate) const OTHER_BITS: u32 = 64;
+
+/// How a layout is read.
+#[derive(Clone, Copy)]
+pub struct Reading {
+    /// The bits to which larger untyped regions that cover nothing are cut.
+    pub shrink: Option<u64>,
+    /// Whether each object counts that a kernel here lacks, as an endpoint or a CNode.
+    pub flows: bool,
+}
+
 /// What is read of a text: what is left out of it is in the notes.
 #[derive(Drop)]
 pub struct Layout {

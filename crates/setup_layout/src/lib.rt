@@ -4,6 +4,7 @@
 
 mod derived;
 mod fault;
+mod flows;
 mod kinds;
 mod layout;
 mod machine;
@@ -15,7 +16,7 @@ mod slots;
 mod words;
 
 pub use fault::{Remark, Remarks};
-pub use layout::{Layout, Object, Slot};
+pub use layout::{Layout, Object, Reading, Slot};
 pub use machine::Machine;
 pub use places::{FIRST_REGION_SLOT, Places, Region, Source};
 pub use reading::{ReadLayout, layout_words, read_layout};

@@ -1,6 +1,6 @@
 //! The objects that a layout declares.
 use crate::kinds::{KIND_WORDS, KINDS, place_of};
-use crate::layout::Object;
+use crate::layout::{OTHER_BITS, Object, Reading};
 use crate::scanner::{Spot, Token};
 use crate::words::{Reference, Words};
 use cap_core::{Kind, ProfileName};
@@ -56,8 +56,7 @@ pub enum Found {
 #[derive(Drop)]
 pub struct Objects<'a> {
     pub profile: ProfileName,
-    /// The bits to which larger untyped regions that cover nothing are cut.
-    shrink: Option<u64>,
+    pub reading: Reading,
     numbers: HashMap<&'a str, usize>,
     names: Vec<&'a str>,
     declared: Vec<Declared<'a>>,
@@ -70,10 +69,10 @@ pub struct Objects<'a> {
 
 impl<'a> Objects<'a> {
     /// Nothing is declared yet.
-    pub fn new(alloc: Global, shrink: Option<u64>) -> Result<Objects<'a>, AllocError> {
+    pub fn new(alloc: Global, reading: Reading) -> Result<Objects<'a>, AllocError> {
         Ok(Objects {
             profile: ProfileName::Wide,
-            shrink,
+            reading,
             numbers: HashMap::new(alloc),
             names: Vec::new(alloc),
             declared: Vec::new(alloc),
@@ -175,6 +174,10 @@ impl<'a> Objects<'a> {
                     declared.first = Some(self.objects.len());
                     self.add_kept(words, declared, *kind)?;
                 }
+                None if self.reading.flows => {
+                    declared.first = Some(self.objects.len());
+                    self.add_kept(words, declared, Kind::Endpoint)?;
+                }
                 None => self.leave_out(words, declared, number),
             },
         }
@@ -217,6 +220,7 @@ impl<'a> Objects<'a> {
         }
         let bits = match kind {
             Kind::CNode | Kind::Untyped => declared.bits.unwrap_or(CNODE_BITS.1).min(64) as u32,
+            Kind::Endpoint if !declared.kind.is("ep") => OTHER_BITS,
             Kind::Tcb | Kind::Endpoint => 0,
         };
         for number in 0..count {
@@ -360,7 +364,7 @@ impl<'a> Objects<'a> {
 
     /// Cuts an untyped region that covers nothing, where it is asked for.
     fn cut(&mut self, words: &mut Words<'a>, number: usize, at: Token<'a>) {
-        let Some(most) = self.shrink else {
+        let Some(most) = self.reading.shrink else {
             return;
         };
         for object in self.objects.as_slice() {

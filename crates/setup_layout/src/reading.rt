@@ -1,7 +1,8 @@
 //! The reading of a layout.
 use crate::derived::Tree;
+use crate::flows::Flows;
 use crate::kinds::{ARCHES, profile_of};
-use crate::layout::Layout;
+use crate::layout::{Layout, Reading};
 use crate::objects::Objects;
 use crate::places::{Places, places_of};
 use crate::scanner::{Spot, Token, TokenKind};
@@ -113,10 +114,10 @@ impl<'a> Reader<'a> {
 }
 
 /// The layout of a text.
-fn layout_of(alloc: Global, text: &str, shrink: Option<u64>) -> Result<Layout, AllocError> {
+fn layout_of(alloc: Global, text: &str, reading: Reading) -> Result<Layout, AllocError> {
     let mut reader = Reader {
         words: Words::new(alloc, text),
-        objects: Objects::new(alloc, shrink)?,
+        objects: Objects::new(alloc, reading)?,
         slots: Slots::new(alloc),
         tree: Tree::new(alloc),
     };
@@ -142,8 +143,7 @@ fn layout_of(alloc: Global, text: &str, shrink: Option<u64>) -> Result<Layout, A
     })
 }
 
-/// Reads a layout as capDL text. Of untyped regions that cover nothing those of more than `shrink` bits are cut to so many.
-/// What is wrong with it is in its faults, and a layout with faults has no places.
+/// Reads a layout as capDL text. What is wrong with it is in its faults, and a layout with faults has no places.
 ///
 /// # Errors
 ///
@@ -151,11 +151,14 @@ fn layout_of(alloc: Global, text: &str, shrink: Option<u64>) -> Result<Layout, A
 pub fn read_layout(
     alloc: Global,
     bytes: &[u8],
-    shrink: Option<u64>,
+    reading: Reading,
 ) -> Result<ReadLayout, AllocError> {
     let text = std::str::from_utf8(bytes);
-    let mut layout = layout_of(alloc, text.unwrap_or("arch x86_64"), shrink)?;
+    let mut layout = layout_of(alloc, text.unwrap_or("arch x86_64"), reading)?;
     let mut places = None;
+    if reading.flows && layout.faults.is_empty() {
+        Flows::new(alloc, &mut layout)?.make()?;
+    }
     if text.is_err() {
         let (start, length, line) = (0, 0, 1);
         let spot = Spot {
@@ -183,10 +186,10 @@ pub fn read_layout(
 pub fn layout_words(
     alloc: Global,
     bytes: &[u8],
-    shrink: Option<u64>,
+    reading: Reading,
     name: &str,
 ) -> Result<String, AllocError> {
-    let layout = read_layout(alloc, bytes, shrink)?.layout;
+    let layout = read_layout(alloc, bytes, reading)?.layout;
     let text = std::str::from_utf8(bytes).unwrap_or("");
     let mut words = String::new(alloc);
     layout.remarks().add_to(&mut words, name, text)?;

@@ -1,9 +1,9 @@
 //! The slots of a layout, and the capabilities in them.
 use crate::kinds::{BUILT_IN, SLOT_WORDS, kind_word, place_of};
-use crate::layout::Slot;
+use crate::layout::{OTHER_BITS, Object, Slot};
 use crate::machine::Machine;
 use crate::objects::{Found, Objects};
-use crate::scanner::{Spot, Token, TokenKind};
+use crate::scanner::{Token, TokenKind};
 use crate::words::{Reference, Words};
 use cap_core::{Guard, Kind, Rights};
 use std::alloc::{AllocError, Global};
@@ -155,25 +155,27 @@ fn read_slot<'a>(words: &mut Words<'a>, holder: Reference<'a>) -> Result<SlotTex
     })
 }
 
-/// A slot with a capability of an object, which has no badge and rights, or no guard, where its kind has none.
-fn filled(slot: SlotText<'_>, holder: usize, place: u64, object: usize, kind: Kind) -> Slot {
+/// A slot with a capability of an object, which has no badge and rights, or no guard, where its kind has none. Of an object that only
+/// counts as an endpoint a capability without letters may be written to and read.
+fn filled(slot: SlotText<'_>, holder: usize, place: u64, number: usize, object: &Object) -> Slot {
     let (mut badge, mut rights) = (0, Rights(0));
     let mut guard = Guard { value: 0, size: 0 };
-    if kind == Kind::Endpoint {
+    if object.kind == Kind::Endpoint {
         badge = slot.cap.badge;
         rights = match slot.cap.rights {
             Some(bits) => Rights(bits),
+            None if object.bits == OTHER_BITS => Rights(3),
             None => Rights::ALL,
         };
     }
-    if kind == Kind::CNode {
+    if object.kind == Kind::CNode {
         guard.value = slot.cap.guard;
         guard.size = u32::try_from(slot.cap.guard_size).unwrap_or(u32::MAX);
     }
     Slot {
         holder,
         index: u32::try_from(place).unwrap_or(u32::MAX),
-        object,
+        object: number,
         badge,
         rights,
         guard,
@@ -264,6 +266,9 @@ impl<'a> Slots<'a> {
                 words, objects, slot, holder, numbers,
             ),
             (Kind::Tcb, None) => self.add_named(words, objects, slot, holder),
+            (Kind::Endpoint, Some(numbers)) if bits == OTHER_BITS => {
+                self.add_numbered(words, objects, slot, holder, numbers)
+            }
             _ => {
                 say_misplaced(words, slot, kind);
                 Ok(())
@@ -281,7 +286,9 @@ impl<'a> Slots<'a> {
     ) -> Result<(), AllocError> {
         let (word, spot) = (slot.at.text, slot.at.spot);
         match place_of(&SLOT_WORDS, word) {
-            Some(0) => self.add(words, objects, slot, holder, 0, slot.object),
+            Some(place) if place == 0 || objects.reading.flows => {
+                self.add(words, objects, slot, holder, place as u64, slot.object)
+            }
             Some(_) => {
                 leave_out(words, objects, slot, Some(word));
                 Ok(())
@@ -385,20 +392,14 @@ impl<'a> Slots<'a> {
             words.faults.say(spot, told);
             return Ok(());
         }
-        self.check(words, slot, holder, number, object.kind);
-        check_cap(
-            words,
-            Machine::of(objects.profile),
-            slot,
-            object.kind,
-            object.bits,
-        );
+        self.check(words, slot, (holder.kind, place), number, object.kind);
+        check_cap(words, objects, slot, object);
         self.places.insert(key, self.slots.len())?;
         if let Some(name) = slot.own_name {
             self.named.insert(name, self.slots.len())?;
         }
         self.slots
-            .push(filled(slot, holder.number, place, number, object.kind))?;
+            .push(filled(slot, holder.number, place, number, object))?;
         Ok(())
     }
 
@@ -407,12 +408,12 @@ impl<'a> Slots<'a> {
         &self,
         words: &mut Words<'a>,
         slot: SlotText<'a>,
-        holder: Holder,
+        holder: (Kind, u64),
         number: usize,
         kind: Kind,
     ) {
         let Token { text, spot, .. } = slot.object.name;
-        if holder.kind == Kind::Tcb && kind != Kind::CNode {
+        if holder == (Kind::Tcb, 0) && kind != Kind::CNode {
             let kind = kind_word(kind);
             let told = format_args!("a cspace is a cnode, and {text} is of the kind {kind}");
             words.faults.say(spot, told);
@@ -496,25 +497,20 @@ fn say_outside(words: &mut Words<'_>, slot: SlotText<'_>, holder: Holder, place:
     );
 }
 
-/// Checks the guard, or the badge and the rights, of a capability of an object of that kind and size.
-fn check_cap(words: &mut Words<'_>, machine: Machine, slot: SlotText<'_>, kind: Kind, bits: u32) {
-    let Token { text, spot, .. } = slot.object.name;
-    match kind {
-        Kind::CNode => check_guard(words, machine, slot.cap, bits, text, spot),
-        Kind::Endpoint => check_endpoint(words, machine, slot.cap, text, spot),
-        Kind::Untyped | Kind::Tcb => {}
+/// Checks the guard, or the badge and the rights, of a capability of an object.
+fn check_cap(words: &mut Words<'_>, objects: &Objects<'_>, slot: SlotText<'_>, object: &Object) {
+    let machine = Machine::of(objects.profile);
+    let is_said = !objects.reading.flows;
+    match object.kind {
+        Kind::CNode => check_guard(words, machine, slot, object.bits),
+        Kind::Endpoint if object.bits == 0 => check_endpoint(words, machine, slot, is_said),
+        _ => {}
     }
 }
 
 /// Checks the guard of a CNode's capability.
-fn check_guard(
-    words: &mut Words<'_>,
-    machine: Machine,
-    cap: CapText,
-    bits: u32,
-    name: &str,
-    spot: Spot,
-) {
+fn check_guard(words: &mut Words<'_>, machine: Machine, slot: SlotText<'_>, bits: u32) {
+    let (cap, spot, name) = (slot.cap, slot.object.name.spot, slot.object.name.text);
     let (value, size, word) = (cap.guard, cap.guard_size, u64::from(machine.word_bits));
     let most = word.saturating_sub(u64::from(machine.guard_size_bits));
     if size.saturating_add(u64::from(bits)) > word {
@@ -537,8 +533,9 @@ fn check_guard(
     }
 }
 
-/// Checks the capability of an endpoint, and says what its rights allow in seL4 and not here.
-fn check_endpoint(words: &mut Words<'_>, machine: Machine, cap: CapText, name: &str, spot: Spot) {
+/// Checks the capability of an endpoint, and says, where that is asked for, what its rights allow in seL4 and not here.
+fn check_endpoint(words: &mut Words<'_>, machine: Machine, slot: SlotText<'_>, is_said: bool) {
+    let (cap, spot, name) = (slot.cap, slot.object.name.spot, slot.object.name.text);
     let (badge, bits) = (cap.badge, machine.badge_bits);
     if badge.checked_shr(bits).unwrap_or(0) > 0 {
         words.faults.say(
@@ -551,7 +548,7 @@ fn check_endpoint(words: &mut Words<'_>, machine: Machine, cap: CapText, name: &
             spot,
             format_args!("{name}: no rights are given, so the capability has all"),
         ),
-        Some(rights) if rights & 5 == 5 => words.notes.say(
+        Some(rights) if is_said && rights & 5 == 5 => words.notes.say(
             spot,
             format_args!(
                 "{name}: with G capabilities can be handed over in messages, which is not simulated; audit --ever tells it by lines grant"
