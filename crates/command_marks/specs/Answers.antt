@@ -1,5 +1,5 @@
 -- The marks of answers that were handed in: a table in the form of CSV, with a row for each file.
-use Rattle.std.specs.Prelude.{codes, ℕ, not, count_by, if◌then◌else◌, List, [], ◌++◌, Option, Some, None, Result, Ok, Err}
+use Rattle.std.specs.Prelude.{codes, ℕ, not, count_by, if◌then◌else◌, List, [], ◌++◌, false, Option, Some, None, Result, Ok, Err}
 use Rattle.std.specs.Fmt.{decimal}
 use Rattle.cap_core.specs.declared.profile.ProfileName.{ProfileName}
 use Rattle.kernel_abstract.specs.declared.call.Reply.{Reply}
