@@ -234,7 +234,14 @@ fn run_files<'a, I: Inputs, L: Listener<I::Standard, I::File, I::Fault>, K: Sink
         mark(alloc, inputs, listener, &line, exercise, sink)
     } else {
         let strict = line.options.strict;
-        check_files(alloc, inputs, listener, strict, line.several.as_slice(), sink)
+        check_files(
+            alloc,
+            inputs,
+            listener,
+            strict,
+            line.several.as_slice(),
+            sink,
+        )
     };
     CheckedFiles { line, answer }
 }

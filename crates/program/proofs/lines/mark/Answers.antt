@@ -15,7 +15,7 @@ returns-in-None g c =
     record {
       done = subst (λ (of : Option (Bor Text)). AreMarked (option_map (λ s. s.now) of) c.args.exercise.now Is g.K.Sink (texts c.args.line.now.several.items) c.args.sink.now c.mark_files.new.sink c.mark_files.result)
           (sym c.in-None.is)
-          (subst (λ (names : List (Bor Text)). IsMarksOf Is g.K.Sink (texts names) c.args.sink.now c.mark_files.new.sink c.mark_files.result) c.as_slice-names.ensures.value c.mark_files.ensures)
+          (subst (λ (names : List (Bor Text)). IsMarksOf Is g.K.Sink (texts names) c.args.sink.now c.mark_files.new.sink c.mark_files.result) c.as_slice-names.ensures.value c.mark_files.ensures);
     }
 
 pub returns-in-Some : goal.returns-in-Some
@@ -24,5 +24,5 @@ returns-in-Some g c =
     record {
       done = subst (λ (of : Option (Bor Text)). AreMarked (option_map (λ s. s.now) of) c.args.exercise.now Is g.K.Sink (texts c.args.line.now.several.items) c.args.sink.now c.mark_answers.new.sink c.mark_answers.result)
           (sym c.in-Some.is)
-          (subst (λ (names : List (Bor Text)). AreMarkedBy c.args.exercise.now Is g.K.Sink (texts names) c.args.sink.now c.mark_answers.new.sink c.mark_answers.result) c.as_slice-names.ensures.value c.mark_answers.ensures)
+          (subst (λ (names : List (Bor Text)). AreMarkedBy c.args.exercise.now Is g.K.Sink (texts names) c.args.sink.now c.mark_answers.new.sink c.mark_answers.result) c.as_slice-names.ensures.value c.mark_answers.ensures);
     }
