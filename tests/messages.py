@@ -3,6 +3,7 @@
 
 The first line after a fault of the run or a refused command line is fixed; the others help to understand it.
 """
+import os
 import pathlib
 import re
 import subprocess
@@ -531,7 +532,7 @@ def wrong_strict_files(program):
                 (["--strict", "expected", "expected"], 0, [lines[1], lines[1], "files 2 met 2 unmet 0 refused 0 unread 0"]),
                 (["--strict", "refused", "unmet"], 1, [lines[0], last, "files 2 met 0 unmet 2 refused 0 unread 0"])]:
             words = [word if word.startswith("-") else f"{word}.toml" for word in words]
-            done = subprocess.run([program, "check", *words], cwd=folder, capture_output=True, text=True, timeout=600)
+            done = subprocess.run([os.path.abspath(program), "check", *words], cwd=folder, capture_output=True, text=True, timeout=600)
             if done.returncode != status or wanted and done.stdout.splitlines() != wanted:
                 yield f"{words}: status {done.returncode}, wrote\n{done.stdout}"
 
